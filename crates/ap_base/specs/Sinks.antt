@@ -1,0 +1,21 @@
+-- What a sink took.
+use Rattle.std.specs.Prelude.{◌≡◌, ℕ, List, ◌++◌, Option, Some, None, min, if◌then◌else◌, ◌==◌}
+
+-- what a sink that tells it has taken, after these bytes too
+abbrev pub with_bytes : Option (List ℕ) → List ℕ → Option (List ℕ)
+with_bytes None bytes = None
+with_bytes (Some before) bytes = Some (before ++ bytes)
+
+-- A sink in memory: the bytes that it took, how many it has room for yet, how many of a piece it takes at most,
+-- the numbers of the calls that fail, from 1, and its counts.
+pub record SinkState : Type 0 where
+  pub taken : List ℕ
+  pub room : ℕ
+  pub most : ℕ
+  pub fails : List ℕ
+  pub calls : ℕ
+  pub faults : ℕ
+
+-- how many bytes of a piece of this length it takes now
+abbrev pub share_of : SinkState → ℕ → ℕ
+share_of sink length = min length (min sink.most sink.room)
