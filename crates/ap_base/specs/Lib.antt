@@ -1,4 +1,5 @@
 pub mod Causes
+pub mod HeldPieces
 pub mod Pieces
 pub mod References
 pub mod Sinks

@@ -6,21 +6,28 @@ use std::marker::Model;
 
 const MOST: usize = 24;
 
-/// 1 to 24 bytes that one print asks for, held in place.
-#[derive(Drop, Debug)]
+/// 1 to 24 bytes that one print asks for, held in place, zeros behind them.
+#[derive(Clone, Copy, Debug, PartialEq, Eq)]
 pub struct Piece {
     bytes: [u8; 24],
     length: u8,
 }
 
 impl Model for Piece {
-    ghost use Rattle.std.specs.Prelude.{ℕ, List, take, ◌≤◌, ◌<◌};
+    ghost use Rattle.std.specs.Prelude.{ℕ, List, take};
+    ghost use Rattle.ap_base.specs.Pieces.{IsHeld};
 
     ghost Value = { List ℕ };
 
+    ghost use Rattle.ap_base.specs.HeldPieces.{piece_of, piece_of-take};
+
     ghost view = { λ piece. take piece.length piece.bytes };
 
-    ghost invariant = { λ piece. (0 < piece.length) × (piece.length ≤ 24) };
+    ghost invariant = { λ piece. IsHeld piece.length piece.bytes };
+
+    ghost inverse = { piece_of };
+
+    ghost inverse_ok = { piece_of-take };
 }
 
 impl Piece {
