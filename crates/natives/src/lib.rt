@@ -1,0 +1,6 @@
+//! What a thread asks of the shared heap, and what the heap replies.
+#![tactic(auto)]
+
+mod requests;
+
+pub use requests::{Reply, Request};

@@ -1,0 +1,12 @@
+//! The history of a run: its acts in order, what they do to the plain world, and which graphs a stop after them may leave.
+#![tactic(auto)]
+
+mod act;
+mod acts;
+mod plain;
+mod watcher;
+
+pub use act::{Act, Op, PlainKey, Stage};
+pub use acts::Acts;
+pub use plain::{Monitor, Progress};
+pub use watcher::{NoWatch, Watcher};
