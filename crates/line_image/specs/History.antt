@@ -1,0 +1,96 @@
+-- A device of lines of eight words, by what was done to it: what a read gives, and what a stop leaves.
+--
+-- A line write is a write-back of a cache line (CLWB), a fence is an SFENCE, and a word is an aligned store of eight
+-- bytes, which a power failure doesn't tear (Intel 64 and IA-32 Architectures Software Developer's Manual, volume 2;
+-- the AutoPersist paper, PLDI 2019, stands on the same operations).
+use Rattle.std.specs.Prelude.{◌≡◌, ◌⊎◌, ◌<◌, ◌≤◌, ◌^◌, ℕ, List, [], ◌∷◌, Bool, Option, Some, None, get_or, slice_index, if◌then◌else◌, ◌==◌, nat_lt, nat_le, All, length}
+use Rattle.line_image.specs.declared.entry.Entry.{Entry}
+use Rattle.line_image.specs.declared.entry.Done.{Done}
+use Rattle.line_image.specs.declared.entry.Done.TheVariants.{Wrote, Fenced}
+
+-- the lines of an image as they were first, and the writes and fences since, the newest first
+pub record History : Type 0 where
+  pub first : List (List ℕ)
+  pub done : List Entry
+
+-- the first of some versions
+abbrev pub newest : List (List ℕ) → List ℕ
+newest [] = []
+newest (words ∷ rest) = words
+
+-- The versions of a line: what writes gave it since the last fence, the newest first, and behind them what was fenced.
+abbrev pub versions_after : Done → ℕ → List (List ℕ) → List (List ℕ)
+versions_after (Wrote line words) l versions = if line == l then words ∷ versions else versions
+versions_after Fenced l versions = newest versions ∷ []
+
+abbrev pub versions : List (List ℕ) → List Entry → ℕ → List (List ℕ)
+versions first [] l = get_or first l [] ∷ []
+versions first (entry ∷ done) l = versions_after entry.done l (versions first done l)
+
+-- one of these versions has this value in the word
+abbrev pub OneHas : List (List ℕ) → ℕ → ℕ → Type 0
+OneHas [] w v = ⊥
+OneHas (words ∷ rest) w v = (v ≡ slice_index words w) ⊎ OneHas rest w v
+
+-- An image may tell nothing of what was done to it: its history is None then, and a premise on it doesn't hold.
+
+-- a stop now leaves this value in a word: the fenced one, or any that a write since has given it
+abbrev pub MayLeave : Option History → ℕ → ℕ → ℕ → Type 0
+MayLeave None l w v = ⊥
+MayLeave (Some h) l w v = OneHas (versions h.first h.done l) w v
+
+-- the words that a stop leaves, by line and place in the line
+abbrev pub Outcome : Type 0
+Outcome = ℕ → ℕ → ℕ
+
+-- a stop now leaves these words, each whatever the others are
+abbrev pub LeavesNow : Option History → Outcome → Type 0
+LeavesNow o c = (l w : ℕ) → MayLeave o l w (c l w)
+
+-- Within call m the values of its write are there already, and its fence isn't made yet.
+abbrev pub is_made : ℕ → ℕ → Done → Bool
+is_made m at (Wrote line words) = nat_le at m
+is_made m at Fenced = nat_lt at m
+
+-- what was done by then, of what was done in order
+abbrev pub made_within : ℕ → List Entry → List Entry
+made_within m [] = []
+made_within m (entry ∷ done) = if is_made m entry.at entry.done then entry ∷ done else made_within m done
+
+abbrev pub history_within : ℕ → Option History → Option History
+history_within m None = None
+history_within m (Some h) = Some (record h { done = made_within m h.done })
+
+-- a stop within call m might have left these words
+abbrev pub LeftWithin : Option History → ℕ → Outcome → Type 0
+LeftWithin o m c = LeavesNow (history_within m o) c
+
+-- a read of the line gives these words
+abbrev pub Reads : Option History → ℕ → List ℕ → Type 0
+Reads None l words = Unit {0}
+Reads (Some h) l words = words ≡ newest (versions h.first h.done l)
+
+-- nothing is unfenced: a stop now leaves of each word what a read gives
+abbrev pub IsSettled : Option History → Type 0
+IsSettled None = Unit {0}
+IsSettled (Some h) = (l w v : ℕ) → MayLeave (Some h) l w v → v ≡ slice_index (newest (versions h.first h.done l)) w
+
+-- after call number `at`, which did this
+abbrev pub did : Done → ℕ → Option History → Option History
+did done at None = None
+did done at (Some h) = Some (record h { done = record { at = at; done = done } ∷ h.done })
+
+-- The image was first of so many lines of eight words, and all was done in its calls so far.
+pub record IsInOrder (size calls : ℕ) (h : History) : Type 0 where
+  pub lines : length h.first ≡ size
+  pub eights : All (λ line. length line ≡ 8) h.first
+  pub so_far : All (λ (entry : Entry). entry.at ≤ calls) h.done
+
+abbrev pub InOrder : ℕ → ℕ → Option History → Type 0
+InOrder size calls None = Unit {0}
+InOrder size calls (Some h) = IsInOrder size calls h
+
+-- the number of calls fits 64 bits, and what is told is in order
+pub record IsCounted (size calls : ℕ) (o : Option History) : Type 0 where
+  pub fits : calls < 2 ^ 64
+  pub told : InOrder size calls o

@@ -1,0 +1,184 @@
+// An image in memory, which keeps its writes and fences.
+ghost use Rattle.std.specs.Prelude.{◌≡◌, ◌<◌, ◌≤◌, ◌+◌, ◌-◌, ◌^◌, ◌⊎◌, ◌↔◌, ℕ, [], ◌∷◌, List, Some, IfOk, OnOk, OnErr, IsErr, vec_capacity, length, get_or, slice_index, reverse, replicate, All, Contains, IsTrue};
+ghost use Rattle.line_image.specs.History.{newest, versions};
+ghost use Rattle.line_image.specs.declared.entry.Entry.{Entry};
+
+use crate::{Done, Entry, Image, ImageFailed};
+use std::alloc::{AllocError, Global};
+
+/// Which calls fail: those whose numbers, from 1, `calls` lists, every call from number `since` on, and every write and
+/// fence past the first `room` writes and fences. No other call fails.
+#[derive(Drop, Debug)]
+pub struct Fails {
+    pub calls: Vec<u64>,
+    pub since: u64,
+    pub room: u32,
+}
+
+impl Fails {
+    ghost use Rattle.line_image.specs.Memory.{CallFails};
+
+    fn has(&self, call: u64) -> bool
+        ensures { IsTrue result ↔ CallFails self.now call }
+    {
+        self.calls.contains(&call) || self.since <= call
+    }
+}
+
+/// An image in memory. It keeps its writes and fences, tells them, and fails exactly by its `Fails`.
+#[derive(Drop, Debug)]
+pub struct MemoryImage {
+    first: Vec<[u64; 8]>,
+    latest: Vec<[u64; 8]>,
+    done: Vec<Entry>,
+    room: u32,
+    calls: u64,
+    faults: u64,
+    fails: Fails,
+    ghost fits_room: { length done.items + room ≤ vec_capacity done },
+    ghost same_size: { length latest.items ≡ length first.items },
+    ghost reads: { (l : ℕ) → get_or latest.items l [] ≡ newest (versions first.items (reverse done.items) l) },
+    ghost eights: { All (λ line. length line ≡ 8) first.items },
+    ghost fits: { calls < 2 ^ 64 },
+    ghost so_far: { All (λ (entry : Entry). entry.at ≤ calls) (reverse done.items) },
+}
+
+impl MemoryImage {
+    ghost use Rattle.line_image.specs.Memory.{size_of, history_of, calls_of, faults_of, fails_of, room_of};
+
+    /// An image of so many lines, all zero. Takes the memory for all writes and fences that `fails` has room for.
+    pub fn new(alloc: Global, lines: u64, fails: Fails) -> Result<MemoryImage, AllocError>
+        ensures size { IfOk result (λ image. size_of image ≡ lines) }
+        ensures zero { IfOk result (λ image. history_of image ≡ record { first = replicate lines (replicate 8 0); done = [] }) }
+        ensures uncalled { IfOk result (λ image. calls_of image ≡ 0) }
+        ensures faultless { IfOk result (λ image. faults_of image ≡ 0) }
+        ensures fails { IfOk result (λ image. fails_of image ≡ fails) }
+        ensures room { IfOk result (λ image. room_of image ≡ fails.room) }
+    {
+        let zero = [0; 8];
+        Ok(MemoryImage {
+            first: vec![in alloc; zero; lines as usize]?,
+            latest: vec![in alloc; zero; lines as usize]?,
+            done: Vec::with_capacity(alloc, fails.room as usize)?,
+            room: fails.room,
+            calls: 0,
+            faults: 0,
+            fails,
+        })
+    }
+
+    /// What a read gives in a word.
+    pub fn word(&self, line: u64, word: u8) -> u64
+        requires line { line < size_of self.now }
+        requires word { word < 8 }
+        ensures reads { result ≡ slice_index (newest (versions (history_of self.now).first (history_of self.now).done line)) word }
+    {
+        self.latest[line as usize][word as usize]
+    }
+}
+
+impl Image for MemoryImage {
+    ghost use Rattle.ap_base.specs.Causes.{HasCause, next_count};
+    ghost use Rattle.line_image.specs.History.{Reads, did};
+    ghost use Rattle.line_image.specs.Memory.{size_of, history_of, calls_of, faults_of, fails_of, room_of, CallFails, in_order_of};
+    ghost use Rattle.line_image.specs.declared.entry.Done.TheVariants.{Wrote, Fenced};
+
+    ghost size = { size_of };
+
+    ghost faults = { faults_of };
+
+    ghost calls = { calls_of };
+
+    ghost history = { λ image. Some (history_of image) };
+
+    fn lines(&self) -> u64 {
+        self.latest.len() as u64
+    }
+
+    fn read_line(&mut self, line: u64, into: &mut [u64; 8]) -> Result<(), ImageFailed>
+        requires { line < size_of self.old }
+        ensures size { size_of self.new ≡ size_of self.old }
+        ensures counted { calls_of self.new ≡ next_count (calls_of self.old) }
+        ensures same { Some (history_of self.new) ≡ Some (history_of self.old) }
+        ensures words { OnOk result (Reads (Some (history_of self.old)) line into.new) }
+        ensures untouched { OnErr result (into.new ≡ into.old) }
+        ensures cause { HasCause (faults_of self.old) (faults_of self.new) result }
+
+        ensures fails { IsErr result ↔ CallFails (fails_of self.old) (calls_of self.new) }
+        ensures same_fails { fails_of self.new ≡ fails_of self.old }
+        ensures same_room { room_of self.new ≡ room_of self.old }
+    {
+        self.calls = self.calls.saturating_add(1);
+        if self.fails.has(self.calls) {
+            self.faults = self.faults.saturating_add(1);
+            return Err(ImageFailed);
+        }
+        *into = self.latest[line as usize];
+        Ok(())
+    }
+
+    fn write_line(&mut self, line: u64, words: &[u64; 8]) -> Result<(), ImageFailed>
+        requires { line < size_of self.old }
+        ensures size { size_of self.new ≡ size_of self.old }
+        ensures counted { calls_of self.new ≡ next_count (calls_of self.old) }
+        ensures written { OnOk result (Some (history_of self.new) ≡ did (Wrote line words.now) (calls_of self.new) (Some (history_of self.old))) }
+        ensures failed { OnErr result ((Some (history_of self.new) ≡ did (Wrote line words.now) (calls_of self.new) (Some (history_of self.old)))
+            ⊎ (Some (history_of self.new) ≡ Some (history_of self.old))) }
+        ensures cause { HasCause (faults_of self.old) (faults_of self.new) result }
+
+        ensures fails { IsErr result ↔ (CallFails (fails_of self.old) (calls_of self.new) ⊎ (room_of self.old ≡ 0)) }
+        ensures adds { 0 < room_of self.old → Some (history_of self.new) ≡ did (Wrote line words.now) (calls_of self.new) (Some (history_of self.old)) }
+        ensures full { room_of self.old ≡ 0 → history_of self.new ≡ history_of self.old }
+        ensures same_fails { fails_of self.new ≡ fails_of self.old }
+        ensures room { room_of self.new ≡ room_of self.old - 1 }
+    {
+        self.calls = self.calls.saturating_add(1);
+        if self.room == 0 {
+            self.faults = self.faults.saturating_add(1);
+            return Err(ImageFailed);
+        }
+        let entry = Entry {
+            at: self.calls,
+            done: Done::Wrote {
+                line,
+                words: *words,
+            },
+        };
+        self.room -= 1;
+        self.done.push(entry).unwrap();
+        self.latest[line as usize] = *words;
+        if self.fails.has(self.calls) {
+            self.faults = self.faults.saturating_add(1);
+            return Err(ImageFailed);
+        }
+        Ok(())
+    }
+
+    fn fence(&mut self) -> Result<(), ImageFailed>
+        ensures size { size_of self.new ≡ size_of self.old }
+        ensures counted { calls_of self.new ≡ next_count (calls_of self.old) }
+        ensures fenced { OnOk result (Some (history_of self.new) ≡ did Fenced (calls_of self.new) (Some (history_of self.old))) }
+        ensures failed { OnErr result (Some (history_of self.new) ≡ Some (history_of self.old)) }
+        ensures cause { HasCause (faults_of self.old) (faults_of self.new) result }
+
+        ensures fails { IsErr result ↔ (CallFails (fails_of self.old) (calls_of self.new) ⊎ (room_of self.old ≡ 0)) }
+        ensures same_fails { fails_of self.new ≡ fails_of self.old }
+        ensures room { room_of self.new ≡ room_of self.old - 1 }
+    {
+        self.calls = self.calls.saturating_add(1);
+        let full = self.room == 0;
+        self.room = self.room.saturating_sub(1);
+        if full || self.fails.has(self.calls) {
+            self.faults = self.faults.saturating_add(1);
+            return Err(ImageFailed);
+        }
+        let entry = Entry {
+            at: self.calls,
+            done: Done::Fenced,
+        };
+        self.done.push(entry).unwrap();
+        Ok(())
+    }
+
+    ghost in_order = { in_order_of };
+}
