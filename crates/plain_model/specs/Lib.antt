@@ -1,3 +1,4 @@
+pub mod BuiltIn
 pub mod Codes
 pub mod Duties
 pub mod Ends

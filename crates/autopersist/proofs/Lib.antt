@@ -1,0 +1,5 @@
+pub mod Extending
+pub mod Keeping
+pub mod Lines
+pub mod Printed
+pub mod Steps

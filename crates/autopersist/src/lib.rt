@@ -1,0 +1,7 @@
+//! The top call.
+#![tactic(auto)]
+
+mod printing;
+mod status;
+
+pub use status::{Status, status_text};
