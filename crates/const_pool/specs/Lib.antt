@@ -1,0 +1,4 @@
+pub mod Utf8
+pub mod Entry
+pub mod Pool
+pub mod Reading

@@ -1,0 +1,20 @@
+//! The constant pool of a Java class file.
+#![tactic(auto)]
+
+mod entry;
+mod name;
+mod pool;
+mod reader;
+mod reading;
+mod refusal;
+mod writing;
+
+pub use entry::{Entry, Member, Tag};
+pub use name::Name;
+pub use pool::Pool;
+pub use reading::read_pool;
+pub use refusal::{PoolRefusal, PushRefusal};
+pub use writing::write_pool;
+
+#[cfg(test)]
+mod tests;
