@@ -5,3 +5,6 @@ pub mod Entries
 pub mod Slots
 pub mod Pools
 pub mod Lookups
+pub mod Plain
+pub mod Grammar
+pub mod Descriptors

@@ -18,16 +18,16 @@ is_within_parts low high b e =
 is_within_from : (low high b : ℕ) → low ≤ b → b ≤ high → is_within low high b ≡ true
 is_within_from low high b p q = grind (arith, nat_tests)
 
-one_form : (u : ℕ) → 0 < u → u < 128 → unit_bytes u ≡ u ∷ []
+pub one_form : (u : ℕ) → 0 < u → u < 128 → unit_bytes u ≡ u ∷ []
 one_form u p q = rw (lt-ltb 0 u p, lt-ltb u 128 q) refl
 
-two_form : (u : ℕ) → (u ≡ 0) ⊎ (128 ≤ u) → u < 2048 → unit_bytes u ≡ (192 + u / 64) ∷ (128 + u % 64) ∷ []
+pub two_form : (u : ℕ) → (u ≡ 0) ⊎ (128 ≤ u) → u < 2048 → unit_bytes u ≡ (192 + u / 64) ∷ (128 + u % 64) ∷ []
 two_form u (inl z) q = subst (λ (v : ℕ). unit_bytes v ≡ (192 + v / 64) ∷ (128 + v % 64) ∷ []) (sym z) refl
 two_form u (inr p) q =
     let pos : 0 < u = omega arith in
     rw (lt-ltb 0 u pos, le-ltb u 128 p, lt-ltb u 2048 q) refl
 
-three_form : (u : ℕ) → 2048 ≤ u → unit_bytes u ≡ (224 + u / 4096) ∷ (128 + u / 64 % 64) ∷ (128 + u % 64) ∷ []
+pub three_form : (u : ℕ) → 2048 ≤ u → unit_bytes u ≡ (224 + u / 4096) ∷ (128 + u / 64 % 64) ∷ (128 + u % 64) ∷ []
 three_form u p =
     let pos : 0 < u = omega arith in
     let past : 128 ≤ u = omega arith in

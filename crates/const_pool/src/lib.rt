@@ -1,6 +1,7 @@
 //! The constant pool of a Java class file.
 #![tactic(auto)]
 
+mod descriptor;
 mod entry;
 mod name;
 mod pool;
@@ -9,6 +10,9 @@ mod reading;
 mod refusal;
 mod writing;
 
+pub use descriptor::{
+    BaseType, Descriptor, DescriptorRefusal, ElementType, FieldType, Parameters, read_descriptor,
+};
 pub use entry::{Entry, Member, Tag};
 pub use name::Name;
 pub use pool::Pool;
