@@ -1,0 +1,10 @@
+pub mod Texts
+pub mod Numbers
+pub mod Fields
+pub mod Entries
+pub mod Slots
+pub mod Pools
+pub mod Lookups
+pub mod Plain
+pub mod Grammar
+pub mod Descriptors

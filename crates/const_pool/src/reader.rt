@@ -1,0 +1,105 @@
+//! The fields of a file, from front to back.
+
+ghost use Rattle.std.specs.Prelude.{◌≡◌, ◌+◌, ◌^◌, ◌<◌, length, IfOk};
+ghost use Rattle.const_pool.specs.Reading.{Gives, field_at, number_at, name_at};
+
+use crate::name::first_bad;
+use crate::{Name, PoolRefusal};
+use byteorder::{BigEndian, ByteOrder};
+use std::alloc::Global;
+use std::marker::Model;
+
+/// What is still to be read of a file: the offset of the next byte, and the bytes from there on.
+#[derive(Drop)]
+pub struct Reader<'a> {
+    at: usize,
+    rest: &'a [u8],
+}
+
+impl<'a> Model for Reader<'a> {
+    ghost use Rattle.std.specs.Prelude.{ℕ, List, ◌+◌, ◌^◌, ◌<◌, length};
+
+    ghost Value = { ℕ × List ℕ };
+
+    ghost view = { λ r. (r.at, r.rest.now) };
+
+    ghost invariant = { λ r. r.at + length r.rest.now < 2 ^ 64 };
+}
+
+impl<'a> Reader<'a> {
+    pub fn new(at: usize, rest: &'a [u8]) -> Reader<'a>
+        requires { at + length rest.now < 2 ^ 64 }
+        ensures { result ≡ (at, rest.now) }
+    {
+        Reader { at, rest }
+    }
+
+    /// The offset of the next byte.
+    pub fn at(&self) -> usize
+        ensures { result ≡ self.now.0 }
+    {
+        self.at
+    }
+
+    /// A field of this many bytes.
+    #[tactic(auto, unfolding(crate::specs::Reading::field_at))]
+    pub fn field(&mut self, len: usize) -> Result<&'a [u8], PoolRefusal>
+        ensures whole { IfOk result (λ x. length x.now ≡ len) }
+        ensures within { IfOk result (λ x. self.old.0 + length x.now < 2 ^ 64) }
+        ensures read { Gives (λ x. (x.now, self.new)) result (field_at len self.old) }
+    {
+        if self.rest.len() < len {
+            return Err(PoolRefusal::Truncated(self.at));
+        }
+        let (field, rest) = self.rest.split_at(len);
+        self.at += len;
+        self.rest = rest;
+        Ok(field)
+    }
+
+    #[tactic(auto, unfolding(crate::specs::Reading::number_at))]
+    pub fn u8(&mut self) -> Result<u8, PoolRefusal>
+        ensures { Gives (λ x. (x, self.new)) result (number_at 1 self.old) }
+    {
+        let field = self.field(1)?;
+        Ok(field[0])
+    }
+
+    #[tactic(auto, unfolding(crate::specs::Reading::number_at))]
+    pub fn u16(&mut self) -> Result<u16, PoolRefusal>
+        ensures { Gives (λ x. (x, self.new)) result (number_at 2 self.old) }
+    {
+        let field = self.field(2)?;
+        Ok(BigEndian::read_u16(field))
+    }
+
+    #[tactic(auto, unfolding(crate::specs::Reading::number_at))]
+    pub fn u32(&mut self) -> Result<u32, PoolRefusal>
+        ensures { Gives (λ x. (x, self.new)) result (number_at 4 self.old) }
+    {
+        let field = self.field(4)?;
+        Ok(BigEndian::read_u32(field))
+    }
+
+    #[tactic(auto, unfolding(crate::specs::Reading::number_at))]
+    pub fn u64(&mut self) -> Result<u64, PoolRefusal>
+        ensures { Gives (λ x. (x, self.new)) result (number_at 8 self.old) }
+    {
+        let field = self.field(8)?;
+        Ok(BigEndian::read_u64(field))
+    }
+
+    /// A length of 16 bits, and a text of that many bytes.
+    #[tactic(auto, unfolding(crate::specs::Reading::name_at))]
+    pub fn name(&mut self, alloc: Global) -> Result<Name, PoolRefusal>
+        ensures { Gives (λ x. (x, self.new)) result (name_at self.old) }
+    {
+        let len = self.u16()?;
+        let at = self.at();
+        let text = self.field(usize::from(len))?;
+        if let Some(place) = first_bad(text) {
+            return Err(PoolRefusal::BadUtf8(at + place));
+        }
+        Ok(Name::copy(alloc, text)?)
+    }
+}
