@@ -1,3 +1,4 @@
 pub mod Printing
+pub mod SmallClass
 pub mod Standing
 pub mod Statuses

@@ -73,9 +73,12 @@ in_main class pc = record { class = 0; method = class.main; pc = pc }
 abbrev pub line_of : ℤ → List ℕ
 line_of number = signed_decimal number ++ 10 ∷ []
 
--- the lines that the class prints
+-- the lines that groups print, and a class
+abbrev pub group_lines : List Group → List (List ℕ)
+group_lines groups = map (λ (g : Group). line_of g.number) groups
+
 abbrev pub lines_of : PrintingClass → List (List ℕ)
-lines_of class = map (λ (g : Group). line_of g.number) class.groups
+lines_of class = group_lines class.groups
 
 -- Where thread 0 stands: before the initialisation of its class, within it, before a group or the return, before a call on the
 -- stream with the group's number on the stack, and in `println` before its Enter, with bytes left to print, and before its Exit.

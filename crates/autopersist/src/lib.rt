@@ -2,6 +2,7 @@
 #![tactic(auto)]
 
 mod printing;
+mod small_class;
 mod status;
 
 pub use status::{Status, status_text};
