@@ -1,0 +1,4 @@
+pub mod Ascending
+pub mod FoundAfter
+pub mod Numbers
+pub mod Placed
