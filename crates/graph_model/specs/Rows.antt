@@ -1,5 +1,5 @@
--- A small heap, numbered by hand. Object 2 refers to 1 and 4, object 1 to 3, object 4 back to 2, and object 0, which no
--- root reaches, to 1. Depth first would number 3 before 4.
+-- A small heap, numbered by hand. Object 2 refers to 1 and 4, object 1 to 3, object 3 back to 1, object 4 back to 2,
+-- and object 0, which no root reaches, to 1. Depth first would number 3 before 4.
 use Rattle.std.specs.Prelude.{true, pos, [], ◌∷◌, None}
 use Rattle.ap_base.specs.declared.kind.Kind.TheVariants.{L}
 use Rattle.graph_model.specs.declared.types.Value.{Value}
@@ -14,7 +14,8 @@ use Rattle.graph_model.specs.declared.types.Graph.{Graph}
 abbrev pub pair_shape : Shape
 pair_shape = record {
   name = 78 ∷ [];
-  fields = record { name = 97 ∷ []; kind = L; kept = true } ∷ record { name = 98 ∷ []; kind = L; kept = true } ∷ [];
+  fields = record { name = 97 ∷ []; kind = L; kept = true }
+      ∷ record { name = 98 ∷ []; kind = L; kept = true } ∷ [];
   element = None;
 }
 
@@ -25,8 +26,8 @@ pair_of a b = record { shape = 0; values = a ∷ b ∷ [] }
 abbrev pub ring : Heap
 ring = record {
   shapes = pair_shape ∷ [];
-  objects = pair_of (Object 1) Null ∷ pair_of (Object 3) Null ∷ pair_of (Object 1) (Object 4) ∷ pair_of Null (Object 1)
-      ∷ pair_of Null (Object 2) ∷ [];
+  objects = pair_of (Object 1) Null ∷ pair_of (Object 3) Null ∷ pair_of (Object 1) (Object 4)
+      ∷ pair_of Null (Object 1) ∷ pair_of Null (Object 2) ∷ [];
   statics = Int (pos 7) ∷ Object 2 ∷ [];
   roots = record { name = 82 ∷ []; at = 1 } ∷ [];
 }

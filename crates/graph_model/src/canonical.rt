@@ -9,8 +9,8 @@ use crate::{Graph, Heap, NamedValue, Node, Value};
 use ap_base::{Bytes, ListOf, Place};
 use std::alloc::{AllocError, Global};
 
-/// The graph that the heap stands for: what its durable roots reach, numbered breadth first, roots in the directory's
-/// order, slots in order, each object once.
+/// The graph that the heap stands for: what its durable roots reach, numbered breadth first, roots in the
+/// directory's order, slots in order, each object once.
 pub fn canon(alloc: Global, heap: &Heap) -> Result<Graph, AllocError>
     requires sound { IsSound heap.now }
     ensures canon { IfOk result (λ g. g ≡ canon_of heap.now) }

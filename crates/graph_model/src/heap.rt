@@ -31,8 +31,8 @@ impl Value {
 }
 
 impl Heap {
-    /// Whether each reference names an object, each object's shape is there, each root's static is there, and there are
-    /// fewer than 2^32 objects.
+    /// Whether each reference names an object, each object's shape is there, each root's static is there, and
+    /// there are fewer than 2^32 objects.
     pub fn is_sound(&self) -> bool
         ensures { IsTrue result ↔ IsSound self.now }
     {
@@ -97,8 +97,8 @@ impl Heap {
         }
     }
 
-    /// Adds an object of a shape, with the default values of its fields or of `count` elements (JVMS 2.3, 2.4). Answers
-    /// its number, which is the next one. Without memory the heap is as before.
+    /// Adds an object of a shape, with the default values of its fields or of `count` elements (JVMS 2.3, 2.4).
+    /// Answers its number, which is the next one. Without memory the heap is as before.
     pub fn add(&mut self, alloc: Global, shape: u32, count: u32) -> Result<u32, AllocError>
         requires shape { shape < length self.old.shapes }
         requires room { length self.old.objects < 2 ^ 32 - 1 }

@@ -112,7 +112,8 @@ impl Numbering {
 
     /// The found objects in ascending order.
     pub(crate) fn ascending(&self, alloc: Global) -> Result<Vec<u32>, AllocError>
-        ensures { IfOk result (λ r. r.items ≡ filter (has_number self.now.numbers) (range_with_len 0 self.now.objects)) }
+        ensures { IfOk result
+            (λ r. r.items ≡ filter (has_number self.now.numbers) (range_with_len 0 self.now.objects)) }
     {
         let mut ascending = Vec::new(alloc);
         for object in 0..self.places.len() {

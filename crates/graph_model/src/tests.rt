@@ -225,8 +225,8 @@ fn kinds_have_defaults(rt: HostRuntime) {
     }
 }
 
-// A list of 100,000 nodes, each of which refers to the one before it. Searching through the nodes found so far would
-// take minutes here.
+// A list of 100,000 nodes, each of which refers to the one before it. Searching through the nodes found so far
+// would take minutes here.
 #[test]
 fn long_list(rt: HostRuntime) -> Result<(), Fail> {
     let alloc = rt.alloc();
