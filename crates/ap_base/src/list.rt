@@ -1,5 +1,5 @@
 // A list in a public type.
-ghost use Rattle.std.specs.Prelude.{◌≡◌, ◌<◌, ◌++◌, [], ◌∷◌, length, slice_set, IfErr, OnErr, OnOk};
+ghost use Rattle.std.specs.Prelude.{◌≡◌, ◌<◌, ◌++◌, [], ◌∷◌, length, slice_index_or, slice_set, IfErr, OnErr, OnOk};
 
 use std::alloc::{AllocError, AllocFailed, Global};
 use std::marker::Model;
@@ -19,6 +19,9 @@ impl<T> Model for ListOf<T> {
 }
 
 impl<T> ListOf<T> {
+    ghost use Rattle.std.specs.Borrow.{Lends, sem};
+    ghost use Rattle.ap_base.specs.contracts.list.ListOf.{the_row};
+
     /// The empty list. Takes no memory.
     pub fn new(alloc: Global) -> ListOf<T>
         ensures { result ≡ [] }
@@ -64,6 +67,15 @@ impl<T> ListOf<T> {
         ensures returned { IfErr result (λ failed. failed.value ≡ item) }
     {
         self.items.push(item)
+    }
+
+    /// An element, to be changed in place.
+    pub fn get_mut(&mut self, at: usize) -> &mut T
+        requires { at < length self.old }
+        ensures* writes_back { sem 𝓛 (Lends (the_row T.row) T.row self.entry result (λ item. slice_set self.old at item)) }
+        ensures value { result.now ≡ slice_index_or self.old at result.now }
+    {
+        &mut self.items[at]
     }
 
     /// Replaces an element.

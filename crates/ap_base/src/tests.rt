@@ -93,7 +93,8 @@ fn small_types(rt: HostRuntime) -> Result<(), Fail> {
     list.push(6)?;
     assert_eq!(rt; list.len(), 2);
     list.set(0, 4);
-    assert_eq!(rt; list.as_slice(), [4, 6].as_slice());
+    *list.get_mut(1) = 7;
+    assert_eq!(rt; list.as_slice(), [4, 7].as_slice());
     assert_eq!(rt; list.into_vec().len(), 2);
     assert_eq!(rt; ListOf::<u32>::new(alloc).len(), 0);
     NoGate.before(last, 1);

@@ -1,5 +1,5 @@
--- The canonical graph of a heap: what its durable roots reach, numbered breadth first, roots in directory order, slots
--- in order, each object once.
+-- The canonical graph of a heap: what its durable roots reach, numbered breadth first, roots in directory order,
+-- slots in order, each object once.
 use Rattle.std.specs.Prelude.{ℕ, zero, suc, List, [], ◌∷◌, ◌++◌, map, length, nat_eq, slice_index_or, if◌then◌else◌}
 use Rattle.graph_model.specs.declared.types.Value.{Value}
 use Rattle.graph_model.specs.declared.types.Value.TheVariants.{Int, Long, Null, Obj as Object}
@@ -52,10 +52,14 @@ node_of heap found n = record {
 }
 
 abbrev pub root_of : Heap → List ℕ → Root → NamedValue
-root_of heap found r = record { name = r.name; value = renumbered found (slice_index_or heap.statics r.at Null) }
+root_of heap found r =
+    record { name = r.name; value = renumbered found (slice_index_or heap.statics r.at Null) }
 
 abbrev pub graph_by : Heap → List ℕ → Graph
-graph_by heap found = record { roots = map (root_of heap found) heap.roots; nodes = map (node_of heap found) found }
+graph_by heap found = record {
+  roots = map (root_of heap found) heap.roots;
+  nodes = map (node_of heap found) found;
+}
 
 -- The graph that a heap stands for.
 unfoldable pub canon_of : Heap → Graph

@@ -1,6 +1,6 @@
 -- Plain heaps: a list of objects that never move, static fields and durable roots (JVMS 2.4, 2.5.3; Shull, Huang and
 -- Torrellas, "AutoPersist", PLDI 2019, for durable roots). What their places hold, and what a store changes.
-use Rattle.std.specs.Prelude.{ℕ, ◌<◌, ◌^◌, Bool, false, nat_eq, pos, List, [], ◌∷◌, ◌++◌, map, length, replicate, slice_set, slice_index_or, Option, Some, None, All, ◌||◌, ◌&&◌}
+use Rattle.std.specs.Prelude.{ℕ, ◌<◌, ◌^◌, Bool, false, nat_eq, pos, List, [], ◌∷◌, ◌++◌, map, length, replicate, slice_set, slice_index_or, Some, None, All, ◌||◌, ◌&&◌}
 use Rattle.ap_base.specs.declared.kind.Kind.{Kind}
 use Rattle.ap_base.specs.declared.kind.Kind.TheVariants.{Z, B, C, S, I, J, L, Text}
 use Rattle.ap_base.specs.declared.place.Place.{Place}
@@ -71,7 +71,8 @@ with_slot object i value = record object { values = slice_set object.values i va
 -- The heap after a store: one place has the value, and nothing else has changed.
 abbrev pub stored : Heap → Place → Value → Heap
 stored heap (Static n) value = record heap { statics = slice_set heap.statics n value }
-stored heap (Slot n i) value = record heap { objects = slice_set heap.objects n (with_slot (object_at heap n) i value) }
+stored heap (Slot n i) value =
+    record heap { objects = slice_set heap.objects n (with_slot (object_at heap n) i value) }
 
 -- the values of a new object of this shape: its fields' defaults, or so many elements
 abbrev pub fresh_values : Shape → ℕ → List Value
@@ -82,8 +83,9 @@ fresh_values shape count = elim shape.element [
 
 -- The heap with one more object of this shape, which has the next number.
 abbrev pub with_fresh : Heap → ℕ → ℕ → Heap
-with_fresh heap shape count =
-    record heap { objects = heap.objects ++ record { shape = shape; values = fresh_values (shape_at heap shape) count } ∷ [] }
+with_fresh heap shape count = record heap {
+  objects = heap.objects ++ record { shape = shape; values = fresh_values (shape_at heap shape) count } ∷ [];
+}
 
 -- what the durable roots hold, in order
 abbrev pub root_values : Heap → List Value

@@ -1,0 +1,5 @@
+pub mod Ascending
+pub mod FoundAfter
+pub mod Numbers
+pub mod Placed
+pub mod Stores
