@@ -161,6 +161,7 @@ impl Image for MemoryImage {
         ensures cause { HasCause (faults_of self.old) (faults_of self.new) result }
 
         ensures fails { IsErr result ↔ CallFails (fails_of self.old) (calls_of self.new) }
+        ensures no_fault { OnOk result (faults_of self.new ≡ faults_of self.old) }
         ensures same_fails { fails_of self.new ≡ fails_of self.old }
         ensures same_room { room_of self.new ≡ room_of self.old }
     {
@@ -185,6 +186,7 @@ impl Image for MemoryImage {
         ensures fails { IsErr result ↔ (CallFails (fails_of self.old) (calls_of self.new) ⊎ (room_of self.old ≡ 0)) }
         ensures adds { 0 < room_of self.old → Some (history_of self.new) ≡ did (Wrote line words.now) (calls_of self.new) (Some (history_of self.old)) }
         ensures full { room_of self.old ≡ 0 → history_of self.new ≡ history_of self.old }
+        ensures no_fault { OnOk result (faults_of self.new ≡ faults_of self.old) }
         ensures same_fails { fails_of self.new ≡ fails_of self.old }
         ensures room { room_of self.new ≡ room_of self.old - 1 }
     {
@@ -218,6 +220,7 @@ impl Image for MemoryImage {
         ensures cause { HasCause (faults_of self.old) (faults_of self.new) result }
 
         ensures fails { IsErr result ↔ (CallFails (fails_of self.old) (calls_of self.new) ⊎ (room_of self.old ≡ 0)) }
+        ensures no_fault { OnOk result (faults_of self.new ≡ faults_of self.old) }
         ensures same_fails { fails_of self.new ≡ fails_of self.old }
         ensures room { room_of self.new ≡ room_of self.old - 1 }
     {
