@@ -1,5 +1,5 @@
 // An image in memory, which keeps its writes and fences.
-ghost use Rattle.std.specs.Prelude.{◌≡◌, ◌<◌, ◌≤◌, ◌+◌, ◌-◌, ◌*◌, ◌/◌, ◌^◌, ◌⊎◌, ◌↔◌, ℕ, [], ◌∷◌, List, Some, IfOk, OnOk, OnErr, IsErr, vec_capacity, length, get_or, slice_index, reverse, replicate, All, Contains, IsTrue};
+ghost use Rattle.std.specs.Prelude.{◌≡◌, ◌<◌, ◌≤◌, ◌+◌, ◌-◌, ◌*◌, ◌/◌, ◌^◌, ◌⊎◌, ◌↔◌, ℕ, [], Some, IfOk, OnOk, OnErr, IsErr, vec_capacity, length, get_or, slice_index, reverse, replicate, All, IsTrue};
 ghost use Rattle.line_image.specs.History.{newest, versions_from, is_within};
 ghost use Rattle.line_image.specs.declared.entry.Entry.{Entry};
 

@@ -1,14 +1,14 @@
 -- Calls one after another, and the moments within them.
-use Rattle.std.proofs.Common.{◌≡◌, ◌⊎◌, inl, inr, ⊎_elim, ◌<◌, ◌≤◌, ◌+◌, ◌-◌, ◌^◌, min, ℕ, List, Option, refl, sym, ◌∙◌, ap, subst, arith}
+use Rattle.std.proofs.Common.{◌≡◌, ◌⊎◌, inl, inr, ⊎_elim, ◌<◌, ◌≤◌, ◌+◌, ◌-◌, ℕ, Option, refl, sym, ◌∙◌, ap, subst, arith}
 use Rattle.std.proofs.lemmas.Bool.{cases_lt}
 use Rattle.ap_base.specs.Causes.{next_count}
-use Rattle.line_image.specs.History.{History, Outcome, LeavesNow, LeftWithin, did, IsCounted, history_within}
+use Rattle.line_image.specs.History.{History, Outcome, LeavesNow, did, IsCounted, history_within}
 use Rattle.line_image.specs.declared.entry.Done.{Done}
 use Rattle.line_image.specs.declared.entry.Done.TheVariants.{Wrote, Fenced}
 use Rattle.line_image.proofs.Moments.{within-from_now_on, within-past, within-write, within-fence}
 use Rattle.line_memory.specs.Memory.{Memory, Told, line_shown, shown, CanLeaveAll, OneCall, SameImage, WroteLine, MadeFence, DidNothing}
 use Rattle.line_memory.specs.Moments.{Goes, CountsFrom, EachMoment}
-use Rattle.line_memory.proofs.Stops.{may_leave-wrote, may_leave-fenced}
+use Rattle.line_memory.proofs.Stops.{may_leave-wrote}
 
 -- no call
 pub goes_nowhere : (told : Told) (P : Outcome → Type 0) → Goes told told P

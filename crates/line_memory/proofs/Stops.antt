@@ -1,16 +1,11 @@
 -- What each call of an image does to what a stop may leave.
-use Rattle.std.proofs.Common.{◌≡◌, ◌⊎◌, inl, inr, ⊎_elim, ◌<◌, ◌≤◌, ◌+◌, ◌-◌, ◌^◌, min, ℕ, List, [], ◌∷◌, Option, Some, None, Result, Ok, Err, OnOk, OnErr, true, false, nat_eq, length, get_or, set, slice_index, refl, sym, ◌∙◌, ap, subst, arith, get_or-set_same, get_or-set_other}
-use Rattle.std.proofs.lemmas.List.{set_past}
-use Rattle.std.proofs.lemmas.Bool.{cases_eq, cases_lt}
+use Rattle.std.proofs.Common.{◌≡◌, ◌⊎◌, inl, inr, ⊎_elim, ◌-◌, ℕ, List, [], Option, Some, None, Result, Ok, Err, OnOk, OnErr, true, false, nat_eq, get_or, slice_index, refl, sym, ◌∙◌, ap, subst, arith}
+use Rattle.std.proofs.lemmas.Bool.{cases_eq}
 use Rattle.std.proofs.lemmas.Bool.Decides.{nat_tests}
-use Rattle.line_image.specs.History.{History, Outcome, MayLeave, LeavesNow, OneHas, newest, versions, versions_from, versions_after, read_word, did, Reads, IsSettled, IsCounted, history_within}
-use Rattle.line_image.specs.declared.entry.Entry.{Entry}
-use Rattle.line_image.specs.declared.entry.Done.{Done}
+use Rattle.line_image.specs.History.{History, MayLeave, OneHas, newest, versions, versions_after, did, Reads, IsSettled}
 use Rattle.line_image.specs.declared.entry.Done.TheVariants.{Wrote, Fenced}
-use Rattle.line_image.proofs.Moments.{within-from_now_on, within-past, within-write, within-fence}
 use Rattle.line_image.proofs.Versions.{newest_left}
-use Rattle.line_memory.specs.Memory.{Memory, Told, line_shown, shown, ReadsWord, CanLeave, CanLeaveAll, IsWritten, IsDurable, Narrows, ReadsOrShows, OneCall, SameImage, WroteLine, MadeFence, DidNothing}
-use Rattle.line_memory.specs.Moments.{Goes}
+use Rattle.line_memory.specs.Memory.{Memory, line_shown, shown, ReadsWord, CanLeave, IsWritten, IsDurable, Narrows, ReadsOrShows, WroteLine, MadeFence, DidNothing}
 
 -- What a write did: the line's words came in front of its versions.
 wrote_has : (line l w v : ℕ) (words : List ℕ) (rest : List (List ℕ)) → OneHas (versions_after (Wrote line words) l rest) w v

@@ -2,7 +2,7 @@
 --
 -- A processor's cache holds lines that a stop loses, and writes a line back at any time (PLDI 2019, AutoPersist: CLWB
 -- and SFENCE order what is durable). Other crates speak of a memory by the words below alone.
-use Rattle.std.specs.Prelude.{◌≡◌, ◌⊎◌, ◌<◌, ◌≤◌, ◌+◌, ◌-◌, ◌^◌, min, ℕ, List, [], Option, Some, None, get_or, set, slice_index}
+use Rattle.std.specs.Prelude.{◌≡◌, ◌⊎◌, ◌<◌, ℕ, List, [], Option, Some, None, get_or, slice_index}
 use Rattle.ap_base.specs.Causes.{next_count}
 use Rattle.line_image.specs.History.{History, Outcome, MayLeave, read_word, did}
 use Rattle.line_image.specs.declared.entry.Done.TheVariants.{Wrote, Fenced}

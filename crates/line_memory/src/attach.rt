@@ -1,5 +1,5 @@
 // Reads all lines of an image.
-ghost use Rattle.std.specs.Prelude.{◌≡◌, ◌+◌, ◌-◌, ◌^◌, min, ◌<◌, ◌≤◌, ℕ, [], length, get_or, OnOk, OnErr, IfOk, IsErrOf, ◌≢◌};
+ghost use Rattle.std.specs.Prelude.{◌≡◌, ◌+◌, ◌-◌, ◌^◌, min, ◌<◌, ◌≤◌, ℕ, [], length, get_or, OnOk, IfOk, IsErrOf};
 ghost use Rattle.ap_base.specs.Causes.{Rose};
 ghost use Rattle.line_image.specs.History.{Reads};
 ghost use Rattle.line_memory.specs.declared.attach.AttachFault.TheVariants.{OutOfMemory as NoMemory, ImageFailed as Failed};

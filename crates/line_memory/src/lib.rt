@@ -2,7 +2,11 @@
 #![tactic(auto)]
 
 mod attach;
+mod laws;
 mod memory;
+#[cfg(test)]
+mod tests;
 
 pub use attach::AttachFault;
+pub use laws::laws_of_stop_sets;
 pub use memory::{LineMemory, MAX_LINES, MIN_LINES, Touch};

@@ -1,8 +1,8 @@
 // The lines of an image, kept in memory.
-ghost use Rattle.std.specs.Prelude.{◌≡◌, ◌≢◌, ◌⊎◌, ◌<◌, ◌≤◌, ◌^◌, ℕ, ◌↔◌, IsTrue, OnOk, OnErr, IfOk, IfErr, Ok};
+ghost use Rattle.std.specs.Prelude.{◌≡◌, ◌≢◌, ◌⊎◌, ◌<◌, ◌≤◌, ℕ, ◌↔◌, IsTrue, OnOk, OnErr, IfOk, IfErr, Ok};
 ghost use Rattle.ap_base.specs.Causes.{HasCause, Rose};
 ghost use Rattle.line_image.specs.History.{LeavesNow, IsSettled};
-ghost use Rattle.line_memory.specs.Memory.{Memory, Told, shown, IsResident, IsAwaited, IsKnown, ReadsWord, CanLeave, CanLeaveAll, IsWritten, IsDurable, SameShown, SameResident, KeepsTelling, Narrows, ReadsOrShows, OneCall, SameImage, WroteLine, MadeFence, DidNothing};
+ghost use Rattle.line_memory.specs.Memory.{Memory, shown, IsResident, IsAwaited, IsKnown, ReadsWord, CanLeave, CanLeaveAll, IsWritten, IsDurable, SameShown, SameResident, KeepsTelling, Narrows, ReadsOrShows, OneCall, SameImage, WroteLine, MadeFence, DidNothing};
 ghost use Rattle.line_memory.specs.Moments.{Goes, CountsFrom};
 
 use crate::attach::{AttachFault, read_lines};
@@ -28,8 +28,8 @@ pub struct LineMemory<I: Image> {
 }
 
 impl<I: Image> Model for LineMemory<I> {
-    ghost use Rattle.std.specs.Prelude.{◌≡◌, ◌<◌, ◌^◌, length};
-    ghost use Rattle.line_memory.specs.Memory.{Memory, Told};
+    ghost use Rattle.std.specs.Prelude.{◌≡◌, ◌<◌, length};
+    ghost use Rattle.line_memory.specs.Memory.{Memory};
 
     ghost Value = { Memory };
 

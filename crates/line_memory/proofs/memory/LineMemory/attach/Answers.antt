@@ -1,5 +1,4 @@
-use Rattle.line_memory.specs.Memory.{Told}
-use Rattle.line_memory.proofs.Chain.{goes_quietly, goes_nowhere}
+use Rattle.line_memory.proofs.Chain.{goes_quietly}
 use Rattle.line_memory.proofs.memory.LineMemory.attach.Goals as goal
 
 pub returns-in-Ok-clause-any_moment : goal.returns-in-Ok-clause-any_moment
