@@ -3,7 +3,7 @@
 -- A line write is a write-back of a cache line (CLWB), a fence is an SFENCE, and a word is an aligned store of eight
 -- bytes, which a power failure doesn't tear (Intel 64 and IA-32 Architectures Software Developer's Manual, volume 2;
 -- the AutoPersist paper, PLDI 2019, stands on the same operations).
-use Rattle.std.specs.Prelude.{◌≡◌, ◌⊎◌, ◌<◌, ◌≤◌, ◌^◌, ℕ, List, [], ◌∷◌, Bool, Option, Some, None, get_or, slice_index, if◌then◌else◌, ◌==◌, nat_lt, nat_le, All, length}
+use Rattle.std.specs.Prelude.{◌≡◌, ◌⊎◌, ◌<◌, ◌≤◌, ◌^◌, ℕ, List, [], ◌∷◌, Bool, true, ◌&&◌, Option, Some, None, get_or, slice_index, if◌then◌else◌, ◌==◌, nat_lt, nat_le, All, length}
 use Rattle.line_image.specs.declared.entry.Entry.{Entry}
 use Rattle.line_image.specs.declared.entry.Done.{Done}
 use Rattle.line_image.specs.declared.entry.Done.TheVariants.{Wrote, Fenced}
@@ -23,9 +23,17 @@ abbrev pub versions_after : Done → ℕ → List (List ℕ) → List (List ℕ)
 versions_after (Wrote line words) l versions = if line == l then words ∷ versions else versions
 versions_after Fenced l versions = newest versions ∷ []
 
-abbrev pub versions : List (List ℕ) → List Entry → ℕ → List (List ℕ)
-versions first [] l = get_or first l [] ∷ []
-versions first (entry ∷ done) l = versions_after entry.done l (versions first done l)
+abbrev pub versions_from : List ℕ → List Entry → ℕ → List (List ℕ)
+versions_from first [] l = first ∷ []
+versions_from first (entry ∷ done) l = versions_after entry.done l (versions_from first done l)
+
+abbrev pub versions : History → ℕ → List (List ℕ)
+versions h l = versions_from (get_or h.first l []) h.done l
+
+-- it writes one of so many lines, and eight words
+abbrev pub is_within : ℕ → Done → Bool
+is_within size (Wrote line words) = nat_lt line size && length words == 8
+is_within size Fenced = true
 
 -- one of these versions has this value in the word
 abbrev pub OneHas : List (List ℕ) → ℕ → ℕ → Type 0
@@ -37,7 +45,7 @@ OneHas (words ∷ rest) w v = (v ≡ slice_index words w) ⊎ OneHas rest w v
 -- a stop now leaves this value in a word: the fenced one, or any that a write since has given it
 abbrev pub MayLeave : Option History → ℕ → ℕ → ℕ → Type 0
 MayLeave None l w v = ⊥
-MayLeave (Some h) l w v = OneHas (versions h.first h.done l) w v
+MayLeave (Some h) l w v = OneHas (versions h l) w v
 
 -- the words that a stop leaves, by line and place in the line
 abbrev pub Outcome : Type 0
@@ -68,12 +76,16 @@ LeftWithin o m c = LeavesNow (history_within m o) c
 -- a read of the line gives these words
 abbrev pub Reads : Option History → ℕ → List ℕ → Type 0
 Reads None l words = Unit {0}
-Reads (Some h) l words = words ≡ newest (versions h.first h.done l)
+Reads (Some h) l words = words ≡ newest (versions h l)
+
+-- a word that a read gives
+abbrev pub read_word : History → ℕ → ℕ → ℕ
+read_word h l w = slice_index (newest (versions h l)) w
 
 -- nothing is unfenced: a stop now leaves of each word what a read gives
 abbrev pub IsSettled : Option History → Type 0
 IsSettled None = Unit {0}
-IsSettled (Some h) = (l w v : ℕ) → MayLeave (Some h) l w v → v ≡ slice_index (newest (versions h.first h.done l)) w
+IsSettled (Some h) = (l w v : ℕ) → MayLeave (Some h) l w v → v ≡ read_word h l w
 
 -- after call number `at`, which did this
 abbrev pub did : Done → ℕ → Option History → Option History

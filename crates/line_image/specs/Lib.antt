@@ -1,3 +1,4 @@
 pub mod Closed
+pub mod Crash
 pub mod History
 pub mod Memory

@@ -1,8 +1,10 @@
 // An image in memory, which keeps its writes and fences.
-ghost use Rattle.std.specs.Prelude.{◌≡◌, ◌<◌, ◌≤◌, ◌+◌, ◌-◌, ◌^◌, ◌⊎◌, ◌↔◌, ℕ, [], ◌∷◌, List, Some, IfOk, OnOk, OnErr, IsErr, vec_capacity, length, get_or, slice_index, reverse, replicate, All, Contains, IsTrue};
-ghost use Rattle.line_image.specs.History.{newest, versions};
+ghost use Rattle.std.specs.Prelude.{◌≡◌, ◌<◌, ◌≤◌, ◌+◌, ◌-◌, ◌*◌, ◌/◌, ◌^◌, ◌⊎◌, ◌↔◌, ℕ, [], Some, IfOk, OnOk, OnErr, IsErr, vec_capacity, length, get_or, slice_index, reverse, replicate, All, IsTrue};
+ghost use Rattle.line_image.specs.History.{newest, versions_from, is_within};
 ghost use Rattle.line_image.specs.declared.entry.Entry.{Entry};
 
+use crate::crash::crash_lines;
+use crate::words::lines_of;
 use crate::{Done, Entry, Image, ImageFailed};
 use std::alloc::{AllocError, Global};
 
@@ -37,28 +39,82 @@ pub struct MemoryImage {
     fails: Fails,
     ghost fits_room: { length done.items + room ≤ vec_capacity done },
     ghost same_size: { length latest.items ≡ length first.items },
-    ghost reads: { (l : ℕ) → get_or latest.items l [] ≡ newest (versions first.items (reverse done.items) l) },
+    ghost reads: { (l : ℕ) → get_or latest.items l [] ≡ newest (versions_from (get_or first.items l []) (reverse done.items) l) },
     ghost eights: { All (λ line. length line ≡ 8) first.items },
     ghost fits: { calls < 2 ^ 64 },
+    ghost in_range: { All (λ (entry : Entry). IsTrue (is_within (length first.items) entry.done)) done.items },
     ghost so_far: { All (λ (entry : Entry). entry.at ≤ calls) (reverse done.items) },
 }
 
 impl MemoryImage {
     ghost use Rattle.line_image.specs.Memory.{size_of, history_of, calls_of, faults_of, fails_of, room_of};
+    ghost use Rattle.line_image.specs.History.{LeavesNow, IsSettled, read_word};
+    ghost use Rattle.line_image.specs.Crash.{first_word, word_left};
 
     /// An image of so many lines, all zero. Takes the memory for all writes and fences that `fails` has room for.
     pub fn new(alloc: Global, lines: u64, fails: Fails) -> Result<MemoryImage, AllocError>
         ensures size { IfOk result (λ image. size_of image ≡ lines) }
         ensures zero { IfOk result (λ image. history_of image ≡ record { first = replicate lines (replicate 8 0); done = [] }) }
+        ensures settled { IfOk result (λ image. IsSettled (Some (history_of image))) }
         ensures uncalled { IfOk result (λ image. calls_of image ≡ 0) }
         ensures faultless { IfOk result (λ image. faults_of image ≡ 0) }
         ensures fails { IfOk result (λ image. fails_of image ≡ fails) }
         ensures room { IfOk result (λ image. room_of image ≡ fails.room) }
     {
-        let zero = [0; 8];
+        let first = vec![in alloc; [0; 8]; lines as usize]?;
+        MemoryImage::of_lines(alloc, first, fails)
+    }
+
+    /// An image of these words, eight in a line; a rest of fewer than eight is left out. Takes memory as `new` does.
+    pub fn of_words(alloc: Global, words: &[u64], fails: Fails) -> Result<MemoryImage, AllocError>
+        ensures size { IfOk result (λ image. size_of image ≡ length words.now / 8) }
+        ensures words { IfOk result (λ image. (l w : ℕ) → l < length words.now / 8 → w < 8
+            → first_word (history_of image) l w ≡ slice_index words.now (8 * l + w)) }
+        ensures untouched { IfOk result (λ image. (history_of image).done ≡ []) }
+        ensures settled { IfOk result (λ image. IsSettled (Some (history_of image))) }
+        ensures uncalled { IfOk result (λ image. calls_of image ≡ 0) }
+        ensures faultless { IfOk result (λ image. faults_of image ≡ 0) }
+        ensures fails { IfOk result (λ image. fails_of image ≡ fails) }
+        ensures room { IfOk result (λ image. room_of image ≡ fails.room) }
+    {
+        let first = lines_of(alloc, words)?;
+        MemoryImage::of_lines(alloc, first, fails)
+    }
+
+    /// One outcome of a stop now, as an image with these `fails`: `pick` 0 leaves in each word the fenced value, 1 the
+    /// one that was written last, and any other number chooses by a generator. Takes memory as `new` does.
+    pub fn crash(&self, alloc: Global, pick: u64, fails: Fails) -> Result<MemoryImage, AllocError>
+        ensures size { IfOk result (λ image. size_of image ≡ size_of self.now) }
+        ensures picked { IfOk result (λ image. (l w : ℕ) → l < size_of self.now → w < 8
+            → first_word (history_of image) l w ≡ word_left pick (history_of self.now) l w) }
+        ensures outcome { IfOk result (λ image. LeavesNow (Some (history_of self.now)) (first_word (history_of image))) }
+        ensures untouched { IfOk result (λ image. (history_of image).done ≡ []) }
+        ensures settled { IfOk result (λ image. IsSettled (Some (history_of image))) }
+        ensures uncalled { IfOk result (λ image. calls_of image ≡ 0) }
+        ensures faultless { IfOk result (λ image. faults_of image ≡ 0) }
+        ensures fails { IfOk result (λ image. fails_of image ≡ fails) }
+        ensures room { IfOk result (λ image. room_of image ≡ fails.room) }
+    {
+        let first = crash_lines(alloc, &self.first, &self.latest, &self.done, pick)?;
+        MemoryImage::of_lines(alloc, first, fails)
+    }
+
+    fn of_lines(
+        alloc: Global,
+        first: Vec<[u64; 8]>,
+        fails: Fails,
+    ) -> Result<MemoryImage, AllocError>
+        requires { All (λ line. length line ≡ 8) first.items }
+        ensures fresh { IfOk result (λ image. history_of image ≡ record { first = first.items; done = [] }) }
+        ensures uncalled { IfOk result (λ image. calls_of image ≡ 0) }
+        ensures faultless { IfOk result (λ image. faults_of image ≡ 0) }
+        ensures fails { IfOk result (λ image. fails_of image ≡ fails) }
+        ensures room { IfOk result (λ image. room_of image ≡ fails.room) }
+    {
+        let latest = Vec::from_slice(alloc, &first)?;
         Ok(MemoryImage {
-            first: vec![in alloc; zero; lines as usize]?,
-            latest: vec![in alloc; zero; lines as usize]?,
+            first,
+            latest,
             done: Vec::with_capacity(alloc, fails.room as usize)?,
             room: fails.room,
             calls: 0,
@@ -71,7 +127,7 @@ impl MemoryImage {
     pub fn word(&self, line: u64, word: u8) -> u64
         requires line { line < size_of self.now }
         requires word { word < 8 }
-        ensures reads { result ≡ slice_index (newest (versions (history_of self.now).first (history_of self.now).done line)) word }
+        ensures reads { result ≡ read_word (history_of self.now) line word }
     {
         self.latest[line as usize][word as usize]
     }
@@ -105,6 +161,7 @@ impl Image for MemoryImage {
         ensures cause { HasCause (faults_of self.old) (faults_of self.new) result }
 
         ensures fails { IsErr result ↔ CallFails (fails_of self.old) (calls_of self.new) }
+        ensures no_fault { OnOk result (faults_of self.new ≡ faults_of self.old) }
         ensures same_fails { fails_of self.new ≡ fails_of self.old }
         ensures same_room { room_of self.new ≡ room_of self.old }
     {
@@ -129,6 +186,7 @@ impl Image for MemoryImage {
         ensures fails { IsErr result ↔ (CallFails (fails_of self.old) (calls_of self.new) ⊎ (room_of self.old ≡ 0)) }
         ensures adds { 0 < room_of self.old → Some (history_of self.new) ≡ did (Wrote line words.now) (calls_of self.new) (Some (history_of self.old)) }
         ensures full { room_of self.old ≡ 0 → history_of self.new ≡ history_of self.old }
+        ensures no_fault { OnOk result (faults_of self.new ≡ faults_of self.old) }
         ensures same_fails { fails_of self.new ≡ fails_of self.old }
         ensures room { room_of self.new ≡ room_of self.old - 1 }
     {
@@ -162,6 +220,7 @@ impl Image for MemoryImage {
         ensures cause { HasCause (faults_of self.old) (faults_of self.new) result }
 
         ensures fails { IsErr result ↔ (CallFails (fails_of self.old) (calls_of self.new) ⊎ (room_of self.old ≡ 0)) }
+        ensures no_fault { OnOk result (faults_of self.new ≡ faults_of self.old) }
         ensures same_fails { fails_of self.new ≡ fails_of self.old }
         ensures room { room_of self.new ≡ room_of self.old - 1 }
     {

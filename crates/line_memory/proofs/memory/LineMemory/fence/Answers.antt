@@ -1,0 +1,27 @@
+use Rattle.std.proofs.Common.{◌≡◌, ℕ, List, [], get_or, ap, subst}
+use Rattle.line_image.specs.History.{IsCounted}
+use Rattle.line_memory.specs.Memory.{Memory, Told, line_shown}
+use Rattle.line_memory.proofs.Stops.{either_fence, fence_narrows}
+use Rattle.line_memory.proofs.Chain.{fence_goes}
+use Rattle.line_memory.proofs.memory.LineMemory.fence.Goals as goal
+
+pub returns-clause-leaves : goal.returns-clause-leaves
+unfolding line_shown
+returns-clause-leaves g c =
+    let old : Memory = c.args.self.now in
+    let lines : c.self.inside.lines.items ≡ old.lines = ap (λ (m : Memory). m.lines) c.self.view_is in
+    let told : g.I.Image.history c.self.inside.image ≡ old.image.history = ap (λ (m : Memory). m.image.history) c.self.view_is in
+    let new : Memory = record old { lines = c.self.inside.lines.items; image = record { calls = g.I.Image.calls c.fence.new.self; history = g.I.Image.history c.fence.new.self } } in
+    fence_narrows old new (λ (l : ℕ). ap (λ (all : List (List ℕ)). get_or all l []) lines)
+    (either_fence c.fence.result (rw told at c.fence.ensures.fenced) (rw told at c.fence.ensures.failed))
+
+pub returns-clause-any_moment : goal.returns-clause-any_moment
+returns-clause-any_moment g c =
+    let old : Memory = c.args.self.now in
+    let told : g.I.Image.history c.self.inside.image ≡ old.image.history = ap (λ (m : Memory). m.image.history) c.self.view_is in
+    let calls : g.I.Image.calls c.self.inside.image ≡ old.image.calls = ap (λ (m : Memory). m.image.calls) c.self.view_is in
+    let counted = subst (λ (t : Told). IsCounted (g.I.Image.size c.self.inside.image) t.calls t.history) (ap (λ (m : Memory). m.image) c.self.view_is)
+    (g.met.I.Image.in_order c.self.inside.image) in
+    let new : Memory = record old { image = record { calls = g.I.Image.calls c.fence.new.self; history = g.I.Image.history c.fence.new.self } } in
+    fence_goes (g.I.Image.size c.self.inside.image) old new counted (rw calls at c.fence.ensures.counted)
+    (either_fence c.fence.result (rw told at c.fence.ensures.fenced) (rw told at c.fence.ensures.failed))

@@ -1,0 +1,224 @@
+// The lines of an image, kept in memory.
+ghost use Rattle.std.specs.Prelude.{◌≡◌, ◌≢◌, ◌⊎◌, ◌<◌, ◌≤◌, ℕ, ◌↔◌, IsTrue, OnOk, OnErr, IfOk, IfErr, Ok};
+ghost use Rattle.ap_base.specs.Causes.{HasCause, Rose};
+ghost use Rattle.line_image.specs.History.{LeavesNow, IsSettled};
+ghost use Rattle.line_memory.specs.Memory.{Memory, shown, IsResident, IsAwaited, IsKnown, ReadsWord, CanLeave, CanLeaveAll, IsWritten, IsDurable, SameShown, SameResident, KeepsTelling, Narrows, ReadsOrShows, OneCall, SameImage, WroteLine, MadeFence, DidNothing};
+ghost use Rattle.line_memory.specs.Moments.{Goes, CountsFrom};
+
+use crate::attach::{AttachFault, read_lines};
+use ap_base::Spot;
+use line_image::{Image, ImageFailed};
+use std::alloc::Global;
+use std::marker::Model;
+
+/// What a touch did: the line is resident, or room was made for it and the touch has to be made again.
+#[derive(Clone, Copy, Debug, PartialEq, Eq)]
+pub enum Touch {
+    Ready,
+    Again,
+}
+
+/// The lines of an image, kept in memory as a cache keeps them. Stores change what is shown here; a write-back writes a
+/// line to the image, and a fence makes the written lines durable.
+#[derive(Drop, Debug)]
+pub struct LineMemory<I: Image> {
+    image: I,
+    lines: Vec<[u64; 8]>,
+    calls: u64,
+}
+
+impl<I: Image> Model for LineMemory<I> {
+    ghost use Rattle.std.specs.Prelude.{◌≡◌, ◌<◌, length};
+    ghost use Rattle.line_memory.specs.Memory.{Memory};
+
+    ghost Value = { Memory };
+
+    ghost view = { λ m. record {
+      lines = m.lines.items;
+      size = I.size m.image;
+      calls = m.calls;
+      faults = I.faults m.image;
+      image = record { calls = I.calls m.image; history = I.history m.image };
+    } };
+
+    ghost invariant = { λ m. length m.lines.items ≡ I.size m.image };
+}
+
+/// The fewest lines of an image that can be attached.
+pub const MIN_LINES: u64 = 32_768;
+
+/// The most lines of an image that can be attached.
+pub const MAX_LINES: u64 = 4_194_304;
+
+#[tactic(auto, unfolding(crate::specs::Memory::IsResident, crate::specs::Memory::IsAwaited, crate::specs::Memory::line_shown))]
+impl<I: Image> LineMemory<I> {
+    /// Reads every line of an image. Gives the image back with the fault: `Size` exactly where it has fewer than
+    /// 32,768 or more than 4,194,304 lines.
+    pub fn attach(alloc: Global, mut image: I) -> Result<LineMemory<I>, (AttachFault, I)>
+        ensures size { IfOk result (λ m. m.size ≡ I.size image) }
+        ensures range { IfOk result (λ m. (MIN_LINES ≤ m.size) × (m.size ≤ MAX_LINES)) }
+        ensures known { IfOk result (λ m. (l : ℕ) → l < m.size → IsKnown m l) }
+        ensures shows { IfOk result (λ m. (l w : ℕ) → l < m.size → ReadsWord (I.history image) l w (shown m l w)) }
+        ensures durable { IfOk result (λ m. IsSettled (I.history image) → (l w : ℕ) → l < m.size → IsDurable m l w) }
+        ensures history { IfOk result (λ m. m.image.history ≡ I.history image) }
+        ensures calls { IfOk result (λ m. m.calls ≡ I.size image) }
+        ensures counts { IfOk result (CountsFrom (I.calls image)) }
+        ensures any_moment { IfOk result (λ m. Goes (record { calls = I.calls image; history = I.history image }) m.image (LeavesNow (I.history image))) }
+        ensures later { IfOk result (λ m. I.faults image ≤ m.faults) }
+
+        ensures size_fault { IfErr result (λ e. e.0 ≡ AttachFault.Size ↔ ((I.size image < MIN_LINES) ⊎ (MAX_LINES < I.size image))) }
+        ensures cause { IfErr result (λ e. e.0 ≡ AttachFault.ImageFailed → Rose (I.faults image) (I.faults e.1)) }
+        ensures same_size { IfErr result (λ e. I.size e.1 ≡ I.size image) }
+        ensures same_history { IfErr result (λ e. I.history e.1 ≡ I.history image) }
+        ensures any_moment_of_fault { IfErr result (λ e.
+            Goes (record { calls = I.calls image; history = I.history image }) (record { calls = I.calls e.1; history = I.history e.1 }) (LeavesNow (I.history image))) }
+        ensures later_of_fault { IfErr result (λ e. I.faults image ≤ I.faults e.1) }
+    {
+        let count = image.lines();
+        if count < MIN_LINES || MAX_LINES < count {
+            return Err((AttachFault::Size, image));
+        }
+        match read_lines(alloc, &mut image, count) {
+            Ok(lines) => Ok(LineMemory {
+                image,
+                lines,
+                calls: count,
+            }),
+            Err(fault) => Err((fault, image)),
+        }
+    }
+
+    /// Gives the image back. What is shown and not written is lost.
+    pub fn into_image(self) -> I
+        ensures size { I.size result ≡ self.size }
+        ensures faults { I.faults result ≡ self.faults }
+        ensures calls { I.calls result ≡ self.image.calls }
+        ensures history { I.history result ≡ self.image.history }
+    {
+        self.image
+    }
+
+    /// Makes a line resident, with at most one image call. `Again` asks for the same touch once more, which then is
+    /// `Ready`. The touch of a resident line changes nothing that is seen here.
+    pub fn touch(&mut self, line: u32) -> Result<Touch, ImageFailed>
+        requires { line < self.old.size }
+        ensures ready { IfOk result (λ touch. touch ≡ Touch.Ready → IsResident self.new line) }
+        ensures again { IfOk result (λ touch. touch ≡ Touch.Again → OneCall self.old self.new × ¬ IsResident self.new line × IsAwaited self.new line) }
+        ensures not_twice { IsAwaited self.old line → IfOk result (λ touch. touch ≡ Touch.Ready) }
+        ensures at_once { IsResident self.old line → result ≡ Ok Touch.Ready }
+        ensures quiet { IsResident self.old line → SameImage self.old self.new }
+        ensures resident { IsResident self.old line → SameResident self.old self.new }
+        ensures failed { OnErr result (SameResident self.old self.new) }
+
+        ensures size { self.new.size ≡ self.old.size }
+        ensures shows { SameShown self.old self.new }
+        ensures telling { KeepsTelling self.old self.new }
+        ensures leaves { Narrows self.old self.new }
+        ensures reads { ReadsOrShows self.old self.new }
+        ensures any_moment { Goes self.old.image self.new.image (CanLeaveAll self.old) }
+        ensures count { SameImage self.old self.new ⊎ OneCall self.old self.new }
+        ensures cause { HasCause self.old.faults self.new.faults result }
+    {
+        Ok(Touch::Ready)
+    }
+
+    /// Whether a line is resident.
+    pub fn resident(&self, line: u32) -> bool
+        requires { line < self.now.size }
+        ensures { IsTrue result ↔ IsResident self.now line }
+    {
+        true
+    }
+
+    /// What a word shows.
+    pub fn load(&self, spot: Spot) -> u64
+        requires { IsResident self.now spot.line }
+        ensures { result ≡ shown self.now spot.line spot.word }
+    {
+        self.lines[spot.line as usize][spot.word as usize]
+    }
+
+    /// Changes what a word shows.
+    pub fn store(&mut self, spot: Spot, word: u64)
+        requires { IsResident self.old spot.line }
+        ensures here { shown self.new spot.line spot.word ≡ word }
+        ensures others { (l w : ℕ) → (l ≡ spot.line → w ≢ spot.word) → shown self.new l w ≡ shown self.old l w }
+        ensures size { self.new.size ≡ self.old.size }
+        ensures resident { SameResident self.old self.new }
+        ensures same { SameImage self.old self.new }
+        ensures leaves { (l w v : ℕ) → CanLeave self.new l w v → CanLeave self.old l w v ⊎ ((l ≡ spot.line) × (w ≡ spot.word) × (v ≡ word)) }
+    {
+        self.lines[spot.line as usize][spot.word as usize] = word;
+    }
+
+    /// Writes a line to the image as it is shown. A write that failed may count as made.
+    pub fn write_back(&mut self, line: u32) -> Result<(), ImageFailed>
+        requires in_range { line < self.old.size }
+        requires resident { IsResident self.old line }
+        ensures wrote { OnOk result (WroteLine line self.old self.new) }
+        ensures failed { OnErr result (WroteLine line self.old self.new ⊎ DidNothing self.old self.new) }
+        ensures written { OnOk result ((w : ℕ) → IsWritten self.new line w) }
+
+        ensures size { self.new.size ≡ self.old.size }
+        ensures resident { SameResident self.old self.new }
+        ensures shows { SameShown self.old self.new }
+        ensures telling { KeepsTelling self.old self.new }
+        ensures leaves { Narrows self.old self.new }
+        ensures reads { ReadsOrShows self.old self.new }
+        ensures any_moment { Goes self.old.image self.new.image (CanLeaveAll self.old) }
+        ensures count { OneCall self.old self.new }
+        ensures cause { HasCause self.old.faults self.new.faults result }
+    {
+        self.calls = self.calls.saturating_add(1);
+        self.image
+            .write_line(line as u64, &self.lines[line as usize])
+    }
+
+    /// Makes every earlier write of a line durable. A fence that failed counts as not made.
+    pub fn fence(&mut self) -> Result<(), ImageFailed>
+        ensures fenced { OnOk result (MadeFence self.old self.new) }
+        ensures failed { OnErr result (DidNothing self.old self.new) }
+        ensures durable { OnOk result ((l w : ℕ) → IsWritten self.old l w → IsDurable self.new l w) }
+
+        ensures size { self.new.size ≡ self.old.size }
+        ensures resident { SameResident self.old self.new }
+        ensures shows { SameShown self.old self.new }
+        ensures telling { KeepsTelling self.old self.new }
+        ensures leaves { Narrows self.old self.new }
+        ensures reads { ReadsOrShows self.old self.new }
+        ensures any_moment { Goes self.old.image self.new.image (CanLeaveAll self.old) }
+        ensures count { OneCall self.old self.new }
+        ensures cause { HasCause self.old.faults self.new.faults result }
+    {
+        self.calls = self.calls.saturating_add(1);
+        self.image.fence()
+    }
+
+    /// Writes a line back. The line stays resident.
+    pub fn evict(&mut self, line: u32) -> Result<(), ImageFailed>
+        requires in_range { line < self.old.size }
+        requires resident { IsResident self.old line }
+        ensures wrote { OnOk result (WroteLine line self.old self.new) }
+        ensures failed { OnErr result (WroteLine line self.old self.new ⊎ DidNothing self.old self.new) }
+        ensures written { OnOk result ((w : ℕ) → IsWritten self.new line w) }
+
+        ensures size { self.new.size ≡ self.old.size }
+        ensures resident { SameResident self.old self.new }
+        ensures shows { SameShown self.old self.new }
+        ensures telling { KeepsTelling self.old self.new }
+        ensures leaves { Narrows self.old self.new }
+        ensures reads { ReadsOrShows self.old self.new }
+        ensures any_moment { Goes self.old.image self.new.image (CanLeaveAll self.old) }
+        ensures count { OneCall self.old self.new }
+        ensures cause { HasCause self.old.faults self.new.faults result }
+    {
+        self.write_back(line)
+    }
+
+    /// How many image calls were made, those of the attach among them. The count stays at 2^64 - 1.
+    pub fn calls(&self) -> u64
+        ensures { result ≡ self.now.calls }
+    {
+        self.calls
+    }
+}
