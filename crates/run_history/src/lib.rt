@@ -3,6 +3,7 @@
 
 mod act;
 mod acts;
+pub mod laws;
 mod plain;
 mod watcher;
 
