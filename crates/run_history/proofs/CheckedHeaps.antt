@@ -15,7 +15,7 @@ use Rattle.graph_model.specs.declared.types.Heap.{Heap}
 use Rattle.graph_model.specs.Heaps.{IsSound, IsBelow, default_of, fresh_values, shape_at, with_fresh, stored, object_at, values_of, with_slot, no_object}
 use Rattle.run_history.specs.declared.act.Op.{Op}
 use Rattle.run_history.specs.declared.act.Op.TheVariants as op
-use Rattle.run_history.specs.Worlds.{has_place, is_below, is_next, fits, heap_after_op, heap_after_op_checked}
+use Rattle.run_history.specs.Worlds.{has_place, is_below, is_next, may_have, fits, heap_after_op, heap_after_op_checked}
 
 IsBelow-from_test : (n : ℕ) (value : Value) → is_below n value ≡ true → IsBelow n value
 IsBelow-from_test n (Int i) e = tt
@@ -93,7 +93,7 @@ slot-sound heap n i value sound there below =
 
 fits-sound : (heap : Heap) (o : Op) → IsSound heap → fits heap o ≡ true → IsSound (heap_after_op heap o)
 fits-sound heap (op.Alloc n shape count) sound fit =
-    fresh-sound heap n shape count sound (and_parts (is_next heap n shape) (nat_eq count (length (fresh_values (shape_at heap shape) count))) fit).0
+    fresh-sound heap n shape count sound (and_parts (is_next heap n shape) (may_have (shape_at heap shape) count) fit).0
 fits-sound heap (op.Throw n class) sound fit = fresh-sound heap n class 0 sound fit
 fits-sound heap (op.Stored (Static n) value) sound fit =
     static-sound heap n value sound (IsBelow-from_test (length heap.objects) value (and_parts (has_place heap (Static n)) (is_below (length heap.objects) value) fit).1)

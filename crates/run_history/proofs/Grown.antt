@@ -6,9 +6,9 @@ use Rattle.graph_model.specs.Heaps.{has_number}
 use Rattle.run_history.specs.declared.act.Op.{Op}
 use Rattle.run_history.specs.declared.act.Op.TheVariants as op
 use Rattle.run_history.specs.Recorded.{Recorded}
-use Rattle.run_history.specs.Worlds.{World, depth_of}
+use Rattle.run_history.specs.Worlds.{depth_of}
 use Rattle.run_history.specs.Knowing.{Fate, Sure, Open, Closing, Single, Mark, Known, known_at_first, known_after, known_after_op, next_known, fenced, closed, ended, each_fate, with_sure, fate_of, store_fate, durable_at, is_outermost, is_single, without_number, after_end}
-use Rattle.run_history.specs.Laws.{known_from}
+use Rattle.run_history.specs.Laws.{Past, known_in}
 use Rattle.run_history.proofs.KeptLists.{OfEach}
 
 -- what is known after one more act
@@ -82,7 +82,7 @@ ended-no_single u t (Closing v) h = either (NoSingle t) (nat_eq v u) Sure (Closi
 ended-no_single u t (Single v) h = h
 
 -- what isn't so of fates that a test has taken away
-unless : (P : Fate → Type 0) (b : Bool) (x y : Fate) → P x → (b ≡ false → P y) → P (if b then x else y)
+pub unless : (P : Fate → Type 0) (b : Bool) (x y : Fate) → P x → (b ≡ false → P y) → P (if b then x else y)
 unless P true x y this that = this
 unless P false x y this that = that refl
 
@@ -197,9 +197,10 @@ owes-op known t named (op.Stored place value) owes u h =
 owes-op known t named op.End owes u h = owes-end known t (is_outermost known t) owes u h
 owes-op known t named o owes u h = OfEach-more (NoSingle u) known.marks Sure o (owes u h) refl
 
-pub owes_for_singles : (world : World) (durable : List ℕ) (acts : List Recorded) → OwesForSingles (known_from world durable acts)
-owes_for_singles world durable acts =
-    known_after-keeps OwesForSingles (λ known a. owes-op known a.act.thread a.named a.act.op) (known_at_first world durable) acts (λ t h. tt)
+pub owes_for_singles : (past : Past) → OwesForSingles (known_in past)
+owes_for_singles past =
+    known_after-keeps OwesForSingles (λ known a. owes-op known a.act.thread a.named a.act.op)
+    (known_at_first past.world past.durable) past.acts (λ t h. tt)
 
 -- a store of a thread whose region is closing is not one of an open region; nor is another thread's
 store_fate-not_open : (t u : ℕ) (durable : Bool) (depth : ℕ) (is_closing : Bool) → (nat_eq t u ≡ true → is_closing ≡ true) → NotOpen u (store_fate t durable depth is_closing)
@@ -239,6 +240,7 @@ not_open-op known t named (op.Stored place value) not_open u h =
 not_open-op known t named op.End not_open u h = not_open-end known t (is_outermost known t) not_open u h
 not_open-op known t named o not_open u h = OfEach-more (NotOpen u) known.marks Sure o (not_open u h) refl
 
-pub closing_is_not_open : (world : World) (durable : List ℕ) (acts : List Recorded) → ClosingIsNotOpen (known_from world durable acts)
-closing_is_not_open world durable acts =
-    known_after-keeps ClosingIsNotOpen (λ known a. not_open-op known a.act.thread a.named a.act.op) (known_at_first world durable) acts (λ t h. tt)
+pub closing_is_not_open : (past : Past) → ClosingIsNotOpen (known_in past)
+closing_is_not_open past =
+    known_after-keeps ClosingIsNotOpen (λ known a. not_open-op known a.act.thread a.named a.act.op)
+    (known_at_first past.world past.durable) past.acts (λ t h. tt)

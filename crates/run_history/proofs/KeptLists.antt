@@ -1,7 +1,8 @@
 -- Kept lists: what is kept of longer lists, of marks whose fates have changed, and by other choices.
-use Rattle.std.proofs.Common.{◌≡◌, ℕ, Bool, true, false, List, [], ◌∷◌, ◌++◌, refl, ap, sym, ◌∙◌, cond, nat_eq, ◌&&◌, if◌then◌else◌}
+use Rattle.std.proofs.Common.{◌≡◌, ℕ, Bool, true, false, List, [], ◌∷◌, ◌++◌, refl, ap, sym, ◌∙◌, cond, nat_eq, ◌&&◌, if◌then◌else◌, eq-eqb}
 use Rattle.std.proofs.Math.Path.{fun_ext}
-use Rattle.std.proofs.lemmas.Bool.{eqb-true}
+use Rattle.std.specs.Prelude.{◌≢◌}
+use Rattle.std.proofs.lemmas.Bool.{eqb-true, true≢false}
 use Rattle.std.specs.List.{AllByRecursion, filter}
 use Rattle.graph_model.specs.declared.types.Heap.{Heap}
 use Rattle.graph_model.specs.declared.types.Graph.{Graph}
@@ -30,6 +31,14 @@ but-same_at t b choices same u =
 -- a choice that is replaced by itself
 pub but-same : (t : ℕ) (b : Bool) (choices : ℕ → Bool) → choices t ≡ b → but t b choices ≡ choices
 but-same t b choices same = fun_ext (but-same_at t b choices same)
+
+-- a choice that was replaced
+pub but-own : (t : ℕ) (b : Bool) (choices : ℕ → Bool) → but t b choices t ≡ b
+but-own t b choices = rw (eq-eqb t t refl) refl
+
+-- a fate is not the one that a test tells from it
+pub no_fate : (test : Fate → Bool) (this : Fate) → test this ≡ true → (fate : Fate) → test fate ≡ false → fate ≢ this
+no_fate test this passes fate fails is = true≢false (sym passes ∙ sym (ap test is) ∙ fails)
 
 pub heap_after-append : (first : Heap) (xs ys : List Op) → heap_after first (xs ++ ys) ≡ heap_after (heap_after first xs) ys
 heap_after-append first [] ys = refl

@@ -1,20 +1,18 @@
 -- Regions that are open, closing or at their end: which graphs may be left.
-use Rattle.std.proofs.Common.{◌≡◌, ℕ, Bool, true, false, List, [], ◌∷◌, ◌++◌, refl, ap, sym, ◌∙◌, ◌↔◌, ◌⊎◌, inl, inr, nat_eq, ◌&&◌, not, if◌then◌else◌, eq-eqb}
+use Rattle.std.proofs.Common.{◌≡◌, ℕ, Bool, true, false, List, [], refl, ap, sym, ◌∙◌, ◌↔◌, ◌⊎◌, inl, inr, nat_eq, ◌&&◌, not, if◌then◌else◌, eq-eqb}
 use Rattle.std.specs.Prelude.{◌≢◌, All}
-use Rattle.std.proofs.lemmas.Bool.{true≢false}
 use Rattle.std.proofs.lemmas.List.Elements.{All-from_recursion}
 use Rattle.graph_model.specs.declared.types.Heap.{Heap}
 use Rattle.graph_model.specs.declared.types.Graph.{Graph}
 use Rattle.graph_model.specs.Heaps.{has_number}
 use Rattle.graph_model.specs.Canon.{canon_of}
 use Rattle.run_history.specs.declared.act.Op.TheVariants as op
-use Rattle.run_history.specs.Recorded.{Recorded}
-use Rattle.run_history.specs.Worlds.{World, heap_after}
+use Rattle.run_history.specs.Worlds.{heap_after}
 use Rattle.run_history.specs.Knowing.{Fate, Sure, Open, Closing, Single, Mark, known_at_first, ended, each_fate, with_sure, known_after_op, after_end}
 use Rattle.run_history.specs.Kept.{survives, MayRemain}
-use Rattle.run_history.specs.Laws.{act_by, known_from, marks_from, Allows, graph_left, is_open, without_open, is_closing_of, with_region, without_region, IsAtItsEnd}
-use Rattle.run_history.proofs.KeptLists.{but, but-same, kept-with_sure, kept-each_fate, kept-filter, each_fate-agree, remains, left_by}
-use Rattle.run_history.proofs.Grown.{known_after-append, OfEach-more, OfEach-each_fate, OfEach-weaker, OfEach-any, Any, NotOpen, is_open_of, closing_is_not_open}
+use Rattle.run_history.specs.Laws.{Past, further, known_in, marks_in, Allows, graph_left, is_open, without_open, is_closing_of, with_region, without_region, IsAtItsEnd}
+use Rattle.run_history.proofs.KeptLists.{but, but-same, kept-with_sure, kept-each_fate, kept-filter, each_fate-agree, remains, left_by, no_fate}
+use Rattle.run_history.proofs.Grown.{known_after-append, OfEach-more, OfEach-each_fate, OfEach-weaker, OfEach-any, Any, NotOpen, is_open_of, unless, closing_is_not_open}
 
 -- Open regions: their stores are never kept.
 survives-without_open : (regions singles : ℕ → Bool) (fate : Fate) → survives regions singles fate ≡ (not (is_open fate) && survives regions singles fate)
@@ -99,10 +97,6 @@ ended-with_region t (Single u) h = refl
 abbrev NoRegion : ℕ → Fate → Type 0
 NoRegion t fate = (is_open_of t fate ≡ false) × (is_closing_of t fate ≡ false)
 
-unless : (P : Fate → Type 0) (b : Bool) (x y : Fate) → P x → (b ≡ false → P y) → P (if b then x else y)
-unless P true x y this that = this
-unless P false x y this that = that refl
-
 ended-own : (t : ℕ) (fate : Fate) → NoRegion t (ended t fate)
 ended-own t Sure = (refl, refl)
 ended-own t (Open u) = unless (NoRegion t) (nat_eq u t) Sure (Open u) (refl, refl) (λ e. (e, refl))
@@ -117,37 +111,37 @@ end_remains first ms g = (
       remains first (with_sure ms op.End) g regions singles (e ∙ sym (ap canon_of (kept-with_sure regions singles first ms op.End))),
 )
 
--- no mark has this fate, where a test of it tells
-no_fate : (test : Fate → Bool) (this fate : Fate) → test this ≡ true → test fate ≡ false → fate ≢ this
-no_fate test this fate passes fails is = true≢false (sym passes ∙ sym (ap test is) ∙ fails)
+-- the marks after thread t's last End
+abbrev after_last : ℕ → List Mark → List Mark
+after_last t ms = with_sure (each_fate (ended t) ms) op.End
 
-module _ (world : World) (durable : List ℕ) (acts : List Recorded) (t : ℕ) where
-  marks-end : (at : ℕ) → IsAtItsEnd (known_from world durable acts) t
-      → marks_from world durable (acts ++ act_by t at op.End ∷ []) ≡ with_sure (each_fate (ended t) (marks_from world durable acts)) op.End
+module _ (past : Past) (t : ℕ) where
+  marks-end : (at : ℕ) → IsAtItsEnd (known_in past) t → marks_in (further past t at op.End) ≡ after_last t (marks_in past)
   unfolding known_after_op
   marks-end at ends =
-      ap (λ k. k.marks) (known_after-append (known_at_first world durable) acts (act_by t at op.End))
-      ∙ ap (λ b. (after_end (known_from world durable acts) t b).marks) ends.outermost
+      ap (λ k. k.marks) (known_after-append (known_at_first past.world past.durable) past.acts (record { act = record { thread = t; at = at; op = op.End }; named = [] }))
+      ∙ ap (λ b. (after_end (known_in past) t b).marks) ends.outermost
 
-  pub end_allows : (at : ℕ) (g : Graph) → IsAtItsEnd (known_from world durable acts) t
-      → Allows world durable (acts ++ act_by t at op.End ∷ []) g ↔ MayRemain world.heap (with_region t (marks_from world durable acts)) g
+  pub end_allows : (at : ℕ) (g : Graph) → IsAtItsEnd (known_in past) t
+      → Allows (further past t at op.End) g ↔ MayRemain past.world.heap (with_region t (marks_in past)) g
   end_allows at g ends =
-      let settled = each_fate-agree (ended t) (λ fate. if is_closing_of t fate then Sure else fate) (NotOpen t) (ended-with_region t)
-      (marks_from world durable acts) (closing_is_not_open world durable acts t ends.closing) in
-      rw (marks-end at ends, settled) (end_remains world.heap (with_region t (marks_from world durable acts)) g)
+      let sure = each_fate-agree (ended t) (λ fate. if is_closing_of t fate then Sure else fate) (NotOpen t) (ended-with_region t)
+      (marks_in past) (closing_is_not_open past t ends.closing) in
+      rw (marks-end at ends, sure) (end_remains past.world.heap (with_region t (marks_in past)) g)
 
-  pub end_leaves_no_region : (at : ℕ) → IsAtItsEnd (known_from world durable acts) t
-      → All (λ (m : Mark). (m.fate ≢ Open t) × (m.fate ≢ Closing t)) (marks_from world durable (acts ++ act_by t at op.End ∷ []))
+  pub end_leaves_no_region : (at : ℕ) → IsAtItsEnd (known_in past) t
+      → All (λ (m : Mark). (m.fate ≢ Open t) × (m.fate ≢ Closing t)) (marks_in (further past t at op.End))
   end_leaves_no_region at ends =
       let Apart : Fate → Type 0 = λ fate. (fate ≢ Open t) × (fate ≢ Closing t) in
-      let own = OfEach-each_fate Any (NoRegion t) (ended t) (λ fate _. ended-own t fate) (marks_from world durable acts) (OfEach-any (marks_from world durable acts)) in
-      let apart : (fate : Fate) → NoRegion t fate → Apart fate
-      = λ fate none. (no_fate (is_open_of t) (Open t) fate (eq-eqb t t refl) none.0, no_fate (is_closing_of t) (Closing t) fate (eq-eqb t t refl) none.1) in
-      rw (marks-end at ends) (All-from_recursion (λ (m : Mark). Apart m.fate) _ (
-      OfEach-weaker (NoRegion t) Apart apart _ (OfEach-more (NoRegion t) (each_fate (ended t) (marks_from world durable acts)) Sure op.End own (refl, refl))))
+      let own = OfEach-each_fate Any (NoRegion t) (ended t) (λ fate _. ended-own t fate) (marks_in past) (OfEach-any (marks_in past)) in
+      let none = OfEach-more (NoRegion t) (each_fate (ended t) (marks_in past)) Sure op.End own (refl, refl) in
+      let not_open = no_fate (is_open_of t) (Open t) (eq-eqb t t refl) in
+      let not_closing = no_fate (is_closing_of t) (Closing t) (eq-eqb t t refl) in
+      let apart = OfEach-weaker (NoRegion t) Apart (λ fate no. (not_open fate no.0, not_closing fate no.1)) (after_last t (marks_in past)) none in
+      rw (marks-end at ends) (All-from_recursion (λ (m : Mark). Apart m.fate) (after_last t (marks_in past)) apart)
 
-  pub closing_not_open : has_number (known_from world durable acts).closing t ≡ true → All (λ (m : Mark). m.fate ≢ Open t) (marks_from world durable acts)
+  pub closing_not_open : has_number (known_in past).closing t ≡ true → All (λ (m : Mark). m.fate ≢ Open t) (marks_in past)
   closing_not_open closing =
       let Apart : Fate → Type 0 = λ fate. fate ≢ Open t in
-      All-from_recursion (λ (m : Mark). Apart m.fate) _ (
-      OfEach-weaker (NotOpen t) Apart (λ fate none. no_fate (is_open_of t) (Open t) fate (eq-eqb t t refl) none) _ (closing_is_not_open world durable acts t closing))
+      let apart = OfEach-weaker (NotOpen t) Apart (no_fate (is_open_of t) (Open t) (eq-eqb t t refl)) (marks_in past) (closing_is_not_open past t closing) in
+      All-from_recursion (λ (m : Mark). Apart m.fate) (marks_in past) apart

@@ -5,8 +5,9 @@ use Rattle.ap_base.specs.declared.place.Place.{Place}
 use Rattle.ap_base.specs.declared.place.Place.TheVariants.{Static, Slot}
 use Rattle.graph_model.specs.declared.types.Value.{Value}
 use Rattle.graph_model.specs.declared.types.Value.TheVariants.{Int, Long, Null, Obj as Reference}
+use Rattle.graph_model.specs.declared.types.Shape.{Shape}
 use Rattle.graph_model.specs.declared.types.Heap.{Heap}
-use Rattle.graph_model.specs.Heaps.{stored, with_fresh, shape_at, fresh_values, values_of}
+use Rattle.graph_model.specs.Heaps.{stored, with_fresh, shape_at, values_of}
 use Rattle.run_history.specs.declared.act.PlainKey.{PlainKey}
 use Rattle.run_history.specs.declared.act.PlainKey.TheVariants.{Object, Class}
 use Rattle.run_history.specs.declared.act.Stage.TheVariants as stage
@@ -94,14 +95,19 @@ is_below n (Long i) = true
 is_below n Null = true
 is_below n (Reference m) = nat_lt m n
 
--- whether n is the number of the next object, and its shape is there
+-- whether n is the number of the next object, of which there may be fewer than 2 ^ 32, and its shape is there
 abbrev pub is_next : Heap → ℕ → ℕ → Bool
-is_next heap n shape = nat_eq n (length heap.objects) && nat_lt (suc n) (2 ^ 32) && nat_lt shape (length heap.shapes)
+is_next heap n shape =
+    nat_eq n (length heap.objects) && nat_lt (suc n) (2 ^ 32) && nat_lt shape (length heap.shapes)
 
--- Whether an operation fits the heap: a new object has the next number, a shape that is there, and as many slots as the
--- shape gives it; a store's place is there, and its value is no object that isn't.
+-- whether an object of this shape may have so many slots: as many as its fields, or any number of elements
+abbrev pub may_have : Shape → ℕ → Bool
+may_have shape count = elim shape.element [ None ↦ nat_eq count (length shape.fields) | Some kind ↦ true ]
+
+-- Whether an operation fits the heap: a new object has the next number, a shape that is there, and as many slots as that
+-- may have; a store's place is there, and so is the object that it stores, if it stores one.
 abbrev pub fits : Heap → Op → Bool
-fits heap (op.Alloc n shape count) = is_next heap n shape && nat_eq count (length (fresh_values (shape_at heap shape) count))
+fits heap (op.Alloc n shape count) = is_next heap n shape && may_have (shape_at heap shape) count
 fits heap (op.Throw n class) = is_next heap n class
 fits heap (op.Stored place value) = has_place heap place && is_below (length heap.objects) value
 fits heap _ = true
