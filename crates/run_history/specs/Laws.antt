@@ -106,7 +106,8 @@ without_region t marks = filter (λ (m : Mark). not (is_closing_of t m.fate)) ma
 abbrev pub ClosingRegionIsWhole : Type 0
 ClosingRegionIsWhole = (past : Past) (t : ℕ) (g : Graph)
     → Allows past g
-    ↔ (MayRemain past.world.heap (with_region t (marks_in past)) g ⊎ MayRemain past.world.heap (without_region t (marks_in past)) g)
+    ↔ (MayRemain past.world.heap (with_region t (marks_in past)) g
+    ⊎ MayRemain past.world.heap (without_region t (marks_in past)) g)
 
 -- While a thread's region is closing, none of its stores is one of an open region.
 abbrev pub ClosingRegionIsNotOpen : Type 0

@@ -95,7 +95,7 @@ is_below n (Long i) = true
 is_below n Null = true
 is_below n (Reference m) = nat_lt m n
 
--- whether n is the number of the next object, of which there may be fewer than 2 ^ 32, and its shape is there
+-- whether n is the number of the next object, there are then fewer than 2 ^ 32 objects, and its shape is there
 abbrev pub is_next : Heap → ℕ → ℕ → Bool
 is_next heap n shape =
     nat_eq n (length heap.objects) && nat_lt (suc n) (2 ^ 32) && nat_lt shape (length heap.shapes)
@@ -104,8 +104,8 @@ is_next heap n shape =
 abbrev pub may_have : Shape → ℕ → Bool
 may_have shape count = elim shape.element [ None ↦ nat_eq count (length shape.fields) | Some kind ↦ true ]
 
--- Whether an operation fits the heap: a new object has the next number, a shape that is there, and as many slots as that
--- may have; a store's place is there, and so is the object that it stores, if it stores one.
+-- Whether an operation fits the heap: a new object has the next number, a shape that is there, and as many slots as
+-- that may have; a store's place is there, and so is the object that it stores, if it stores one.
 abbrev pub fits : Heap → Op → Bool
 fits heap (op.Alloc n shape count) = is_next heap n shape && may_have (shape_at heap shape) count
 fits heap (op.Throw n class) = is_next heap n class

@@ -1,5 +1,5 @@
-//! Laws of histories. Each function states one in its contract, and does nothing: the law holds of all acts, from any world
-//! with any durable objects.
+//! Laws of histories. Each function states one in its contract, and does nothing: the law holds of all acts, from any
+//! world with any durable objects.
 ghost use Rattle.run_history.specs.Laws.{SingleStoreIsOpen, FencedStoreIsThere, FenceKeepsTheStore, FenceLeavesNoSingle, OpenRegionIsNeverThere, ClosingRegionIsWhole, EndedRegionIsThere, EndLeavesNoRegion, ClosingRegionIsNotOpen, FurtherActBefore, ActsBeforeAreAFront, AllActsBefore, CheckedHeapIsSound};
 ghost use Rattle.run_history.specs.Ring.{RingHasTwoGraphs, RingHasOneGraph};
 
