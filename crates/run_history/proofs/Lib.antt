@@ -1,1 +1,7 @@
+pub mod ActsBefore
+pub mod CheckedHeaps
+pub mod Grown
 pub mod HeldLaws
+pub mod KeptLists
+pub mod RegionLaws
+pub mod StoreLaws

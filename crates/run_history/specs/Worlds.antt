@@ -1,8 +1,13 @@
 -- The plain world: one unmoving heap, the monitors that are held, how far each class is initialised, and the threads
 -- (JVMS 2.5, 2.11.10, 5.5). What each operation does to it needs no request: the act alone tells it.
-use Rattle.std.specs.Prelude.{ℕ, zero, suc, pred, Bool, true, false, nat_eq, List, [], ◌∷◌, ◌++◌, slice_set, slice_get, Option, Some, None, if◌then◌else◌}
+use Rattle.std.specs.Prelude.{ℕ, zero, suc, pred, ◌^◌, Bool, true, false, ◌&&◌, nat_eq, nat_lt, List, [], ◌∷◌, ◌++◌, length, slice_set, slice_get, Option, Some, None, if◌then◌else◌}
+use Rattle.ap_base.specs.declared.place.Place.{Place}
+use Rattle.ap_base.specs.declared.place.Place.TheVariants.{Static, Slot}
+use Rattle.graph_model.specs.declared.types.Value.{Value}
+use Rattle.graph_model.specs.declared.types.Value.TheVariants.{Int, Long, Null, Obj as Reference}
+use Rattle.graph_model.specs.declared.types.Shape.{Shape}
 use Rattle.graph_model.specs.declared.types.Heap.{Heap}
-use Rattle.graph_model.specs.Heaps.{stored, with_fresh}
+use Rattle.graph_model.specs.Heaps.{stored, with_fresh, shape_at, values_of}
 use Rattle.run_history.specs.declared.act.PlainKey.{PlainKey}
 use Rattle.run_history.specs.declared.act.PlainKey.TheVariants.{Object, Class}
 use Rattle.run_history.specs.declared.act.Stage.TheVariants as stage
@@ -77,6 +82,39 @@ heap_after_op heap _ = heap
 abbrev pub heap_after : Heap → List Op → Heap
 heap_after heap [] = heap
 heap_after heap (o ∷ os) = heap_after (heap_after_op heap o) os
+
+-- whether the heap has this place
+abbrev pub has_place : Heap → Place → Bool
+has_place heap (Static n) = nat_lt n (length heap.statics)
+has_place heap (Slot n i) = nat_lt n (length heap.objects) && nat_lt i (length (values_of heap n))
+
+-- whether a value is no object, or one of the first n
+abbrev pub is_below : ℕ → Value → Bool
+is_below n (Int i) = true
+is_below n (Long i) = true
+is_below n Null = true
+is_below n (Reference m) = nat_lt m n
+
+-- whether n is the number of the next object, there are then fewer than 2 ^ 32 objects, and its shape is there
+abbrev pub is_next : Heap → ℕ → ℕ → Bool
+is_next heap n shape =
+    nat_eq n (length heap.objects) && nat_lt (suc n) (2 ^ 32) && nat_lt shape (length heap.shapes)
+
+-- whether an object of this shape may have so many slots: as many as its fields, or any number of elements
+abbrev pub may_have : Shape → ℕ → Bool
+may_have shape count = elim shape.element [ None ↦ nat_eq count (length shape.fields) | Some kind ↦ true ]
+
+-- Whether an operation fits the heap: a new object has the next number, a shape that is there, and as many slots as
+-- that may have; a store's place is there, and so is the object that it stores, if it stores one.
+abbrev pub fits : Heap → Op → Bool
+fits heap (op.Alloc n shape count) = is_next heap n shape && may_have (shape_at heap shape) count
+fits heap (op.Throw n class) = is_next heap n class
+fits heap (op.Stored place value) = has_place heap place && is_below (length heap.objects) value
+fits heap _ = true
+
+-- the heap after an operation that fits it; one that doesn't changes nothing
+abbrev pub heap_after_op_checked : Heap → Op → Heap
+heap_after_op_checked heap o = if fits heap o then heap_after_op heap o else heap
 
 abbrev pub monitors_after_op : List Monitor → ℕ → Op → List Monitor
 monitors_after_op monitors t (op.Enter key) = entered monitors key t

@@ -3,7 +3,10 @@
 
 mod act;
 mod acts;
+pub mod laws;
 mod plain;
+#[cfg(test)]
+mod tests;
 mod watcher;
 
 pub use act::{Act, Op, PlainKey, Stage};
