@@ -3,6 +3,7 @@ pub mod Duties
 pub mod Ends
 pub mod Facts
 pub mod First
+pub mod Laws
 pub mod Requests
 pub mod Runs
 pub mod Steps
