@@ -1,7 +1,7 @@
 -- What a class set tells, as plain data: classes by number, static fields, literals, and the classes that the runtime knows.
 -- Classes are numbered from 0: the class files in the order in which they were read, the built-in classes by their names'
 -- bytes, the array types by descriptor.
-use Rattle.std.specs.Prelude.{ℕ, ℤ, pos, ◌%◌, Bool, false, List, [], map, slice_index_or, Option}
+use Rattle.std.specs.Prelude.{ℕ, ◌<◌, ℤ, pos, ◌%◌, Bool, false, List, [], map, length, slice_index_or, Option, Some, None, All}
 use Rattle.std.specs.Int.{w8, w16, cast_signed, cast_unsigned}
 use Rattle.ap_base.specs.declared.kind.Kind.{Kind}
 use Rattle.ap_base.specs.declared.kind.Kind.TheVariants.{Z, B, C, S}
@@ -103,3 +103,18 @@ narrowed B (Int i) = Int (cast_signed w8 (cast_unsigned w8 i))
 narrowed C (Int i) = Int (pos (cast_unsigned w16 i))
 narrowed S (Int i) = Int (cast_signed w16 (cast_unsigned w16 i))
 narrowed kind value = value
+
+-- the constant is a number, or one of so many literals
+abbrev pub IsConstantBelow : ℕ → Option Constant → Type 0
+IsConstantBelow n None = Unit {0}
+IsConstantBelow n (Some (IntConstant i)) = Unit {0}
+IsConstantBelow n (Some (LongConstant i)) = Unit {0}
+IsConstantBelow n (Some (LiteralConstant k)) = k < n
+
+-- The numbers that a set's facts give are there: those of the classes that the runtime makes objects of, and of literals.
+pub record IsConsistent (set : SetFacts) : Type 0 where
+  pub string : set.known.string < length set.classes
+  pub stream : set.stream < length set.classes
+  pub arguments : set.arguments < length set.classes
+  pub throwables : (which : Throws) → thrown_class set which < length set.classes
+  pub constants : All (λ (s : StaticFacts). IsConstantBelow (length set.literals) s.constant) set.statics

@@ -4,5 +4,9 @@
 mod laws;
 mod throws;
 
-pub use laws::{one_more_act, output_is_that_of_the_acts};
+pub use laws::{
+    a_fit_step_keeps_the_heap_sound, durable_objects_stay, durable_places_refer_to_durable_objects,
+    one_more_act, only_what_was_wanted_becomes_durable, output_is_that_of_the_acts,
+    steps_are_functions, the_first_heap_is_sound,
+};
 pub use throws::Throws;
