@@ -1,8 +1,13 @@
 pub mod Appended
 pub mod Closed
+pub mod ClosedTest
 pub mod Durable
 pub mod FirstSound
+pub mod Fencing
+pub mod Narrowing
 pub mod Pending
 pub mod Printed
+pub mod Publishing
+pub mod Region
 pub mod StepSound
 pub mod Wanted

@@ -5,5 +5,6 @@ pub mod Facts
 pub mod First
 pub mod Laws
 pub mod Requests
+pub mod Rows
 pub mod Runs
 pub mod Steps
