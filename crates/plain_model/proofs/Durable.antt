@@ -1,7 +1,8 @@
 -- Which objects are durable after a history, and the world after it.
-use Rattle.std.proofs.Common.{◌≡◌, ◌⊎◌, inl, inr, ℕ, zero, suc, ◌<◌, Bool, true, false, List, [], ◌∷◌, ◌++◌, refl, ap, ◌∙◌, nat_eq, ◌||◌, not, cond, if◌then◌else◌, arith, eq-eqb}
+use Rattle.std.proofs.Common.{◌≡◌, ◌⊎◌, inl, inr, sym, ℕ, zero, suc, ◌<◌, Bool, true, false, List, [], ◌∷◌, ◌++◌, refl, ap, ◌∙◌, nat_eq, ◌||◌, not, cond, if◌then◌else◌, arith, eq-eqb}
 use Rattle.std.specs.Prelude.{All}
 use Rattle.std.proofs.lemmas.Bool.{eqb-true, cases_lt}
+use Rattle.std.proofs.lemmas.List.{append-nil}
 use Rattle.std.proofs.lemmas.List.Elements.{All-nil, All-head, All-tail, All-push, All-weaker}
 use Rattle.graph_model.specs.Heaps.{has_number}
 use Rattle.run_history.specs.declared.act.Op.{Op}
@@ -50,16 +51,12 @@ abbrev pub made_durable : Op → List ℕ → List ℕ
 made_durable op.Joined named = named
 made_durable o named = []
 
-append_nil : (xs : List ℕ) → xs ≡ xs ++ []
-append_nil [] = refl
-append_nil (x ∷ xs) = ap (λ ys. x ∷ ys) (append_nil xs)
-
 pub durable-known_after_op : (known : Known) (t : ℕ) (named : List ℕ) (o : Op)
     → (known_after_op known t named o).durable ≡ known.durable ++ made_durable o named
 unfolding known_after_op
 durable-known_after_op known t named op.Joined = refl
-durable-known_after_op known t named op.End = durable_after_end known t (is_outermost known t) ∙ append_nil known.durable
-durable-known_after_op known t named o = append_nil known.durable
+durable-known_after_op known t named op.End = durable_after_end known t (is_outermost known t) ∙ sym (append-nil known.durable)
+durable-known_after_op known t named o = sym (append-nil known.durable)
 
 pub durable_stays : (known : Known) (acts : List Recorded) (n : ℕ)
     → has_number known.durable n ≡ true → has_number (known_after known acts).durable n ≡ true

@@ -9,5 +9,7 @@ pub mod Pending
 pub mod Printed
 pub mod Publishing
 pub mod Region
+pub mod RunSound
 pub mod StepSound
+pub mod Visible
 pub mod Wanted

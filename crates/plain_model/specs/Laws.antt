@@ -1,5 +1,5 @@
 -- What holds of every plain run and of every history, whatever the class set, the opening graph and the code.
-use Rattle.std.specs.Prelude.{◌≡◌, ◌⊎◌, ◌↔◌, ℕ, ◌<◌, true, not, ◌^◌, List, [], ◌∷◌, ◌++◌, map, filter, length, Some, All}
+use Rattle.std.specs.Prelude.{◌≡◌, ◌⊎◌, ◌↔◌, ℕ, ◌<◌, true, false, not, ◌^◌, List, [], ◌∷◌, ◌++◌, map, filter, length, Some, All}
 use Rattle.graph_model.specs.declared.types.Value.TheVariants.{Obj as Object}
 use Rattle.graph_model.specs.declared.types.Graph.{Graph}
 use Rattle.graph_model.specs.Heaps.{has_number, IsSound}
@@ -15,8 +15,8 @@ use Rattle.plain_model.specs.First.{first_heap, IsOpening}
 use Rattle.plain_model.specs.Requests.{PlainRequest, PlainReply}
 use Rattle.plain_model.specs.Steps.{Does, step}
 use Rattle.plain_model.specs.Codes.{Code, is_persistent, frames_after_op}
-use Rattle.plain_model.specs.Runs.{MayAct, IsPlainRun, known_of, wants_of, frames_of, request_after, output_of}
-use Rattle.plain_model.specs.Duties.{IsFit}
+use Rattle.plain_model.specs.Runs.{IsAbout, MayAct, IsPlainRun, known_of, wants_of, frames_of, request_after, output_of}
+use Rattle.plain_model.specs.Duties.{IsFit, KeepsDuties}
 
 -- The history with one more act is a plain run exactly where the history is one and the act may come next. What is known,
 -- what is wanted and the frames go on by that act.
@@ -41,6 +41,14 @@ OneMoreAct Frames = (set : SetFacts) (main : ℕ) (opening : Graph) (code : Code
 abbrev pub FrontsArePlainRuns : Type 0 → Type 0
 FrontsArePlainRuns Frames = (set : SetFacts) (main : ℕ) (opening : Graph) (code : Code set main opening Frames)
     (front rest : List Recorded) → IsPlainRun set main opening code (front ++ rest) → IsPlainRun set main opening code front
+
+-- Each visible act of a plain run is what the plain step of its thread's request does.
+abbrev pub VisibleActsAreSteps : Type 0 → Type 0
+VisibleActsAreSteps Frames = (set : SetFacts) (main : ℕ) (opening : Graph) (code : Code set main opening Frames)
+    (front : List Recorded) (a : Recorded) (rest : List Recorded) → IsPlainRun set main opening code (front ++ a ∷ rest)
+    → is_persistent a.act.op ≡ false
+    → IsAbout set (known_of set main opening code front) (request_after set main opening code front a.act.thread)
+    a.act.thread a.act.op
 
 abbrev pub ops_of : List Recorded → List Op
 ops_of acts = map (λ (a : Recorded). a.act.op) acts
@@ -143,3 +151,10 @@ FitStepsKeepHeapsSound = (set : SetFacts) (world : World) (t taken : ℕ) (reque
     → IsConsistent set → world.heap.shapes ≡ shapes_of set → IsSound world.heap → IsFit set world t request
     → step set world t taken request ≡ Does o r → length (heap_after_op world.heap o).objects < 2 ^ 32
     → IsSound (heap_after_op world.heap o)
+
+-- After a plain run of code that keeps its duties the heap is sound, where it has fewer than 2^32 objects.
+abbrev pub HeapsOfRunsAreSound : Type 0 → Type 0
+HeapsOfRunsAreSound Frames = (set : SetFacts) (main : ℕ) (opening : Graph) (code : Code set main opening Frames) (acts : List Recorded)
+    → IsConsistent set → IsOpening set opening → KeepsDuties set main opening code → IsPlainRun set main opening code acts
+    → length (known_of set main opening code acts).world.heap.objects < 2 ^ 32
+    → IsSound (known_of set main opening code acts).world.heap

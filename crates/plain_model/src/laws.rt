@@ -1,13 +1,14 @@
 // Laws of plain runs and histories: each is the contract of a function that does nothing. `Frames` is what code keeps of a thread.
-ghost use Rattle.plain_model.specs.Laws.{OneMoreAct, FrontsArePlainRuns, OutputOfParts, OutputByOperations};
+ghost use Rattle.plain_model.specs.Laws.{OneMoreAct, FrontsArePlainRuns, VisibleActsAreSteps, OutputOfParts, OutputByOperations};
 ghost use Rattle.plain_model.specs.Laws.{DurableReferToDurable, OnlyWantedBecomesDurable, WantsForTheAsked, WantsNothingAtFirst};
 ghost use Rattle.plain_model.specs.Laws.{PendingWasAsked, DurableObjectsStay, WorldByVisibleActs, PersistenceLeavesTheWorld};
-ghost use Rattle.plain_model.specs.Laws.{FirstHeapIsSound, FitStepsKeepHeapsSound};
+ghost use Rattle.plain_model.specs.Laws.{FirstHeapIsSound, FitStepsKeepHeapsSound, HeapsOfRunsAreSound};
 
 /// A plain run goes on by exactly the acts that may come next.
 pub fn one_more_act<Frames>()
     ensures goes_on { OneMoreAct Frames }
     ensures fronts { FrontsArePlainRuns Frames }
+    ensures steps { VisibleActsAreSteps Frames }
 {}
 
 /// The output of a history is that of its parts, and its operations alone tell it.
@@ -48,4 +49,9 @@ pub fn the_first_heap_is_sound()
 /// A step of a fit request keeps the heap sound.
 pub fn a_fit_step_keeps_the_heap_sound()
     ensures { FitStepsKeepHeapsSound }
+{}
+
+/// The heap is sound after every plain run of code that keeps its duties.
+pub fn the_heap_of_a_plain_run_is_sound<Frames>()
+    ensures { HeapsOfRunsAreSound Frames }
 {}
