@@ -111,7 +111,8 @@ IsConstantBelow n (Some (IntConstant i)) = Unit {0}
 IsConstantBelow n (Some (LongConstant i)) = Unit {0}
 IsConstantBelow n (Some (LiteralConstant k)) = k < n
 
--- The numbers that a set's facts give are there: those of the classes that the runtime makes objects of, and of literals.
+-- The numbers that a set's facts give are there: those of the classes of which the runtime itself makes objects,
+-- and those of literals.
 pub record IsConsistent (set : SetFacts) : Type 0 where
   pub string : set.known.string < length set.classes
   pub stream : set.stream < length set.classes

@@ -148,7 +148,8 @@ pub record IsOpening (set : SetFacts) (opening : Graph) : Type 0 where
   pub values : All (λ (n : Node). let shape = (class_at set (class_named set.classes n.shape.name)).shape in
       Fills shape.element shape.fields n.values) opening.nodes
   -- each durable root of the set is one of the graph's roots, and no two of these have one name
-  pub has_roots : All (λ (s : StaticFacts). s.is_root ≡ true → Contains (map (λ (r : NamedValue). r.name) opening.roots) s.name) set.statics
+  pub has_roots : All (λ (s : StaticFacts). s.is_root ≡ true
+      → Contains (map (λ (r : NamedValue). r.name) opening.roots) s.name) set.statics
   pub names_differ : AllPairs (λ (r s : NamedValue). r.name ≢ s.name) opening.roots
   -- each root is null or an object
   pub references : All (λ (r : NamedValue). HasKind L r.value) opening.roots

@@ -23,8 +23,8 @@ use Rattle.plain_model.specs.Steps.{Does, step}
 use Rattle.plain_model.specs.Codes.{Code}
 use Rattle.plain_model.specs.Runs.{IsPlainRun, IsAllowed}
 
--- Code that asks these requests one after the other, whatever the replies are, and then leaves. Its frames count the requests
--- that were answered.
+-- Code that asks these requests one after the other, whatever the replies are, and then leaves. Its frames count
+-- the requests that were answered.
 abbrev pub scripted : (set : SetFacts) (main : ℕ) (opening : Graph) → List PlainRequest → Code set main opening ℕ
 scripted set main opening requests = record {
   turn = λ k. (k, slice_index_or requests k (ask.Leave None));
@@ -42,16 +42,26 @@ class_of name fields element supertypes of_program = record {
   of_program = of_program;
 }
 
--- A program with `class Node { Node next; }` and `class Main { @DurableRoot static Node head; }`. What no row asks for is Object.
+abbrev pub strings : ClassFacts
+strings = record (class_of (codes "[Ljava/lang/String;") [] (Some L) (5 ∷ 2 ∷ []) false) {
+  may_hold = 4 ∷ [];
+  is_made = false;
+}
+
+abbrev pub next_field : Field
+next_field = record { name = codes "next"; kind = L; kept = true }
+
+-- A program with `class Node { Node next; }` and `class Main { @DurableRoot static Node head; }`. The classes that no
+-- row asks for are Object.
 abbrev pub nodes : SetFacts
 nodes = record {
   classes =
       class_of (codes "Main") [] None (0 ∷ 2 ∷ []) true
-      ∷ class_of (codes "Node") (record { name = codes "next"; kind = L; kept = true } ∷ []) None (1 ∷ 2 ∷ []) true
+      ∷ class_of (codes "Node") (next_field ∷ []) None (1 ∷ 2 ∷ []) true
       ∷ class_of (codes "java/lang/Object") [] None (2 ∷ []) false
       ∷ class_of (codes "java/io/PrintStream") [] None (3 ∷ 2 ∷ []) false
       ∷ class_of (codes "java/lang/String") [] (Some C) (4 ∷ 2 ∷ []) false
-      ∷ record (class_of (codes "[Ljava/lang/String;") [] (Some L) (5 ∷ 2 ∷ []) false) { may_hold = 4 ∷ []; is_made = false }
+      ∷ strings
       ∷ [];
   statics = record { name = codes "Main.head"; class = 0; kind = L; constant = None; is_root = true } ∷ [];
   literals = [];
@@ -88,7 +98,8 @@ naming at o named = record { act = record { thread = 0; at = at; op = o }; named
 abbrev pub by_main : ℕ → Op → Recorded
 by_main at o = naming at o []
 
--- `head = new Node();` on a graph whose root is null. The stream and the argument array are objects 0 and 1, so the node is 2.
+-- `head = new Node();` on a graph whose root is null. The stream and the argument array are objects 0 and 1, so the
+-- node is 2.
 abbrev pub null_root : Graph
 null_root = record { roots = record { name = codes "Main.head"; value = Null } ∷ []; nodes = [] }
 
@@ -136,7 +147,7 @@ abbrev pub one_node : Value → Graph
 one_node after = record {
   roots = record { name = codes "Main.head"; value = Object 0 } ∷ [];
   nodes = record {
-    shape = record { name = codes "Node"; fields = record { name = codes "next"; kind = L; kept = true } ∷ []; element = None };
+    shape = record { name = codes "Node"; fields = next_field ∷ []; element = None };
     values = after ∷ [];
   } ∷ [];
 }
@@ -172,9 +183,10 @@ DoesInRegion acts = IsPlainRun nodes 0 (one_node Null) in_region (begun_region +
 
 -- A store of the first int into a static field of this kind, whose class is initialised, keeps the second.
 abbrev pub Narrows : Kind → ℤ → ℤ → Type 0
-Narrows kind given kept = (set : SetFacts) (world : World) (t class at : ℕ) (from : At) → slice_get world.classes class ≡ Some Finished
-    → step set world t 1 (ask.PutStatic from (record { class = class; is_static = true; at = at; kind = kind }) (Int given))
-    ≡ Does (op.Stored (Static at) (Int kept)) reply.Done
+Narrows kind given kept = (set : SetFacts) (world : World) (t class at : ℕ) (from : At)
+    → slice_get world.classes class ≡ Some Finished
+    → let field : FieldAt = record { class = class; is_static = true; at = at; kind = kind } in
+    step set world t 1 (ask.PutStatic from field (Int given)) ≡ Does (op.Stored (Static at) (Int kept)) reply.Done
 
 -- What a stop may leave once main has made the node and done these acts.
 abbrev pub MayLeave : List Recorded → Graph → Type 0
