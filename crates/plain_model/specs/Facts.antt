@@ -1,8 +1,8 @@
 -- What a class set tells, as plain data: classes by number, static fields, literals, and the classes that the runtime knows.
 -- Classes are numbered from 0: the class files in the order in which they were read, the built-in classes by their names'
 -- bytes, the array types by descriptor.
-use Rattle.std.specs.Prelude.{ℕ, ℤ, pos, ◌%◌, Bool, false, List, [], map, slice_index_or, Option}
-use Rattle.std.specs.Int.{w8, w16, cast_signed, cast_unsigned}
+use Rattle.std.specs.Prelude.{ℕ, ◌<◌, ℤ, pos, ◌^◌, Bool, false, List, [], map, length, slice_index_or, Option, Some, None, All}
+use Rattle.std.specs.Int.{w8, w16, int_wrap, int_rem_euclid}
 use Rattle.ap_base.specs.declared.kind.Kind.{Kind}
 use Rattle.ap_base.specs.declared.kind.Kind.TheVariants.{Z, B, C, S}
 use Rattle.ap_base.specs.declared.kind.Known.{Known as KnownClasses}
@@ -98,8 +98,24 @@ thrown_class set Arithmetic = set.throwables.arithmetic
 
 -- What a place of this kind keeps of a value (JVMS 2.11.1: narrowing). A boolean place keeps the lowest bit.
 abbrev pub narrowed : Kind → Value → Value
-narrowed Z (Int i) = Int (pos (cast_unsigned w8 i % 2))
-narrowed B (Int i) = Int (cast_signed w8 (cast_unsigned w8 i))
-narrowed C (Int i) = Int (pos (cast_unsigned w16 i))
-narrowed S (Int i) = Int (cast_signed w16 (cast_unsigned w16 i))
+narrowed Z (Int i) = Int (int_rem_euclid i (pos 2))
+narrowed B (Int i) = Int (int_wrap w8 i)
+narrowed C (Int i) = Int (int_rem_euclid i (pos (2 ^ 16)))
+narrowed S (Int i) = Int (int_wrap w16 i)
 narrowed kind value = value
+
+-- the constant is a number, or one of so many literals
+abbrev pub IsConstantBelow : ℕ → Option Constant → Type 0
+IsConstantBelow n None = Unit {0}
+IsConstantBelow n (Some (IntConstant i)) = Unit {0}
+IsConstantBelow n (Some (LongConstant i)) = Unit {0}
+IsConstantBelow n (Some (LiteralConstant k)) = k < n
+
+-- The numbers that a set's facts give are there: those of the classes of which the runtime itself makes objects,
+-- and those of literals.
+pub record IsConsistent (set : SetFacts) : Type 0 where
+  pub string : set.known.string < length set.classes
+  pub stream : set.stream < length set.classes
+  pub arguments : set.arguments < length set.classes
+  pub throwables : (which : Throws) → thrown_class set which < length set.classes
+  pub constants : All (λ (s : StaticFacts). IsConstantBelow (length set.literals) s.constant) set.statics

@@ -1,21 +1,25 @@
 -- The first heap and the first world of a class set and an opening graph. Objects are numbered: the nodes of the graph, the
 -- object of `System.out`, the empty argument array, the literals. Statics are numbered: `System.out`, the set's static
 -- fields, and the graph's roots that the set lacks.
-use Rattle.std.specs.Prelude.{ℕ, zero, suc, pos, ◌+◌, Bool, true, false, ◌&&◌, List, [], ◌∷◌, ◌++◌, map, length, filter, Option, Some, None, if◌then◌else◌, nat_eq}
+use Rattle.std.specs.Prelude.{◌≡◌, ◌≢◌, ℕ, zero, suc, pos, ◌+◌, ◌<◌, ◌^◌, Bool, true, false, ◌&&◌, List, [], ◌∷◌, ◌++◌, map, length, filter, Option, Some, None, if◌then◌else◌, nat_eq, All, AllPairs, Contains}
+use Rattle.std.specs.List.{AllZip}
+use Rattle.ap_base.specs.declared.kind.Kind.{Kind}
+use Rattle.ap_base.specs.declared.kind.Kind.TheVariants.{J, L}
 use Rattle.graph_model.specs.declared.types.Value.{Value}
 use Rattle.graph_model.specs.declared.types.Value.TheVariants.{Int, Long, Null, Obj as Object}
+use Rattle.graph_model.specs.declared.types.Field.{Field}
 use Rattle.graph_model.specs.declared.types.Obj.{Obj}
 use Rattle.graph_model.specs.declared.types.Root.{Root}
 use Rattle.graph_model.specs.declared.types.Heap.{Heap}
 use Rattle.graph_model.specs.declared.types.Node.{Node}
 use Rattle.graph_model.specs.declared.types.NamedValue.{NamedValue}
 use Rattle.graph_model.specs.declared.types.Graph.{Graph}
-use Rattle.graph_model.specs.Heaps.{default_of}
+use Rattle.graph_model.specs.Heaps.{default_of, IsBelow}
 use Rattle.run_history.specs.declared.plain.Progress.{Progress}
 use Rattle.run_history.specs.declared.plain.Progress.TheVariants.{Untouched, Finished}
 use Rattle.run_history.specs.Worlds.{World, new_thread}
 use Rattle.run_history.specs.Knowing.{Known, known_at_first}
-use Rattle.plain_model.specs.Facts.{ClassFacts, StaticFacts, Constant, IntConstant, LongConstant, LiteralConstant, SetFacts, shapes_of, narrowed}
+use Rattle.plain_model.specs.Facts.{ClassFacts, StaticFacts, Constant, IntConstant, LongConstant, LiteralConstant, SetFacts, class_at, shapes_of, narrowed}
 
 -- equal names, byte by byte
 abbrev pub name_is : List ℕ → List ℕ → Bool
@@ -120,3 +124,37 @@ module _ (set : SetFacts) (opening : Graph) where
   -- The nodes of the opening graph are durable at first.
   abbrev pub first_known : Known
   first_known = known_at_first first_world (numbers_to (length opening.nodes))
+
+-- a value of a graph that is of this kind: a reference, a long, or an int for every other kind
+abbrev pub HasKind : Kind → Value → Type 0
+HasKind L Null = Unit {0}
+HasKind L (Object n) = Unit {0}
+HasKind L value = ⊥
+HasKind J (Long i) = Unit {0}
+HasKind J value = ⊥
+HasKind kind (Int i) = Unit {0}
+HasKind kind value = ⊥
+
+-- values of an object with these elements or, where it has none, these fields
+abbrev pub Fills : Option Kind → List Field → List Value → Type 0
+Fills None fields values = AllZip (λ (f : Field) value. HasKind f.kind value) fields values
+Fills (Some kind) fields values = All (HasKind kind) values
+
+-- What an opening graph of a class set fulfils.
+pub record IsOpening (set : SetFacts) (opening : Graph) : Type 0 where
+  -- each node's shape has the name of a class of the set
+  pub shapes : All (λ (n : Node). class_named set.classes n.shape.name < length set.classes) opening.nodes
+  -- each node has a value of its kind for each field of that class, or for each element
+  pub values : All (λ (n : Node). let shape = (class_at set (class_named set.classes n.shape.name)).shape in
+      Fills shape.element shape.fields n.values) opening.nodes
+  -- each durable root of the set is one of the graph's roots, and no two of these have one name
+  pub has_roots : All (λ (s : StaticFacts). s.is_root ≡ true
+      → Contains (map (λ (r : NamedValue). r.name) opening.roots) s.name) set.statics
+  pub names_differ : AllPairs (λ (r s : NamedValue). r.name ≢ s.name) opening.roots
+  -- each root is null or an object
+  pub references : All (λ (r : NamedValue). HasKind L r.value) opening.roots
+  -- each object in a root or in a node is a node
+  pub in_roots : All (λ (r : NamedValue). IsBelow (length opening.nodes) r.value) opening.roots
+  pub in_nodes : All (λ (n : Node). All (IsBelow (length opening.nodes)) n.values) opening.nodes
+  -- the first heap has fewer than 2^32 objects
+  pub few : length (first_objects set opening) < 2 ^ 32

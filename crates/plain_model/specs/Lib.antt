@@ -4,6 +4,8 @@ pub mod Duties
 pub mod Ends
 pub mod Facts
 pub mod First
+pub mod Laws
 pub mod Requests
+pub mod Rows
 pub mod Runs
 pub mod Steps

@@ -1,0 +1,15 @@
+pub mod Appended
+pub mod Closed
+pub mod ClosedTest
+pub mod Durable
+pub mod FirstSound
+pub mod Fencing
+pub mod Narrowing
+pub mod Pending
+pub mod Printed
+pub mod Publishing
+pub mod Region
+pub mod RunSound
+pub mod StepSound
+pub mod Visible
+pub mod Wanted
