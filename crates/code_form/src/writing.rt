@@ -153,8 +153,8 @@ fn put_increment(out: &mut Vec<u8>, local: u8, by: i8) -> Result<(), AllocError>
 fn put_increment_wide(out: &mut Vec<u8>, local: u16, by: i16) -> Result<(), AllocError>
     ensures { OnOk result (out.new.items ≡ out.old.items ++ WIDE ∷ IINC ∷ big_bytes 2 local ++ signed w16 by) }
 {
-    out.push(WIDE)?;
-    put_short(out, IINC, local)?;
+    put_byte(out, WIDE, IINC)?;
+    put_u16(out, local)?;
     put_i16(out, by)
 }
 
