@@ -37,7 +37,8 @@ use Rattle.code_form.specs.declared.ins.PoolUse.TheVariants as uses
 use Rattle.code_form.specs.declared.ins.Primitive.{Primitive}
 use Rattle.code_form.specs.declared.ins.Primitive.TheVariants as primitives
 
--- Families of opcodes go through the types in one order: int, long, float, double, reference, byte, char, short.
+-- Families of opcodes go through the types in one order: int, long, float, double, reference, byte, char and
+-- short.
 abbrev pub number_place : Number → ℕ
 number_place numbers.Int = 0
 number_place numbers.Long = 1

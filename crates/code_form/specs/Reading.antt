@@ -17,6 +17,7 @@ use Rattle.code_form.specs.declared.ins.Access.{Access}
 use Rattle.code_form.specs.declared.ins.Access.TheVariants.{Load, Store}
 use Rattle.code_form.specs.declared.ins.Slot.{Slot}
 use Rattle.code_form.specs.declared.ins.Slot.TheVariants as slots
+use Rattle.code_form.specs.declared.ins.IntConstant.{IntConstant}
 use Rattle.code_form.specs.declared.ins.IntConstant.TheVariants as ints
 use Rattle.code_form.specs.declared.ins.LongConstant.TheVariants as longs
 use Rattle.code_form.specs.declared.ins.Constant.{Constant}
@@ -76,7 +77,8 @@ abbrev all_sorts : List Sort
 all_sorts = sorts.Int ∷ sorts.Long ∷ sorts.Reference ∷ []
 
 abbrev all_elements : List Element
-all_elements = elements.Int ∷ elements.Long ∷ elements.Reference ∷ elements.Byte ∷ elements.Char ∷ elements.Short ∷ []
+all_elements =
+    elements.Int ∷ elements.Long ∷ elements.Reference ∷ elements.Byte ∷ elements.Char ∷ elements.Short ∷ []
 
 abbrev all_accesses : List Access
 all_accesses = Load ∷ Store ∷ []
@@ -84,11 +86,12 @@ all_accesses = Load ∷ Store ∷ []
 abbrev all_slots : List Slot
 all_slots = slots.Zero ∷ slots.One ∷ slots.Two ∷ slots.Three ∷ []
 
+abbrev all_ints : List IntConstant
+all_ints = ints.MinusOne ∷ ints.Zero ∷ ints.One ∷ ints.Two ∷ ints.Three ∷ ints.Four ∷ ints.Five ∷ []
+
 abbrev all_constants : List Constant
 all_constants =
-    constants.Null
-    ∷ map constants.Int (ints.MinusOne ∷ ints.Zero ∷ ints.One ∷ ints.Two ∷ ints.Three ∷ ints.Four ∷ ints.Five ∷ [])
-    ++ map constants.Long (longs.Zero ∷ longs.One ∷ [])
+    constants.Null ∷ map constants.Int all_ints ++ map constants.Long (longs.Zero ∷ longs.One ∷ [])
 
 abbrev all_stack : List Stack
 all_stack = Pop ∷ Pop2 ∷ Dup ∷ DupX1 ∷ DupX2 ∷ Dup2 ∷ Dup2X1 ∷ Dup2X2 ∷ Swap ∷ []
@@ -109,7 +112,8 @@ all_conditions =
 
 abbrev all_plain : List Plain
 all_plain =
-    plain.Nop ∷ plain.CompareLongs ∷ plain.Return ∷ plain.ArrayLength ∷ plain.Throw ∷ plain.MonitorEnter ∷ plain.MonitorExit
+    plain.Nop ∷ plain.CompareLongs ∷ plain.Return ∷ plain.ArrayLength ∷ plain.Throw
+    ∷ plain.MonitorEnter ∷ plain.MonitorExit
     ∷ map plain.Constant all_constants
     ++ flat_map (λ access. map (plain.Element access) all_elements) all_accesses
     ++ map plain.Stack all_stack
@@ -134,20 +138,24 @@ all_uses =
 
 abbrev pub all_primitives : List Primitive
 all_primitives =
-    primitives.Boolean ∷ primitives.Char ∷ primitives.Byte ∷ primitives.Short ∷ primitives.Int ∷ primitives.Long ∷ []
+    primitives.Boolean ∷ primitives.Char ∷ primitives.Byte ∷ primitives.Short ∷ primitives.Int
+    ∷ primitives.Long ∷ []
 
--- the profile
+abbrev all_short : Access → List Form
+all_short access = flat_map (λ sort. map (forms.ShortVariable access sort) all_slots) all_sorts
+
+-- the instructions that are read here
 abbrev pub all_forms : List Form
 all_forms =
-    forms.PushByte ∷ forms.PushShort ∷ forms.LoadConstant ∷ forms.InvokeInterface ∷ forms.NewArray ∷ forms.Increment
-    ∷ forms.GotoWide ∷ forms.TableSwitch ∷ forms.LookupSwitch ∷ forms.Wide
+    forms.PushByte ∷ forms.PushShort ∷ forms.LoadConstant ∷ forms.InvokeInterface ∷ forms.NewArray
+    ∷ forms.Increment ∷ forms.GotoWide ∷ forms.TableSwitch ∷ forms.LookupSwitch ∷ forms.Wide
     ∷ map forms.Plain all_plain
     ++ flat_map (λ access. map (forms.Variable access) all_sorts) all_accesses
-    ++ flat_map (λ access. flat_map (λ sort. map (forms.ShortVariable access sort) all_slots) all_sorts) all_accesses
+    ++ flat_map all_short all_accesses
     ++ map forms.Branch all_branches
     ++ map forms.Pool all_uses
 
--- the form of the profile that has this opcode
+-- the form of these that has this opcode
 unfoldable pub form_of : ℕ → Option Form
 form_of opcode = find (λ form. opcode_of form == opcode) all_forms
 
@@ -167,7 +175,8 @@ abbrev pub Gives : {X Y : Type 0} → (X → Y) → Result X CodeRefusal → Res
 Gives view (Ok x) read = read ≡ Ok (view x)
 Gives view (Err e) read = (e ≡ OutOfMemory) ⊎ (read ≡ Err e)
 
--- ---- fields: each gives a value and the bytes after it, and the instruction at pc isn't whole where they end
+-- ---- fields
+-- Each gives a value and the bytes after it. The instruction at pc isn't whole where the bytes end before.
 
 abbrev pub bytes_at : ℕ → ℕ → List ℕ → Result (List ℕ × List ℕ) CodeRefusal
 bytes_at pc n bytes = if nat_lt (length bytes) n then Err (Truncated pc) else Ok (take n bytes, drop n bytes)
@@ -196,13 +205,16 @@ target_at pc w bytes = do
 -- no form: the opcode of another instruction of the virtual machine, or of none (JVMS 6.2)
 abbrev pub known_form : ℕ → ℕ → Option Form → Result Form CodeRefusal
 known_form pc opcode (Some form) = Ok form
-known_form pc opcode None = if nat_lt opcode 202 then Err (NotInProfile pc opcode) else Err (BadOpcode pc)
+known_form pc opcode None =
+    if nat_lt opcode 202 then Err (NotInProfile pc opcode) else Err (BadOpcode pc)
 
--- 6 and 7 are float and double
+-- 6 and 7 are float and double (JVMS 6.5, newarray)
 abbrev pub known_primitive : ℕ → ℕ → Option Primitive → Result Primitive CodeRefusal
 known_primitive pc code (Some p) = Ok p
-known_primitive pc code None = if code == 6 || code == 7 then Err (NotInProfile pc 188) else Err (BadOpcode pc)
+known_primitive pc code None =
+    if code == 6 || code == 7 then Err (NotInProfile pc 188) else Err (BadOpcode pc)
 
+-- JVMS 6.5, invokeinterface: the last byte is passed over
 unfoldable pub interface_at : ℕ → List ℕ → Result (Ins × List ℕ) CodeRefusal
 interface_at pc bytes = do
   index ← unsigned_at pc 2 bytes
@@ -210,19 +222,21 @@ interface_at pc bytes = do
   passed ← bytes_at pc 1 count.1
   Ok (ins.InvokeInterface index.0 count.0, passed.1)
 
+-- JVMS 6.5, newarray
 unfoldable pub new_array_at : ℕ → List ℕ → Result (Ins × List ℕ) CodeRefusal
 new_array_at pc bytes = do
   code ← unsigned_at pc 1 bytes
   p ← known_primitive pc code.0 (primitive_of code.0)
   Ok (ins.NewArray p, code.1)
 
+-- JVMS 6.5, iinc
 unfoldable pub increment_at : ℕ → List ℕ → Result (Ins × List ℕ) CodeRefusal
 increment_at pc bytes = do
   local ← unsigned_at pc 1 bytes
   by ← signed_at pc w8 local.1
   Ok (ins.Increment local.0 by.0, by.1)
 
--- wide before a load, a store or iinc
+-- JVMS 6.5, wide: before a load, a store or iinc
 unfoldable pub widened_at : ℕ → Option Form → List ℕ → Result (Ins × List ℕ) CodeRefusal
 widened_at pc (Some (forms.Variable access sort)) bytes = do
   local ← unsigned_at pc 2 bytes
@@ -239,21 +253,28 @@ wide_at pc bytes = do
   widened_at pc (form_of opcode.0) opcode.1
 
 -- n values one after the other
-unfoldable pub many_at : {X : Type 0} → (List ℕ → Result (X × List ℕ) CodeRefusal) → ℕ → List ℕ → Result (List X × List ℕ) CodeRefusal
+unfoldable pub many_at : {X : Type 0} → (List ℕ → Result (X × List ℕ) CodeRefusal) → ℕ → List ℕ
+    → Result (List X × List ℕ) CodeRefusal
 many_at read zero bytes = Ok ([], bytes)
 many_at read (suc n) bytes = do
   first ← read bytes
   others ← many_at read n first.1
   Ok (first.0 ∷ others.0, others.1)
 
--- low above high is a fault where they stand
+-- a target for each key from low to high; low above high is a fault where they stand
+abbrev pub spanned_at : ℕ → ℤ → ℤ → List ℕ → Result (List ℕ × List ℕ) CodeRefusal
+spanned_at pc low high bytes =
+    if int_lt high low then Err (BadTarget pc)
+    else many_at (target_at pc w32) (unsigned_abs (high -ℤ low) + 1) bytes
+
+-- JVMS 6.5, tableswitch
 unfoldable pub table_at : ℕ → List ℕ → Result (Ins × List ℕ) CodeRefusal
 table_at pc bytes = do
   pad ← bytes_at pc (padding pc) bytes
   default ← target_at pc w32 pad.1
   low ← signed_at pc w32 default.1
   high ← signed_at pc w32 low.1
-  targets ← if int_lt high.0 low.0 then Err (BadTarget pc) else many_at (target_at pc w32) (unsigned_abs (high.0 -ℤ low.0) + 1) high.1
+  targets ← spanned_at pc low.0 high.0 high.1
   Ok (ins.TableSwitch default.0 low.0 high.0 targets.0, targets.1)
 
 unfoldable pub case_at : ℕ → List ℕ → Result (Case × List ℕ) CodeRefusal
@@ -262,7 +283,7 @@ case_at pc bytes = do
   target ← target_at pc w32 key.1
   Ok (record { key = key.0; target = target.0 }, target.1)
 
--- a count below 0 is a fault where it stands
+-- JVMS 6.5, lookupswitch; from 2 ^ 31 on the count is a negative one, a fault where it stands
 unfoldable pub lookup_at : ℕ → List ℕ → Result (Ins × List ℕ) CodeRefusal
 lookup_at pc bytes = do
   pad ← bytes_at pc (padding pc) bytes
@@ -271,9 +292,11 @@ lookup_at pc bytes = do
   cases ← if nat_lt count.0 (2 ^ 31) then many_at (case_at pc) count.0 count.1 else Err (BadTarget pc)
   Ok (ins.LookupSwitch default.0 cases.0, cases.1)
 
+-- what stands behind the opcode (JVMS 6.5)
 unfoldable pub operands_at : Form → ℕ → List ℕ → Result (Ins × List ℕ) CodeRefusal
 operands_at (forms.Plain p) pc bytes = Ok (ins.Plain p, bytes)
-operands_at (forms.ShortVariable access sort slot) pc bytes = Ok (ins.Variable access sort (locals.Short slot), bytes)
+operands_at (forms.ShortVariable access sort slot) pc bytes =
+    Ok (ins.Variable access sort (locals.Short slot), bytes)
 operands_at (forms.Variable access sort) pc bytes = do
   local ← unsigned_at pc 1 bytes
   Ok (ins.Variable access sort (locals.Byte local.0), local.1)
@@ -302,6 +325,7 @@ operands_at forms.TableSwitch pc bytes = table_at pc bytes
 operands_at forms.LookupSwitch pc bytes = lookup_at pc bytes
 operands_at forms.Wide pc bytes = wide_at pc bytes
 
+-- the instruction at pc, of which these are the bytes and those after it
 unfoldable pub ins_at : ℕ → List ℕ → Result (Ins × List ℕ) CodeRefusal
 ins_at pc bytes = do
   opcode ← unsigned_at pc 1 bytes
@@ -310,8 +334,8 @@ ins_at pc bytes = do
 
 -- ---- the whole
 
--- The instructions of what is left of a code of this length. No instruction is empty, so at most as many as the limit
--- stand in as many bytes.
+-- The instructions of what is left of a code whose length is total. No instruction is empty, so at most limit
+-- of them stand in as many bytes.
 unfoldable pub placed_at : ℕ → ℕ → List ℕ → Result (List Placed) CodeRefusal
 placed_at limit total [] = Ok []
 placed_at zero total (b ∷ bytes) = Ok []
@@ -332,8 +356,8 @@ unless_astray code (Some p) = Err (BadTarget p.pc)
 unfoldable pub front_of : List ℕ → List ℕ
 front_of bytes = take longest bytes
 
--- Targets are checked in order of the instructions once the last instruction is read, since a target may lie further on.
--- Past the longest code no instruction is whole.
+-- The answer for any bytes (JVMS 4.7.3, 4.9.1). Targets are checked in order of the instructions once the
+-- last one is read, since a target may lie further on. Past the longest code no instruction is whole.
 unfoldable pub code_of : List ℕ → Result (List Placed) CodeRefusal
 code_of bytes = do
   code ← placed_at (length (front_of bytes)) (length (front_of bytes)) (front_of bytes)

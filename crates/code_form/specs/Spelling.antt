@@ -39,19 +39,20 @@ variable_bytes access sort (locals.Short slot) = short_opcode access sort slot �
 variable_bytes access sort (locals.Byte n) = variable_opcode access sort ∷ big_bytes 1 n
 variable_bytes access sort (locals.Wide n) = 196 ∷ variable_opcode access sort ∷ big_bytes 2 n
 
--- tableswitch: padding, default, low, high, and the targets of the keys from low to high
+-- JVMS 6.5, tableswitch: padding, default, low, high, and the targets of the keys from low to high
 abbrev pub table_bytes : List ℕ → ℕ → ℕ → ℤ → ℤ → List ℕ → List ℕ
 table_bytes idle pc default low high targets =
     170 ∷ idle ++ signed w32 (offset pc default) ++ signed w32 low ++ signed w32 high
     ++ flat_map (λ t. signed w32 (offset pc t)) targets
 
--- lookupswitch: padding, default, the count, and the pairs
+-- JVMS 6.5, lookupswitch: padding, default, the count, and the pairs
 abbrev pub lookup_bytes : List ℕ → ℕ → ℕ → List Case → List ℕ
 lookup_bytes idle pc default cases =
-    171 ∷ idle ++ signed w32 (offset pc default) ++ big_bytes 4 (length cases) ++ flat_map (case_bytes pc) cases
+    171 ∷ idle ++ signed w32 (offset pc default) ++ big_bytes 4 (length cases)
+    ++ flat_map (case_bytes pc) cases
 
--- The bytes of the instruction at a pc. Those in idle say nothing: the padding of a switch, and the last byte of
--- invokeinterface.
+-- The bytes of the instruction at a pc (JVMS 6.5). Those in idle say nothing: the padding of a switch, and
+-- the last byte of invokeinterface.
 abbrev pub bytes_of : List ℕ → ℕ → Ins → List ℕ
 bytes_of idle pc (ins.Plain p) = plain_opcode p ∷ []
 bytes_of idle pc (ins.Variable access sort local) = variable_bytes access sort local
@@ -87,7 +88,8 @@ written code = flat_map zeroed code
 abbrev pub Spells : List Placed → List ℕ → Type 0
 Spells [] bytes = bytes ≡ []
 Spells (p ∷ code) bytes =
-    (idle rest : List ℕ) × (length idle ≡ idle_count p.pc p.ins) × (bytes ≡ bytes_of idle p.pc p.ins ++ rest) × Spells code rest
+    (idle rest : List ℕ) × (length idle ≡ idle_count p.pc p.ins) × (bytes ≡ bytes_of idle p.pc p.ins ++ rest)
+    × Spells code rest
 
 -- ---- which lists are a code
 
@@ -105,8 +107,10 @@ Fits pc (ins.IncrementWide n z) = (n < 2 ^ 16) × FitsSigned w16 z
 Fits pc (ins.Branch b target) = FitsSigned w16 (offset pc target)
 -- one target for each key from low to high, at least one
 Fits pc (ins.TableSwitch default low high targets) =
-    FitsSigned w32 low × FitsSigned w32 high × (low ≤ℤ high) × (pos (length targets) ≡ (high -ℤ low) +ℤ pos 1)
-Fits pc (ins.LookupSwitch default cases) = (length cases < 2 ^ 31) × AllByRecursion (λ c. FitsSigned w32 c.key) cases
+    FitsSigned w32 low × FitsSigned w32 high × (low ≤ℤ high)
+    × (pos (length targets) ≡ (high -ℤ low) +ℤ pos 1)
+Fits pc (ins.LookupSwitch default cases) =
+    (length cases < 2 ^ 31) × AllByRecursion (λ c. FitsSigned w32 c.key) cases
 Fits pc _ = ⊤
 
 -- each instruction begins where the one before ends, and the last ends within the longest code
@@ -140,7 +144,7 @@ is_start code pc = list_any (λ p. p.pc == pc) code
 abbrev pub jumps_to_starts : List Placed → Placed → Bool
 jumps_to_starts code p = list_all (is_start code) (targets_of p.ins)
 
--- what a code is
+-- what a code is (JVMS 4.7.3, 4.9.1)
 pub record IsCode (code : List Placed) : Type 0 where
   pub follow : FollowFrom 0 code
   pub fit : AllByRecursion (λ p. Fits p.pc p.ins) code

@@ -3,7 +3,7 @@ use std::alloc::Global;
 use std::process::Abort;
 use std::test::Fail;
 
-/// Each opcode alone, as its section of JVMS 6.5 spells it, and what is read: from constants to the loads of array elements.
+/// Each opcode alone, as its section of JVMS 6.5 spells it, and what is read: constants and loads.
 static LOADS: [(&[u8], &str); 37] = [
     (&[0], "Plain(Nop)"),
     (&[1], "Plain(Constant(Null))"),
@@ -44,7 +44,7 @@ static LOADS: [(&[u8], &str); 37] = [
     (&[53], "Plain(Element(Load, Short))"),
 ];
 
-/// Each opcode alone, as its section of JVMS 6.5 spells it, and what is read: from the stores to the operand stack.
+/// Each opcode alone, as its section of JVMS 6.5 spells it, and what is read: stores and the stack.
 static STORES: [(&[u8], &str); 30] = [
     (&[54, 7], "Variable(Store, Int, Byte(7))"),
     (&[55, 7], "Variable(Store, Long, Byte(7))"),
@@ -78,7 +78,7 @@ static STORES: [(&[u8], &str); 30] = [
     (&[95], "Plain(Stack(Swap))"),
 ];
 
-/// Each opcode alone, as its section of JVMS 6.5 spells it, and what is read: from addition to the comparison of longs.
+/// Each opcode alone, as its section of JVMS 6.5 spells it, and what is read: arithmetic.
 static NUMBERS: [(&[u8], &str); 31] = [
     (&[96], "Plain(Binary(Int, Add))"),
     (&[97], "Plain(Binary(Long, Add))"),
@@ -148,7 +148,7 @@ static JUMPS: [(&[u8], &str); 21] = [
     (&[177], "Plain(Return)"),
 ];
 
-/// Each opcode alone, as its section of JVMS 6.5 spells it, and what is read: from static fields to goto_w.
+/// Each opcode alone, as its section of JVMS 6.5 spells it, and what is read: fields, calls, objects and goto_w.
 static OBJECTS: [(&[u8], &str); 32] = [
     (&[178, 1, 2], "Pool(GetStatic, 258)"),
     (&[179, 1, 2], "Pool(PutStatic, 258)"),
