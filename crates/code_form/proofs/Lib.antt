@@ -1,0 +1,8 @@
+pub mod Forms
+pub mod Numbers
+pub mod Loops
+pub mod Shrinking
+pub mod Placing
+pub mod Starts
+pub mod Operands
+pub mod Codes
