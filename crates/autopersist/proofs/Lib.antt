@@ -1,4 +1,5 @@
 pub mod Extending
+pub mod Files
 pub mod Keeping
 pub mod Lines
 pub mod Printed

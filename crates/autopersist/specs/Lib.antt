@@ -2,3 +2,5 @@ pub mod Printing
 pub mod SmallClass
 pub mod Standing
 pub mod Statuses
+pub mod TopCall
+pub mod Words

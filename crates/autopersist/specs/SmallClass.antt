@@ -1,8 +1,8 @@
 -- The class files that are built so far: a class with superclass `java/lang/Object` whose only method is a static `main`, which
 -- prints at most one number (JVMS 4.1, 4.6, 4.7.3). What stands behind the constant pool is read from front to back.
-use Rattle.std.specs.Prelude.{◌≡◌, ℕ, zero, suc, ℤ, pos, negsuc, ◌+◌, ◌-◌, ◌*◌, ◌/◌, ◌%◌, ◌^◌, Bool, true, false, not, ◌&&◌, ◌||◌, nat_lt, nat_le, ◌==◌, List, [], ◌∷◌, ◌++◌, length, take, drop, codes, Option, Some, None, if◌then◌else◌, bit_and, Bor}
-use Rattle.std.specs.List.{list_all}
-use Rattle.std.specs.Option.{option_and_then, option_to_list}
+use Rattle.std.specs.Prelude.{◌≡◌, ℕ, zero, suc, ℤ, pos, negsuc, ◌+◌, ◌-◌, ◌*◌, ◌/◌, ◌%◌, ◌^◌, Bool, true, false, not, ◌&&◌, ◌||◌, nat_lt, nat_le, ◌==◌, List, [], ◌∷◌, ◌++◌, length, take, drop, codes, Option, Some, None, if◌then◌else◌, bit_and, IsTrue}
+use Rattle.std.specs.List.{list_all, list_any}
+use Rattle.std.specs.Option.{option_and_then, option_map, option_to_list}
 use Rattle.std.specs.Int.{w8, cast_signed}
 use Rattle.const_pool.specs.declared.entry.Tag.{Tag}
 use Rattle.const_pool.specs.declared.entry.Tag.TheVariants as tag
@@ -152,8 +152,8 @@ code_at pool bytes = do
 abbrev pub is_static_code : ℕ → Bool
 is_static_code flags = bit_and flags 1320 == 8
 
--- the method `main`, whose only attribute is its Code
-unfoldable pub main_at : Slots → List ℕ → Option (List Group × List ℕ)
+-- the method `main`, whose only attribute is its Code: the content of that, and what follows
+unfoldable pub main_at : Slots → List ℕ → Option (List ℕ × List ℕ)
 main_at pool bytes = do
   flags ← u2_at bytes
   fits ← only_if (is_static_code flags.0)
@@ -166,15 +166,7 @@ main_at pool bytes = do
   is_code ← only_if (is_text pool kind.0 (codes "Code"))
   size ← u4_at kind.1
   rest ← skipped size.0 size.1
-  groups ← code_at pool (take size.0 size.1)
-  Some (groups, rest)
-
--- the lines that a method prints, and what follows it
-abbrev pub lines_and_rest : Option (List ℕ) × Bor (List ℕ) → List (List ℕ) × List ℕ
-lines_and_rest found = (option_to_list found.0, found.1.now)
-
-abbrev pub group_lines_and_rest : List Group × List ℕ → List (List ℕ) × List ℕ
-group_lines_and_rest found = (group_lines found.0, found.1)
+  Some (take size.0 size.1, rest)
 
 -- a class's name has none of `.`, `;` and `[`
 abbrev pub is_name_byte : ℕ → Bool
@@ -184,9 +176,33 @@ is_name_byte b = not (b == 46) && (not (b == 59) && not (b == 91))
 abbrev pub makes_objects : ℕ → Bool
 makes_objects flags = bit_and flags 1536 == 0
 
--- What stands behind the pool: a class without superinterfaces and fields, whose only method is `main`.
-unfoldable pub class_behind : Slots → List ℕ → Option PrintingClass
-class_behind pool bytes = do
+-- the UTF-16 code units that modified UTF-8 spells (JVMS 4.4.7)
+abbrev pub chars_of : List ℕ → List ℕ
+chars_of [] = []
+chars_of (a ∷ []) = a ∷ []
+chars_of (a ∷ b ∷ []) = if nat_lt a 128 then a ∷ chars_of (b ∷ []) else (64 * (a % 32) + b % 64) ∷ []
+chars_of (a ∷ b ∷ c ∷ rest) =
+    if nat_lt a 128 then a ∷ chars_of (b ∷ c ∷ rest)
+    else (if nat_lt a 224 then (64 * (a % 32) + b % 64) ∷ chars_of (c ∷ rest)
+    else (4096 * (a % 16) + 64 * (b % 64) + c % 64) ∷ chars_of rest)
+
+-- the texts with this one at their end, where it isn't there yet
+abbrev pub with_text : List (List ℕ) → List ℕ → List (List ℕ)
+with_text texts text = if list_any (bytes_eq text) texts then texts else texts ++ text ∷ []
+
+abbrev pub literal_in : Slots → Option Entry → List (List ℕ) → List (List ℕ)
+literal_in pool (Some (entry.String index)) texts = elim (utf8_at pool index) [ None ↦ texts | Some text ↦ with_text texts (chars_of text) ]
+literal_in pool slot texts = texts
+
+-- the distinct string literals of these slots, in order, behind those before
+abbrev pub literals_from : Slots → List (List ℕ) → Slots → List (List ℕ)
+literals_from pool texts [] = texts
+literals_from pool texts (slot ∷ slots) = literals_from pool (literal_in pool slot texts) slots
+
+-- What stands behind the pool, of a class without superinterfaces and fields whose only method is `main`: whether `new` makes
+-- objects of it, and the groups of `main`.
+unfoldable pub parts_behind : Slots → List ℕ → Option (Bool × List Group)
+parts_behind pool bytes = do
   flags ← u2_at bytes
   this ← u2_at flags.1
   name ← class_name_at pool this.0
@@ -197,23 +213,44 @@ class_behind pool bytes = do
   methods ← counted_at 0 fields
   method ← counted_at 1 methods
   main ← main_at pool method
+  groups ← code_at pool main.0
   after ← after_all_attributes pool main.1
   ends ← only_if (length after == 0)
-  Some (record { name = name; is_made = makes_objects flags.0; literals = []; main = 0; groups = main.0 })
+  Some (makes_objects flags.0, groups)
 
--- the tags that a pool of this form has; a String entry would be a literal, and none is built yet
+-- the class's name, of what stands behind the pool
+unfoldable pub name_behind : Slots → List ℕ → Option (List ℕ)
+name_behind pool bytes = do
+  flags ← u2_at bytes
+  this ← u2_at flags.1
+  class_name_at pool this.0
+
+-- What stands behind the pool is a class of this name, which prints this line, if one.
+pub record IsBehind (pool : Slots) (rest name : List ℕ) (line : Option (List ℕ)) : Type 0 where
+  pub named : name_behind pool rest ≡ Some name
+  pub prints : Some (option_to_list line) ≡ option_map (λ (p : Bool × List Group). group_lines p.1) (parts_behind pool rest)
+
+-- The class of what stands behind the pool.
+abbrev pub class_behind : Slots → List ℕ → Option PrintingClass
+class_behind pool bytes = do
+  name ← name_behind pool bytes
+  parts ← parts_behind pool bytes
+  Some (record { name = name; is_made = parts.0; literals = literals_from pool [] pool; main = 0; groups = parts.1 })
+
+-- the tags that a pool of this form has
 abbrev pub is_small_tag : Tag → Bool
 is_small_tag tag.Utf8 = true
 is_small_tag tag.Integer = true
 is_small_tag tag.Class = true
+is_small_tag tag.String = true
 is_small_tag tag.Fieldref = true
 is_small_tag tag.Methodref = true
 is_small_tag tag.NameAndType = true
 is_small_tag other = false
 
-abbrev pub is_small_slot : Option Entry → Bool
-is_small_slot None = true
-is_small_slot (Some e) = is_small_tag (tag_of e)
+abbrev pub is_small_kind : Option Tag → Bool
+is_small_kind None = true
+is_small_kind (Some tag) = is_small_tag tag
 
 -- magic, and version 52.0 (JVMS 4.1)
 abbrev pub file_head : List ℕ
@@ -225,5 +262,5 @@ pub record IsPrintingFile (bytes : List ℕ) (class : PrintingClass) : Type 0 wh
   pub rest : List ℕ
   pub is_pool : IsPool pool
   pub is_file : bytes ≡ file_head ++ spelling pool ++ rest
-  pub small : list_all is_small_slot pool ≡ true
+  pub small : (index : ℕ) → IsTrue (is_small_kind (option_map tag_of (entry_at pool index)))
   pub behind : class_behind pool rest ≡ Some class

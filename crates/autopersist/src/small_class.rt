@@ -1,14 +1,17 @@
 // The class files that are built so far, read from front to back.
-ghost use Rattle.std.specs.Prelude.{◌≡◌, ◌==◌, ◌+◌, ◌*◌, ℕ, ℤ, List, [], Option, Some, None, IfSome, MatchOption, map, codes, length};
+ghost use Rattle.std.specs.Prelude.{◌≡◌, ◌==◌, ◌+◌, ◌*◌, ℕ, ℤ, List, [], Option, Some, None, IfSome, MatchOption, IsTrue, IfOk, take, drop, map, codes, length};
 ghost use Rattle.std.specs.List.{list_all};
-ghost use Rattle.std.specs.Option.{option_map, option_to_list};
+ghost use Rattle.std.specs.Option.{option_map, option_to_list, option_copied};
 ghost use Rattle.std.specs.Str.{bytes_eq};
+ghost use Rattle.const_pool.specs.Entry.{tag_of};
+ghost use Rattle.const_pool.specs.Pool.{entry_at};
 ghost use Rattle.autopersist.specs.Printing.{Group, PrintingClass, group_lines, line_of, lines_of};
-ghost use Rattle.autopersist.specs.SmallClass.{only_if, u2_at, u4_at, counted_at, skipped, after_attribute, after_attributes, after_all_attributes, is_text, is_class, is_typed, is_system_out, is_println, constant_at, pushed_at, after_opcode, is_return, one_group, groups_of, code_at, main_at, lines_and_rest, group_lines_and_rest, is_name_byte, class_behind, is_small_slot, IsPrintingFile};
+ghost use Rattle.autopersist.specs.SmallClass.{only_if, u2_at, u4_at, counted_at, skipped, after_attribute, after_attributes, after_all_attributes, is_text, is_class, is_typed, is_system_out, is_println, constant_at, pushed_at, after_opcode, is_return, one_group, groups_of, code_at, main_at, is_name_byte, name_behind, parts_behind, IsBehind, file_head, is_small_tag, is_small_kind, IsPrintingFile};
 
 use crate::printing::line;
 use ap_base::Piece;
-use const_pool::{Entry, Pool, Tag};
+use const_pool::{Entry, Name, Pool, PoolRefusal, Tag, read_pool};
+use std::alloc::{AllocError, Global};
 
 // Opcodes (JVMS 6.5).
 const ICONST_M1: u8 = 2;
@@ -223,10 +226,10 @@ fn code(pool: &Pool, bytes: &[u8]) -> Option<Option<Piece>>
     Some(found)
 }
 
-// The method `main`, and what follows it.
+// The method `main`: the content of its Code, and what follows it.
 #[tactic(auto, unfolding(crate::specs::SmallClass::main_at))]
-fn main_method<'a>(pool: &Pool, bytes: &'a [u8]) -> Option<(Option<Piece>, &'a [u8])>
-    ensures { option_map lines_and_rest result ≡ option_map group_lines_and_rest (main_at pool.now bytes.now) }
+fn main_method<'a>(pool: &Pool, bytes: &'a [u8]) -> Option<(&'a [u8], &'a [u8])>
+    ensures { option_map (λ x. (x.0.now, x.1.now)) result ≡ main_at pool.now bytes.now }
 {
     let (flags, rest) = u2(bytes)?;
     only(flags & 1320 == 8)?;
@@ -239,6 +242,129 @@ fn main_method<'a>(pool: &Pool, bytes: &'a [u8]) -> Option<(Option<Piece>, &'a [
     only(has_text(pool, kind, b"Code"))?;
     let (size, content) = u4(rest)?;
     let rest = skip(size, content)?;
-    let found = code(pool, &content[..size])?;
-    Some((found, rest))
+    Some((&content[..size], rest))
+}
+
+fn is_name(name: &[u8]) -> bool
+    ensures { result ≡ list_all is_name_byte name.now }
+{
+    name.iter()
+        .all(|byte| *byte != b'.' && *byte != b';' && *byte != b'[')
+}
+
+// The class's name, of what stands behind the pool.
+#[tactic(auto, unfolding(crate::specs::SmallClass::name_behind))]
+fn name<'p>(pool: &'p Pool, bytes: &[u8]) -> Option<&'p Name>
+    ensures { option_copied result ≡ name_behind pool.now bytes.now }
+{
+    let (_flags, rest) = u2(bytes)?;
+    let (this, _rest) = u2(rest)?;
+    pool.class_name(this)
+}
+
+// What stands behind the pool: the line that the class prints.
+#[tactic(auto, unfolding(crate::specs::SmallClass::parts_behind))]
+fn behind(pool: &Pool, bytes: &[u8]) -> Option<Option<Piece>>
+    ensures { option_map option_to_list result ≡ option_map (λ parts. group_lines parts.1) (parts_behind pool.now bytes.now) }
+{
+    let (_flags, rest) = u2(bytes)?;
+    let (this, rest) = u2(rest)?;
+    let name = pool.class_name(this)?;
+    only(is_name(name.as_slice()))?;
+    let (super_class, rest) = u2(rest)?;
+    only(has_class(pool, super_class, b"java/lang/Object"))?;
+    let rest = counted(0, rest)?;
+    let rest = counted(0, rest)?;
+    let rest = counted(1, rest)?;
+    let (content, rest) = main_method(pool, rest)?;
+    let line = code(pool, content)?;
+    let rest = after_all(pool, rest)?;
+    only(rest.is_empty())?;
+    Some(line)
+}
+
+fn is_small(tag: Tag) -> bool
+    ensures { result ≡ is_small_tag tag }
+{
+    match tag {
+        Tag::Utf8
+        | Tag::Integer
+        | Tag::Class
+        | Tag::String
+        | Tag::Fieldref
+        | Tag::Methodref
+        | Tag::NameAndType => true,
+        _ => false,
+    }
+}
+
+// Whether all entries have tags of the form.
+fn are_small(pool: &Pool) -> bool
+    ensures { IsTrue result → (index : ℕ) → IsTrue (is_small_kind (option_map tag_of (entry_at pool.now index))) }
+{
+    for index in 0..pool.len() {
+        if let Some(tag) = pool.tag(index) {
+            if !is_small(tag) {
+                return false;
+            }
+        }
+    }
+    true
+}
+
+// The magic number, and version 52.0 (JVMS 4.1).
+const HEAD: [u8; 8] = [0xca, 0xfe, 0xba, 0xbe, 0, 0, 0, 52];
+
+fn has_head(bytes: &[u8]) -> bool
+    ensures { IsTrue result → take 8 bytes.now ≡ file_head }
+{
+    bytes.len() >= 8 && &bytes[..8] == HEAD.as_slice()
+}
+
+fn rest_at(bytes: &[u8], at: usize) -> Option<&[u8]>
+    ensures { IfSome result (λ rest. rest.now ≡ drop at bytes.now) }
+{
+    if at <= bytes.len() {
+        Some(&bytes[at..])
+    } else {
+        None
+    }
+}
+
+// The line that the class behind the pool prints, where it has this name.
+fn line_behind(pool: &Pool, rest: &[u8], wanted: &[u8]) -> Option<Option<Piece>>
+    ensures { IfSome result (IsBehind pool.now rest.now wanted.now) }
+{
+    let found = name(pool, rest)?;
+    if found.as_slice() != wanted {
+        return None;
+    }
+    behind(pool, rest)
+}
+
+/// Reads a class file of the form whose class has this name: the line that it prints, if it prints one. `None` for any other
+/// file.
+pub(crate) fn read_small_class(
+    alloc: Global,
+    bytes: &[u8],
+    wanted: &[u8],
+) -> Result<Option<Option<Piece>>, AllocError>
+    ensures { IfOk result (λ found. IfSome found (λ line. (class : PrintingClass)
+        × IsPrintingFile bytes.now class × (class.name ≡ wanted.now) × (lines_of class ≡ option_to_list line))) }
+{
+    if !has_head(bytes) {
+        return Ok(None);
+    }
+    let (pool, at) = match read_pool(alloc, bytes) {
+        Ok(found) => found,
+        Err(PoolRefusal::OutOfMemory) => return Err(AllocError),
+        Err(_) => return Ok(None),
+    };
+    if !are_small(&pool) {
+        return Ok(None);
+    }
+    match rest_at(bytes, at) {
+        Some(rest) => Ok(line_behind(&pool, rest, wanted)),
+        None => Ok(None),
+    }
 }
