@@ -225,3 +225,9 @@ pub fn read_pool(alloc: Global, bytes: &[u8]) -> Result<(Pool, usize), PoolRefus
 {
     pool(alloc, bytes)
 }
+
+/// Each pool is read back from its bytes, whatever stands around them. So no two pools have the same bytes.
+pub fn each_pool_is_read_back()
+    ensures { (pool : Slots) (head rest : List ℕ) → IsPool pool → length head ≡ 8
+        → pool_in (head ++ (spelling pool ++ rest)) ≡ Ok (pool, 8 + length (spelling pool)) }
+{}
