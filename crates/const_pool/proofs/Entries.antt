@@ -12,8 +12,8 @@ use Rattle.const_pool.specs.declared.entry.Tag.TheVariants as tag
 use Rattle.const_pool.specs.declared.entry.Entry.{Entry}
 use Rattle.const_pool.specs.declared.entry.Entry.TheVariants as entry
 use Rattle.const_pool.specs.Entry.{IsBytes, Fits, tag_byte, tag_with, is_wide, tag_of, index_bytes, body_bytes, entry_bytes}
-use Rattle.const_pool.specs.Reading.{◌>>=◌, Place, number_at, field_at, name_at, member_at, body_at, or_bad_tag, tag_at, entry_from}
-use Rattle.const_pool.proofs.Fields.{bind_ok, guard_ok, done, ok_is, Takes, Takes-then, same_place, field_takes, field_again, number_takes, number_at-again, name_takes, name_again, member_takes, member_again}
+use Rattle.const_pool.specs.Reading.{◌>>=◌, Place, number_from, field_from, name_from, member_from, body_from, or_bad_tag, tag_from, entry_from}
+use Rattle.const_pool.proofs.Fields.{bind_ok, guard_ok, done, ok_is, Takes, Takes-then, same_place, field_takes, field_again, number_takes, number_from-again, name_takes, name_again, member_takes, member_again}
 
 -- ---- bodies
 
@@ -32,46 +32,46 @@ one_field {A} file read make x e is_body =
 
 index_field : (file : Place) (make : ℕ → Entry) (x : Entry × Place) → IsBytes file.1
     → ((i : ℕ) → body_bytes (make i) ≡ index_bytes i) → ((i : ℕ) → i < 2 ^ 16 → Fits (make i))
-    → (number_at 2 file >>= λ a. Ok (make a.0, a.1)) ≡ Ok x → IsBody file x
-index_field file make x fits spelled fitting e = one_field file (number_at 2 file) make x e (λ a h.
+    → (number_from 2 file >>= λ a. Ok (make a.0, a.1)) ≡ Ok x → IsBody file x
+index_field file make x fits spelled fitting e = one_field file (number_from 2 file) make x e (λ a h.
     let n = number_takes 2 file a fits h in
     record { takes = subst (λ (text : List ℕ). Takes file text a.1) (sym (spelled a.0)) n.0; fits = fitting a.0 n.1 })
 
-pub body_takes : (t : Tag) (file : Place) (x : Entry × Place) → IsBytes file.1 → body_at t file ≡ Ok x → IsBody file x
-unfolding body_at
-body_takes tag.Utf8 file x fits e = one_field file (name_at file) entry.Utf8 x e (λ a h.
+pub body_takes : (t : Tag) (file : Place) (x : Entry × Place) → IsBytes file.1 → body_from t file ≡ Ok x → IsBody file x
+unfolding body_from
+body_takes tag.Utf8 file x fits e = one_field file (name_from file) entry.Utf8 x e (λ a h.
     let n = name_takes file a fits h in record { takes = n.0; fits = (n.1, n.2) })
-body_takes tag.Integer file x fits e = one_field file (number_at 4 file) (λ n. entry.Integer (cast_signed w32 n)) x e (λ a h.
+body_takes tag.Integer file x fits e = one_field file (number_from 4 file) (λ n. entry.Integer (cast_signed w32 n)) x e (λ a h.
     let n = number_takes 4 file a fits h in
     let back : cast_unsigned w32 (cast_signed w32 a.0) ≡ a.0 = of_z-to_z w32 a.0 n.1 in
     record { takes = subst (λ (k : ℕ). Takes file (big_bytes 4 k) a.1) (sym back) n.0; fits = sfits_to_z {w = w32} {n = a.0} (omega arith) })
-body_takes tag.Float file x fits e = one_field file (number_at 4 file) entry.Float x e (λ a h.
+body_takes tag.Float file x fits e = one_field file (number_from 4 file) entry.Float x e (λ a h.
     let n = number_takes 4 file a fits h in record { takes = n.0; fits = n.1 })
-body_takes tag.Long file x fits e = one_field file (number_at 8 file) (λ n. entry.Long (cast_signed w64 n)) x e (λ a h.
+body_takes tag.Long file x fits e = one_field file (number_from 8 file) (λ n. entry.Long (cast_signed w64 n)) x e (λ a h.
     let n = number_takes 8 file a fits h in
     let back : cast_unsigned w64 (cast_signed w64 a.0) ≡ a.0 = of_z-to_z w64 a.0 n.1 in
     record { takes = subst (λ (k : ℕ). Takes file (big_bytes 8 k) a.1) (sym back) n.0; fits = sfits_to_z {w = w64} {n = a.0} (omega arith) })
-body_takes tag.Double file x fits e = one_field file (number_at 8 file) entry.Double x e (λ a h.
+body_takes tag.Double file x fits e = one_field file (number_from 8 file) entry.Double x e (λ a h.
     let n = number_takes 8 file a fits h in record { takes = n.0; fits = n.1 })
 body_takes tag.Class file x fits e = index_field file entry.Class x fits (λ i. refl) (λ i p. p) e
 body_takes tag.String file x fits e = index_field file entry.String x fits (λ i. refl) (λ i p. p) e
-body_takes tag.Fieldref file x fits e = one_field file (member_at file) entry.Fieldref x e (λ a h.
+body_takes tag.Fieldref file x fits e = one_field file (member_from file) entry.Fieldref x e (λ a h.
     let m = member_takes file a fits h in record { takes = m.0; fits = m.1 })
-body_takes tag.Methodref file x fits e = one_field file (member_at file) entry.Methodref x e (λ a h.
+body_takes tag.Methodref file x fits e = one_field file (member_from file) entry.Methodref x e (λ a h.
     let m = member_takes file a fits h in record { takes = m.0; fits = m.1 })
-body_takes tag.InterfaceMethodref file x fits e = one_field file (member_at file) entry.InterfaceMethodref x e (λ a h.
+body_takes tag.InterfaceMethodref file x fits e = one_field file (member_from file) entry.InterfaceMethodref x e (λ a h.
     let m = member_takes file a fits h in record { takes = m.0; fits = m.1 })
 body_takes tag.NameAndType file x fits e =
-    let a = bind_ok (number_at 2 file) (λ name. number_at 2 name.1 >>= λ descriptor. Ok (entry.NameAndType name.0 descriptor.0, descriptor.1)) x e in
+    let a = bind_ok (number_from 2 file) (λ name. number_from 2 name.1 >>= λ descriptor. Ok (entry.NameAndType name.0 descriptor.0, descriptor.1)) x e in
     let t = number_takes 2 file a.0 fits a.1 in
-    one_field file (number_at 2 a.0.1) (λ descriptor. entry.NameAndType a.0.0 descriptor) x a.2 (λ b h.
+    one_field file (number_from 2 a.0.1) (λ descriptor. entry.NameAndType a.0.0 descriptor) x a.2 (λ b h.
     let u = number_takes 2 a.0.1 b t.0.rest_fits h in
     record { takes = Takes-then file (index_bytes a.0.0) a.0.1 (index_bytes b.0) b.1 t.0 u.0; fits = (t.1, u.1) })
-body_takes tag.MethodHandle file x fits e = one_field file (field_at 3 file) entry.MethodHandle x e (λ a h.
+body_takes tag.MethodHandle file x fits e = one_field file (field_from 3 file) entry.MethodHandle x e (λ a h.
     let f = field_takes 3 file a fits h in record { takes = f.0; fits = f.1 })
-body_takes tag.MethodType file x fits e = one_field file (field_at 2 file) entry.MethodType x e (λ a h.
+body_takes tag.MethodType file x fits e = one_field file (field_from 2 file) entry.MethodType x e (λ a h.
     let f = field_takes 2 file a fits h in record { takes = f.0; fits = f.1 })
-body_takes tag.InvokeDynamic file x fits e = one_field file (field_at 4 file) entry.InvokeDynamic x e (λ a h.
+body_takes tag.InvokeDynamic file x fits e = one_field file (field_from 4 file) entry.InvokeDynamic x e (λ a h.
     let f = field_takes 4 file a fits h in record { takes = f.0; fits = f.1 })
 
 -- the entry has the kind that was asked for
@@ -81,49 +81,49 @@ one_tagged {A} t read make x tagged e =
     let made : Entry × Place = (make a.0.0, a.0.1) in
     subst (λ (y : Entry × Place). tag_of y.0 ≡ t) (ok_is made x a.2) (tagged a.0.0)
 
-body_tagged : (t : Tag) (file : Place) (x : Entry × Place) → body_at t file ≡ Ok x → tag_of x.0 ≡ t
-unfolding body_at
-body_tagged tag.Utf8 file x e = one_tagged tag.Utf8 (name_at file) entry.Utf8 x (λ a. refl) e
-body_tagged tag.Integer file x e = one_tagged tag.Integer (number_at 4 file) (λ n. entry.Integer (cast_signed w32 n)) x (λ a. refl) e
-body_tagged tag.Float file x e = one_tagged tag.Float (number_at 4 file) entry.Float x (λ a. refl) e
-body_tagged tag.Long file x e = one_tagged tag.Long (number_at 8 file) (λ n. entry.Long (cast_signed w64 n)) x (λ a. refl) e
-body_tagged tag.Double file x e = one_tagged tag.Double (number_at 8 file) entry.Double x (λ a. refl) e
-body_tagged tag.Class file x e = one_tagged tag.Class (number_at 2 file) entry.Class x (λ a. refl) e
-body_tagged tag.String file x e = one_tagged tag.String (number_at 2 file) entry.String x (λ a. refl) e
-body_tagged tag.Fieldref file x e = one_tagged tag.Fieldref (member_at file) entry.Fieldref x (λ a. refl) e
-body_tagged tag.Methodref file x e = one_tagged tag.Methodref (member_at file) entry.Methodref x (λ a. refl) e
-body_tagged tag.InterfaceMethodref file x e = one_tagged tag.InterfaceMethodref (member_at file) entry.InterfaceMethodref x (λ a. refl) e
+body_tagged : (t : Tag) (file : Place) (x : Entry × Place) → body_from t file ≡ Ok x → tag_of x.0 ≡ t
+unfolding body_from
+body_tagged tag.Utf8 file x e = one_tagged tag.Utf8 (name_from file) entry.Utf8 x (λ a. refl) e
+body_tagged tag.Integer file x e = one_tagged tag.Integer (number_from 4 file) (λ n. entry.Integer (cast_signed w32 n)) x (λ a. refl) e
+body_tagged tag.Float file x e = one_tagged tag.Float (number_from 4 file) entry.Float x (λ a. refl) e
+body_tagged tag.Long file x e = one_tagged tag.Long (number_from 8 file) (λ n. entry.Long (cast_signed w64 n)) x (λ a. refl) e
+body_tagged tag.Double file x e = one_tagged tag.Double (number_from 8 file) entry.Double x (λ a. refl) e
+body_tagged tag.Class file x e = one_tagged tag.Class (number_from 2 file) entry.Class x (λ a. refl) e
+body_tagged tag.String file x e = one_tagged tag.String (number_from 2 file) entry.String x (λ a. refl) e
+body_tagged tag.Fieldref file x e = one_tagged tag.Fieldref (member_from file) entry.Fieldref x (λ a. refl) e
+body_tagged tag.Methodref file x e = one_tagged tag.Methodref (member_from file) entry.Methodref x (λ a. refl) e
+body_tagged tag.InterfaceMethodref file x e = one_tagged tag.InterfaceMethodref (member_from file) entry.InterfaceMethodref x (λ a. refl) e
 body_tagged tag.NameAndType file x e =
-    let a = bind_ok (number_at 2 file) (λ name. number_at 2 name.1 >>= λ descriptor. Ok (entry.NameAndType name.0 descriptor.0, descriptor.1)) x e in
-    one_tagged tag.NameAndType (number_at 2 a.0.1) (λ descriptor. entry.NameAndType a.0.0 descriptor) x (λ b. refl) a.2
-body_tagged tag.MethodHandle file x e = one_tagged tag.MethodHandle (field_at 3 file) entry.MethodHandle x (λ a. refl) e
-body_tagged tag.MethodType file x e = one_tagged tag.MethodType (field_at 2 file) entry.MethodType x (λ a. refl) e
-body_tagged tag.InvokeDynamic file x e = one_tagged tag.InvokeDynamic (field_at 4 file) entry.InvokeDynamic x (λ a. refl) e
+    let a = bind_ok (number_from 2 file) (λ name. number_from 2 name.1 >>= λ descriptor. Ok (entry.NameAndType name.0 descriptor.0, descriptor.1)) x e in
+    one_tagged tag.NameAndType (number_from 2 a.0.1) (λ descriptor. entry.NameAndType a.0.0 descriptor) x (λ b. refl) a.2
+body_tagged tag.MethodHandle file x e = one_tagged tag.MethodHandle (field_from 3 file) entry.MethodHandle x (λ a. refl) e
+body_tagged tag.MethodType file x e = one_tagged tag.MethodType (field_from 2 file) entry.MethodType x (λ a. refl) e
+body_tagged tag.InvokeDynamic file x e = one_tagged tag.InvokeDynamic (field_from 4 file) entry.InvokeDynamic x (λ a. refl) e
 
 -- a body that is spelled is read again, whatever follows
 abbrev ReadsBody : Entry → Type 0
-ReadsBody e = (at : ℕ) (rest : List ℕ) → body_at (tag_of e) (at, body_bytes e ++ rest) ≡ Ok (e, (at + length (body_bytes e), rest))
+ReadsBody e = (at : ℕ) (rest : List ℕ) → body_from (tag_of e) (at, body_bytes e ++ rest) ≡ Ok (e, (at + length (body_bytes e), rest))
 
 bytes_again : (e : Entry) (at n : ℕ) (bytes rest : List ℕ) → length bytes ≡ n → done {A = Entry × Place} (e, (at + n, rest)) ≡ done {A = Entry × Place} (e, (at + length bytes, rest))
 bytes_again e at n bytes rest len = same_place e (at + n) (at + length bytes) rest (omega arith)
 
 pub body_again : (e : Entry) → Fits e → ReadsBody e
-unfolding body_at
+unfolding body_from
 body_again (entry.Utf8 name) fits at rest = rw (name_again at name rest fits.0 fits.1) refl
 body_again (entry.Integer z) fits at rest =
-    rw (number_at-again 4 at (cast_unsigned w32 z) rest (omega (arith, Fits-of_z {w = w32} {z = z} fits)), to_z-of_z w32 z fits) refl
-body_again (entry.Float bits) fits at rest = rw (number_at-again 4 at bits rest fits) refl
+    rw (number_from-again 4 at (cast_unsigned w32 z) rest (omega (arith, Fits-of_z {w = w32} {z = z} fits)), to_z-of_z w32 z fits) refl
+body_again (entry.Float bits) fits at rest = rw (number_from-again 4 at bits rest fits) refl
 body_again (entry.Long z) fits at rest =
-    rw (number_at-again 8 at (cast_unsigned w64 z) rest (omega (arith, Fits-of_z {w = w64} {z = z} fits)), to_z-of_z w64 z fits) refl
-body_again (entry.Double bits) fits at rest = rw (number_at-again 8 at bits rest fits) refl
-body_again (entry.Class name) fits at rest = rw (number_at-again 2 at name rest fits) refl
-body_again (entry.String text) fits at rest = rw (number_at-again 2 at text rest fits) refl
+    rw (number_from-again 8 at (cast_unsigned w64 z) rest (omega (arith, Fits-of_z {w = w64} {z = z} fits)), to_z-of_z w64 z fits) refl
+body_again (entry.Double bits) fits at rest = rw (number_from-again 8 at bits rest fits) refl
+body_again (entry.Class name) fits at rest = rw (number_from-again 2 at name rest fits) refl
+body_again (entry.String text) fits at rest = rw (number_from-again 2 at text rest fits) refl
 body_again (entry.Fieldref m) fits at rest = rw (member_again at m rest fits) refl
 body_again (entry.Methodref m) fits at rest = rw (member_again at m rest fits) refl
 body_again (entry.InterfaceMethodref m) fits at rest = rw (member_again at m rest fits) refl
 body_again (entry.NameAndType name descriptor) fits at rest =
     let ends : at + 2 + 2 ≡ at + 4 = omega arith in
-    rw (number_at-again 2 at name (index_bytes descriptor ++ rest) fits.0, number_at-again 2 (at + 2) descriptor rest fits.1) (same_place (entry.NameAndType name descriptor) _ _ rest ends)
+    rw (number_from-again 2 at name (index_bytes descriptor ++ rest) fits.0, number_from-again 2 (at + 2) descriptor rest fits.1) (same_place (entry.NameAndType name descriptor) _ _ rest ends)
 body_again (entry.MethodHandle bytes) fits at rest = rw (field_again 3 at bytes rest fits.0) (bytes_again (entry.MethodHandle bytes) at 3 bytes rest fits.0)
 body_again (entry.MethodType bytes) fits at rest = rw (field_again 2 at bytes rest fits.0) (bytes_again (entry.MethodType bytes) at 2 bytes rest fits.0)
 body_again (entry.InvokeDynamic bytes) fits at rest = rw (field_again 4 at bytes rest fits.0) (bytes_again (entry.InvokeDynamic bytes) at 4 bytes rest fits.0)
@@ -217,15 +217,15 @@ room_passes index count t room =
 -- what a tag is read from
 record IsTag (index count : ℕ) (file : Place) (x : Tag × Place) : Type 0 where
   byte : ℕ × Place
-  read : number_at 1 file ≡ Ok byte
+  read : number_from 1 file ≡ Ok byte
   known : byte.0 ≡ tag_byte x.0
   after : byte.1 ≡ x.1
   room : HasRoom index count x.0
 
-tag_read : (index count : ℕ) (file : Place) (x : Tag × Place) → tag_at index count file ≡ Ok x → IsTag index count file x
-unfolding tag_at
+tag_read : (index count : ℕ) (file : Place) (x : Tag × Place) → tag_from index count file ≡ Ok x → IsTag index count file x
+unfolding tag_from
 tag_read index count file x e =
-    let a = bind_ok (number_at 1 file) (λ byte. or_bad_tag file.0 (tag_with byte.0) >>= λ t. cond (is_wide t && eqb (index + 1) count) (Err (BadIndex index (index + 1))) (Ok (t, byte.1))) x e in
+    let a = bind_ok (number_from 1 file) (λ byte. or_bad_tag file.0 (tag_with byte.0) >>= λ t. cond (is_wide t && eqb (index + 1) count) (Err (BadIndex index (index + 1))) (Ok (t, byte.1))) x e in
     let b = bind_ok (or_bad_tag file.0 (tag_with a.0.0)) (λ t. cond (is_wide t && eqb (index + 1) count) (Err (BadIndex index (index + 1))) (Ok (t, a.0.1))) x a.2 in
     let g = guard_ok (is_wide b.0 && eqb (index + 1) count) (BadIndex index (index + 1)) (b.0, a.0.1) x b.2 in
     let byte = tag_known a.0.0 b.0 (bad_tag_ok file.0 (tag_with a.0.0) b.0 b.1) in
@@ -239,11 +239,11 @@ tag_takes index count file x fits t =
     let named : Takes file (tag_byte x.0 ∷ []) t.byte.1 = subst (λ (y : List ℕ). Takes file y t.byte.1) text taken in
     subst (λ (after : Place). Takes file (tag_byte x.0 ∷ []) after) t.after named
 
-pub tag_again : (index count at : ℕ) (t : Tag) (rest : List ℕ) → HasRoom index count t → tag_at index count (at, tag_byte t ∷ rest) ≡ Ok (t, (at + 1, rest))
-unfolding tag_at
+pub tag_again : (index count at : ℕ) (t : Tag) (rest : List ℕ) → HasRoom index count t → tag_from index count (at, tag_byte t ∷ rest) ≡ Ok (t, (at + 1, rest))
+unfolding tag_from
 tag_again index count at t rest room =
-    let read : number_at 1 (at, tag_byte t ∷ rest) ≡ Ok (tag_byte t, (at + 1, rest)) =
-    ap (λ (text : List ℕ). number_at 1 (at, text ++ rest)) (sym (tag_bytes t)) ∙ number_at-again 1 at (tag_byte t) rest (tag_byte-lt t) in
+    let read : number_from 1 (at, tag_byte t ∷ rest) ≡ Ok (tag_byte t, (at + 1, rest)) =
+    ap (λ (text : List ℕ). number_from 1 (at, text ++ rest)) (sym (tag_bytes t)) ∙ number_from-again 1 at (tag_byte t) rest (tag_byte-lt t) in
     rw (read, tag_found t, room_passes index count t room) refl
 
 -- ---- entries
@@ -251,7 +251,7 @@ tag_again index count at t rest room =
 pub entry_room : (index count : ℕ) (file : Place) (x : Entry × Place) → entry_from index count file ≡ Ok x → HasRoom index count (tag_of x.0)
 unfolding entry_from
 entry_room index count file x e =
-    let a = bind_ok (tag_at index count file) (λ t. body_at t.0 t.1) x e in
+    let a = bind_ok (tag_from index count file) (λ t. body_from t.0 t.1) x e in
     let t = tag_read index count file a.0 a.1 in
     subst (λ (u : Tag). HasRoom index count u) (sym (body_tagged a.0.0 a.0.1 x a.2)) t.room
 
@@ -263,7 +263,7 @@ pub record IsEntry (file : Place) (x : Entry × Place) : Type 0 where
 pub entry_takes : (index count : ℕ) (file : Place) (x : Entry × Place) → IsBytes file.1 → entry_from index count file ≡ Ok x → IsEntry file x
 unfolding entry_from
 entry_takes index count file x fits e =
-    let a = bind_ok (tag_at index count file) (λ t. body_at t.0 t.1) x e in
+    let a = bind_ok (tag_from index count file) (λ t. body_from t.0 t.1) x e in
     let t = tag_takes index count file a.0 fits (tag_read index count file a.0 a.1) in
     let b = body_takes a.0.0 a.0.1 x t.rest_fits a.2 in
     let both = Takes-then file (tag_byte a.0.0 ∷ []) a.0.1 (body_bytes x.0) x.1 t b.takes in

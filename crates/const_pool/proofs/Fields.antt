@@ -8,7 +8,7 @@ use Rattle.const_pool.specs.declared.refusal.PoolRefusal.TheVariants.{Truncated,
 use Rattle.const_pool.specs.declared.entry.Member.{Member}
 use Rattle.const_pool.specs.Utf8.{IsModifiedUtf8, bad_place}
 use Rattle.const_pool.specs.Entry.{IsBytes, HasBytes, AreIndices, index_bytes, member_bytes}
-use Rattle.const_pool.specs.Reading.{◌>>=◌, Place, unless_found, field_at, number_at, name_at, member_at}
+use Rattle.const_pool.specs.Reading.{◌>>=◌, Place, unless_found, field_from, number_from, name_from, member_from}
 use Rattle.const_pool.proofs.Texts.{good_has_none, none_is_good}
 use Rattle.const_pool.proofs.Numbers.{number_fits, number_again, length-big, bytes_again}
 
@@ -62,8 +62,8 @@ same_place {A} x i j rest e = ap (λ (k : ℕ). done {A = A × Place} (x, (k, re
 
 -- ---- fields
 
-pub field_takes : (n : ℕ) (file : Place) (x : List ℕ × Place) → IsBytes file.1 → field_at n file ≡ Ok x → Takes file x.0 x.1 × HasBytes n x.0
-unfolding field_at
+pub field_takes : (n : ℕ) (file : Place) (x : List ℕ × Place) → IsBytes file.1 → field_from n file ≡ Ok x → Takes file x.0 x.1 × HasBytes n x.0
+unfolding field_from
 field_takes n file x fits e =
     let g = guard_ok (ltb (length file.1) n) (Truncated file.0) (take n file.1, (file.0 + n, drop n file.1)) x e in
     let long : n ≤ length file.1 = ltb-false _ _ g.0 in
@@ -71,35 +71,35 @@ field_takes n file x fits e =
     let taken : Takes file (take n file.1) (file.0 + n, drop n file.1) = record { parts = sym (take-append-drop n file.1); moved = omega (arith, len); rest_fits = IsBytes-drop n file.1 fits } in
     subst (λ (y : List ℕ × Place). Takes file y.0 y.1 × HasBytes n y.0) g.1 (taken, (len, IsBytes-take n file.1 fits))
 
-pub field_again : (n at : ℕ) (text rest : List ℕ) → length text ≡ n → field_at n (at, text ++ rest) ≡ Ok (text, (at + n, rest))
-unfolding field_at
+pub field_again : (n at : ℕ) (text rest : List ℕ) → length text ≡ n → field_from n (at, text ++ rest) ≡ Ok (text, (at + n, rest))
+unfolding field_from
 field_again n at text rest len =
     let long : ltb (length (text ++ rest)) n ≡ false = le-ltb _ _ (omega (arith, length-append text rest)) in
     rw (long, take_at text rest n len, drop_at text rest n len) refl
 
 -- ---- numbers
 
-pub number_takes : (n : ℕ) (file : Place) (x : ℕ × Place) → IsBytes file.1 → number_at n file ≡ Ok x → Takes file (big_bytes n x.0) x.1 × (x.0 < 256 ^ n)
-unfolding number_at
+pub number_takes : (n : ℕ) (file : Place) (x : ℕ × Place) → IsBytes file.1 → number_from n file ≡ Ok x → Takes file (big_bytes n x.0) x.1 × (x.0 < 256 ^ n)
+unfolding number_from
 number_takes n file x fits e =
-    let a = bind_ok (field_at n file) (λ field. Ok (big_number n field.0, field.1)) x e in
+    let a = bind_ok (field_from n file) (λ field. Ok (big_number n field.0, field.1)) x e in
     let t = field_takes n file a.0 fits a.1 in
     let back : big_bytes n (big_number n a.0.0) ≡ a.0.0 = bytes_again n a.0.0 t.1.0 t.1.1 in
     let taken : Takes file (big_bytes n (big_number n a.0.0)) a.0.1 = subst (λ (text : List ℕ). Takes file text a.0.1) (sym back) t.0 in
     subst (λ (y : ℕ × Place). Takes file (big_bytes n y.0) y.1 × (y.0 < 256 ^ n)) (ok_is (big_number n a.0.0, a.0.1) x a.2) (taken, number_fits n a.0.0 t.1.1)
 
-pub number_at-again : (n at x : ℕ) (rest : List ℕ) → x < 256 ^ n → number_at n (at, big_bytes n x ++ rest) ≡ Ok (x, (at + n, rest))
-unfolding number_at
-number_at-again n at x rest lt =
+pub number_from-again : (n at x : ℕ) (rest : List ℕ) → x < 256 ^ n → number_from n (at, big_bytes n x ++ rest) ≡ Ok (x, (at + n, rest))
+unfolding number_from
+number_from-again n at x rest lt =
     rw (field_again n at (big_bytes n x) rest (length-big n x), number_again n x lt) refl
 
 -- ---- names
 
-pub name_takes : (file : Place) (x : List ℕ × Place) → IsBytes file.1 → name_at file ≡ Ok x → Takes file (big_bytes 2 (length x.0) ++ x.0) x.1 × (length x.0 < 2 ^ 16) × IsModifiedUtf8 x.0
-unfolding name_at
+pub name_takes : (file : Place) (x : List ℕ × Place) → IsBytes file.1 → name_from file ≡ Ok x → Takes file (big_bytes 2 (length x.0) ++ x.0) x.1 × (length x.0 < 2 ^ 16) × IsModifiedUtf8 x.0
+unfolding name_from
 name_takes file x fits e =
-    let a = bind_ok (number_at 2 file) (λ len. field_at len.0 len.1 >>= λ text. unless_found (bad_place 0 0 text.0) (λ place. BadUtf8 (len.1.0 + place)) >>= λ good. Ok text) x e in
-    let b = bind_ok (field_at a.0.0 a.0.1) (λ text. unless_found (bad_place 0 0 text.0) (λ place. BadUtf8 (a.0.1.0 + place)) >>= λ good. Ok text) x a.2 in
+    let a = bind_ok (number_from 2 file) (λ len. field_from len.0 len.1 >>= λ text. unless_found (bad_place 0 0 text.0) (λ place. BadUtf8 (len.1.0 + place)) >>= λ good. Ok text) x e in
+    let b = bind_ok (field_from a.0.0 a.0.1) (λ text. unless_found (bad_place 0 0 text.0) (λ place. BadUtf8 (a.0.1.0 + place)) >>= λ good. Ok text) x a.2 in
     let c = bind_ok (unless_found (bad_place 0 0 b.0.0) (λ place. BadUtf8 (a.0.1.0 + place))) (λ good. Ok b.0) x b.2 in
     let t = number_takes 2 file a.0 fits a.1 in
     let u = field_takes a.0.0 a.0.1 b.0 t.0.rest_fits b.1 in
@@ -108,28 +108,28 @@ name_takes file x fits e =
     let whole : Takes file (big_bytes 2 (length b.0.0) ++ b.0.0) b.0.1 = subst (λ (k : ℕ). Takes file (big_bytes 2 k ++ b.0.0) b.0.1) (sym u.1.0) both in
     subst (λ (y : List ℕ × Place). Takes file (big_bytes 2 (length y.0) ++ y.0) y.1 × (length y.0 < 2 ^ 16) × IsModifiedUtf8 y.0) (ok_is b.0 x c.2) (whole, omega (arith, t.1, u.1.0), good)
 
-pub name_again : (at : ℕ) (name rest : List ℕ) → length name < 2 ^ 16 → IsModifiedUtf8 name → name_at (at, (big_bytes 2 (length name) ++ name) ++ rest) ≡ Ok (name, (at + length (big_bytes 2 (length name) ++ name), rest))
-unfolding name_at
+pub name_again : (at : ℕ) (name rest : List ℕ) → length name < 2 ^ 16 → IsModifiedUtf8 name → name_from (at, (big_bytes 2 (length name) ++ name) ++ rest) ≡ Ok (name, (at + length (big_bytes 2 (length name) ++ name), rest))
+unfolding name_from
 name_again at name rest short good =
     let none = good_has_none name good in
     let ends : at + 2 + length name ≡ at + length (big_bytes 2 (length name) ++ name) = omega arith in
-    rw (number_at-again 2 at (length name) (name ++ rest) short, field_again (length name) (at + 2) name rest refl, none) (same_place name _ _ rest ends)
+    rw (number_from-again 2 at (length name) (name ++ rest) short, field_again (length name) (at + 2) name rest refl, none) (same_place name _ _ rest ends)
 
 -- ---- members
 
-pub member_takes : (file : Place) (x : Member × Place) → IsBytes file.1 → member_at file ≡ Ok x → Takes file (member_bytes x.0) x.1 × AreIndices x.0
-unfolding member_at
+pub member_takes : (file : Place) (x : Member × Place) → IsBytes file.1 → member_from file ≡ Ok x → Takes file (member_bytes x.0) x.1 × AreIndices x.0
+unfolding member_from
 member_takes file x fits e =
-    let a = bind_ok (number_at 2 file) (λ class. number_at 2 class.1 >>= λ name_and_type. Ok (record { class = class.0; name_and_type = name_and_type.0 }, name_and_type.1)) x e in
-    let b = bind_ok (number_at 2 a.0.1) (λ name_and_type. Ok (record { class = a.0.0; name_and_type = name_and_type.0 }, name_and_type.1)) x a.2 in
+    let a = bind_ok (number_from 2 file) (λ class. number_from 2 class.1 >>= λ name_and_type. Ok (record { class = class.0; name_and_type = name_and_type.0 }, name_and_type.1)) x e in
+    let b = bind_ok (number_from 2 a.0.1) (λ name_and_type. Ok (record { class = a.0.0; name_and_type = name_and_type.0 }, name_and_type.1)) x a.2 in
     let t = number_takes 2 file a.0 fits a.1 in
     let u = number_takes 2 a.0.1 b.0 t.0.rest_fits b.1 in
     let both = Takes-then file (index_bytes a.0.0) a.0.1 (index_bytes b.0.0) b.0.1 t.0 u.0 in
     let made : Member × Place = (record { class = a.0.0; name_and_type = b.0.0 }, b.0.1) in
     subst (λ (y : Member × Place). Takes file (member_bytes y.0) y.1 × AreIndices y.0) (ok_is made x b.2) (both, (t.1, u.1))
 
-pub member_again : (at : ℕ) (m : Member) (rest : List ℕ) → AreIndices m → member_at (at, member_bytes m ++ rest) ≡ Ok (m, (at + 4, rest))
-unfolding member_at
+pub member_again : (at : ℕ) (m : Member) (rest : List ℕ) → AreIndices m → member_from (at, member_bytes m ++ rest) ≡ Ok (m, (at + 4, rest))
+unfolding member_from
 member_again at m rest fits =
     let ends : at + 2 + 2 ≡ at + 4 = omega arith in
-    rw (number_at-again 2 at m.class (index_bytes m.name_and_type ++ rest) fits.0, number_at-again 2 (at + 2) m.name_and_type rest fits.1) (same_place m _ _ rest ends)
+    rw (number_from-again 2 at m.class (index_bytes m.name_and_type ++ rest) fits.0, number_from-again 2 (at + 2) m.name_and_type rest fits.1) (same_place m _ _ rest ends)

@@ -8,8 +8,8 @@ use Rattle.const_pool.specs.declared.refusal.PoolRefusal.{PoolRefusal}
 use Rattle.const_pool.specs.declared.refusal.PoolRefusal.TheVariants.{BadIndex}
 use Rattle.const_pool.specs.Entry.{IsBytes}
 use Rattle.const_pool.specs.Pool.{Slots, AreSlots, IsPool, slot_bytes, spelling}
-use Rattle.const_pool.specs.Reading.{◌>>=◌, Gives, Place, number_at, counted_slots, wrong_from, unless_found, pool_in}
-use Rattle.const_pool.proofs.Fields.{bind_ok, done, ok_is, unless_ok, Takes, Takes-then, IsBytes-drop, number_takes, number_at-again}
+use Rattle.const_pool.specs.Reading.{◌>>=◌, Gives, Place, number_from, counted_slots, wrong_from, unless_found, pool_in}
+use Rattle.const_pool.proofs.Fields.{bind_ok, done, ok_is, unless_ok, Takes, Takes-then, IsBytes-drop, number_takes, number_from-again}
 use Rattle.const_pool.proofs.Slots.{IsRead, slots_take, slots_again, refers_all, refers_none}
 
 -- a pool stands at byte 8 of a file, up to an offset
@@ -27,7 +27,7 @@ pub pool_stands : (bytes : List ℕ) (x : Slots × ℕ) → IsBytes bytes → po
 unfolding pool_in
 pool_stands bytes x fits e =
     let start : Place = (8, drop 8 bytes) in
-    let a = bind_ok (number_at 2 start) (λ count. counted_slots count.0 count.1 >>= λ slots. unless_found (wrong_from slots.0 0 slots.0) (λ w. BadIndex w.0 w.1) >>= λ good. Ok (slots.0, slots.1.0)) x e in
+    let a = bind_ok (number_from 2 start) (λ count. counted_slots count.0 count.1 >>= λ slots. unless_found (wrong_from slots.0 0 slots.0) (λ w. BadIndex w.0 w.1) >>= λ good. Ok (slots.0, slots.1.0)) x e in
     let b = bind_ok (counted_slots a.0.0 a.0.1) (λ slots. unless_found (wrong_from slots.0 0 slots.0) (λ w. BadIndex w.0 w.1) >>= λ good. Ok (slots.0, slots.1.0)) x a.2 in
     let c = bind_ok (unless_found (wrong_from b.0.0 0 b.0.0) (λ w. BadIndex w.0 w.1)) (λ good. Ok (b.0.0, b.0.1.0)) x b.2 in
     let t = number_takes 2 start a.0 (IsBytes-drop 8 bytes fits) a.1 in
@@ -56,8 +56,8 @@ pub pool_again : (bytes rest : List ℕ) (pool : Slots) → IsPool pool → drop
 unfolding pool_in
 pool_again bytes rest pool is e =
     let text : drop 8 bytes ≡ big_bytes 2 (length pool) ++ (flat_map slot_bytes pool ++ rest) = e ∙ append_assoc (big_bytes 2 (length pool)) (flat_map slot_bytes pool) rest in
-    let first : number_at 2 (8, drop 8 bytes) ≡ Ok (length pool, (10, flat_map slot_bytes pool ++ rest)) =
-    ap (λ (t : List ℕ). number_at 2 (8, t)) text ∙ number_at-again 2 8 (length pool) (flat_map slot_bytes pool ++ rest) is.count in
+    let first : number_from 2 (8, drop 8 bytes) ≡ Ok (length pool, (10, flat_map slot_bytes pool ++ rest)) =
+    ap (λ (t : List ℕ). number_from 2 (8, t)) text ∙ number_from-again 2 8 (length pool) (flat_map slot_bytes pool ++ rest) is.count in
     let second = counted_again pool 10 rest is.slots in
     let ends : 10 + length (flat_map slot_bytes pool) ≡ 8 + length (spelling pool) = omega arith in
     rw (first, second, refers_none pool 0 pool is.named) (ap (λ (k : ℕ). done {A = Slots × ℕ} (pool, k)) ends)

@@ -22,7 +22,8 @@ IsUnqualified part = (0 < length part) × AllByRecursion IsNameByte part
 -- A class name in internal form: unqualified names with slashes between them (JVMS 4.2.1).
 abbrev pub IsClassName : List ℕ → Type 0
 IsClassName name =
-    (parts : List (List ℕ)) × (0 < length parts) × AllByRecursion IsUnqualified parts × (name ≡ join_with_byte 47 parts)
+    (parts : List (List ℕ)) × (0 < length parts) × AllByRecursion IsUnqualified parts
+    × (name ≡ join_with_byte 47 parts)
 
 -- ---- the spelling of each descriptor
 
@@ -52,7 +53,8 @@ result_bytes (Some t) = field_bytes t
 -- a method's parameters stand in parentheses
 abbrev pub descriptor_bytes : Descriptor → List ℕ
 descriptor_bytes (descriptor.Field t) = field_bytes t
-descriptor_bytes (descriptor.Method parameters result) = 40 ∷ (flat_map field_bytes parameters ++ 41 ∷ result_bytes result)
+descriptor_bytes (descriptor.Method parameters result) =
+    40 ∷ (flat_map field_bytes parameters ++ 41 ∷ result_bytes result)
 
 -- ---- which descriptors there are
 
@@ -65,4 +67,5 @@ IsFieldType t = (t.dimensions ≤ 255) × IsElement t.element
 
 abbrev pub IsDescriptor : Descriptor → Type 0
 IsDescriptor (descriptor.Field t) = IsFieldType t
-IsDescriptor (descriptor.Method parameters result) = AllByRecursion IsFieldType parameters × IfSome result IsFieldType
+IsDescriptor (descriptor.Method parameters result) =
+    AllByRecursion IsFieldType parameters × IfSome result IsFieldType

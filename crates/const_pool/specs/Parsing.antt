@@ -106,4 +106,5 @@ method_at bytes = do
 
 -- the descriptor that is all of the bytes
 unfoldable pub descriptor_at : List ℕ → Option Descriptor
-descriptor_at bytes = option_map_or method_at (after_front 40 bytes) (option_map (λ t. descriptor.Field t) (only_field bytes))
+descriptor_at bytes =
+    option_map_or method_at (after_front 40 bytes) (option_map (λ t. descriptor.Field t) (only_field bytes))

@@ -97,7 +97,8 @@ both (Some x) None = None
 both None other = None
 
 abbrev pub name_and_type_of : Slots → Option Entry → Option (List ℕ × List ℕ)
-name_and_type_of slots (Some (entry.NameAndType name descriptor)) = both (utf8_at slots name) (utf8_at slots descriptor)
+name_and_type_of slots (Some (entry.NameAndType name descriptor)) =
+    both (utf8_at slots name) (utf8_at slots descriptor)
 name_and_type_of slots _ = None
 
 abbrev pub name_and_type_at : Slots → ℕ → Option (List ℕ × List ℕ)

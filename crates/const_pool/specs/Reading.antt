@@ -14,7 +14,8 @@ use Rattle.const_pool.specs.Entry.{tag_of, tag_with, is_wide}
 use Rattle.const_pool.specs.Pool.{Slots, entry_at, is_tagged, references_in}
 
 infixl 10 ◌>>=◌
-abbrev pub ◌>>=◌ : {A B : Type 0} → Result A PoolRefusal → (A → Result B PoolRefusal) → Result B PoolRefusal
+abbrev pub ◌>>=◌ : {A B : Type 0} → Result A PoolRefusal → (A → Result B PoolRefusal)
+    → Result B PoolRefusal
 (Ok x) >>= f = f x
 (Err e) >>= f = Err e
 
@@ -40,75 +41,77 @@ abbrev pub Place : Type 0
 Place = ℕ × List ℕ
 
 -- a field of n bytes, and the file after it
-unfoldable pub field_at : ℕ → Place → Result (List ℕ × Place) PoolRefusal
-field_at n file = if nat_lt (length file.1) n then Err (Truncated file.0) else Ok (take n file.1, (file.0 + n, drop n file.1))
+unfoldable pub field_from : ℕ → Place → Result (List ℕ × Place) PoolRefusal
+field_from n file =
+    if nat_lt (length file.1) n then Err (Truncated file.0)
+    else Ok (take n file.1, (file.0 + n, drop n file.1))
 
 -- a number of n bytes, the highest first
-unfoldable pub number_at : ℕ → Place → Result (ℕ × Place) PoolRefusal
-number_at n file = do
-  field ← field_at n file
+unfoldable pub number_from : ℕ → Place → Result (ℕ × Place) PoolRefusal
+number_from n file = do
+  field ← field_from n file
   Ok (big_number n field.0, field.1)
 
 -- a length and a text of that many bytes
-unfoldable pub name_at : Place → Result (List ℕ × Place) PoolRefusal
-name_at file = do
-  len ← number_at 2 file
-  text ← field_at len.0 len.1
+unfoldable pub name_from : Place → Result (List ℕ × Place) PoolRefusal
+name_from file = do
+  len ← number_from 2 file
+  text ← field_from len.0 len.1
   good ← unless_found (bad_place 0 0 text.0) (λ place. BadUtf8 (len.1.0 + place))
   Ok text
 
-unfoldable pub member_at : Place → Result (Member × Place) PoolRefusal
-member_at file = do
-  class ← number_at 2 file
-  name_and_type ← number_at 2 class.1
+unfoldable pub member_from : Place → Result (Member × Place) PoolRefusal
+member_from file = do
+  class ← number_from 2 file
+  name_and_type ← number_from 2 class.1
   Ok (record { class = class.0; name_and_type = name_and_type.0 }, name_and_type.1)
 
 -- ---- entries
 
 -- what follows the tag
-unfoldable pub body_at : Tag → Place → Result (Entry × Place) PoolRefusal
-body_at tag.Utf8 file = do
-  name ← name_at file
+unfoldable pub body_from : Tag → Place → Result (Entry × Place) PoolRefusal
+body_from tag.Utf8 file = do
+  name ← name_from file
   Ok (entry.Utf8 name.0, name.1)
-body_at tag.Integer file = do
-  number ← number_at 4 file
+body_from tag.Integer file = do
+  number ← number_from 4 file
   Ok (entry.Integer (cast_signed w32 number.0), number.1)
-body_at tag.Float file = do
-  number ← number_at 4 file
+body_from tag.Float file = do
+  number ← number_from 4 file
   Ok (entry.Float number.0, number.1)
-body_at tag.Long file = do
-  number ← number_at 8 file
+body_from tag.Long file = do
+  number ← number_from 8 file
   Ok (entry.Long (cast_signed w64 number.0), number.1)
-body_at tag.Double file = do
-  number ← number_at 8 file
+body_from tag.Double file = do
+  number ← number_from 8 file
   Ok (entry.Double number.0, number.1)
-body_at tag.Class file = do
-  name ← number_at 2 file
+body_from tag.Class file = do
+  name ← number_from 2 file
   Ok (entry.Class name.0, name.1)
-body_at tag.String file = do
-  text ← number_at 2 file
+body_from tag.String file = do
+  text ← number_from 2 file
   Ok (entry.String text.0, text.1)
-body_at tag.Fieldref file = do
-  member ← member_at file
+body_from tag.Fieldref file = do
+  member ← member_from file
   Ok (entry.Fieldref member.0, member.1)
-body_at tag.Methodref file = do
-  member ← member_at file
+body_from tag.Methodref file = do
+  member ← member_from file
   Ok (entry.Methodref member.0, member.1)
-body_at tag.InterfaceMethodref file = do
-  member ← member_at file
+body_from tag.InterfaceMethodref file = do
+  member ← member_from file
   Ok (entry.InterfaceMethodref member.0, member.1)
-body_at tag.NameAndType file = do
-  name ← number_at 2 file
-  descriptor ← number_at 2 name.1
+body_from tag.NameAndType file = do
+  name ← number_from 2 file
+  descriptor ← number_from 2 name.1
   Ok (entry.NameAndType name.0 descriptor.0, descriptor.1)
-body_at tag.MethodHandle file = do
-  bytes ← field_at 3 file
+body_from tag.MethodHandle file = do
+  bytes ← field_from 3 file
   Ok (entry.MethodHandle bytes.0, bytes.1)
-body_at tag.MethodType file = do
-  bytes ← field_at 2 file
+body_from tag.MethodType file = do
+  bytes ← field_from 2 file
   Ok (entry.MethodType bytes.0, bytes.1)
-body_at tag.InvokeDynamic file = do
-  bytes ← field_at 4 file
+body_from tag.InvokeDynamic file = do
+  bytes ← field_from 4 file
   Ok (entry.InvokeDynamic bytes.0, bytes.1)
 
 abbrev pub or_bad_tag : ℕ → Option Tag → Result Tag PoolRefusal
@@ -117,17 +120,17 @@ or_bad_tag at (Some t) = Ok t
 
 -- A tag. One whose entry takes two indices is refused where the second passes the count: nothing that
 -- could follow it would make a pool.
-unfoldable pub tag_at : (index count : ℕ) → Place → Result (Tag × Place) PoolRefusal
-tag_at index count file = do
-  byte ← number_at 1 file
+unfoldable pub tag_from : (index count : ℕ) → Place → Result (Tag × Place) PoolRefusal
+tag_from index count file = do
+  byte ← number_from 1 file
   t ← or_bad_tag file.0 (tag_with byte.0)
   if is_wide t && index + 1 == count then Err (BadIndex index (index + 1)) else Ok (t, byte.1)
 
 -- the entry at an index
 unfoldable pub entry_from : (index count : ℕ) → Place → Result (Entry × Place) PoolRefusal
 entry_from index count file = do
-  t ← tag_at index count file
-  body_at t.0 t.1
+  t ← tag_from index count file
+  body_from t.0 t.1
 
 -- The last `left` slots of a count. The first of them is taken by the entry before where `taken` says so.
 unfoldable pub slots_from : Bool → (left count : ℕ) → Place → Result (Slots × Place) PoolRefusal
@@ -158,7 +161,8 @@ with_index index (Some wrong) = Some (index, wrong)
 -- the first slot, from an index on, with such an index, and that index
 unfoldable pub wrong_from : Slots → ℕ → Slots → Option (ℕ × ℕ)
 wrong_from slots index [] = None
-wrong_from slots index (slot ∷ more) = or_else (with_index index (first_wrong slots (references_in slot))) (wrong_from slots (index + 1) more)
+wrong_from slots index (slot ∷ more) =
+    or_else (with_index index (first_wrong slots (references_in slot))) (wrong_from slots (index + 1) more)
 
 -- ---- the pool
 
@@ -170,7 +174,7 @@ counted_slots (suc left) file = slots_from true (suc left) (suc left) file
 -- a file's pool, which begins at byte 8, and the offset after it
 unfoldable pub pool_in : List ℕ → Result (Slots × ℕ) PoolRefusal
 pool_in bytes = do
-  count ← number_at 2 (8, drop 8 bytes)
+  count ← number_from 2 (8, drop 8 bytes)
   slots ← counted_slots count.0 count.1
   good ← unless_found (wrong_from slots.0 0 slots.0) (λ w. BadIndex w.0 w.1)
   Ok (slots.0, slots.1.0)

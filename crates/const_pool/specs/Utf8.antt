@@ -36,7 +36,8 @@ begins_two _ = false
 
 abbrev pub begins_three : List ℕ → Bool
 begins_three (a ∷ b ∷ c ∷ rest) =
-    ((a == 0xE0 && is_within 0xA0 0xBF b) || (is_within 0xE1 0xEF a && is_within 0x80 0xBF b)) && is_within 0x80 0xBF c
+    ((a == 0xE0 && is_within 0xA0 0xBF b) || (is_within 0xE1 0xEF a && is_within 0x80 0xBF b))
+    && is_within 0x80 0xBF c
 begins_three _ = false
 
 -- how many bytes the unit at the front has, where one stands there
@@ -50,4 +51,5 @@ char_len bytes =
 unfoldable pub bad_place : ℕ → ℕ → List ℕ → Option ℕ
 bad_place at inside [] = None
 bad_place at (suc inside) (b ∷ rest) = bad_place (at + 1) inside rest
-bad_place at zero (b ∷ rest) = option_map_or (λ len. bad_place (at + 1) (len - 1) rest) (char_len (b ∷ rest)) (Some at)
+bad_place at zero (b ∷ rest) =
+    option_map_or (λ len. bad_place (at + 1) (len - 1) rest) (char_len (b ∷ rest)) (Some at)

@@ -16,25 +16,36 @@ use thiserror::Error;
 /// The primitive types that descriptors may name (JVMS 4.3.2, table 4.3-A), but for float and double.
 #[derive(Clone, Copy, Debug, PartialEq, Eq)]
 pub enum BaseType {
+    /// `B`.
     Byte,
+    /// `C`.
     Char,
+    /// `I`.
     Int,
+    /// `J`.
     Long,
+    /// `S`.
     Short,
+    /// `Z`.
     Boolean,
 }
 
-/// A type that is no array: a primitive one, or the class with this name in internal form.
+/// A type that is no array.
 #[derive(Debug, Drop)]
 pub enum ElementType {
+    /// A primitive type.
     Base(BaseType),
+    /// The class or interface with this name, in internal form: unqualified names with slashes between them,
+    /// none of them empty and none with `.`, `;` or `[` (JVMS 4.2.1, 4.2.2).
     Class(Name),
 }
 
-/// A type of a field, parameter or result: an array of so many dimensions, or none, of elements.
+/// A type of a field, a parameter or a result (JVMS 4.3.2).
 #[derive(Debug, Drop)]
 pub struct FieldType {
+    /// How many dimensions the array has, 0 where the type is no array.
     pub dimensions: u8,
+    /// The type of the innermost elements.
     pub element: ElementType,
 }
 
@@ -54,12 +65,14 @@ impl Model for Parameters {
 }
 
 impl Parameters {
+    /// The parameters of these types.
     pub fn new(types: Vec<FieldType>) -> Parameters
         ensures { result ≡ types.items }
     {
         Parameters { types }
     }
 
+    /// The types, in order.
     pub fn as_slice(&self) -> &[FieldType]
         ensures { result.now ≡ self.now }
     {
@@ -67,12 +80,16 @@ impl Parameters {
     }
 }
 
-/// A descriptor of a field or of a method. A method without a result has the descriptor's `V` there.
+/// A descriptor of a field or of a method.
 #[derive(Debug, Drop)]
 pub enum Descriptor {
+    /// A field's type (JVMS 4.3.2).
     Field(FieldType),
+    /// A method's parameters and result (JVMS 4.3.3).
     Method {
+        /// The types of the parameters.
         parameters: Parameters,
+        /// The type of the result, `None` for `V`.
         result: Option<FieldType>,
     },
 }
@@ -299,9 +316,8 @@ fn whole_descriptor(alloc: Global, bytes: &[u8]) -> Result<Descriptor, Descripto
     }
 }
 
-/// Reads a descriptor, which is all of the text. A class name in it is one in internal form: unqualified names
-/// with slashes between them, none of them empty and none with `.`, `;` or `[` (JVMS 4.2.1, 4.2.2). A method may
-/// have any number of parameters.
+/// Reads a descriptor, which is all of the text (JVMS 4.3.2, 4.3.3). An array has at most 255 dimensions, a method
+/// any number of parameters. Float and double are left out.
 pub fn read_descriptor(alloc: Global, name: &Name) -> Result<Descriptor, DescriptorRefusal>
     // What is read is spelled so.
     ensures found { IfOk result (λ d. name.now ≡ descriptor_bytes d) }

@@ -8,19 +8,33 @@ use crate::Name;
 /// The kinds of entries, with their tags (JVMS 4.4, table 4.4-A).
 #[derive(Clone, Copy, Debug, PartialEq, Eq)]
 pub enum Tag {
+    /// A text (JVMS 4.4.7).
     Utf8 = 1,
+    /// An `int` (JVMS 4.4.4).
     Integer = 3,
+    /// A `float` (JVMS 4.4.4).
     Float = 4,
+    /// A `long` (JVMS 4.4.5).
     Long = 5,
+    /// A `double` (JVMS 4.4.5).
     Double = 6,
+    /// A class or interface (JVMS 4.4.1).
     Class = 7,
+    /// A string (JVMS 4.4.3).
     String = 8,
+    /// A field (JVMS 4.4.2).
     Fieldref = 9,
+    /// A method of a class (JVMS 4.4.2).
     Methodref = 10,
+    /// A method of an interface (JVMS 4.4.2).
     InterfaceMethodref = 11,
+    /// A name and a descriptor (JVMS 4.4.6).
     NameAndType = 12,
+    /// A method handle (JVMS 4.4.8).
     MethodHandle = 15,
+    /// A method type (JVMS 4.4.9).
     MethodType = 16,
+    /// A dynamic call site (JVMS 4.4.10).
     InvokeDynamic = 18,
 }
 
@@ -59,7 +73,9 @@ impl Tag {
 /// A field or method that an entry names: indices of a class and of a name and type (JVMS 4.4.2).
 #[derive(Clone, Copy, Debug, PartialEq, Eq)]
 pub struct Member {
+    /// The index of a Class entry.
     pub class: u16,
+    /// The index of a NameAndType entry.
     pub name_and_type: u16,
 }
 

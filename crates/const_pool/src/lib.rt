@@ -16,7 +16,7 @@ pub use descriptor::{
 pub use entry::{Entry, Member, Tag};
 pub use name::Name;
 pub use pool::Pool;
-pub use reading::read_pool;
+pub use reading::{each_pool_is_read_back, read_pool};
 pub use refusal::{PoolRefusal, PushRefusal};
 pub use writing::write_pool;
 

@@ -35,8 +35,8 @@ impl Name {
         Some(Name { bytes })
     }
 
-    /// A name with a copy of bytes that are known to be modified UTF-8.
-    pub(crate) fn copy(alloc: Global, bytes: &[u8]) -> Result<Name, AllocError>
+    /// A name with a copy of bytes that are known to be modified UTF-8, as another name's are.
+    pub fn copy(alloc: Global, bytes: &[u8]) -> Result<Name, AllocError>
         requires { IsModifiedUtf8 bytes.now }
         ensures { IfOk result (λ name. name ≡ bytes.now) }
     {
@@ -72,7 +72,7 @@ fn front_char(bytes: &[u8]) -> Option<usize>
 pub(crate) fn first_bad(bytes: &[u8]) -> Option<usize>
     ensures place { result ≡ bad_place 0 0 bytes.now }
     ensures within { IfSome result (λ place. place < length bytes.now) }
-    ensures none { IsSome result → IsModifiedUtf8 bytes.now → ⊥ }
+    ensures bad { IsSome result → IsModifiedUtf8 bytes.now → ⊥ }
     ensures good { IfNone result (IsModifiedUtf8 bytes.now) }
 {
     let mut at = 0;

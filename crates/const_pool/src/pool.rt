@@ -1,9 +1,10 @@
 //! A constant pool (JVMS 4.4).
 
-ghost use Rattle.std.specs.Prelude.{◌≡◌, ◌+◌, ◌^◌, ◌<◌, ◌≤◌, ◌++◌, [], ◌∷◌, ◌↔◌, length, vec_len, None, Some, IsTrue, IsSome, IfOk, OnOk, OnErr, IsErrOf};
+ghost use Rattle.std.specs.Prelude.{◌≡◌, ℕ, ◌+◌, ◌^◌, ◌<◌, ◌≤◌, ◌++◌, [], ◌∷◌, ◌↔◌, length, vec_len, None, Some, IsTrue, IsSome, IfOk, OnOk, OnErr, IsErrOf};
 ghost use Rattle.std.specs.Option.{is_some, option_copied, option_map};
+ghost use Rattle.const_pool.specs.declared.entry.Tag.{Tag};
 ghost use Rattle.const_pool.specs.Entry.{tag_of, Fits};
-ghost use Rattle.const_pool.specs.Pool.{IsPool, Refers, entry_at, is_tagged, slots_of, utf8_at, class_name_at, string_at, name_and_type_at, member_at};
+ghost use Rattle.const_pool.specs.Pool.{IsPool, Names, Refers, entry_at, is_tagged, slots_of, utf8_at, class_name_at, string_at, name_and_type_at, member_at};
 
 use crate::refusal::PushRefusal;
 use crate::{Entry, Member, Name, Tag};
@@ -122,6 +123,8 @@ impl Pool {
         requires named { Refers self.old (Some entry) }
         ensures index { IfOk result (λ index. index ≡ length self.old) }
         ensures ok { OnOk result (self.new ≡ self.old ++ slots_of entry) }
+        ensures there { IfOk result (λ index. entry_at self.new index ≡ Some entry) }
+        ensures kept { (index : ℕ) (tag : Tag) → Names self.old (index, tag) → Names self.new (index, tag) }
         ensures full { IsErrOf result PushRefusal.Full
             ↔ (2 ^ 16 ≤ length self.old + length (slots_of entry)) }
         ensures err { OnErr result (self.new ≡ self.old) }

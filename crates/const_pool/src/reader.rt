@@ -1,7 +1,7 @@
 //! The fields of a file, from front to back.
 
 ghost use Rattle.std.specs.Prelude.{◌≡◌, ◌+◌, ◌^◌, ◌<◌, length, IfOk};
-ghost use Rattle.const_pool.specs.Reading.{Gives, field_at, number_at, name_at};
+ghost use Rattle.const_pool.specs.Reading.{Gives, field_from, number_from, name_from};
 
 use crate::name::first_bad;
 use crate::{Name, PoolRefusal};
@@ -42,11 +42,11 @@ impl<'a> Reader<'a> {
     }
 
     /// A field of this many bytes.
-    #[tactic(auto, unfolding(crate::specs::Reading::field_at))]
+    #[tactic(auto, unfolding(crate::specs::Reading::field_from))]
     pub fn field(&mut self, len: usize) -> Result<&'a [u8], PoolRefusal>
         ensures whole { IfOk result (λ x. length x.now ≡ len) }
         ensures within { IfOk result (λ x. self.old.0 + length x.now < 2 ^ 64) }
-        ensures read { Gives (λ x. (x.now, self.new)) result (field_at len self.old) }
+        ensures read { Gives (λ x. (x.now, self.new)) result (field_from len self.old) }
     {
         if self.rest.len() < len {
             return Err(PoolRefusal::Truncated(self.at));
@@ -57,42 +57,42 @@ impl<'a> Reader<'a> {
         Ok(field)
     }
 
-    #[tactic(auto, unfolding(crate::specs::Reading::number_at))]
+    #[tactic(auto, unfolding(crate::specs::Reading::number_from))]
     pub fn u8(&mut self) -> Result<u8, PoolRefusal>
-        ensures { Gives (λ x. (x, self.new)) result (number_at 1 self.old) }
+        ensures { Gives (λ x. (x, self.new)) result (number_from 1 self.old) }
     {
         let field = self.field(1)?;
         Ok(field[0])
     }
 
-    #[tactic(auto, unfolding(crate::specs::Reading::number_at))]
+    #[tactic(auto, unfolding(crate::specs::Reading::number_from))]
     pub fn u16(&mut self) -> Result<u16, PoolRefusal>
-        ensures { Gives (λ x. (x, self.new)) result (number_at 2 self.old) }
+        ensures { Gives (λ x. (x, self.new)) result (number_from 2 self.old) }
     {
         let field = self.field(2)?;
         Ok(BigEndian::read_u16(field))
     }
 
-    #[tactic(auto, unfolding(crate::specs::Reading::number_at))]
+    #[tactic(auto, unfolding(crate::specs::Reading::number_from))]
     pub fn u32(&mut self) -> Result<u32, PoolRefusal>
-        ensures { Gives (λ x. (x, self.new)) result (number_at 4 self.old) }
+        ensures { Gives (λ x. (x, self.new)) result (number_from 4 self.old) }
     {
         let field = self.field(4)?;
         Ok(BigEndian::read_u32(field))
     }
 
-    #[tactic(auto, unfolding(crate::specs::Reading::number_at))]
+    #[tactic(auto, unfolding(crate::specs::Reading::number_from))]
     pub fn u64(&mut self) -> Result<u64, PoolRefusal>
-        ensures { Gives (λ x. (x, self.new)) result (number_at 8 self.old) }
+        ensures { Gives (λ x. (x, self.new)) result (number_from 8 self.old) }
     {
         let field = self.field(8)?;
         Ok(BigEndian::read_u64(field))
     }
 
     /// A length of 16 bits, and a text of that many bytes.
-    #[tactic(auto, unfolding(crate::specs::Reading::name_at))]
+    #[tactic(auto, unfolding(crate::specs::Reading::name_from))]
     pub fn name(&mut self, alloc: Global) -> Result<Name, PoolRefusal>
-        ensures { Gives (λ x. (x, self.new)) result (name_at self.old) }
+        ensures { Gives (λ x. (x, self.new)) result (name_from self.old) }
     {
         let len = self.u16()?;
         let at = self.at();

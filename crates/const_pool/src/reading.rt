@@ -1,7 +1,7 @@
 //! Reading a pool from a file's bytes.
 
 ghost use Rattle.std.specs.Prelude.{◌≡◌, ℕ, ◌+◌, ◌^◌, ◌<◌, List, [], ◌∷◌, ◌++◌, length, drop, vec_len, IfOk, Ok};
-ghost use Rattle.const_pool.specs.Reading.{Gives, member_at, body_at, tag_at, entry_from, counted_slots, first_wrong, wrong_from, pool_in};
+ghost use Rattle.const_pool.specs.Reading.{Gives, member_from, body_from, tag_from, entry_from, counted_slots, first_wrong, wrong_from, pool_in};
 ghost use Rattle.const_pool.specs.Entry.{references, member_references};
 ghost use Rattle.const_pool.specs.Pool.{Slots, IsPool, spelling, entry_at, is_tagged, references_in};
 
@@ -10,9 +10,9 @@ use crate::reader::Reader;
 use crate::{Entry, Member, Pool, PoolRefusal, Tag};
 use std::alloc::Global;
 
-#[tactic(auto, unfolding(crate::specs::Reading::member_at))]
+#[tactic(auto, unfolding(crate::specs::Reading::member_from))]
 fn member(file: &mut Reader) -> Result<Member, PoolRefusal>
-    ensures { Gives (λ x. (x, file.new)) result (member_at file.old) }
+    ensures { Gives (λ x. (x, file.new)) result (member_from file.old) }
 {
     let class = file.u16()?;
     let name_and_type = file.u16()?;
@@ -23,9 +23,9 @@ fn member(file: &mut Reader) -> Result<Member, PoolRefusal>
 }
 
 /// What follows the tag of an entry.
-#[tactic(auto, unfolding(crate::specs::Reading::body_at))]
+#[tactic(auto, unfolding(crate::specs::Reading::body_from))]
 fn body(alloc: Global, tag: Tag, file: &mut Reader) -> Result<Entry, PoolRefusal>
-    ensures { Gives (λ x. (x, file.new)) result (body_at tag file.old) }
+    ensures { Gives (λ x. (x, file.new)) result (body_from tag file.old) }
 {
     match tag {
         Tag::Utf8 => Ok(Entry::Utf8(file.name(alloc)?)),
@@ -60,10 +60,10 @@ fn body(alloc: Global, tag: Tag, file: &mut Reader) -> Result<Entry, PoolRefusal
 
 /// A tag. The second index of a Long or Double is judged here, before the bytes that follow: nothing that
 /// could follow would make the entry one of a pool with this count.
-#[tactic(auto, unfolding(crate::specs::Reading::tag_at))]
+#[tactic(auto, unfolding(crate::specs::Reading::tag_from))]
 fn tag(index: u16, count: u16, file: &mut Reader) -> Result<Tag, PoolRefusal>
     requires { index < count }
-    ensures { Gives (λ x. (x, file.new)) result (tag_at index count file.old) }
+    ensures { Gives (λ x. (x, file.new)) result (tag_from index count file.old) }
 {
     let at = file.at();
     let byte = file.u8()?;
@@ -225,3 +225,9 @@ pub fn read_pool(alloc: Global, bytes: &[u8]) -> Result<(Pool, usize), PoolRefus
 {
     pool(alloc, bytes)
 }
+
+/// Each pool is read back from its bytes, whatever stands around them. So no two pools have the same bytes.
+pub fn each_pool_is_read_back()
+    ensures { (pool : Slots) (head rest : List ℕ) → IsPool pool → length head ≡ 8
+        → pool_in (head ++ (spelling pool ++ rest)) ≡ Ok (pool, 8 + length (spelling pool)) }
+{}

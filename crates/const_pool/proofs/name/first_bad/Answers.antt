@@ -41,8 +41,8 @@ pub returns-in-None-clause-place : goal.returns-in-None-clause-place
 returns-in-None-clause-place c =
     sym (stops_at c.args.bytes.now c.loop-at.at c.loop-at-test.true (found_at c.args.bytes.now c.loop-at.at None c.in-None.ensures) c.loop-at.invariant.1)
 
-pub returns-in-None-clause-none : goal.returns-in-None-clause-none
-returns-in-None-clause-none c = λ some good.
+pub returns-in-None-clause-bad : goal.returns-in-None-clause-bad
+returns-in-None-clause-bad c = λ some good.
     let place = stops_at c.args.bytes.now c.loop-at.at c.loop-at-test.true (found_at c.args.bytes.now c.loop-at.at None c.in-None.ensures) c.loop-at.invariant.1 in
     let none = good_has_none c.args.bytes.now good in
     absurd cc
