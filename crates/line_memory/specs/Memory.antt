@@ -92,6 +92,13 @@ Narrows old new = (l w v : ℕ) → CanLeave new l w v → CanLeave old l w v
 abbrev pub ReadsOrShows : Memory → Memory → Type 0
 ReadsOrShows old new = (l w v : ℕ) → ReadsWord new.image.history l w v → ReadsWord old.image.history l w v ⊎ (v ≡ shown old l w)
 
+-- a stop leaves of each word only what it left before, and a read gives what it gave before
+abbrev pub LeavesNoMore : Memory → Memory → Type 0
+LeavesNoMore old new = (l w v : ℕ) → MayLeave new.image.history l w v → MayLeave old.image.history l w v
+
+abbrev pub SameReads : Memory → Memory → Type 0
+SameReads old new = (l w v : ℕ) → ReadsWord new.image.history l w v → ReadsWord old.image.history l w v
+
 -- one call of the image was made: both counts go up by one, and stay at their end
 pub record OneCall (old new : Memory) : Type 0 where
   pub calls : new.calls ≡ next_count old.calls

@@ -2,7 +2,7 @@
 ghost use Rattle.std.specs.Prelude.{◌≡◌, ◌≢◌, ◌⊎◌, ◌<◌, ◌≤◌, ℕ, ◌↔◌, IsTrue, OnOk, OnErr, IfOk, IfErr, Ok};
 ghost use Rattle.ap_base.specs.Causes.{HasCause, Rose};
 ghost use Rattle.line_image.specs.History.{LeavesNow, IsSettled};
-ghost use Rattle.line_memory.specs.Memory.{Memory, shown, IsResident, IsAwaited, IsKnown, ReadsWord, CanLeave, CanLeaveAll, IsWritten, IsDurable, SameShown, SameResident, KeepsTelling, Narrows, ReadsOrShows, OneCall, SameImage, WroteLine, MadeFence, DidNothing};
+ghost use Rattle.line_memory.specs.Memory.{Memory, shown, IsResident, IsAwaited, IsKnown, ReadsWord, CanLeave, CanLeaveAll, IsWritten, IsDurable, SameShown, SameResident, KeepsTelling, Narrows, ReadsOrShows, LeavesNoMore, SameReads, OneCall, SameImage, WroteLine, MadeFence, DidNothing};
 ghost use Rattle.line_memory.specs.Moments.{Goes, CountsFrom};
 
 use crate::attach::{AttachFault, read_lines};
@@ -179,6 +179,9 @@ impl<I: Image> LineMemory<I> {
         ensures fenced { OnOk result (MadeFence self.old self.new) }
         ensures failed { OnErr result (DidNothing self.old self.new) }
         ensures durable { OnOk result ((l w : ℕ) → IsWritten self.old l w → IsDurable self.new l w) }
+        ensures unwritten { LeavesNoMore self.old self.new }
+        ensures same_reads { SameReads self.old self.new }
+        ensures within { Goes self.old.image self.new.image (LeavesNow self.old.image.history) }
 
         ensures size { self.new.size ≡ self.old.size }
         ensures resident { SameResident self.old self.new }
