@@ -14,5 +14,6 @@ lines_shown image = 32768
 abbrev pub nothing_told : ClosedImage → Option History
 nothing_told image = None
 
-abbrev pub closed_in_order : (image : ClosedImage) → IsCounted (lines_shown image) (failures_of image) (nothing_told image)
+abbrev pub closed_in_order : (image : ClosedImage)
+    → IsCounted (lines_shown image) (failures_of image) (nothing_told image)
 closed_in_order image = record { fits = image.fits; told = tt }

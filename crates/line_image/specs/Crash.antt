@@ -11,19 +11,19 @@ unfoldable pub state_after : ℕ → ℕ → ℕ
 state_after s zero = s
 state_after s (suc n) = next_state (state_after s n)
 
--- The number of the version that is taken, of so many, the fenced one first: 0 takes the fenced one, 1 the latest one,
--- and any other number what the generator says.
+-- The number of the version that is taken, of so many, the fenced one first: 0 takes the fenced one, 1 the
+-- latest one, and any other number what the generator says.
 abbrev pub choice : ℕ → ℕ → ℕ → ℕ
 choice pick count state = if pick == 0 then 0 else (if pick == 1 then count - 1 else (state / 2 ^ 33) % count)
 
--- the word of the version that is taken, of these with the fenced one first, where the generator stands at `state` before
--- the line
+-- the word of the version that is taken, of these with the fenced one first, where the generator stands at
+-- `state` before the line
 abbrev pub version_word : List (List ℕ) → ℕ → ℕ → ℕ → ℕ
 version_word versions pick state w =
     slice_index (get_or versions (choice pick (length versions) (state_after state (w + 1))) []) w
 
--- where the generator stands behind a line of these versions: it goes on at each word of a line that was written since
--- the last fence
+-- where the generator stands behind a line of these versions: it goes on at each word of a line that was
+-- written since the last fence
 abbrev pub state_past : List (List ℕ) → ℕ → ℕ
 state_past versions state = if nat_lt 1 (length versions) then state_after state 8 else state
 

@@ -1,8 +1,8 @@
 -- A device of lines of eight words, by what was done to it: what a read gives, and what a stop leaves.
 --
--- A line write is a write-back of a cache line (CLWB), a fence is an SFENCE, and a word is an aligned store of eight
--- bytes, which a power failure doesn't tear (Intel 64 and IA-32 Architectures Software Developer's Manual, volume 2;
--- the AutoPersist paper, PLDI 2019, stands on the same operations).
+-- A line write is a write-back of a cache line (CLWB), a fence is an SFENCE, and a word is an aligned store
+-- of eight bytes, which a power failure doesn't tear (Intel 64 and IA-32 Architectures Software Developer's
+-- Manual, volume 2; the AutoPersist paper, PLDI 2019, stands on the same operations).
 use Rattle.std.specs.Prelude.{◌≡◌, ◌⊎◌, ◌<◌, ◌≤◌, ◌^◌, ℕ, List, [], ◌∷◌, Bool, true, ◌&&◌, Option, Some, None, get_or, slice_index, if◌then◌else◌, ◌==◌, nat_lt, nat_le, All, length}
 use Rattle.line_image.specs.declared.entry.Entry.{Entry}
 use Rattle.line_image.specs.declared.entry.Done.{Done}
@@ -18,7 +18,8 @@ abbrev pub newest : List (List ℕ) → List ℕ
 newest [] = []
 newest (words ∷ rest) = words
 
--- The versions of a line: what writes gave it since the last fence, the newest first, and behind them what was fenced.
+-- The versions of a line: what writes gave it since the last fence, the newest first, and behind them what
+-- was fenced.
 abbrev pub versions_after : Done → ℕ → List (List ℕ) → List (List ℕ)
 versions_after (Wrote line words) l versions = if line == l then words ∷ versions else versions
 versions_after Fenced l versions = newest versions ∷ []

@@ -28,5 +28,6 @@ room_of image = image.room
 abbrev pub CallFails : Fails → ℕ → Type 0
 CallFails fails call = Contains fails.calls.items call ⊎ (fails.since ≤ call)
 
-abbrev pub in_order_of : (image : MemoryImage) → IsCounted (size_of image) (calls_of image) (Some (history_of image))
+abbrev pub in_order_of : (image : MemoryImage)
+    → IsCounted (size_of image) (calls_of image) (Some (history_of image))
 in_order_of image = record { fits = image.fits; told = record { lines = refl; eights = image.eights; so_far = image.so_far } }

@@ -65,8 +65,10 @@ impl Image for ClosedImage {
         requires { _line < lines_shown self.old }
         ensures size { lines_shown self.new ≡ lines_shown self.old }
         ensures counted { failures_of self.new ≡ next_count (failures_of self.old) }
-        ensures written { OnOk result (nothing_told self.new ≡ did (Wrote _line _words.now) (failures_of self.new) (nothing_told self.old)) }
-        ensures failed { OnErr result ((nothing_told self.new ≡ did (Wrote _line _words.now) (failures_of self.new) (nothing_told self.old))
+        ensures written { OnOk result (nothing_told self.new
+            ≡ did (Wrote _line _words.now) (failures_of self.new) (nothing_told self.old)) }
+        ensures failed { OnErr result ((nothing_told self.new
+            ≡ did (Wrote _line _words.now) (failures_of self.new) (nothing_told self.old))
             ⊎ (nothing_told self.new ≡ nothing_told self.old)) }
         ensures cause { HasCause (failures_of self.old) (failures_of self.new) result }
         ensures fails { IsErr result }
@@ -77,7 +79,8 @@ impl Image for ClosedImage {
     fn fence(&mut self) -> Result<(), ImageFailed>
         ensures size { lines_shown self.new ≡ lines_shown self.old }
         ensures counted { failures_of self.new ≡ next_count (failures_of self.old) }
-        ensures fenced { OnOk result (nothing_told self.new ≡ did Fenced (failures_of self.new) (nothing_told self.old)) }
+        ensures fenced { OnOk result (nothing_told self.new
+            ≡ did Fenced (failures_of self.new) (nothing_told self.old)) }
         ensures failed { OnErr result (nothing_told self.new ≡ nothing_told self.old) }
         ensures cause { HasCause (failures_of self.old) (failures_of self.new) result }
         ensures fails { IsErr result }

@@ -55,7 +55,8 @@ fn line_versions(
     line: u64,
 ) -> Result<Vec<[u64; 8]>, AllocError>
     ensures some { IfOk result (λ found. 0 < length found.items) }
-    ensures versions { IfOk result (λ found. found.items ≡ reverse (versions_from first (reverse done.now) line)) }
+    ensures versions { IfOk result (λ found. found.items
+        ≡ reverse (versions_from first (reverse done.now) line)) }
 {
     let mut found = Vec::new(alloc);
     found.push(first)?;
@@ -89,7 +90,8 @@ fn crash_line(
     ensures words { IfOk result (λ words. (w : ℕ) → w < 8 → slice_index words w
         ≡ version_word (reverse (versions_from first (reverse done.now) line)) pick state.old w) }
     ensures eight { IfOk result (λ words. length words ≡ 8) }
-    ensures state { OnOk result (state.new ≡ state_past (versions_from first (reverse done.now) line) state.old) }
+    ensures state { OnOk result (state.new
+        ≡ state_past (versions_from first (reverse done.now) line) state.old) }
 {
     let versions = line_versions(alloc, first, done, line)?;
     if versions.len() == 1 {
@@ -140,11 +142,13 @@ pub(crate) fn crash_lines(
 ) -> Result<Vec<[u64; 8]>, AllocError>
     requires fits { length done.now < 2 ^ 63 }
     requires size { length latest.now ≡ length first.now }
-    requires reads { (l : ℕ) → get_or latest.now l [] ≡ newest (versions_from (get_or first.now l []) (reverse done.now) l) }
+    requires reads { (l : ℕ) → get_or latest.now l []
+        ≡ newest (versions_from (get_or first.now l []) (reverse done.now) l) }
     requires within { All (λ (entry : Entry). IsTrue (is_within (length first.now) entry.done)) done.now }
     ensures size { IfOk result (λ lines. length lines.items ≡ length first.now) }
     ensures eights { IfOk result (λ lines. All (λ line. length line ≡ 8) lines.items) }
-    ensures picked { IfOk result (λ lines. (l w : ℕ) → l < length first.now → w < 8 → slice_index (get_or lines.items l []) w
+    ensures picked { IfOk result (λ lines. (l w : ℕ) → l < length first.now → w < 8
+        → slice_index (get_or lines.items l []) w
         ≡ word_left pick (record { first = first.now; done = reverse done.now }) l w) }
 {
     let (writes, fences) = last_writes(alloc, first, done)?;

@@ -11,8 +11,8 @@ use thiserror::Error;
 #[error("the image failed")]
 pub struct ImageFailed;
 
-/// A device that keeps lines of eight words. A line write may still be lost at a stop until a fence has followed it;
-/// what a stop leaves is read from the history.
+/// A device that keeps lines of eight words. A line write may still be lost at a stop until a fence has
+/// followed it; what a stop leaves is read from the history.
 pub trait Image: Drop {
     /// How many lines it has.
     ghost size: { Self → ℕ };
@@ -45,8 +45,10 @@ pub trait Image: Drop {
         requires { line < size self.old }
         ensures size { size self.new ≡ size self.old }
         ensures counted { calls self.new ≡ next_count (calls self.old) }
-        ensures written { OnOk result (history self.new ≡ did (Wrote line words.now) (calls self.new) (history self.old)) }
-        ensures failed { OnErr result ((history self.new ≡ did (Wrote line words.now) (calls self.new) (history self.old))
+        ensures written { OnOk result (history self.new
+            ≡ did (Wrote line words.now) (calls self.new) (history self.old)) }
+        ensures failed { OnErr result ((history self.new
+            ≡ did (Wrote line words.now) (calls self.new) (history self.old))
             ⊎ (history self.new ≡ history self.old)) }
         ensures cause { HasCause (faults self.old) (faults self.new) result };
 

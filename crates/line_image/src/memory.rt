@@ -8,8 +8,8 @@ use crate::words::lines_of;
 use crate::{Done, Entry, Image, ImageFailed};
 use std::alloc::{AllocError, Global};
 
-/// Which calls fail: those whose numbers, from 1, `calls` lists, every call from number `since` on, and every write and
-/// fence past the first `room` writes and fences. No other call fails.
+/// Which calls fail: those whose numbers, from 1, `calls` lists, every call from number `since` on, and every
+/// write and fence past the first `room` writes and fences. No other call fails.
 #[derive(Drop, Debug)]
 pub struct Fails {
     pub calls: Vec<u64>,
@@ -39,7 +39,8 @@ pub struct MemoryImage {
     fails: Fails,
     ghost fits_room: { length done.items + room ≤ vec_capacity done },
     ghost same_size: { length latest.items ≡ length first.items },
-    ghost reads: { (l : ℕ) → get_or latest.items l [] ≡ newest (versions_from (get_or first.items l []) (reverse done.items) l) },
+    ghost reads: { (l : ℕ) → get_or latest.items l []
+        ≡ newest (versions_from (get_or first.items l []) (reverse done.items) l) },
     ghost eights: { All (λ line. length line ≡ 8) first.items },
     ghost fits: { calls < 2 ^ 64 },
     ghost in_range: { All (λ (entry : Entry). IsTrue (is_within (length first.items) entry.done)) done.items },
@@ -51,10 +52,12 @@ impl MemoryImage {
     ghost use Rattle.line_image.specs.History.{LeavesNow, IsSettled, read_word};
     ghost use Rattle.line_image.specs.Crash.{first_word, word_left};
 
-    /// An image of so many lines, all zero. Takes the memory for all writes and fences that `fails` has room for.
+    /// An image of so many lines, all zero. Takes the memory for all writes and fences that `fails` has room
+    /// for.
     pub fn new(alloc: Global, lines: u64, fails: Fails) -> Result<MemoryImage, AllocError>
         ensures size { IfOk result (λ image. size_of image ≡ lines) }
-        ensures zero { IfOk result (λ image. history_of image ≡ record { first = replicate lines (replicate 8 0); done = [] }) }
+        ensures zero { IfOk result (λ image. history_of image
+            ≡ record { first = replicate lines (replicate 8 0); done = [] }) }
         ensures settled { IfOk result (λ image. IsSettled (Some (history_of image))) }
         ensures uncalled { IfOk result (λ image. calls_of image ≡ 0) }
         ensures faultless { IfOk result (λ image. faults_of image ≡ 0) }
@@ -65,7 +68,8 @@ impl MemoryImage {
         MemoryImage::of_lines(alloc, first, fails)
     }
 
-    /// An image of these words, eight in a line; a rest of fewer than eight is left out. Takes memory as `new` does.
+    /// An image of these words, eight in a line; a rest of fewer than eight is left out. Takes memory as
+    /// `new` does.
     pub fn of_words(alloc: Global, words: &[u64], fails: Fails) -> Result<MemoryImage, AllocError>
         ensures size { IfOk result (λ image. size_of image ≡ length words.now / 8) }
         ensures words { IfOk result (λ image. (l w : ℕ) → l < length words.now / 8 → w < 8
@@ -81,13 +85,15 @@ impl MemoryImage {
         MemoryImage::of_lines(alloc, first, fails)
     }
 
-    /// One outcome of a stop now, as an image with these `fails`: `pick` 0 leaves in each word the fenced value, 1 the
-    /// one that was written last, and any other number chooses by a generator. Takes memory as `new` does.
+    /// One outcome of a stop now, as an image with these `fails`: `pick` 0 leaves in each word the fenced
+    /// value, 1 the one that was written last, and any other number chooses by a generator. Takes memory as
+    /// `new` does.
     pub fn crash(&self, alloc: Global, pick: u64, fails: Fails) -> Result<MemoryImage, AllocError>
         ensures size { IfOk result (λ image. size_of image ≡ size_of self.now) }
         ensures picked { IfOk result (λ image. (l w : ℕ) → l < size_of self.now → w < 8
             → first_word (history_of image) l w ≡ word_left pick (history_of self.now) l w) }
-        ensures outcome { IfOk result (λ image. LeavesNow (Some (history_of self.now)) (first_word (history_of image))) }
+        ensures outcome { IfOk result
+            (λ image. LeavesNow (Some (history_of self.now)) (first_word (history_of image))) }
         ensures untouched { IfOk result (λ image. (history_of image).done ≡ []) }
         ensures settled { IfOk result (λ image. IsSettled (Some (history_of image))) }
         ensures uncalled { IfOk result (λ image. calls_of image ≡ 0) }
@@ -178,13 +184,17 @@ impl Image for MemoryImage {
         requires { line < size_of self.old }
         ensures size { size_of self.new ≡ size_of self.old }
         ensures counted { calls_of self.new ≡ next_count (calls_of self.old) }
-        ensures written { OnOk result (Some (history_of self.new) ≡ did (Wrote line words.now) (calls_of self.new) (Some (history_of self.old))) }
-        ensures failed { OnErr result ((Some (history_of self.new) ≡ did (Wrote line words.now) (calls_of self.new) (Some (history_of self.old)))
+        ensures written { OnOk result (Some (history_of self.new)
+            ≡ did (Wrote line words.now) (calls_of self.new) (Some (history_of self.old))) }
+        ensures failed { OnErr result ((Some (history_of self.new)
+            ≡ did (Wrote line words.now) (calls_of self.new) (Some (history_of self.old)))
             ⊎ (Some (history_of self.new) ≡ Some (history_of self.old))) }
         ensures cause { HasCause (faults_of self.old) (faults_of self.new) result }
 
-        ensures fails { IsErr result ↔ (CallFails (fails_of self.old) (calls_of self.new) ⊎ (room_of self.old ≡ 0)) }
-        ensures adds { 0 < room_of self.old → Some (history_of self.new) ≡ did (Wrote line words.now) (calls_of self.new) (Some (history_of self.old)) }
+        ensures fails { IsErr result ↔ (CallFails (fails_of self.old) (calls_of self.new)
+            ⊎ (room_of self.old ≡ 0)) }
+        ensures adds { 0 < room_of self.old → Some (history_of self.new)
+            ≡ did (Wrote line words.now) (calls_of self.new) (Some (history_of self.old)) }
         ensures full { room_of self.old ≡ 0 → history_of self.new ≡ history_of self.old }
         ensures no_fault { OnOk result (faults_of self.new ≡ faults_of self.old) }
         ensures same_fails { fails_of self.new ≡ fails_of self.old }
@@ -215,11 +225,13 @@ impl Image for MemoryImage {
     fn fence(&mut self) -> Result<(), ImageFailed>
         ensures size { size_of self.new ≡ size_of self.old }
         ensures counted { calls_of self.new ≡ next_count (calls_of self.old) }
-        ensures fenced { OnOk result (Some (history_of self.new) ≡ did Fenced (calls_of self.new) (Some (history_of self.old))) }
+        ensures fenced { OnOk result (Some (history_of self.new)
+            ≡ did Fenced (calls_of self.new) (Some (history_of self.old))) }
         ensures failed { OnErr result (Some (history_of self.new) ≡ Some (history_of self.old)) }
         ensures cause { HasCause (faults_of self.old) (faults_of self.new) result }
 
-        ensures fails { IsErr result ↔ (CallFails (fails_of self.old) (calls_of self.new) ⊎ (room_of self.old ≡ 0)) }
+        ensures fails { IsErr result ↔ (CallFails (fails_of self.old) (calls_of self.new)
+            ⊎ (room_of self.old ≡ 0)) }
         ensures no_fault { OnOk result (faults_of self.new ≡ faults_of self.old) }
         ensures same_fails { fails_of self.new ≡ fails_of self.old }
         ensures room { room_of self.new ≡ room_of self.old - 1 }

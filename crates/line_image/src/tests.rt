@@ -48,8 +48,8 @@ fn left(
     Ok(word(&outcome, line, at))
 }
 
-// Line 0 was written once and line 2 twice, so that a word of line 0 has the versions 0 and 1, and one of line 2 has
-// 0, 1 and 2. Line 1 was fenced before.
+// Line 0 was written once and line 2 twice, so that a word of line 0 has the versions 0 and 1, and one of
+// line 2 has 0, 1 and 2. Line 1 was fenced before.
 #[test]
 fn generator(rt: HostRuntime) -> Result<(), Fail> {
     let alloc = rt.alloc();

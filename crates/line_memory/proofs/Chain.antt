@@ -61,9 +61,9 @@ module _ (size : ℕ) (old new : Memory) (counted : IsCounted size old.image.cal
       (λ before. inr before)
       (may_leave-wrote old.image.history line new.image.calls (line_shown old line) l w (c l w) (all l w)))
 
-  pub fence_goes : MadeFence old new ⊎ DidNothing old new → Goes old.image new.image (CanLeaveAll old)
-  fence_goes (inr nothing) = goes_nothing nothing
-  fence_goes (inl fenced) = record {
+  pub fence_within : MadeFence old new ⊎ DidNothing old new → Goes old.image new.image (LeavesNow old.image.history)
+  fence_within (inr nothing) = goes_quietly size old.image new.image counted (omega (arith, counted.fits, one)) nothing
+  fence_within (inl fenced) = record {
     later = omega (arith, counted.fits, one);
     before = λ n le lt. ap (history_within n) fenced ∙ within-past n new.image.calls Fenced old.image.history (omega (arith, counted.fits, one));
     during = λ n gt le lt c left.
@@ -73,8 +73,12 @@ module _ (size : ℕ) (old new : Memory) (counted : IsCounted size old.image.cal
         ∙ ap (λ (k : ℕ). history_within n (did Fenced k old.image.history)) at
         ∙ within-fence n old.image.history
         ∙ within-from_now_on size old.image.calls n old.image.history counted gt in
-        λ l w. inr (subst (λ (o : Option History). LeavesNow o c) is left l w);
+        subst (λ (o : Option History). LeavesNow o c) is left;
   }
+
+  pub fence_goes : MadeFence old new ⊎ DidNothing old new → Goes old.image new.image (CanLeaveAll old)
+  fence_goes did_it = let within = fence_within did_it in
+      record { later = within.later; before = within.before; during = λ n gt le lt c left l w. inr (within.during n gt le lt c left l w) }
 
 -- the count goes on
 pub counts_on : (begin : ℕ) (old new : Memory) → CountsFrom begin old → OneCall old new → CountsFrom begin new

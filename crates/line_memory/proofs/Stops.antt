@@ -5,7 +5,7 @@ use Rattle.std.proofs.lemmas.Bool.Decides.{nat_tests}
 use Rattle.line_image.specs.History.{History, MayLeave, OneHas, newest, versions, versions_after, did, Reads, IsSettled}
 use Rattle.line_image.specs.declared.entry.Done.TheVariants.{Wrote, Fenced}
 use Rattle.line_image.proofs.Versions.{newest_left}
-use Rattle.line_memory.specs.Memory.{Memory, line_shown, shown, ReadsWord, CanLeave, IsWritten, IsDurable, Narrows, ReadsOrShows, WroteLine, MadeFence, DidNothing}
+use Rattle.line_memory.specs.Memory.{Memory, line_shown, shown, ReadsWord, CanLeave, IsWritten, IsDurable, Narrows, ReadsOrShows, LeavesNoMore, SameReads, WroteLine, MadeFence, DidNothing}
 
 -- What a write did: the line's words came in front of its versions.
 wrote_has : (line l w v : ℕ) (words : List ℕ) (rest : List (List ℕ)) → OneHas (versions_after (Wrote line words) l rest) w v
@@ -117,6 +117,14 @@ module _ (old new : Memory) where
       (λ before. inl before)
       (reads-wrote old.image.history line new.image.calls (line_shown old line) l w v (subst (λ (o : Option History). ReadsWord o l w v) wrote reads))
   write_reads line (inr nothing) l w v reads = inl (subst (λ (o : Option History). ReadsWord o l w v) nothing reads)
+
+  pub fence_leaves : MadeFence old new ⊎ DidNothing old new → LeavesNoMore old new
+  fence_leaves (inl fenced) l w v left = (may_leave-fenced old.image.history new.image.calls l w v (subst (λ (o : Option History). MayLeave o l w v) fenced left)).1
+  fence_leaves (inr nothing) l w v left = subst (λ (o : Option History). MayLeave o l w v) nothing left
+
+  pub fence_same_reads : MadeFence old new ⊎ DidNothing old new → SameReads old new
+  fence_same_reads (inl fenced) l w v reads = reads-fenced old.image.history new.image.calls l w v (subst (λ (o : Option History). ReadsWord o l w v) fenced reads)
+  fence_same_reads (inr nothing) l w v reads = subst (λ (o : Option History). ReadsWord o l w v) nothing reads
 
   pub fence_reads : MadeFence old new ⊎ DidNothing old new → ReadsOrShows old new
   fence_reads (inl fenced) l w v reads = inl (reads-fenced old.image.history new.image.calls l w v (subst (λ (o : Option History). ReadsWord o l w v) fenced reads))

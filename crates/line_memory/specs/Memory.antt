@@ -1,7 +1,8 @@
 -- A memory of lines over an image: what each word shows, and what a stop may leave of it.
 --
--- A processor's cache holds lines that a stop loses, and writes a line back at any time (PLDI 2019, AutoPersist: CLWB
--- and SFENCE order what is durable). Other crates speak of a memory by the words below alone.
+-- A processor's cache holds lines that a stop loses, and writes a line back at any time (PLDI 2019,
+-- AutoPersist: CLWB and SFENCE order what is durable). Other crates speak of a memory by the words below
+-- alone.
 use Rattle.std.specs.Prelude.{◌≡◌, ◌⊎◌, ◌<◌, ℕ, List, [], Option, Some, None, get_or, slice_index}
 use Rattle.ap_base.specs.Causes.{next_count}
 use Rattle.line_image.specs.History.{History, Outcome, MayLeave, read_word, did}
@@ -12,8 +13,8 @@ pub record Told : Type 0 where
   pub calls : ℕ
   pub history : Option History
 
--- the words of the lines that it keeps, how many lines the image has, how many image calls the memory has made, how often
--- the image has failed, and what the image tells
+-- the words of the lines that it keeps, how many lines the image has, how many image calls the memory has
+-- made, how often the image has failed, and what the image tells
 pub record Memory : Type 0 where
   pub lines : List (List ℕ)
   pub size : ℕ
@@ -50,7 +51,8 @@ abbrev pub ReadsWord : Option History → ℕ → ℕ → ℕ → Type 0
 ReadsWord None l w v = Unit {0}
 ReadsWord (Some h) l w v = v ≡ read_word h l w
 
--- A stop from now on leaves this value in the word, if nothing is stored to it: whichever lines are written back, and when.
+-- A stop from now on leaves this value in the word, if nothing is stored to it: whichever lines are written
+-- back, and when.
 abbrev pub CanLeave : Memory → ℕ → ℕ → ℕ → Type 0
 CanLeave m l w v = (v ≡ shown m l w) ⊎ MayLeave m.image.history l w v
 
@@ -90,7 +92,15 @@ Narrows old new = (l w v : ℕ) → CanLeave new l w v → CanLeave old l w v
 
 -- a read gives in each word what it gave before, or what the word shows
 abbrev pub ReadsOrShows : Memory → Memory → Type 0
-ReadsOrShows old new = (l w v : ℕ) → ReadsWord new.image.history l w v → ReadsWord old.image.history l w v ⊎ (v ≡ shown old l w)
+ReadsOrShows old new = (l w v : ℕ) → ReadsWord new.image.history l w v
+    → ReadsWord old.image.history l w v ⊎ (v ≡ shown old l w)
+
+-- a stop leaves of each word only what it left before, and a read gives what it gave before
+abbrev pub LeavesNoMore : Memory → Memory → Type 0
+LeavesNoMore old new = (l w v : ℕ) → MayLeave new.image.history l w v → MayLeave old.image.history l w v
+
+abbrev pub SameReads : Memory → Memory → Type 0
+SameReads old new = (l w v : ℕ) → ReadsWord new.image.history l w v → ReadsWord old.image.history l w v
 
 -- one call of the image was made: both counts go up by one, and stay at their end
 pub record OneCall (old new : Memory) : Type 0 where

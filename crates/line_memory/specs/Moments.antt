@@ -3,12 +3,14 @@ use Rattle.std.specs.Prelude.{◌≡◌, ◌<◌, ◌≤◌, ◌+◌, ◌-◌, �
 use Rattle.line_image.specs.History.{Outcome, LeftWithin, history_within}
 use Rattle.line_memory.specs.Memory.{Memory, Told}
 
--- From old on to new, each stop within a call of the image left an outcome that has P, and the moments before are as
--- they were. Nothing is said of calls from number 2^64 - 1 on, where the count stays.
+-- From old on to new, each stop within a call of the image left an outcome that has P, and the moments before
+-- are as they were. Nothing is said of calls from number 2^64 - 1 on, where the count stays.
 pub record Goes (old new : Told) (P : Outcome → Type 0) : Type 0 where
   pub later : old.calls ≤ new.calls
-  pub before : (n : ℕ) → n ≤ old.calls → n < 2 ^ 64 - 1 → history_within n new.history ≡ history_within n old.history
-  pub during : (n : ℕ) → old.calls < n → n ≤ new.calls → n < 2 ^ 64 - 1 → (c : Outcome) → LeftWithin new.history n c → P c
+  pub before : (n : ℕ) → n ≤ old.calls → n < 2 ^ 64 - 1
+      → history_within n new.history ≡ history_within n old.history
+  pub during : (n : ℕ) → old.calls < n → n ≤ new.calls → n < 2 ^ 64 - 1 → (c : Outcome)
+      → LeftWithin new.history n c → P c
 
 -- The memory's calls are those that its image had after the first `begin` ones.
 abbrev pub CountsFrom : ℕ → Memory → Type 0

@@ -29,14 +29,16 @@ writes l (WroteBack line) = line == l
 writes l Fenced = false
 writes l Neither = false
 
--- The word showed this value since its line's last write that a fence followed, or since the first memory. `fenced` says
--- whether a fence comes after these steps.
+-- The word showed this value since its line's last write that a fence followed, or since the first memory.
+-- `fenced` says whether a fence comes after these steps.
 abbrev pub ShownSince : Memory → ℕ → ℕ → Bool → List Step → ℕ → Type 0
 ShownSince first l w fenced [] v = v ≡ shown first l w
 ShownSince first l w fenced (step ∷ steps) v =
     (v ≡ shown step.after l w)
-    ⊎ ((IsTrue (fenced && writes l step.deed) → ⊥) × ShownSince first l w (fenced || is_fence step.deed) steps v)
+    ⊎ ((IsTrue (fenced && writes l step.deed) → ⊥)
+    × ShownSince first l w (fenced || is_fence step.deed) steps v)
 
 -- what is fenced of the word or was written to it since, and what it showed since
 abbrev pub InStopSet : Memory → List Step → ℕ → ℕ → ℕ → Type 0
-InStopSet first steps l w v = MayLeave (last first steps).image.history l w v ⊎ ShownSince first l w false steps v
+InStopSet first steps l w v = MayLeave (last first steps).image.history l w v
+    ⊎ ShownSince first l w false steps v

@@ -53,7 +53,8 @@ pub(crate) fn read_lines<I: Image>(
     ensures size { I.size image.new ≡ I.size image.old }
     ensures same { I.history image.new ≡ I.history image.old }
     ensures length { IfOk result (λ lines. length lines.items ≡ count) }
-    ensures reads { IfOk result (λ lines. (k : ℕ) → k < count → Reads (I.history image.old) k (get_or lines.items k [])) }
+    ensures reads { IfOk result (λ lines. (k : ℕ) → k < count
+        → Reads (I.history image.old) k (get_or lines.items k [])) }
     ensures calls { OnOk result (I.calls image.new ≡ min (I.calls image.old + count) (2 ^ 64 - 1)) }
     ensures calls_later { I.calls image.old ≤ I.calls image.new }
     ensures later { I.faults image.old ≤ I.faults image.new }

@@ -5,5 +5,6 @@ ghost use Rattle.line_memory.specs.StopSet.{Step, InStopSet, last};
 
 /// What a stop can leave of a word lies in its stop set. Does nothing: its contract says so of every run.
 pub fn laws_of_stop_sets()
-    ensures in_stop_set { (first : Memory) (steps : List Step) (l w v : ℕ) → CanLeave (last first steps) l w v → InStopSet first steps l w v }
+    ensures in_stop_set { (first : Memory) (steps : List Step) (l w v : ℕ)
+        → CanLeave (last first steps) l w v → InStopSet first steps l w v }
 {}

@@ -2,7 +2,7 @@
 ghost use Rattle.std.specs.Prelude.{◌≡◌, ◌≢◌, ◌⊎◌, ◌<◌, ◌≤◌, ℕ, ◌↔◌, IsTrue, OnOk, OnErr, IfOk, IfErr, Ok};
 ghost use Rattle.ap_base.specs.Causes.{HasCause, Rose};
 ghost use Rattle.line_image.specs.History.{LeavesNow, IsSettled};
-ghost use Rattle.line_memory.specs.Memory.{Memory, shown, IsResident, IsAwaited, IsKnown, ReadsWord, CanLeave, CanLeaveAll, IsWritten, IsDurable, SameShown, SameResident, KeepsTelling, Narrows, ReadsOrShows, OneCall, SameImage, WroteLine, MadeFence, DidNothing};
+ghost use Rattle.line_memory.specs.Memory.{Memory, shown, IsResident, IsAwaited, IsKnown, ReadsWord, CanLeave, CanLeaveAll, IsWritten, IsDurable, SameShown, SameResident, KeepsTelling, Narrows, ReadsOrShows, LeavesNoMore, SameReads, OneCall, SameImage, WroteLine, MadeFence, DidNothing};
 ghost use Rattle.line_memory.specs.Moments.{Goes, CountsFrom};
 
 use crate::attach::{AttachFault, read_lines};
@@ -18,8 +18,8 @@ pub enum Touch {
     Again,
 }
 
-/// The lines of an image, kept in memory as a cache keeps them. Stores change what is shown here; a write-back writes a
-/// line to the image, and a fence makes the written lines durable.
+/// The lines of an image, kept in memory as a cache keeps them. Stores change what is shown here; a
+/// write-back writes a line to the image, and a fence makes the written lines durable.
 #[derive(Drop, Debug)]
 pub struct LineMemory<I: Image> {
     image: I,
@@ -52,26 +52,32 @@ pub const MAX_LINES: u64 = 4_194_304;
 
 #[tactic(auto, unfolding(crate::specs::Memory::IsResident, crate::specs::Memory::IsAwaited, crate::specs::Memory::line_shown))]
 impl<I: Image> LineMemory<I> {
-    /// Reads every line of an image. Gives the image back with the fault: `Size` exactly where it has fewer than
-    /// 32,768 or more than 4,194,304 lines.
+    /// Reads every line of an image. Gives the image back with the fault: `Size` exactly where it has fewer
+    /// than 32,768 or more than 4,194,304 lines.
     pub fn attach(alloc: Global, mut image: I) -> Result<LineMemory<I>, (AttachFault, I)>
         ensures size { IfOk result (λ m. m.size ≡ I.size image) }
         ensures range { IfOk result (λ m. (MIN_LINES ≤ m.size) × (m.size ≤ MAX_LINES)) }
         ensures known { IfOk result (λ m. (l : ℕ) → l < m.size → IsKnown m l) }
-        ensures shows { IfOk result (λ m. (l w : ℕ) → l < m.size → ReadsWord (I.history image) l w (shown m l w)) }
-        ensures durable { IfOk result (λ m. IsSettled (I.history image) → (l w : ℕ) → l < m.size → IsDurable m l w) }
+        ensures shows { IfOk result (λ m. (l w : ℕ) → l < m.size
+            → ReadsWord (I.history image) l w (shown m l w)) }
+        ensures durable { IfOk result (λ m. IsSettled (I.history image) → (l w : ℕ) → l < m.size
+            → IsDurable m l w) }
         ensures history { IfOk result (λ m. m.image.history ≡ I.history image) }
         ensures calls { IfOk result (λ m. m.calls ≡ I.size image) }
         ensures counts { IfOk result (CountsFrom (I.calls image)) }
-        ensures any_moment { IfOk result (λ m. Goes (record { calls = I.calls image; history = I.history image }) m.image (LeavesNow (I.history image))) }
+        ensures any_moment { IfOk result (λ m. Goes
+            (record { calls = I.calls image; history = I.history image }) m.image (LeavesNow (I.history image))) }
         ensures later { IfOk result (λ m. I.faults image ≤ m.faults) }
 
-        ensures size_fault { IfErr result (λ e. e.0 ≡ AttachFault.Size ↔ ((I.size image < MIN_LINES) ⊎ (MAX_LINES < I.size image))) }
-        ensures cause { IfErr result (λ e. e.0 ≡ AttachFault.ImageFailed → Rose (I.faults image) (I.faults e.1)) }
+        ensures size_fault { IfErr result (λ e. e.0 ≡ AttachFault.Size
+            ↔ ((I.size image < MIN_LINES) ⊎ (MAX_LINES < I.size image))) }
+        ensures cause { IfErr result (λ e. e.0 ≡ AttachFault.ImageFailed
+            → Rose (I.faults image) (I.faults e.1)) }
         ensures same_size { IfErr result (λ e. I.size e.1 ≡ I.size image) }
         ensures same_history { IfErr result (λ e. I.history e.1 ≡ I.history image) }
         ensures any_moment_of_fault { IfErr result (λ e.
-            Goes (record { calls = I.calls image; history = I.history image }) (record { calls = I.calls e.1; history = I.history e.1 }) (LeavesNow (I.history image))) }
+            Goes (record { calls = I.calls image; history = I.history image })
+            (record { calls = I.calls e.1; history = I.history e.1 }) (LeavesNow (I.history image))) }
         ensures later_of_fault { IfErr result (λ e. I.faults image ≤ I.faults e.1) }
     {
         let count = image.lines();
@@ -98,12 +104,13 @@ impl<I: Image> LineMemory<I> {
         self.image
     }
 
-    /// Makes a line resident, with at most one image call. `Again` asks for the same touch once more, which then is
-    /// `Ready`. The touch of a resident line changes nothing that is seen here.
+    /// Makes a line resident, with at most one image call. `Again` asks for the same touch once more, which
+    /// then is `Ready`. The touch of a resident line changes nothing that is seen here.
     pub fn touch(&mut self, line: u32) -> Result<Touch, ImageFailed>
         requires { line < self.old.size }
         ensures ready { IfOk result (λ touch. touch ≡ Touch.Ready → IsResident self.new line) }
-        ensures again { IfOk result (λ touch. touch ≡ Touch.Again → OneCall self.old self.new × ¬ IsResident self.new line × IsAwaited self.new line) }
+        ensures again { IfOk result (λ touch. touch ≡ Touch.Again
+            → OneCall self.old self.new × ¬ IsResident self.new line × IsAwaited self.new line) }
         ensures not_twice { IsAwaited self.old line → IfOk result (λ touch. touch ≡ Touch.Ready) }
         ensures at_once { IsResident self.old line → result ≡ Ok Touch.Ready }
         ensures quiet { IsResident self.old line → SameImage self.old self.new }
@@ -146,7 +153,8 @@ impl<I: Image> LineMemory<I> {
         ensures size { self.new.size ≡ self.old.size }
         ensures resident { SameResident self.old self.new }
         ensures same { SameImage self.old self.new }
-        ensures leaves { (l w v : ℕ) → CanLeave self.new l w v → CanLeave self.old l w v ⊎ ((l ≡ spot.line) × (w ≡ spot.word) × (v ≡ word)) }
+        ensures leaves { (l w v : ℕ) → CanLeave self.new l w v
+            → CanLeave self.old l w v ⊎ ((l ≡ spot.line) × (w ≡ spot.word) × (v ≡ word)) }
     {
         self.lines[spot.line as usize][spot.word as usize] = word;
     }
@@ -179,6 +187,9 @@ impl<I: Image> LineMemory<I> {
         ensures fenced { OnOk result (MadeFence self.old self.new) }
         ensures failed { OnErr result (DidNothing self.old self.new) }
         ensures durable { OnOk result ((l w : ℕ) → IsWritten self.old l w → IsDurable self.new l w) }
+        ensures unwritten { LeavesNoMore self.old self.new }
+        ensures same_reads { SameReads self.old self.new }
+        ensures within { Goes self.old.image self.new.image (LeavesNow self.old.image.history) }
 
         ensures size { self.new.size ≡ self.old.size }
         ensures resident { SameResident self.old self.new }

@@ -1,8 +1,10 @@
 use Rattle.std.proofs.Common.{◌≡◌, ℕ, List, [], get_or, ap, subst}
 use Rattle.line_image.specs.History.{IsCounted}
 use Rattle.line_memory.specs.Memory.{Memory, Told, line_shown}
-use Rattle.line_memory.proofs.Stops.{either_fence, fence_narrows}
-use Rattle.line_memory.proofs.Chain.{fence_goes}
+use Rattle.line_memory.proofs.Stops.{either_fence, fence_narrows, fence_leaves, fence_same_reads}
+use Rattle.line_memory.proofs.Chain.{fence_goes, fence_within}
+use Rattle.line_memory.proofs.memory.LineMemory.fence.Given.{Over}
+use Rattle.line_memory.proofs.memory.LineMemory.fence.Goals.{After-fence}
 use Rattle.line_memory.proofs.memory.LineMemory.fence.Goals as goal
 
 pub returns-clause-leaves : goal.returns-clause-leaves
@@ -24,4 +26,30 @@ returns-clause-any_moment g c =
     (g.met.I.Image.in_order c.self.inside.image) in
     let new : Memory = record old { image = record { calls = g.I.Image.calls c.fence.new.self; history = g.I.Image.history c.fence.new.self } } in
     fence_goes (g.I.Image.size c.self.inside.image) old new counted (rw calls at c.fence.ensures.counted)
+    (either_fence c.fence.result (rw told at c.fence.ensures.fenced) (rw told at c.fence.ensures.failed))
+
+-- the memory as it was, over the image after the call
+abbrev after : (g : Over) → After-fence g → Memory
+after g c = record c.args.self.now { image = record { calls = g.I.Image.calls c.fence.new.self; history = g.I.Image.history c.fence.new.self } }
+
+pub returns-clause-unwritten : goal.returns-clause-unwritten
+returns-clause-unwritten g c =
+    let old : Memory = c.args.self.now in
+    let told : g.I.Image.history c.self.inside.image ≡ old.image.history = ap (λ (m : Memory). m.image.history) c.self.view_is in
+    fence_leaves old (after g c) (either_fence c.fence.result (rw told at c.fence.ensures.fenced) (rw told at c.fence.ensures.failed))
+
+pub returns-clause-same_reads : goal.returns-clause-same_reads
+returns-clause-same_reads g c =
+    let old : Memory = c.args.self.now in
+    let told : g.I.Image.history c.self.inside.image ≡ old.image.history = ap (λ (m : Memory). m.image.history) c.self.view_is in
+    fence_same_reads old (after g c) (either_fence c.fence.result (rw told at c.fence.ensures.fenced) (rw told at c.fence.ensures.failed))
+
+pub returns-clause-within : goal.returns-clause-within
+returns-clause-within g c =
+    let old : Memory = c.args.self.now in
+    let told : g.I.Image.history c.self.inside.image ≡ old.image.history = ap (λ (m : Memory). m.image.history) c.self.view_is in
+    let calls : g.I.Image.calls c.self.inside.image ≡ old.image.calls = ap (λ (m : Memory). m.image.calls) c.self.view_is in
+    let counted = subst (λ (t : Told). IsCounted (g.I.Image.size c.self.inside.image) t.calls t.history) (ap (λ (m : Memory). m.image) c.self.view_is)
+    (g.met.I.Image.in_order c.self.inside.image) in
+    fence_within (g.I.Image.size c.self.inside.image) old (after g c) counted (rw calls at c.fence.ensures.counted)
     (either_fence c.fence.result (rw told at c.fence.ensures.fenced) (rw told at c.fence.ensures.failed))
