@@ -8,4 +8,4 @@ mod top_call;
 mod words;
 
 pub use status::{Status, status_text};
-pub use top_call::Ended;
+pub use top_call::{Ended, autopersist};

@@ -136,3 +136,69 @@ fn run_line<S: Sink, G: Gate, W: Watcher>(
         Err(_) => Status::SinkFault,
     }
 }
+
+/// Runs the class of the source's files for which the words ask, on the image, and prints to the sink.
+///
+/// The words begin with the program's name. The gate is called before each event, and the watcher is told each act.
+pub fn autopersist<R, C, I, S, G, W>(
+    _rt: &R,
+    alloc: Global,
+    words: &Vec<String>,
+    mut source: C,
+    image: I,
+    sink: S,
+    gate: &G,
+    watcher: W,
+) -> Ended<C, I, S, W>
+where
+    R: Threads + Wait + Clone + Send + Sync + Drop,
+    C: ClassSource,
+    I: Image + Send,
+    S: Sink + Send,
+    G: Gate + Sync,
+    W: Watcher + Send,
+    // How it ends: each status but `Ok` and want of memory with its cause.
+    ensures usage { (result.status ≡ Status.Usage) ↔ (main_class (map string_bytes words.now.items) ≡ None) }
+    ensures finished { result.status ≡ Status.Ok → HasFinished (map string_bytes words.now.items) (C.left source) result.acts.acts }
+    ensures source_fault { result.status ≡ Status.SourceFault → Rose (C.faults source) (C.faults result.source) }
+    ensures sink_fault { result.status ≡ Status.SinkFault → Rose (S.faults sink) (S.faults result.sink) }
+    ensures no_memory { result.status ≡ Status.OutOfMemory → result.acts.acts ≡ [] }
+
+    // What ran: a plain run of the class, from the graph without roots and nodes.
+    ensures opening { result.opening ≡ blank_graph }
+    ensures run { result.acts.acts ≢ [] → HasRun (map string_bytes words.now.items) (C.left source) result.acts.acts }
+
+    // What the outside was told, whatever the status.
+    ensures printed { S.taken result.sink ≡ with_bytes (S.taken sink) (output_of result.acts.acts) }
+    ensures watched { W.seen result.watcher ≡ with_all (W.seen watcher) result.acts.acts }
+    ensures image { result.image ≡ image }
+{
+    let mut run = Run {
+        acts: Acts::new(alloc),
+        turn: 0,
+        sink,
+        watcher,
+    };
+    let status = match find_line(alloc, words.as_slice(), &mut source) {
+        Ok(line) => run_line(&mut run, gate, line),
+        Err(status) => status,
+    };
+    let Run {
+        acts,
+        turn: _,
+        sink,
+        watcher,
+    } = run;
+    Ended {
+        status,
+        opening: Graph {
+            roots: ListOf::new(alloc),
+            nodes: ListOf::new(alloc),
+        },
+        acts,
+        source,
+        image,
+        sink,
+        watcher,
+    }
+}
