@@ -1,4 +1,5 @@
 pub mod Printing
+pub mod Rows
 pub mod SmallClass
 pub mod Standing
 pub mod Statuses

@@ -1,0 +1,207 @@
+// The top call over the forms in memory. The class files are put together by hand from the JVM specification.
+use crate::{Status, autopersist, status_text};
+use ap_base::{Bytes, MemorySink, MemorySource, NamedBytes, NoGate, Piece, Place, ThreadNo};
+use graph_model::Value;
+use line_image::{Fails, MemoryImage};
+use run_history::{Act, NoWatch, Op, PlainKey, Stage, Watcher};
+use std::alloc::{AllocError, Global};
+use std::test::Fail;
+
+// class Main, whose main is System.out.println(7).
+const SEVEN: [u8; 244] = [
+    0xca, 0xfe, 0xba, 0xbe, 0x00, 0x00, 0x00, 0x34, 0x00, 0x14, 0x01, 0x00, 0x04, 0x4d, 0x61, 0x69,
+    0x6e, 0x07, 0x00, 0x01, 0x01, 0x00, 0x10, 0x6a, 0x61, 0x76, 0x61, 0x2f, 0x6c, 0x61, 0x6e, 0x67,
+    0x2f, 0x4f, 0x62, 0x6a, 0x65, 0x63, 0x74, 0x07, 0x00, 0x03, 0x01, 0x00, 0x04, 0x6d, 0x61, 0x69,
+    0x6e, 0x01, 0x00, 0x16, 0x28, 0x5b, 0x4c, 0x6a, 0x61, 0x76, 0x61, 0x2f, 0x6c, 0x61, 0x6e, 0x67,
+    0x2f, 0x53, 0x74, 0x72, 0x69, 0x6e, 0x67, 0x3b, 0x29, 0x56, 0x01, 0x00, 0x04, 0x43, 0x6f, 0x64,
+    0x65, 0x01, 0x00, 0x10, 0x6a, 0x61, 0x76, 0x61, 0x2f, 0x6c, 0x61, 0x6e, 0x67, 0x2f, 0x53, 0x79,
+    0x73, 0x74, 0x65, 0x6d, 0x07, 0x00, 0x08, 0x01, 0x00, 0x03, 0x6f, 0x75, 0x74, 0x01, 0x00, 0x15,
+    0x4c, 0x6a, 0x61, 0x76, 0x61, 0x2f, 0x69, 0x6f, 0x2f, 0x50, 0x72, 0x69, 0x6e, 0x74, 0x53, 0x74,
+    0x72, 0x65, 0x61, 0x6d, 0x3b, 0x0c, 0x00, 0x0a, 0x00, 0x0b, 0x09, 0x00, 0x09, 0x00, 0x0c, 0x01,
+    0x00, 0x13, 0x6a, 0x61, 0x76, 0x61, 0x2f, 0x69, 0x6f, 0x2f, 0x50, 0x72, 0x69, 0x6e, 0x74, 0x53,
+    0x74, 0x72, 0x65, 0x61, 0x6d, 0x07, 0x00, 0x0e, 0x01, 0x00, 0x07, 0x70, 0x72, 0x69, 0x6e, 0x74,
+    0x6c, 0x6e, 0x01, 0x00, 0x04, 0x28, 0x49, 0x29, 0x56, 0x0c, 0x00, 0x10, 0x00, 0x11, 0x0a, 0x00,
+    0x0f, 0x00, 0x12, 0x00, 0x21, 0x00, 0x02, 0x00, 0x04, 0x00, 0x00, 0x00, 0x00, 0x00, 0x01, 0x00,
+    0x09, 0x00, 0x05, 0x00, 0x06, 0x00, 0x01, 0x00, 0x07, 0x00, 0x00, 0x00, 0x15, 0x00, 0x02, 0x00,
+    0x01, 0x00, 0x00, 0x00, 0x09, 0xb2, 0x00, 0x0d, 0x10, 0x07, 0xb6, 0x00, 0x13, 0xb1, 0x00, 0x00,
+    0x00, 0x00, 0x00, 0x00,
+];
+
+// Keeps the acts that it saw, as far as it has room. It tells nothing.
+#[derive(Drop)]
+struct Keeps {
+    acts: Vec<Act>,
+}
+
+impl Watcher for Keeps {
+    ghost use Rattle.std.specs.Prelude.{None};
+
+    ghost seen = { λ _. None };
+
+    fn saw(&mut self, act: &Act, _objects: &[u32]) {
+        let _kept = self.acts.push(*act);
+    }
+}
+
+fn words(alloc: Global, all: &[&str]) -> Result<Vec<String>, AllocError> {
+    let mut words = Vec::new(alloc);
+    for word in all {
+        words.push(String::from_str(alloc, word)?)?;
+    }
+    Ok(words)
+}
+
+fn source(alloc: Global, bytes: &[u8], fails: &[u64]) -> Result<MemorySource, AllocError> {
+    let mut files = Vec::new(alloc);
+    files.push(NamedBytes {
+        name: Bytes::copy(alloc, b"Main.class")?,
+        bytes: Bytes::copy(alloc, bytes)?,
+    })?;
+    Ok(MemorySource::new(files, fails.to_vec(alloc)?))
+}
+
+fn no_fails(alloc: Global) -> Fails {
+    Fails {
+        calls: Vec::new(alloc),
+        since: u64::MAX,
+        room: 0,
+    }
+}
+
+const RUN: [&str; 7] = [
+    "autopersist",
+    "run",
+    "--image",
+    "work.img",
+    "--main",
+    "Main",
+    "classes",
+];
+
+fn act(op: Op) -> Act {
+    Act {
+        thread: ThreadNo::main(),
+        at: 0,
+        op,
+    }
+}
+
+fn printed(bytes: &[u8]) -> Result<Op, Fail> {
+    let bytes = Piece::new(bytes).ok_or("a piece")?;
+    Ok(Op::Print { bytes })
+}
+
+// The acts of the program that prints 7, in so many prints.
+fn seven_acts(alloc: Global, pieces: &[&[u8]]) -> Result<Vec<Act>, Fail> {
+    let key = PlainKey::Object(0);
+    let mut acts = Vec::new(alloc);
+    for is in [Stage::Begun, Stage::Done] {
+        acts.push(act(Op::Init { class: 0, is }))?;
+    }
+    acts.push(act(Op::Read {
+        place: Place::Static(0),
+        value: Value::Obj(0),
+    }))?;
+    acts.push(act(Op::Class {
+        object: Some(0),
+        shape: Some(2),
+    }))?;
+    acts.push(act(Op::Enter { key }))?;
+    for piece in pieces {
+        acts.push(act(printed(piece)?))?;
+    }
+    acts.push(act(Op::Exit { key }))?;
+    acts.push(act(Op::Ended { uncaught: None }))?;
+    Ok(acts)
+}
+
+#[test]
+fn seven_is_printed(rt: HostRuntime) -> Result<(), Fail> {
+    let alloc = rt.alloc();
+    let words = words(alloc, RUN.as_slice())?;
+    let image = MemoryImage::new(alloc, 32_768, no_fails(alloc))?;
+    let sink = MemorySink::new(alloc, 100, 24, Vec::new(alloc))?;
+    let watcher = Keeps {
+        acts: Vec::with_capacity(alloc, 16)?,
+    };
+    let files = source(alloc, SEVEN.as_slice(), &[])?;
+    let ended = autopersist(&rt, alloc, &words, files, image, sink, &NoGate, watcher);
+    assert_eq!(rt; ended.status, Status::Ok);
+    assert_eq!(rt; ended.sink.as_slice(), b"7\n".as_slice());
+    assert_eq!(rt; ended.opening.roots.len(), 0);
+    assert_eq!(rt; ended.opening.nodes.len(), 0);
+    let wanted = seven_acts(alloc, &[b"7\n"])?;
+    assert_eq!(rt; ended.watcher.acts.as_slice(), wanted.as_slice());
+    assert_eq!(rt; ended.acts.len(), 8);
+    for i in 0..8 {
+        assert_eq!(rt;
+            ended.acts.get(i).copied(),
+            wanted.get(i as usize).copied(),
+            "act {i}"
+        );
+        assert_eq!(rt; ended.acts.named(i).len(), 0);
+    }
+    Ok(())
+}
+
+#[test]
+fn a_sink_may_take_one_byte_or_fail(rt: HostRuntime) -> Result<(), Fail> {
+    let alloc = rt.alloc();
+    let words = words(alloc, RUN.as_slice())?;
+    for (most, fails, status, acts) in [
+        (1, 9u64, Status::Ok, 9u32),
+        (24, 1, Status::SinkFault, 5),
+        (1, 2, Status::SinkFault, 6),
+    ] {
+        let image = MemoryImage::new(alloc, 32_768, no_fails(alloc))?;
+        let sink = MemorySink::new(alloc, 100, most, [fails].to_vec(alloc)?)?;
+        let files = source(alloc, SEVEN.as_slice(), &[])?;
+        let ended = autopersist(&rt, alloc, &words, files, image, sink, &NoGate, NoWatch);
+        assert_eq!(rt; ended.status, status);
+        assert_eq!(rt; ended.acts.len(), acts);
+    }
+    Ok(())
+}
+
+#[test]
+fn other_answers(rt: HostRuntime) -> Result<(), Fail> {
+    let alloc = rt.alloc();
+    let mut other = RUN;
+    other[5] = "Other";
+    let mut misspelled = RUN;
+    misspelled[2] = "--imago";
+    for (words_given, fails, status) in [
+        (RUN.as_slice(), 1u64, Status::SourceFault),
+        (RUN.as_slice(), 2, Status::SourceFault),
+        (other.as_slice(), 9, Status::NotBuilt),
+        (misspelled.as_slice(), 9, Status::Usage),
+        (&RUN[..1], 9, Status::Usage),
+    ] {
+        let words = words(alloc, words_given)?;
+        let image = MemoryImage::new(alloc, 32_768, no_fails(alloc))?;
+        let sink = MemorySink::new(alloc, 100, 24, Vec::new(alloc))?;
+        let files = source(alloc, SEVEN.as_slice(), &[fails])?;
+        let ended = autopersist(&rt, alloc, &words, files, image, sink, &NoGate, NoWatch);
+        assert_eq!(rt; ended.status, status);
+        assert_eq!(rt; ended.acts.len(), 0);
+        assert_eq!(rt; ended.sink.as_slice().len(), 0);
+    }
+    Ok(())
+}
+
+#[test]
+fn texts(rt: HostRuntime) -> Result<(), Fail> {
+    let alloc = rt.alloc();
+    for (status, number, text) in [
+        (Status::Ok, 0, ""),
+        (Status::Usage, 2, "autopersist: usage\n"),
+        (Status::SourceFault, 10, "autopersist: source fault\n"),
+        (Status::SinkFault, 12, "autopersist: sink fault\n"),
+        (Status::OutOfMemory, 13, "autopersist: no memory\n"),
+        (Status::NotBuilt, 17, "autopersist: not built\n"),
+    ] {
+        assert_eq!(rt; status.number(), number);
+        assert_eq!(rt; status_text(alloc, &status)?.as_slice(), text.as_bytes());
+    }
+    Ok(())
+}
