@@ -5,4 +5,4 @@ cd "$(dirname "$0")/../crates/autopersist_main"
 image=$(mktemp)
 trap 'rm -f "$image"' EXIT
 truncate -s 2097152 "$image"
-rt run -- run --image "$image" --main Main data/classes
+rt run -- run --image "$image" --main Main "$PWD/data/classes"
