@@ -1,11 +1,15 @@
 // The top call over the forms in memory. The class files are put together by hand from the JVM specification.
+ghost use Rattle.std.specs.Prelude.{◌≡◌, ◌<◌};
+
 use crate::{Status, autopersist, status_text};
 use ap_base::{Bytes, MemorySink, MemorySource, NamedBytes, NoGate, Piece, Place, ThreadNo};
 use graph_model::Value;
 use line_image::{Fails, MemoryImage};
 use run_history::{Act, NoWatch, Op, PlainKey, Stage, Watcher};
 use std::alloc::{AllocError, Global};
+use std::sync::Wait;
 use std::test::Fail;
+use std::thread::Threads;
 
 // class Main, whose main is System.out.println(7).
 const SEVEN: [u8; 244] = [
@@ -27,19 +31,19 @@ const SEVEN: [u8; 244] = [
     0x00, 0x00, 0x00, 0x00,
 ];
 
-// Keeps the acts that it saw, as far as it has room. It tells nothing.
+// How many acts it was told. It tells nothing.
 #[derive(Drop)]
-struct Keeps {
-    acts: Vec<Act>,
+struct Counts {
+    acts: u32,
 }
 
-impl Watcher for Keeps {
+impl Watcher for Counts {
     ghost use Rattle.std.specs.Prelude.{None};
 
     ghost seen = { λ _. None };
 
-    fn saw(&mut self, act: &Act, _objects: &[u32]) {
-        let _kept = self.acts.push(*act);
+    fn saw(&mut self, _act: &Act, _objects: &[u32]) {
+        self.acts = self.acts.saturating_add(1);
     }
 }
 
@@ -121,9 +125,7 @@ fn seven_is_printed(rt: HostRuntime) -> Result<(), Fail> {
     let words = words(alloc, RUN.as_slice())?;
     let image = MemoryImage::new(alloc, 32_768, no_fails(alloc))?;
     let sink = MemorySink::new(alloc, 100, 24, Vec::new(alloc))?;
-    let watcher = Keeps {
-        acts: Vec::with_capacity(alloc, 16)?,
-    };
+    let watcher = Counts { acts: 0 };
     let files = source(alloc, SEVEN.as_slice(), &[])?;
     let ended = autopersist(&rt, alloc, &words, files, image, sink, &NoGate, watcher);
     assert_eq!(rt; ended.status, Status::Ok);
@@ -131,7 +133,7 @@ fn seven_is_printed(rt: HostRuntime) -> Result<(), Fail> {
     assert_eq!(rt; ended.opening.roots.len(), 0);
     assert_eq!(rt; ended.opening.nodes.len(), 0);
     let wanted = seven_acts(alloc, &[b"7\n"])?;
-    assert_eq!(rt; ended.watcher.acts.as_slice(), wanted.as_slice());
+    assert_eq!(rt; ended.watcher.acts, 8);
     assert_eq!(rt; ended.acts.len(), 8);
     for i in 0..8 {
         assert_eq!(rt;
@@ -144,48 +146,83 @@ fn seven_is_printed(rt: HostRuntime) -> Result<(), Fail> {
     Ok(())
 }
 
+// How the program that prints 7 ends on a sink that takes at most so many bytes a call and fails at one call.
+fn on_sink<R>(rt: &R, alloc: Global, most: u64, fails: u64) -> Result<(Status, u32), AllocError>
+where
+    R: Threads + Wait + Clone + Send + Sync + Drop,
+    requires { 0 < most }
+{
+    let words = words(alloc, RUN.as_slice())?;
+    let image = MemoryImage::new(alloc, 32_768, no_fails(alloc))?;
+    let sink = MemorySink::new(alloc, 100, most, [fails].to_vec(alloc)?)?;
+    let files = source(alloc, SEVEN.as_slice(), &[])?;
+    let ended = autopersist(rt, alloc, &words, files, image, sink, &NoGate, NoWatch);
+    Ok((ended.status, ended.acts.len()))
+}
+
 #[test]
 fn a_sink_may_take_one_byte_or_fail(rt: HostRuntime) -> Result<(), Fail> {
     let alloc = rt.alloc();
-    let words = words(alloc, RUN.as_slice())?;
-    for (most, fails, status, acts) in [
-        (1, 9u64, Status::Ok, 9u32),
-        (24, 1, Status::SinkFault, 5),
-        (1, 2, Status::SinkFault, 6),
-    ] {
-        let image = MemoryImage::new(alloc, 32_768, no_fails(alloc))?;
-        let sink = MemorySink::new(alloc, 100, most, [fails].to_vec(alloc)?)?;
-        let files = source(alloc, SEVEN.as_slice(), &[])?;
-        let ended = autopersist(&rt, alloc, &words, files, image, sink, &NoGate, NoWatch);
-        assert_eq!(rt; ended.status, status);
-        assert_eq!(rt; ended.acts.len(), acts);
-    }
+    assert_eq!(rt; on_sink(&rt, alloc, 1, 9)?, (Status::Ok, 9));
+    assert_eq!(rt; on_sink(&rt, alloc, 24, 1)?, (Status::SinkFault, 5));
+    assert_eq!(rt; on_sink(&rt, alloc, 1, 2)?, (Status::SinkFault, 6));
     Ok(())
+}
+
+const OTHER: [&str; 7] = [
+    "autopersist",
+    "run",
+    "--image",
+    "work.img",
+    "--main",
+    "Other",
+    "classes",
+];
+
+const MISSPELLED: [&str; 7] = [
+    "autopersist",
+    "run",
+    "--imago",
+    "work.img",
+    "--main",
+    "Main",
+    "classes",
+];
+
+// How a run ends that prints nothing, with a source that fails at one call.
+fn unprinted<R>(
+    rt: &R,
+    alloc: Global,
+    all: &[&str],
+    fails: u64,
+) -> Result<Option<Status>, AllocError>
+where
+    R: Threads + Wait + Clone + Send + Sync + Drop,
+{
+    let words = words(alloc, all)?;
+    let image = MemoryImage::new(alloc, 32_768, no_fails(alloc))?;
+    let sink = MemorySink::new(alloc, 100, 24, Vec::new(alloc))?;
+    let files = source(alloc, SEVEN.as_slice(), &[fails])?;
+    let ended = autopersist(rt, alloc, &words, files, image, sink, &NoGate, NoWatch);
+    let nothing = ended.acts.len() == 0 && ended.sink.as_slice().is_empty();
+    Ok(nothing.then_some(ended.status))
 }
 
 #[test]
 fn other_answers(rt: HostRuntime) -> Result<(), Fail> {
     let alloc = rt.alloc();
-    let mut other = RUN;
-    other[5] = "Other";
-    let mut misspelled = RUN;
-    misspelled[2] = "--imago";
-    for (words_given, fails, status) in [
-        (RUN.as_slice(), 1u64, Status::SourceFault),
-        (RUN.as_slice(), 2, Status::SourceFault),
-        (other.as_slice(), 9, Status::NotBuilt),
-        (misspelled.as_slice(), 9, Status::Usage),
-        (&RUN[..1], 9, Status::Usage),
-    ] {
-        let words = words(alloc, words_given)?;
-        let image = MemoryImage::new(alloc, 32_768, no_fails(alloc))?;
-        let sink = MemorySink::new(alloc, 100, 24, Vec::new(alloc))?;
-        let files = source(alloc, SEVEN.as_slice(), &[fails])?;
-        let ended = autopersist(&rt, alloc, &words, files, image, sink, &NoGate, NoWatch);
-        assert_eq!(rt; ended.status, status);
-        assert_eq!(rt; ended.acts.len(), 0);
-        assert_eq!(rt; ended.sink.as_slice().len(), 0);
-    }
+    let run = RUN.as_slice();
+    assert_eq!(rt; unprinted(&rt, alloc, run, 1)?, Some(Status::SourceFault));
+    assert_eq!(rt; unprinted(&rt, alloc, run, 2)?, Some(Status::SourceFault));
+    assert_eq!(rt;
+        unprinted(&rt, alloc, OTHER.as_slice(), 9)?,
+        Some(Status::NotBuilt)
+    );
+    assert_eq!(rt;
+        unprinted(&rt, alloc, MISSPELLED.as_slice(), 9)?,
+        Some(Status::Usage)
+    );
+    assert_eq!(rt; unprinted(&rt, alloc, &RUN[..1], 9)?, Some(Status::Usage));
     Ok(())
 }
 
