@@ -4,8 +4,8 @@
 usage: bench/line_memory.py [--lines N] [--rounds N] [--proved] [--image FILE]
 
 Copies the crates that it measures to a folder of its own, adds a program over them, and runs that by `rt try`, or with
---proved by `rt run`, which proves all of it first. Over a file it needs the program of the repository, which opens
-image files; until that stands, --image says so and ends with status 3.
+--proved by `rt run`, which proves all of it first. With --image it makes FILE, of as many lines, and opens it as the
+repository's program opens its image, and removes it at the end; without it the image is in memory.
 """
 import argparse
 import pathlib
@@ -16,14 +16,19 @@ import tempfile
 
 CRATES = ("ap_base", "line_image", "line_memory")
 
+NAME = "bench_line_memory"
+
+TOP = pathlib.Path(__file__).resolve().parent.parent
+
 PROGRAM = """\
-// Times a line memory over an image in memory.
+// Times a line memory over an image.
 #![tactic(auto)]
 
 ghost use Rattle.std.specs.Prelude.{◌≡◌, ◌<◌};
 
+@MODULES@
 use ap_base::Spot;
-use line_image::{Fails, Image, ImageFailed, MemoryImage};
+use line_image::{Image, ImageFailed};
 use line_memory::{LineMemory, Touch};
 use std::io;
 use std::time::Instant;
@@ -55,15 +60,7 @@ fn keep_all<I: Image>(memory: &mut LineMemory<I>) -> Result<(), ImageFailed>
 
 fn main(rt: HostRuntime) -> io::Result<()> {
     let alloc = rt.alloc();
-    let fails = Fails {
-        calls: Vec::new(alloc),
-        since: u64::MAX,
-        room: 2 * ROUNDS,
-    };
-    let start = Instant::now(&rt)?;
-    let image = MemoryImage::new(alloc, LINES, fails)?;
-    println!(rt; "make {LINES} lines: {} ms", start.elapsed(&rt)?.as_millis())?;
-
+@IMAGE@
     let start = Instant::now(&rt)?;
     let Ok(mut memory) = LineMemory::attach(alloc, image) else {
         println!(rt; "the attach failed")?;
@@ -80,30 +77,77 @@ fn main(rt: HostRuntime) -> io::Result<()> {
 }
 """
 
+IN_MEMORY = """\
+    let fails = Fails {
+        calls: Vec::new(alloc),
+        since: u64::MAX,
+        room: 2 * ROUNDS,
+    };
+    let start = Instant::now(&rt)?;
+    let image = MemoryImage::new(alloc, LINES, fails)?;
+    println!(rt; "make {LINES} lines: {} ms", start.elapsed(&rt)?.as_millis())?;
+"""
+
+IN_A_FILE = """\
+    let image = ImageFile::open(&rt, "@PATH@");
+"""
+
+LINE_BYTES = 64
+
+
+def program(args):
+    """Returns the program's text."""
+    if args.image:
+        modules, image = "mod image_file;\n\nuse image_file::ImageFile;", IN_A_FILE.replace("@PATH@", str(args.image))
+    else:
+        modules, image = "use line_image::{Fails, MemoryImage};", IN_MEMORY
+    text = PROGRAM.replace("@MODULES@", modules).replace("@IMAGE@", image)
+    return text.replace("@LINES@", str(args.lines)).replace("@ROUNDS@", str(args.rounds))
+
+
+def write_crate(crates, args):
+    """Writes the program's crate, with the repository's module of image files where it needs that."""
+    crate = crates / NAME
+    (crate / "src").mkdir(parents=True)
+    (crate / "src" / "main.rt").write_text(program(args))
+    if args.image:
+        main_crate = TOP / "crates" / "autopersist_main"
+        (crate / "specs").mkdir()
+        for name in ("src/image_file.rt", "specs/Images.antt", "specs/Lib.antt"):
+            (crate / name).write_text((main_crate / name).read_text().replace("autopersist_main", NAME))
+    return crate
+
+
+def measure(args):
+    with tempfile.TemporaryDirectory(prefix="bench_line_memory_") as made:
+        made = pathlib.Path(made)
+        for name in CRATES:
+            shutil.copytree(TOP / "crates" / name, made / "crates" / name, ignore=shutil.ignore_patterns("out", "must-fail"))
+        (made / "crates.txt").write_text(
+            "ap_base: thiserror\nline_image: ap_base thiserror\nline_memory: ap_base line_image thiserror\n"
+            f"{NAME}: ap_base line_image line_memory\n")
+        return subprocess.run(["rt", "run" if args.proved else "try"], cwd=write_crate(made / "crates", args)).returncode
+
 
 def main():
     parser = argparse.ArgumentParser(description=__doc__, formatter_class=argparse.RawDescriptionHelpFormatter)
     parser.add_argument("--lines", type=int, default=262_144, help="32768 to 4194304")
     parser.add_argument("--rounds", type=int, default=100_000, help="at most 2000000000")
     parser.add_argument("--proved", action="store_true")
-    parser.add_argument("--image", metavar="FILE")
+    parser.add_argument("--image", metavar="FILE", type=lambda name: pathlib.Path(name).resolve())
     args = parser.parse_args()
-    if args.image:
-        print("over a file this needs the program of the repository, which opens image files", file=sys.stderr)
-        return 3
-    top = pathlib.Path(__file__).resolve().parent.parent
-    with tempfile.TemporaryDirectory(prefix="bench_line_memory_") as made:
-        made = pathlib.Path(made)
-        for name in CRATES:
-            shutil.copytree(top / "crates" / name, made / "crates" / name, ignore=shutil.ignore_patterns("out", "must-fail"))
-        (made / "crates.txt").write_text(
-            "ap_base: thiserror\nline_image: ap_base thiserror\nline_memory: ap_base line_image thiserror\n"
-            "bench_line_memory: ap_base line_image line_memory\n")
-        crate = made / "crates" / "bench_line_memory"
-        (crate / "src").mkdir(parents=True)
-        (crate / "src" / "main.rt").write_text(
-            PROGRAM.replace("@LINES@", str(args.lines)).replace("@ROUNDS@", str(args.rounds)))
-        return subprocess.run(["rt", "run" if args.proved else "try"], cwd=crate).returncode
+    if not args.image:
+        return measure(args)
+    try:
+        with args.image.open("xb") as file:
+            file.truncate(args.lines * LINE_BYTES)
+    except FileExistsError:
+        print(f"{args.image} is there already: name a file that can be made", file=sys.stderr)
+        return 2
+    try:
+        return measure(args)
+    finally:
+        args.image.unlink()
 
 
 if __name__ == "__main__":

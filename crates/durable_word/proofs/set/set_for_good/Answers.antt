@@ -1,0 +1,20 @@
+-- The word is stored, and then the image is written and fenced: each stop within leaves the old word or the new one.
+use Rattle.std.proofs.Common.{subst}
+use Rattle.line_memory.specs.Memory.{Told, CanLeaveAll}
+use Rattle.line_memory.specs.Moments.{Goes}
+use Rattle.line_memory.proofs.Chain.{goes_on}
+use Rattle.durable_word.specs.Word.{OldOrNew}
+use Rattle.durable_word.proofs.set.set_for_good.Goals as goal
+
+-- src/set.rt:14:1
+pub returns-clause-any_moment : goal.returns-clause-any_moment
+returns-clause-any_moment g c =
+    let stored = c.store.new.self in
+    let written = c.write_back.new.self in
+    let fenced = c.fence.new.self in
+    let either = OldOrNew c.args.memory.now c.args.spot.line c.args.spot.word c.args.value in
+    subst (λ (told : Told). Goes told fenced.image either) c.store.ensures.same.image
+    (goes_on stored.image written.image fenced.image (CanLeaveAll stored) (CanLeaveAll written) either
+    c.write_back.ensures.any_moment c.fence.ensures.any_moment
+    (λ k all l w. c.store.ensures.leaves l w (k l w) (all l w))
+    (λ k all l w. c.store.ensures.leaves l w (k l w) (c.write_back.ensures.leaves l w (k l w) (all l w))))

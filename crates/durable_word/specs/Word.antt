@@ -1,0 +1,8 @@
+-- One word of a line memory, changed for good.
+use Rattle.std.specs.Prelude.{◌≡◌, ◌⊎◌, ℕ}
+use Rattle.line_image.specs.History.{Outcome}
+use Rattle.line_memory.specs.Memory.{Memory, CanLeave}
+
+-- the word has this value or one that could be left of it before, and no other word has anything new
+abbrev pub OldOrNew : Memory → ℕ → ℕ → ℕ → Outcome → Type 0
+OldOrNew m line word value c = (l w : ℕ) → CanLeave m l w (c l w) ⊎ ((l ≡ line) × (w ≡ word) × (c l w ≡ value))
