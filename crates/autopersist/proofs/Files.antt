@@ -1,12 +1,12 @@
 -- A file of the form, by its parts.
-use Rattle.std.proofs.Common.{◌≡◌, ℕ, ◌+◌, Bool, true, false, List, [], ◌∷◌, ◌++◌, length, take, drop, refl, ap, sym, ◌∙◌, subst, Option, Some, None}
+use Rattle.std.proofs.Common.{◌≡◌, ℕ, Bool, List, [], ◌++◌, take, drop, refl, ap, sym, ◌∙◌, Option, Some, None}
 use Rattle.std.specs.Prelude.{IsTrue, IfSome}
 use Rattle.std.specs.Option.{option_map, option_to_list}
 use Rattle.std.proofs.lemmas.List.{take-append-drop}
 use Rattle.const_pool.specs.Entry.{tag_of}
 use Rattle.const_pool.specs.Pool.{Slots, IsPool, spelling, entry_at}
 use Rattle.autopersist.specs.Printing.{Group, PrintingClass, group_lines, lines_of}
-use Rattle.autopersist.specs.SmallClass.{IsPrintingFile, file_head, is_small_kind, name_behind, parts_behind, class_behind, literals_from, IsBehind}
+use Rattle.autopersist.specs.SmallClass.{IsPrintingFile, file_head, is_small_kind, name_behind, parts_behind, literals_from, IsBehind}
 
 -- the lines of a class of the form
 abbrev pub IsClassOf : List ℕ → List ℕ → Option (List ℕ) → Type 0

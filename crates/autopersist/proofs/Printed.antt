@@ -1,13 +1,13 @@
 -- Printing a text, some bytes after others.
-use Rattle.std.proofs.Common.{◌≡◌, ℕ, ◌<◌, ◌≤◌, ◌+◌, suc, List, [], ◌∷◌, ◌++◌, length, take, drop, refl, subst, sym, arith, length-append, length-drop, Option, Some, None, inl, inr, true, false}
+use Rattle.std.proofs.Common.{◌≡◌, ℕ, ◌<◌, ◌≤◌, ◌+◌, suc, List, [], ◌∷◌, ◌++◌, length, take, drop, subst, sym, arith, length-append, length-drop, Option, Some, None, inl, inr, true, false}
 use Rattle.std.proofs.lemmas.Bool.{cases_lt}
 use Rattle.std.proofs.lemmas.List.{drop_all}
 use Rattle.std.specs.Prelude.{IsSome, IfSome, ◌↔◌}
 use Rattle.graph_model.specs.declared.types.Value.TheVariants.{Obj as Object}
 use Rattle.run_history.specs.declared.act.Op.{Op}
 use Rattle.run_history.specs.declared.act.Op.TheVariants as op
-use Rattle.run_history.specs.Recorded.{Recorded, History}
-use Rattle.autopersist.specs.Printing.{Group, PrintingClass, PrintFrame, Printing, Leaving, print_rest}
+use Rattle.run_history.specs.Recorded.{History}
+use Rattle.autopersist.specs.Printing.{Group, PrintingClass, PrintFrame, Printing, print_rest}
 use Rattle.autopersist.specs.Standing.{IsAt, IsRunOf, HasRoom, PrintsOn, text_left, with_op, recorded_by_main}
 use Rattle.autopersist.proofs.Steps.{printed}
 

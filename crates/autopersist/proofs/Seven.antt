@@ -1,5 +1,5 @@
 -- The history of the program that prints 7, act by act.
-use Rattle.std.proofs.Common.{◌≡◌, ℕ, List, [], ◌∷◌, ◌++◌, ap, subst, lit≤, lit<, refl, Some, codes, pos, arith}
+use Rattle.std.proofs.Common.{◌≡◌, ℕ, List, [], ◌∷◌, ◌++◌, ap, subst, lit≤, lit<, Some, codes, pos, arith}
 use Rattle.std.specs.Fmt.{decimal}
 use Rattle.std.proofs.lemmas.Fmt.{decimal_digit}
 use Rattle.ap_base.specs.declared.place.Place.TheVariants.{Static}

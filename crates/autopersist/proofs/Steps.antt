@@ -1,5 +1,5 @@
 -- Each act of a printing class is one that may come, and leads on to the next frame.
-use Rattle.std.proofs.Common.{◌≡◌, ℕ, suc, ◌<◌, ◌≤◌, true, false, List, [], ◌∷◌, ◌++◌, length, map, take, drop, nat_lt, nat_le, ◌&&◌, arith, refl, ap, sym, ◌∙◌, subst, lit≤, Option, Some, None}
+use Rattle.std.proofs.Common.{◌≡◌, ℕ, suc, ◌<◌, ◌≤◌, true, false, List, [], ◌∷◌, ◌++◌, length, map, take, drop, nat_lt, arith, refl, sym, ◌∙◌, subst, lit≤, Some, None}
 use Rattle.graph_model.specs.declared.types.Value.TheVariants.{Obj as Object}
 use Rattle.ap_base.specs.declared.place.Place.TheVariants.{Static}
 use Rattle.run_history.specs.declared.act.PlainKey.TheVariants.{Object as ObjectKey}
@@ -8,7 +8,7 @@ use Rattle.run_history.specs.declared.act.Op.{Op}
 use Rattle.run_history.specs.declared.act.Op.TheVariants as op
 use Rattle.run_history.specs.Recorded.{Recorded}
 use Rattle.run_history.specs.Knowing.{Known, Mark, known_after_op, next_known}
-use Rattle.run_history.specs.Wanted.{Wishes, NoWish, WantsAfter, IsClosed}
+use Rattle.run_history.specs.Wanted.{Wishes, NoWish, IsClosed}
 use Rattle.plain_model.specs.BuiltIn.{print_stream_place}
 use Rattle.std.proofs.lemmas.Bool.{lt-ltb, le-leb}
 use Rattle.std.proofs.lemmas.List.{length-take-le}
@@ -17,7 +17,7 @@ use Rattle.plain_model.specs.Steps.{step}
 use Rattle.plain_model.specs.Codes.{frames_after_op, request_of}
 use Rattle.plain_model.specs.Runs.{MayAct, known_of, frames_of, first_frames, wants_of}
 use Rattle.autopersist.specs.Printing.{Group, PrintingClass, PrintFrame, Beginning, Initialising, Fetching, Calling, Entering, Printing, Leaving, Left, printing_facts, printing_code, blank_graph, line_of, print_rest}
-use Rattle.autopersist.specs.Standing.{IsAt, known_at, world_at, by_main, recorded_by_main}
+use Rattle.autopersist.specs.Standing.{IsAt, known_at, world_at, recorded_by_main}
 use Rattle.autopersist.proofs.Extending.{known_after-append, frames_after-append, goes_on-append}
 
 -- nothing is durable, and there are no roots

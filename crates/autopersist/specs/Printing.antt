@@ -1,13 +1,12 @@
 -- A class that prints numbers: what its class set tells, and what its code does. Its `main` is any number of groups and then a
 -- return; a group is getstatic of `java/lang/System.out`, an int constant, and invokevirtual of `println(I)V`. It has no `<clinit>`.
-use Rattle.std.specs.Prelude.{ℕ, suc, ℤ, ◌+◌, Bool, true, List, [], ◌∷◌, ◌++◌, map, drop, None}
+use Rattle.std.specs.Prelude.{ℕ, suc, ℤ, Bool, true, List, [], ◌∷◌, ◌++◌, map, drop, None}
 use Rattle.std.specs.Fmt.{signed_decimal}
 use Rattle.ap_base.specs.declared.kind.At.{At}
 use Rattle.ap_base.specs.declared.kind.FieldAt.{FieldAt}
 use Rattle.ap_base.specs.declared.kind.Kind.TheVariants.{L}
 use Rattle.ap_base.specs.declared.kind.Key.TheVariants as key
 use Rattle.graph_model.specs.declared.types.Value.{Value}
-use Rattle.graph_model.specs.declared.types.Value.TheVariants.{Null}
 use Rattle.graph_model.specs.declared.types.Graph.{Graph}
 use Rattle.natives.specs.declared.requests.Request.TheVariants as ask
 use Rattle.natives.specs.declared.requests.Reply.TheVariants as reply

@@ -9,12 +9,12 @@ use Rattle.run_history.specs.declared.plain.Monitor.{Monitor}
 use Rattle.run_history.specs.declared.plain.Progress.{Progress}
 use Rattle.run_history.specs.declared.plain.Progress.TheVariants.{Untouched, BegunBy, Finished}
 use Rattle.run_history.specs.Recorded.{Recorded, History}
-use Rattle.run_history.specs.Worlds.{World, Thread, new_thread}
+use Rattle.run_history.specs.Worlds.{World, new_thread}
 use Rattle.run_history.specs.Knowing.{Known, Mark}
 use Rattle.plain_model.specs.BuiltIn.{built_in_classes, given_arrays}
 use Rattle.plain_model.specs.First.{first_heap, first_progress}
 use Rattle.plain_model.specs.Runs.{IsPlainRun, known_of, frames_of, output_of}
-use Rattle.autopersist.specs.Printing.{Group, PrintingClass, PrintFrame, Beginning, Initialising, Fetching, Calling, Entering, Printing, Leaving, Left, print_rest, printing_facts, printing_code, blank_graph}
+use Rattle.autopersist.specs.Printing.{Group, PrintingClass, PrintFrame, Beginning, Initialising, Printing, Leaving, Left, print_rest, printing_facts, printing_code, blank_graph}
 
 -- an act of thread 0 before any image call
 abbrev pub by_main : Op → Act

@@ -5,7 +5,7 @@ use crate::{Status, autopersist, status_text};
 use ap_base::{Bytes, MemorySink, MemorySource, NamedBytes, NoGate, Piece, Place, ThreadNo};
 use graph_model::Value;
 use line_image::{Fails, MemoryImage};
-use run_history::{Act, NoWatch, Op, PlainKey, Stage, Watcher};
+use run_history::{Act, Acts, NoWatch, Op, PlainKey, Stage, Watcher};
 use std::alloc::{AllocError, Global};
 use std::sync::Wait;
 use std::test::Fail;
@@ -31,19 +31,19 @@ const SEVEN: [u8; 244] = [
     0x00, 0x00, 0x00, 0x00,
 ];
 
-// How many acts it was told. It tells nothing.
+// Keeps the acts that it was told, as far as it has room. It tells nothing.
 #[derive(Drop)]
-struct Counts {
-    acts: u32,
+struct Keeps {
+    acts: Acts,
 }
 
-impl Watcher for Counts {
+impl Watcher for Keeps {
     ghost use Rattle.std.specs.Prelude.{None};
 
     ghost seen = { λ _. None };
 
-    fn saw(&mut self, _act: &Act, _objects: &[u32]) {
-        self.acts = self.acts.saturating_add(1);
+    fn saw(&mut self, act: &Act, _objects: &[u32]) {
+        let _kept = self.acts.push(*act);
     }
 }
 
@@ -125,7 +125,9 @@ fn seven_is_printed(rt: HostRuntime) -> Result<(), Fail> {
     let words = words(alloc, RUN.as_slice())?;
     let image = MemoryImage::new(alloc, 32_768, no_fails(alloc))?;
     let sink = MemorySink::new(alloc, 100, 24, Vec::new(alloc))?;
-    let watcher = Counts { acts: 0 };
+    let mut told = Acts::new(alloc);
+    told.reserve(16, 0)?;
+    let watcher = Keeps { acts: told };
     let files = source(alloc, SEVEN.as_slice(), &[])?;
     let ended = autopersist(&rt, alloc, &words, files, image, sink, &NoGate, watcher);
     assert_eq!(rt; ended.status, Status::Ok);
@@ -133,13 +135,18 @@ fn seven_is_printed(rt: HostRuntime) -> Result<(), Fail> {
     assert_eq!(rt; ended.opening.roots.len(), 0);
     assert_eq!(rt; ended.opening.nodes.len(), 0);
     let wanted = seven_acts(alloc, &[b"7\n"])?;
-    assert_eq!(rt; ended.watcher.acts, 8);
+    assert_eq!(rt; ended.watcher.acts.len(), 8);
     assert_eq!(rt; ended.acts.len(), 8);
     for i in 0..8 {
         assert_eq!(rt;
             ended.acts.get(i).copied(),
             wanted.get(i as usize).copied(),
             "act {i}"
+        );
+        assert_eq!(rt;
+            ended.watcher.acts.get(i).copied(),
+            wanted.get(i as usize).copied(),
+            "watched act {i}"
         );
         assert_eq!(rt; ended.acts.named(i).len(), 0);
     }

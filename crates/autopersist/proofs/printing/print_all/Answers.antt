@@ -1,5 +1,5 @@
 -- Each print leads on to what is left of the piece.
-use Rattle.std.proofs.Common.{◌≡◌, ℕ, ◌≤◌, List, sym, ap, ◌∙◌, subst, [], drop, arith, Option, None}
+use Rattle.std.proofs.Common.{◌≡◌, ℕ, List, sym, subst, [], arith, Option, None}
 use Rattle.run_history.specs.Recorded.{History}
 use Rattle.autopersist.specs.Standing.{PrintsOn, HasRoom, IsRunOf, text_left}
 use Rattle.autopersist.proofs.Printed.{prints_nothing, prints_more, prints-run, left_after}

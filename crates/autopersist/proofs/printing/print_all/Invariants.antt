@@ -1,9 +1,7 @@
 -- What is left of the piece is still to be printed, and leads to where all of it leads.
-use Rattle.std.proofs.Common.{◌≡◌, ℕ, ◌+◌, ◌≤◌, List, Option, length}
-use Rattle.ap_base.specs.Causes.{HasCause}
+use Rattle.std.proofs.Common.{ℕ, ◌≤◌, List, Option, length}
 use Rattle.run_history.specs.Recorded.{Recorded}
-use Rattle.autopersist.specs.Printing.{Group, PrintingClass, Printing as PrintingFrame}
-use Rattle.autopersist.specs.Standing.{IsAt, HasRoom, Keeps, PrintsOn, text_left}
+use Rattle.autopersist.specs.Standing.{Keeps, PrintsOn, text_left}
 use Rattle.autopersist.proofs.printing.print_all.Given as goal
 
 abbrev pub invariant-loop-left : goal.invariant-loop-left

@@ -1,11 +1,11 @@
 -- The stream is read and its class tested, its monitor is entered, the line is printed, and the monitor is left.
-use Rattle.std.proofs.Common.{◌≡◌, ℕ, ℤ, ◌+◌, ◌-◌, ◌≤◌, suc, List, ◌∷◌, length, ap, ◌∙◌, sym, subst, arith, Some}
+use Rattle.std.proofs.Common.{◌≡◌, ℕ, ◌+◌, ◌≤◌, suc, List, ◌∷◌, length, sym, subst, arith, Some}
 use Rattle.ap_base.specs.declared.place.Place.TheVariants.{Static}
 use Rattle.graph_model.specs.declared.types.Value.TheVariants.{Obj as Object}
 use Rattle.run_history.specs.declared.act.PlainKey.TheVariants.{Object as ObjectKey}
 use Rattle.run_history.specs.declared.act.Op.TheVariants as op
 use Rattle.run_history.specs.Recorded.{History}
-use Rattle.autopersist.specs.Printing.{Group, PrintingClass, Fetching, Calling, Entering, Printing, Leaving, line_of}
+use Rattle.autopersist.specs.Printing.{Group, PrintingClass, Fetching, Calling, Entering, Printing, line_of}
 use Rattle.autopersist.specs.Standing.{IsAt, HasRoom, with_op}
 use Rattle.autopersist.proofs.Steps.{read, called, entered, left}
 use Rattle.autopersist.proofs.Printed.{at-op, room-op, room-less}

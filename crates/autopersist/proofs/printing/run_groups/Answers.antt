@@ -1,13 +1,13 @@
 -- Each number leads on to the groups after it.
-use Rattle.std.proofs.Common.{◌≡◌, ℕ, ℤ, ◌+◌, ◌*◌, ◌-◌, ◌<◌, ◌≤◌, zero, suc, List, [], ◌∷◌, length, map, drop, ap, ◌∙◌, sym, subst, refl, arith, Some, None, slice_index_or}
+use Rattle.std.proofs.Common.{◌≡◌, ℕ, ◌+◌, ◌*◌, ◌-◌, ◌<◌, ◌≤◌, zero, suc, List, [], ◌∷◌, length, map, drop, ap, ◌∙◌, sym, subst, refl, arith, None, slice_index_or}
 use Rattle.run_history.specs.declared.act.Op.TheVariants as op
-use Rattle.run_history.specs.Recorded.{Recorded, History}
-use Rattle.autopersist.specs.Printing.{Group, PrintingClass, PrintFrame, Beginning, Fetching, Left, line_of, lines_of}
-use Rattle.autopersist.specs.Standing.{IsAt, IsRunOf, HasRoom, Keeps}
+use Rattle.run_history.specs.Recorded.{Recorded}
+use Rattle.autopersist.specs.Printing.{Group, PrintingClass, Beginning, Fetching, Left, line_of, lines_of}
+use Rattle.autopersist.specs.Standing.{IsAt, Keeps}
 use Rattle.std.proofs.lemmas.List.{drop_all, length-map}
 use Rattle.autopersist.proofs.Keeping.{keeps-nothing}
 use Rattle.autopersist.proofs.Steps.{at_first, ended}
-use Rattle.autopersist.proofs.Printed.{at-op, room-op, room-less}
+use Rattle.autopersist.proofs.Printed.{at-op, room-less}
 use Rattle.autopersist.proofs.printing.run_groups.Goals as goal
 
 -- the next line is that of the next group

@@ -1,5 +1,5 @@
 -- So many groups were printed: thread 0 stands before the others.
-use Rattle.std.proofs.Common.{◌≡◌, ℕ, ◌+◌, ◌*◌, ◌-◌, ◌≤◌, length, drop}
+use Rattle.std.proofs.Common.{◌≡◌, ◌+◌, ◌*◌, ◌-◌, ◌≤◌, length, drop}
 use Rattle.autopersist.specs.Printing.{PrintingClass, Fetching, lines_of}
 use Rattle.autopersist.specs.Standing.{IsAt, HasRoom, Keeps}
 use Rattle.autopersist.proofs.printing.run_groups.Given as goal

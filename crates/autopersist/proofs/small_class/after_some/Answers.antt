@@ -1,5 +1,5 @@
 -- One attribute is passed over.
-use Rattle.std.proofs.Common.{◌≡◌, ℕ, ◌+◌, ◌-◌, suc, List, Some, sym, ap, ◌∙◌, arith}
+use Rattle.std.proofs.Common.{◌≡◌, ℕ, ◌+◌, ◌-◌, suc, List, Some, ap, ◌∙◌, arith}
 use Rattle.const_pool.specs.Pool.{Slots}
 use Rattle.autopersist.specs.SmallClass.{after_attribute, after_attributes, ◌>>=◌}
 use Rattle.autopersist.proofs.small_class.after_some.Goals as goal
