@@ -16,9 +16,10 @@ pub use descriptor::{
 pub use entry::{Entry, Member, Tag};
 pub use name::Name;
 pub use pool::Pool;
+pub use reader::Reader;
 pub use reading::{each_pool_is_read_back, read_pool};
 pub use refusal::{PoolRefusal, PushRefusal};
-pub use writing::write_pool;
+pub use writing::{put_u16, put_u32, write_pool};
 
 #[cfg(test)]
 mod tests;

@@ -1,6 +1,6 @@
 //! The fields of a file, from front to back.
 
-ghost use Rattle.std.specs.Prelude.{◌≡◌, ◌+◌, ◌^◌, ◌<◌, length, IfOk};
+ghost use Rattle.std.specs.Prelude.{◌≡◌, ◌==◌, ◌+◌, ◌^◌, ◌<◌, length, IfOk};
 ghost use Rattle.const_pool.specs.Reading.{Gives, field_from, number_from, name_from};
 
 use crate::name::first_bad;
@@ -27,6 +27,7 @@ impl<'a> Model for Reader<'a> {
 }
 
 impl<'a> Reader<'a> {
+    /// What stands from an offset of the file on.
     pub fn new(at: usize, rest: &'a [u8]) -> Reader<'a>
         requires { at + length rest.now < 2 ^ 64 }
         ensures { result ≡ (at, rest.now) }
@@ -41,7 +42,14 @@ impl<'a> Reader<'a> {
         self.at
     }
 
-    /// A field of this many bytes.
+    /// Whether nothing is left.
+    pub fn is_ended(&self) -> bool
+        ensures { result ≡ (length self.now.1 == 0) }
+    {
+        self.rest.is_empty()
+    }
+
+    /// A field of this many bytes, `Truncated` exactly where fewer are left.
     #[tactic(auto, unfolding(crate::specs::Reading::field_from))]
     pub fn field(&mut self, len: usize) -> Result<&'a [u8], PoolRefusal>
         ensures whole { IfOk result (λ x. length x.now ≡ len) }
@@ -57,6 +65,7 @@ impl<'a> Reader<'a> {
         Ok(field)
     }
 
+    /// A number of a byte, the highest first.
     #[tactic(auto, unfolding(crate::specs::Reading::number_from))]
     pub fn u8(&mut self) -> Result<u8, PoolRefusal>
         ensures { Gives (λ x. (x, self.new)) result (number_from 1 self.old) }
@@ -65,6 +74,7 @@ impl<'a> Reader<'a> {
         Ok(field[0])
     }
 
+    /// A number of two bytes, the highest first.
     #[tactic(auto, unfolding(crate::specs::Reading::number_from))]
     pub fn u16(&mut self) -> Result<u16, PoolRefusal>
         ensures { Gives (λ x. (x, self.new)) result (number_from 2 self.old) }
@@ -73,6 +83,7 @@ impl<'a> Reader<'a> {
         Ok(BigEndian::read_u16(field))
     }
 
+    /// A number of four bytes, the highest first.
     #[tactic(auto, unfolding(crate::specs::Reading::number_from))]
     pub fn u32(&mut self) -> Result<u32, PoolRefusal>
         ensures { Gives (λ x. (x, self.new)) result (number_from 4 self.old) }
@@ -81,6 +92,7 @@ impl<'a> Reader<'a> {
         Ok(BigEndian::read_u32(field))
     }
 
+    /// A number of eight bytes, the highest first.
     #[tactic(auto, unfolding(crate::specs::Reading::number_from))]
     pub fn u64(&mut self) -> Result<u64, PoolRefusal>
         ensures { Gives (λ x. (x, self.new)) result (number_from 8 self.old) }

@@ -11,7 +11,8 @@ use crate::{Entry, Member, Pool};
 use byteorder::{BigEndian, ByteOrder};
 use std::alloc::{AllocError, Global};
 
-fn put_u16(out: &mut Vec<u8>, number: u16) -> Result<(), AllocError>
+/// Appends a number in two bytes, the highest first.
+pub fn put_u16(out: &mut Vec<u8>, number: u16) -> Result<(), AllocError>
     ensures { OnOk result (out.new.items ≡ out.old.items ++ big_bytes 2 number) }
 {
     let mut field = [0; 2];
@@ -19,7 +20,8 @@ fn put_u16(out: &mut Vec<u8>, number: u16) -> Result<(), AllocError>
     out.extend_from_slice(&field)
 }
 
-fn put_u32(out: &mut Vec<u8>, number: u32) -> Result<(), AllocError>
+/// Appends a number in four bytes, the highest first.
+pub fn put_u32(out: &mut Vec<u8>, number: u32) -> Result<(), AllocError>
     ensures { OnOk result (out.new.items ≡ out.old.items ++ big_bytes 4 number) }
 {
     let mut field = [0; 4];
