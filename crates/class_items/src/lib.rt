@@ -1,0 +1,13 @@
+//! The items that the structures of a class file consist of: numbers, indices into the constant pool, and attributes
+//! (JVMS 4.1, 4.7).
+#![tactic(auto)]
+
+mod attribute;
+mod indices;
+mod numbers;
+mod refusal;
+
+pub use attribute::{Attribute, RawAttribute, attributes, put_attributes, raw_attribute};
+pub use indices::index;
+pub use numbers::{field, u8, u16, u32};
+pub use refusal::ItemRefusal;
