@@ -1,14 +1,14 @@
 -- A field or a number as the constant pool's reader gives it is that of an item.
-use Rattle.std.proofs.Common.{◌≡◌, ◌⊎◌, ℕ, ◌+◌, Bool, true, false, cond, ltb, List, length, take, drop, Result, Ok, Err, refl, ap, ◌∙◌, inl, inr}
+use Rattle.std.proofs.Common.{◌≡◌, ◌⊎◌, ℕ, ◌+◌, Bool, true, false, cond, ltb, List, length, take, drop, Result, Ok, Err, refl, sym, ap, ◌∙◌, inl, inr}
 use Rattle.byteorder.specs.Endian.{big_number}
 use Rattle.const_pool.specs.declared.refusal.PoolRefusal.{PoolRefusal}
 use Rattle.const_pool.specs.declared.refusal.PoolRefusal.TheVariants as pool
-use Rattle.const_pool.specs.Reading as reading
 use Rattle.const_pool.specs.Reading.{Place, Fails, field_from, number_from}
 use Rattle.class_items.specs.declared.refusal.ItemRefusal.{ItemRefusal}
 use Rattle.class_items.specs.declared.refusal.ItemRefusal.TheVariants.{Truncated, OutOfMemory}
 use Rattle.class_items.specs.Parsing.{◌>>=◌, told}
 use Rattle.class_items.specs.Items.{of_field, field_at, number_at}
+use Rattle.class_items.proofs.PoolFields.{read_more, from_more}
 
 either : (short : Bool) (at : ℕ) (x : List ℕ × Place)
     → cond short (Err (Truncated at)) (Ok x) ≡ told of_field (cond short (Err (pool.Truncated at)) (Ok x))
@@ -19,15 +19,18 @@ field_told : (n : ℕ) (file : Place) → field_at n file ≡ told of_field (fie
 unfolding field_at field_from
 field_told n file = either (ltb (length file.1) n) file.0 (take n file.1, (file.0 + n, drop n file.1))
 
-then_told : (n : ℕ) (field : Result (List ℕ × Place) PoolRefusal)
-    → (told of_field field >>= λ bytes. Ok (big_number n bytes.0, bytes.1))
-    ≡ told of_field (reading.◌>>=◌ field (λ bytes. Ok (big_number n bytes.0, bytes.1)))
+abbrev then_number : ℕ → List ℕ × Place → Result (ℕ × Place) ItemRefusal
+then_number n bytes = Ok (big_number n bytes.0, bytes.1)
+
+then_told : (n : ℕ) (field : Result (List ℕ × Place) PoolRefusal) → (told of_field field >>= then_number n) ≡ told of_field (read_more n field)
 then_told n (Ok x) = refl
 then_told n (Err e) = refl
 
 number_told : (n : ℕ) (file : Place) → number_at n file ≡ told of_field (number_from n file)
-unfolding number_at number_from
-number_told n file = ap (λ field. field >>= λ bytes. Ok (big_number n bytes.0, bytes.1)) (field_told n file) ∙ then_told n (field_from n file)
+unfolding number_at
+number_told n file =
+    let at : number_at n file ≡ (told of_field (field_from n file) >>= then_number n) = rw (field_told n file) refl in
+    at ∙ then_told n (field_from n file) ∙ ap (told of_field) (sym (from_more n file))
 
 -- what holds of a refusal of the reader
 told_fails : {A : Type 0} (e : PoolRefusal) (read : Result A PoolRefusal) → Fails e read

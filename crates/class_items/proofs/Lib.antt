@@ -1,2 +1,5 @@
+pub mod PoolFields
 pub mod Fields
+pub mod Moves
 pub mod Loops
+pub mod Past

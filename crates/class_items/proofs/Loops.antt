@@ -2,13 +2,14 @@
 use Rattle.std.proofs.Common.{◌≡◌, ℕ, suc, ◌-◌, ◌+◌, ◌≤◌, ◌<◌, List, [], ◌∷◌, ◌++◌, Result, Ok, Err, refl, sym, ap, ◌∙◌, ◌⊎◌, inl, inr, append_assoc, arith}
 use Rattle.std.proofs.lemmas.List.{append-nil}
 use Rattle.class_items.specs.Parsing.{◌>>=◌, many_from}
+use Rattle.class_items.proofs.Moves.{done}
 
 -- what was read before, and what is still read
 abbrev pub with_front : {X S E : Type 0} → List X → Result (List X × S) E → Result (List X × S) E
 with_front front read = read >>= λ x. Ok (front ++ x.0, x.1)
 
 regroup : {X S E : Type 0} (front : List X) (x : X) (read : Result (List X × S) E) → with_front front (read >>= λ r. Ok (x ∷ r.0, r.1)) ≡ with_front (front ++ x ∷ []) read
-regroup {X} {S} {E} front x (Ok r) = ap (λ (xs : List X). Ok {E = E} (xs, r.1)) (simp append_assoc)
+regroup {X} {S} {E} front x (Ok r) = ap (λ (xs : List X). done E (xs, r.1)) (simp append_assoc)
 regroup front x (Err f) = refl
 
 module _ {X S E : Type 0} (memory : E) (read : S → Result (X × S) E) (front : List X) (count i : ℕ) (left : S) (total : Result (List X × S) E) where
@@ -33,5 +34,5 @@ module _ {X S E : Type 0} (memory : E) (read : S → Result (X × S) E) (front :
   unfolding many_from
   is_done le so_far =
       let k : count - i ≡ 0 = omega arith in
-      let one : with_front front (many_from read (count - i) left) ≡ Ok (front, left) = rw k (ap (λ (xs : List X). Ok {E = E} (xs, left)) (append-nil front)) in
+      let one : with_front front (many_from read (count - i) left) ≡ Ok (front, left) = rw k (ap (λ (xs : List X). done E (xs, left)) (append-nil front)) in
       sym so_far ∙ one

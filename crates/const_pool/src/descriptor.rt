@@ -328,6 +328,8 @@ pub fn read_descriptor(alloc: Global, name: &Name) -> Result<Descriptor, Descrip
     // Nothing else is a descriptor.
     ensures bad { IsErrOf result DescriptorRefusal.Bad
         → (d : Descriptor) → IsDescriptor d → name.now ≢ descriptor_bytes d }
+    // So the answer is a function of the text.
+    ensures exact { Gives (λ x. x) result (descriptor_at name.now) }
 {
     whole_descriptor(alloc, name.as_slice())
 }
