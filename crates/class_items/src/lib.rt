@@ -9,7 +9,7 @@ mod numbers;
 mod refusal;
 
 pub use attribute::{Attribute, RawAttribute, attributes, put_attributes, raw_attribute};
-pub use indices::index;
+pub use indices::{index, is_tagged};
 pub use kinds::{DescriptorKind, DescriptorKinds, FieldSort};
 pub use numbers::{field, u8, u16, u32};
 pub use refusal::ItemRefusal;
