@@ -11,3 +11,6 @@ mod value;
 pub use marks::Marks;
 pub use reading::read_annotations;
 pub use refusal::AnnotationRefusal;
+
+#[cfg(test)]
+mod tests;

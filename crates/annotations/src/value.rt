@@ -8,7 +8,8 @@ use crate::form::{ValueForm, known_form};
 use crate::numbers::{index, u8, u16};
 use const_pool::{Pool, Reader, Tag};
 
-/// A value, from which on values may nest so deep. The bytes left fall with each value, so all is linear in them.
+/// A value, from which on values may nest so deep. Each takes its tag from what is left, so however many a count
+/// promises, the time is linear in the content.
 #[cycle(value)]
 #[tactic(auto, unfolding(crate::specs::Annotations::after_value))]
 fn value(pool: &Pool, deep: u8, file: &mut Reader) -> Result<(), AnnotationRefusal>
