@@ -60,9 +60,9 @@ pub data Fact : Type 0 where
 unfoldable pub fact_of : Slots → (at : ℕ) → Attribute → Result Fact ClassRefusal
 fact_of pool at a =
     if is_text pool a.name (codes "ConstantValue") then
-      (if length a.content == 2 then Ok (Constant (at + 6) (big_number 2 a.content)) else Err (refusal.BadAttribute at))
+    (if length a.content == 2 then Ok (Constant (at + 6) (big_number 2 a.content)) else Err (refusal.BadAttribute at))
     else (if is_text pool a.name (codes "RuntimeVisibleAnnotations") || is_text pool a.name (codes "RuntimeInvisibleAnnotations") then
-      (told (of_annotations at) (annotations_in pool (at + 6, a.content)) >>= λ marks. Ok (Marked marks))
+    (told (of_annotations at) (annotations_in pool (at + 6, a.content)) >>= λ marks. Ok (Marked marks))
     else Ok Nothing)
 
 -- what the attributes say together; of two constants the first counts
@@ -110,8 +110,8 @@ abbrev pub constant_of : Slots → (access descriptor : ℕ) → Option (ℕ × 
 constant_of pool access descriptor None = Ok None
 constant_of pool access descriptor (Some found) =
     if is_static access then
-      (if is_constant pool (constant_tag pool descriptor (kind_at pool descriptor)) found.1 then Ok (Some found.1)
-       else Err (refusal.BadIndex found.0 found.1))
+    (if is_constant pool (constant_tag pool descriptor (kind_at pool descriptor)) found.1 then Ok (Some found.1)
+    else Err (refusal.BadIndex found.0 found.1))
     else Ok None
 
 abbrev pub is_reference : DescriptorKind → Bool
@@ -148,15 +148,18 @@ field_at pool roots field file = do
   count ← number 2 descriptor.1
   attributes ← field_attributes_from pool count.0 no_facts count.1
   constant ← judged pool roots field access.0 name.0 descriptor.0 attributes.0.1
-  Ok (record {
-    access = access.0;
-    name = name.0;
-    descriptor = descriptor.0;
-    attributes = attributes.0.0;
-    constant = constant;
-    root = attributes.0.1.root;
-    unrecoverable = attributes.0.1.unrecoverable;
-  }, attributes.1)
+  Ok (
+    record {
+      access = access.0;
+      name = name.0;
+      descriptor = descriptor.0;
+      attributes = attributes.0.0;
+      constant = constant;
+      root = attributes.0.1.root;
+      unrecoverable = attributes.0.1.unrecoverable;
+    },
+    attributes.1,
+  )
 
 abbrev pub with_root : List ℕ → Field → List ℕ
 with_root roots f = if f.root then roots ++ f.name ∷ [] else roots
@@ -194,9 +197,9 @@ unfoldable pub method_attribute_at : Slots → (method : ℕ) → (done : Bool) 
 method_attribute_at pool method done file = do
   a ← told of_item (attribute_at pool file)
   if is_text pool a.0.name (codes "Code") then
-    (unless done (refusal.BadAttribute file.0) >>= λ once.
-     told (of_code method file.0) (code_attribute_at pool (file.0 + 6, a.0.content)) >>= λ code.
-     Ok (attribute.Code a.0.name code, a.1))
+      (unless done (refusal.BadAttribute file.0) >>= λ once.
+      told (of_code method file.0) (code_attribute_at pool (file.0 + 6, a.0.content)) >>= λ code.
+      Ok (attribute.Code a.0.name code, a.1))
   else Ok (attribute.Other a.0, a.1)
 
 abbrev pub is_code : MethodAttribute → Bool
