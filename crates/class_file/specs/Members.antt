@@ -1,5 +1,5 @@
 -- Fields and methods, read from front to back with the first fault that is met, and their bytes (JVMS 4.5, 4.6).
-use Rattle.std.specs.Prelude.{◌≡◌, ℕ, zero, suc, ◌+◌, ◌==◌, ◌&&◌, ◌||◌, not, bit_and, Bool, true, false, List, [], ◌∷◌, ◌++◌, length, codes, Option, Some, None, Result, Ok, Err, if◌then◌else◌}
+use Rattle.std.specs.Prelude.{ℕ, zero, suc, ◌+◌, ◌==◌, ◌||◌, not, bit_and, Bool, true, false, List, [], ◌∷◌, ◌++◌, length, codes, Option, Some, None, Result, Ok, Err, if◌then◌else◌}
 use Rattle.std.specs.List.{flat_map, list_any}
 use Rattle.std.specs.Str.{bytes_eq}
 use Rattle.byteorder.specs.Endian.{big_bytes, big_number}
@@ -8,7 +8,6 @@ use Rattle.const_pool.specs.declared.entry.Tag.TheVariants.{Utf8, Integer, Long,
 use Rattle.const_pool.specs.Pool.{Slots, entry_at, is_tagged, utf8_at}
 use Rattle.const_pool.specs.Reading.{Place}
 use Rattle.class_items.specs.declared.attribute.Attribute.{Attribute}
-use Rattle.class_items.specs.declared.kinds.FieldSort.{FieldSort}
 use Rattle.class_items.specs.declared.kinds.FieldSort.TheVariants as sort
 use Rattle.class_items.specs.declared.kinds.DescriptorKind.{DescriptorKind}
 use Rattle.class_items.specs.declared.kinds.DescriptorKind.TheVariants as kind
@@ -192,15 +191,22 @@ is_method other = false
 abbrev pub has_no_code : ℕ → Bool
 has_no_code access = not (bit_and access 0x0500 == 0)
 
--- an attribute of a method; `done` says that no Code may stand here
+-- the Code of a method, in an attribute that begins at this offset; `done` says that none may stand here
+unfoldable pub code_at : Slots → (method at : ℕ) → (done : Bool) → Attribute → Result MethodAttribute ClassRefusal
+code_at pool method at done a = do
+  once ← unless done (refusal.BadAttribute at)
+  code ← told (of_code method at) (code_attribute_at pool (at + 6, a.content))
+  Ok (attribute.Code a.name code)
+
+abbrev pub looked_into : Slots → (method at : ℕ) → (done : Bool) → Attribute → Result MethodAttribute ClassRefusal
+looked_into pool method at done a =
+    if is_text pool a.name (codes "Code") then code_at pool method at done a else Ok (attribute.Other a)
+
 unfoldable pub method_attribute_at : Slots → (method : ℕ) → (done : Bool) → Place → Result (MethodAttribute × Place) ClassRefusal
 method_attribute_at pool method done file = do
   a ← told of_item (attribute_at pool file)
-  if is_text pool a.0.name (codes "Code") then
-      (unless done (refusal.BadAttribute file.0) >>= λ once.
-      told (of_code method file.0) (code_attribute_at pool (file.0 + 6, a.0.content)) >>= λ code.
-      Ok (attribute.Code a.0.name code, a.1))
-  else Ok (attribute.Other a.0, a.1)
+  known ← looked_into pool method file.0 done a.0
+  Ok (known, a.1)
 
 abbrev pub is_code : MethodAttribute → Bool
 is_code (attribute.Code name code) = true
