@@ -1,7 +1,11 @@
 pub mod Extending
-pub mod Files
+pub mod SourceFiles
 pub mod Keeping
 pub mod Lines
 pub mod Printed
 pub mod Seven
 pub mod Steps
+pub mod SmallPools
+pub mod Named
+pub mod Groups
+pub mod Causes

@@ -1,6 +1,8 @@
 pub mod Printing
 pub mod Rows
-pub mod SmallClass
+pub mod PrintingForm
+pub mod Files
+pub mod Reading
 pub mod Standing
 pub mod Statuses
 pub mod TopCall

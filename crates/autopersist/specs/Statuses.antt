@@ -1,15 +1,89 @@
 -- The number and the text of each status.
-use Rattle.std.specs.Prelude.{ℕ, List, [], ◌++◌, codes}
+use Rattle.std.specs.Prelude.{ℕ, List, [], ◌∷◌, ◌++◌, codes, decimal}
+use Rattle.std.specs.List.{flat_map}
+use Rattle.ap_base.specs.declared.fault.Which.{Which}
+use Rattle.ap_base.specs.declared.fault.Which.TheVariants as which
+use Rattle.ap_base.specs.declared.fault.Full.{Full}
+use Rattle.const_pool.specs.declared.refusal.PoolRefusal.{PoolRefusal}
+use Rattle.const_pool.specs.declared.refusal.PoolRefusal.TheVariants as pool
+use Rattle.code_form.specs.declared.refusal.CodeRefusal.{CodeRefusal}
+use Rattle.code_form.specs.declared.refusal.CodeRefusal.TheVariants as code
+use Rattle.class_file.specs.declared.refusal.ClassRefusal.{ClassRefusal}
+use Rattle.class_file.specs.declared.refusal.ClassRefusal.TheVariants as class
 use Rattle.autopersist.specs.declared.status.Status.{Status}
-use Rattle.autopersist.specs.declared.status.Status.TheVariants.{Ok, Usage, SourceFault, SinkFault, OutOfMemory, NotBuilt}
+use Rattle.autopersist.specs.declared.status.Status.TheVariants.{Ok, Usage, BadClass, Full as FullOf, SourceFault, SinkFault, OutOfMemory, NotBuilt}
 
 abbrev pub number_of : Status → ℕ
 number_of Ok = 0
 number_of Usage = 2
+number_of (BadClass file refusal) = 3
+number_of (FullOf full) = 9
 number_of SourceFault = 10
 number_of SinkFault = 12
 number_of OutOfMemory = 13
 number_of NotBuilt = 17
+
+-- ---- words with spaces between them
+
+-- a name and numbers
+abbrev pub spaced : ℕ → List ℕ
+spaced n = 32 ∷ decimal n
+
+abbrev pub with_numbers : List ℕ → List ℕ → List ℕ
+with_numbers name numbers = name ++ flat_map spaced numbers
+
+abbrev pub pool_text : PoolRefusal → List ℕ
+pool_text (pool.Truncated at) = with_numbers (codes "Truncated") (at ∷ [])
+pool_text (pool.BadTag at) = with_numbers (codes "BadTag") (at ∷ [])
+pool_text (pool.BadIndex entry index) = with_numbers (codes "BadIndex") (entry ∷ index ∷ [])
+pool_text (pool.BadUtf8 at) = with_numbers (codes "BadUtf8") (at ∷ [])
+pool_text pool.OutOfMemory = codes "OutOfMemory"
+
+abbrev pub code_text : CodeRefusal → List ℕ
+code_text (code.BadOpcode pc) = with_numbers (codes "BadOpcode") (pc ∷ [])
+code_text (code.NotInProfile pc opcode) = with_numbers (codes "NotInProfile") (pc ∷ opcode ∷ [])
+code_text (code.BadTarget pc) = with_numbers (codes "BadTarget") (pc ∷ [])
+code_text (code.Truncated pc) = with_numbers (codes "Truncated") (pc ∷ [])
+code_text code.OutOfMemory = codes "OutOfMemory"
+
+-- a pool's and a code's refusal are told behind their own names, a code's behind its method's number
+abbrev pub class_text : ClassRefusal → List ℕ
+class_text (class.Pool refusal) = codes "Pool " ++ pool_text refusal
+class_text (class.Truncated at) = with_numbers (codes "Truncated") (at ∷ [])
+class_text class.BadMagic = codes "BadMagic"
+class_text (class.BadVersion major minor) = with_numbers (codes "BadVersion") (major ∷ minor ∷ [])
+class_text (class.BadIndex offset index) = with_numbers (codes "BadIndex") (offset ∷ index ∷ [])
+class_text (class.BadDescriptor index) = with_numbers (codes "BadDescriptor") (index ∷ [])
+class_text (class.BadAttribute at) = with_numbers (codes "BadAttribute") (at ∷ [])
+class_text (class.Code method refusal) = with_numbers (codes "Code") (method ∷ []) ++ codes " " ++ code_text refusal
+class_text (class.BadOperand method pc) = with_numbers (codes "BadOperand") (method ∷ pc ∷ [])
+class_text (class.RootNotReference field) = with_numbers (codes "RootNotReference") (field ∷ [])
+class_text (class.TrailingBytes at) = with_numbers (codes "TrailingBytes") (at ∷ [])
+class_text class.OutOfMemory = codes "OutOfMemory"
+
+abbrev pub which_text : Which → List ℕ
+which_text which.VolatileWords = codes "VolatileWords"
+which_text which.ImageLines = codes "ImageLines"
+which_text which.LogEntries = codes "LogEntries"
+which_text which.Threads = codes "Threads"
+which_text which.FrameSlots = codes "FrameSlots"
+which_text which.Acts = codes "Acts"
+which_text which.Monitors = codes "Monitors"
+which_text which.DirectoryWords = codes "DirectoryWords"
+which_text which.Roots = codes "Roots"
+which_text which.Files = codes "Files"
+which_text which.FileBytes = codes "FileBytes"
+
+-- what is wrong
+abbrev pub what_of : Status → List ℕ
+what_of Ok = []
+what_of Usage = codes "usage"
+what_of (BadClass file refusal) = codes "class " ++ file ++ codes " " ++ class_text refusal
+what_of (FullOf full) = codes "full " ++ with_numbers (which_text full.which) (full.need ∷ full.left ∷ [])
+what_of SourceFault = codes "source fault"
+what_of SinkFault = codes "sink fault"
+what_of OutOfMemory = codes "no memory"
+what_of NotBuilt = codes "not built"
 
 -- a status's line: the program's name, what is wrong, and a line feed
 abbrev pub status_line : List ℕ → List ℕ
@@ -17,8 +91,4 @@ status_line what = codes "autopersist: " ++ what ++ codes "\n"
 
 abbrev pub text_of : Status → List ℕ
 text_of Ok = []
-text_of Usage = status_line (codes "usage")
-text_of SourceFault = status_line (codes "source fault")
-text_of SinkFault = status_line (codes "sink fault")
-text_of OutOfMemory = status_line (codes "no memory")
-text_of NotBuilt = status_line (codes "not built")
+text_of s = status_line (what_of s)

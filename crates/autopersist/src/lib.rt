@@ -1,15 +1,16 @@
 //! The top call.
 #![tactic(auto)]
 
+mod files;
+mod form;
 mod printing;
 mod rows;
-mod small_class;
 mod status;
-#[cfg(test)]
-mod tests;
+mod texts;
 mod top_call;
 mod words;
 
 pub use rows::seven_is_printed;
-pub use status::{Status, status_text};
+pub use status::Status;
+pub use texts::status_text;
 pub use top_call::{Ended, autopersist};

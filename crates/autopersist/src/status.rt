@@ -1,23 +1,29 @@
 // How the top call ended.
-ghost use Rattle.std.specs.Prelude.{◌≡◌, IfOk};
+ghost use Rattle.std.specs.Prelude.{◌≡◌, ◌++◌, OnOk, IfOk};
 ghost use Rattle.autopersist.specs.Statuses.{number_of, text_of};
 
+use ap_base::{Bytes, Full};
+use class_file::ClassRefusal;
 use std::alloc::{AllocError, Global};
 
 /// How the top call ended.
-#[derive(Clone, Copy, Debug, PartialEq, Eq)]
+#[derive(Debug, Drop)]
 pub enum Status {
     /// All threads ended normally.
     Ok,
     /// The words are no command.
     Usage,
+    /// This file is no class file of version 52.0, or uses what isn't in the profile.
+    BadClass { file: Bytes, refusal: ClassRefusal },
+    /// More was needed than there is.
+    Full(Full),
     /// The source of class files failed.
     SourceFault,
     /// The sink of printed bytes failed.
     SinkFault,
     /// There was no memory. Comes only before the first turn.
     OutOfMemory,
-    /// The program is none that is built yet.
+    /// The classes are of no form that is built yet.
     NotBuilt,
 }
 
@@ -29,25 +35,12 @@ impl Status {
         match self {
             Status::Ok => 0,
             Status::Usage => 2,
+            Status::BadClass { .. } => 3,
+            Status::Full(_) => 9,
             Status::SourceFault => 10,
             Status::SinkFault => 12,
             Status::OutOfMemory => 13,
             Status::NotBuilt => 17,
         }
     }
-}
-
-/// The line that the program prints of a status on standard error. There is none for `Ok`.
-pub fn status_text(alloc: Global, status: &Status) -> Result<Vec<u8>, AllocError>
-    ensures text { IfOk result (λ text. text.items ≡ text_of status.now) }
-{
-    let line: &[u8] = match status {
-        Status::Ok => b"",
-        Status::Usage => b"autopersist: usage\n",
-        Status::SourceFault => b"autopersist: source fault\n",
-        Status::SinkFault => b"autopersist: sink fault\n",
-        Status::OutOfMemory => b"autopersist: no memory\n",
-        Status::NotBuilt => b"autopersist: not built\n",
-    };
-    line.to_vec(alloc)
 }

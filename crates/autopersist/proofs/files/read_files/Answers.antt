@@ -1,0 +1,59 @@
+use Rattle.std.proofs.Common.{◌≡◌, ◌⊎◌, ℕ, suc, ◌+◌, ◌-◌, Some, None, Ok, Err, inl, inr, subst, sym, ap, ◌∙◌, arith, refl}
+use Rattle.std.proofs.lemmas.Result.{err_from_is_err_and}
+use Rattle.ap_base.specs.declared.source.NamedBytes.{NamedBytes}
+use Rattle.ap_base.specs.Sources as given
+use Rattle.autopersist.specs.declared.status.Status.{Status}
+use Rattle.autopersist.specs.declared.status.Status.TheVariants as status
+use Rattle.autopersist.specs.Files.{class_of}
+use Rattle.autopersist.specs.Reading.{HasRead, ComesTo, IsFree}
+use Rattle.autopersist.proofs.SourceFiles.{begins, goes_on, ends, refuses, passes}
+use Rattle.autopersist.proofs.files.read_files.Goals as goal
+
+pub returns-in_default-clause-seen : goal.returns-in_default-clause-seen
+returns-in_default-clause-seen g c =
+    ends _ (g.C.ClassSource.left c.loop.source) (g.C.ClassSource.left c.next_file.new.source) (4096 - c.loop.counter) c.loop.before c.loop.invariant.read
+    (subst (λ f. given.Gives (g.C.ClassSource.left c.loop.source) f (g.C.ClassSource.left c.next_file.new.source)) c.in_default.is c.in_ok-file.ensures.file)
+
+pub returns-in-None-clause-seen : goal.returns-in-None-clause-seen
+returns-in-None-clause-seen g c =
+    ends _ (g.C.ClassSource.left c.loop.source) (g.C.ClassSource.left c.next_file-2.new.source) (4096 - c.loop.counter) c.loop.before c.loop.invariant.read
+    (subst (λ f. given.Gives (g.C.ClassSource.left c.loop.source) f (g.C.ClassSource.left c.next_file-2.new.source)) c.in-None.is c.in_ok-next_file.ensures.file)
+
+pub returns-in-Some-2-clause-refused : goal.returns-in-Some-2-clause-refused
+returns-in-Some-2-clause-refused g c =
+    let none : 4096 - c.loop.counter ≡ 0 = omega arith in
+    inr (passes (g.C.ClassSource.left c.args.source.now) (g.C.ClassSource.left c.loop.source) (g.C.ClassSource.left c.next_file-2.new.source) c.loop.before c.in-Some-2.field-0
+    (subst (λ n. HasRead (g.C.ClassSource.left c.args.source.now) (g.C.ClassSource.left c.loop.source) n c.loop.before) none c.loop.invariant.read)
+    (subst (λ f. given.Gives (g.C.ClassSource.left c.loop.source) f (g.C.ClassSource.left c.next_file-2.new.source)) c.in-Some-2.is c.in_ok-next_file.ensures.file))
+
+pub loop-preserved : goal.loop-preserved
+loop-preserved g c =
+    let more : 4096 - c.loop.counter ≡ suc (4096 - (c.loop.counter + 1)) = omega arith in
+    record {
+      read = rw c.with_class-before.ensures (goes_on (g.C.ClassSource.left c.args.source.now) (g.C.ClassSource.left c.loop.source) (g.C.ClassSource.left c.next_file.new.source) (4096 - (c.loop.counter + 1)) c.loop.before c.in-Some.file c.in_ok-class.class
+          (subst (λ n. HasRead (g.C.ClassSource.left c.args.source.now) (g.C.ClassSource.left c.loop.source) n c.loop.before) more c.loop.invariant.read)
+          (subst (λ f. given.Gives (g.C.ClassSource.left c.loop.source) f (g.C.ClassSource.left c.next_file.new.source)) c.in-Some.is c.in_ok-file.ensures.file) c.in_ok-class.ensures.class);
+      later = omega (arith, c.loop.invariant.later, c.next_file.ensures.later);
+    }
+
+-- a class that is refused is the answer
+of_class : (P : Status → Type 0) (e : Status) (file : NamedBytes) → (e ≡ status.OutOfMemory) ⊎ (class_of file ≡ Err e) → (class_of file ≡ Err e → P e) → IsFree e ⊎ P e
+of_class P e file (inl memory) then = inl (subst IsFree (sym memory) tt)
+of_class P e file (inr is) then = inr (then is)
+
+pub returns-in_err-class-clause-refused : goal.returns-in_err-class-clause-refused
+returns-in_err-class-clause-refused g c =
+    let p = err_from_is_err_and c.from_residual-in_err-class.result c.from_residual-in_err-class.ensures.1 in
+    let first = g.C.ClassSource.left c.args.source.now in
+    let left = g.C.ClassSource.left c.loop.source in
+    let after = g.C.ClassSource.left c.next_file.new.source in
+    let more : 4096 - c.loop.counter ≡ suc (4096 - (c.loop.counter + 1)) = omega arith in
+    let has = subst (λ n. HasRead first left n c.loop.before) more c.loop.invariant.read in
+    let gives = subst (λ f. given.Gives left f after) c.in-Some.is c.in_ok-file.ensures.file in
+    rw (p.1, p.2) (of_class (λ s. ComesTo first (Err s)) c.in_err-class.field-0.0 c.in-Some.file c.in_err-class.ensures.class
+    (refuses first left after (4096 - (c.loop.counter + 1)) c.loop.before c.in-Some.file c.in_err-class.field-0.0 has gives))
+
+pub returns-in_err-class-clause-cause : goal.returns-in_err-class-clause-cause
+returns-in_err-class-clause-cause g c =
+    let p = err_from_is_err_and c.from_residual-in_err-class.result c.from_residual-in_err-class.ensures.1 in
+    rw (p.1, p.2) (λ is. absurd (c.in_err-class.ensures.no_source cc))

@@ -1,0 +1,110 @@
+// The files of a source, read and checked one by one.
+ghost use Rattle.std.specs.Prelude.{◌≡◌, ◌≢◌, ◌⊎◌, ◌≤◌, IfOk, IfErr, IsErrOf, Ok, Err};
+ghost use Rattle.ap_base.specs.Causes.{Rose};
+ghost use Rattle.ap_base.specs.Sources as given;
+ghost use Rattle.autopersist.specs.Files.{class_of, with_class};
+ghost use Rattle.autopersist.specs.Reading.{Gives, IsFree, IsOfFiles, ComesTo};
+
+use crate::Status;
+use ap_base::{Bytes, ClassSource, Full, NamedBytes, SourceError, Which};
+use class_file::{ClassFile, ClassRefusal, read_class};
+use std::alloc::Global;
+
+/// The classes that were read so far: none, one, or several, which aren't kept.
+#[derive(Drop)]
+pub(crate) enum Seen {
+    Nothing,
+    One(ClassFile),
+    More,
+}
+
+// A source has at most so many files.
+const MOST_FILES: u32 = 4_096;
+
+// A file has at most so many bytes.
+const MOST_BYTES: usize = 1_048_576;
+
+fn with_class(before: Seen, class: ClassFile) -> Seen
+    ensures { result ≡ with_class before class }
+{
+    match before {
+        Seen::Nothing => Seen::One(class),
+        _ => Seen::More,
+    }
+}
+
+// The class of a file.
+#[tactic(auto, unfolding(crate::specs::Files::class_of))]
+fn class_of(alloc: Global, file: NamedBytes) -> Result<ClassFile, Status>
+    ensures class { Gives (λ class. class) result (class_of file) }
+    ensures files { IfErr result IsOfFiles }
+    ensures no_source { IfErr result (λ s. s ≢ Status.SourceFault) }
+{
+    let size = file.bytes.as_slice().len();
+    if size > MOST_BYTES {
+        return Err(Status::Full(Full {
+            which: Which::FileBytes,
+            need: size as u64,
+            left: MOST_BYTES as u64,
+        }));
+    }
+    match read_class(alloc, file.bytes.as_slice()) {
+        Ok(class) => Ok(class),
+        Err(ClassRefusal::OutOfMemory) => Err(Status::OutOfMemory),
+        Err(refusal) => Err(Status::BadClass {
+            file: file.name,
+            refusal,
+        }),
+    }
+}
+
+fn status_of(error: SourceError) -> Status
+    ensures failed { result ≡ Status.SourceFault → error ≡ SourceError.Failed }
+    ensures free { IsFree result }
+    ensures files { IsOfFiles result }
+{
+    match error {
+        SourceError::Failed => Status::SourceFault,
+        SourceError::OutOfMemory => Status::OutOfMemory,
+    }
+}
+
+// The next file.
+fn next_file<C: ClassSource>(alloc: Global, source: &mut C) -> Result<Option<NamedBytes>, Status>
+    ensures file { IfOk result (λ file. given.Gives (C.left source.old) file (C.left source.new)) }
+    ensures free { IfErr result IsFree }
+    ensures files { IfErr result IsOfFiles }
+    ensures later { C.faults source.old ≤ C.faults source.new }
+    ensures cause { IsErrOf result Status.SourceFault → Rose (C.faults source.old) (C.faults source.new) }
+{
+    match source.next(alloc) {
+        Ok(file) => Ok(file),
+        Err(error) => Err(status_of(error)),
+    }
+}
+
+/// The classes of the files that the source has left, or the first file that is refused.
+pub(crate) fn read_files<C: ClassSource>(alloc: Global, source: &mut C) -> Result<Seen, Status>
+    ensures seen { IfOk result (λ seen. ComesTo (C.left source.old) (Ok seen)) }
+    ensures refused { IfErr result (λ s. IsFree s ⊎ ComesTo (C.left source.old) (Err s)) }
+    ensures files { IfErr result IsOfFiles }
+    ensures later { C.faults source.old ≤ C.faults source.new }
+    ensures cause { IsErrOf result Status.SourceFault → Rose (C.faults source.old) (C.faults source.new) }
+{
+    let mut before = Seen::Nothing;
+    for _ in 0..MOST_FILES {
+        let Some(file) = next_file(alloc, source)? else {
+            return Ok(before);
+        };
+        let class = class_of(alloc, file)?;
+        before = with_class(before, class);
+    }
+    match next_file(alloc, source)? {
+        None => Ok(before),
+        Some(_) => Err(Status::Full(Full {
+            which: Which::Files,
+            need: 1,
+            left: 0,
+        })),
+    }
+}
