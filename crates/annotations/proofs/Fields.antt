@@ -14,10 +14,12 @@ use Rattle.class_items.proofs.Fields.{field_ok, field_err}
 use Rattle.annotations.specs.declared.refusal.AnnotationRefusal.TheVariants.{BadForm, BadIndex}
 use Rattle.annotations.specs.Annotations.{of_item, number_in, index_in}
 
+-- a field that is there, as a number
 pub number_ok : (n : ℕ) (file : Place) (x : List ℕ × Place) → field_from n file ≡ Ok x → number_in n file ≡ Ok (big_number n x.0, x.1)
 unfolding number_in number_at
 number_ok n file x e = rw (field_ok n file x e) refl
 
+-- a field that is cut off
 cut_off : (n : ℕ) (file : Place) (at : ℕ) → (item.Truncated at ≡ item.OutOfMemory) ⊎ (field_at n file ≡ Err (item.Truncated at)) → number_in n file ≡ Err BadForm
 unfolding number_in number_at
 cut_off n file at (inl never) = absurd cc
@@ -30,6 +32,7 @@ number_err n file (pool.BadTag at) is fails = absurd cc
 number_err n file (pool.BadIndex entry index) is fails = absurd cc
 number_err n file (pool.BadUtf8 at) is fails = absurd cc
 
+-- the index that was read, told otherwise after its judgement
 judged : (b : Bool) (offset : ℕ) (x : ℕ × Place)
     → told of_item (cond b (Ok x) (Err (item.BadIndex offset x.0))) ≡ cond b (Ok x) (Err (BadIndex offset x.0))
 judged true offset x = refl

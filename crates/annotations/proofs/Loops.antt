@@ -55,6 +55,7 @@ marked pool read = read >>= λ types. Ok (marks_of pool types.0, types.1)
 abbrev one_more : ℕ → Types → Result Types AnnotationRefusal
 one_more type r = Ok (type ∷ r.0, r.1)
 
+-- one annotation more among those before is one less among those that are still read
 regroup : (pool : Slots) (before : Marks) (type : ℕ) (read : Result Types AnnotationRefusal)
     → with_before before (marked pool (read >>= one_more type)) ≡ with_before (with_type pool before type) (marked pool read)
 regroup pool before type (Ok r) = rw (or_assoc before.root (is_root pool type) (list_any (is_root pool) r.0), or_assoc before.unrecoverable (is_unrecoverable pool type) (list_any (is_unrecoverable pool) r.0)) refl
