@@ -1,7 +1,7 @@
 use Rattle.std.proofs.Common.{◌≡◌, ℕ, take, vec_len}
 use Rattle.code_form.specs.Spelling.{is_start}
 use Rattle.code_form.specs.Marks.{is_marked}
-use Rattle.code_form.proofs.targets.starts_of.Given as goal
+use Rattle.code_form.proofs.targets.Starts.of.Given as goal
 
 abbrev pub invariant-loop-placed : goal.invariant-loop-placed
 invariant-loop-placed l = record {
