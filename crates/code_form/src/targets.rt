@@ -1,79 +1,92 @@
 //! Whether the jumps of a code lead to its instructions.
 
-ghost use Rattle.std.specs.Prelude.{◌≡◌, ◌<◌, ℕ, Ok, false, slice_index_or, length, All, IfOk};
+ghost use Rattle.std.specs.Prelude.{◌≡◌, ◌<◌, ℕ, Ok, false, length, All, IfOk};
 ghost use Rattle.std.specs.List.{list_all};
-ghost use Rattle.code_form.specs.Spelling.{is_start, targets_of};
+ghost use Rattle.code_form.specs.Spelling.{is_start, jumps_to_starts};
 ghost use Rattle.code_form.specs.Reading.{Gives, first_astray, unless_astray};
-ghost use Rattle.code_form.specs.Marks.{is_marked, AreStartsOf};
+ghost use Rattle.code_form.specs.Marks.{AreMarksOf};
 
 use crate::ins::{Case, Ins, Placed};
 use crate::refusal::CodeRefusal;
 use std::alloc::{AllocError, Global};
 use std::marker::Model;
 
-/// Where the instructions of a code begin, as a table with a cell for each of its bytes. Contracts see that table.
-#[derive(Debug, Drop)]
-pub struct Starts {
-    starts: Vec<bool>,
+/// Where the instructions of a code begin, in a table with a cell for each of its bytes. Contracts see the code.
+#[derive(Drop)]
+pub struct Starts<'a> {
+    code: &'a [Placed],
+    marks: Vec<bool>,
 }
 
-impl Model for Starts {
-    ghost use Rattle.std.specs.Prelude.{Bool, List};
+impl<'a> Model for Starts<'a> {
+    ghost use Rattle.std.specs.Prelude.{List};
+    ghost use Rattle.code_form.specs.declared.ins.Placed.{Placed as OnePlaced};
+    ghost use Rattle.code_form.specs.Marks.{AreMarksOf};
 
-    ghost Value = { List Bool };
+    ghost Value = { List OnePlaced };
 
-    ghost view = { λ s. s.starts.items };
+    ghost view = { λ s. s.code.now };
+
+    ghost invariant = { λ s. AreMarksOf s.code.now s.marks.items };
 }
 
-impl Starts {
-    /// The table for a code of `len` bytes.
-    pub fn of(alloc: Global, code: &[Placed], len: usize) -> Result<Starts, AllocError>
+impl<'a> Starts<'a> {
+    /// The starts of a code of `len` bytes.
+    pub fn of(alloc: Global, code: &'a [Placed], len: usize) -> Result<Starts<'a>, AllocError>
         requires { All (λ p. p.pc < len) code.now }
-        ensures { IfOk result (AreStartsOf code.now) }
+        ensures { IfOk result (λ starts. starts ≡ code.now) }
     {
-        let mut starts = Vec::from_elem(alloc, false, len)?;
-        for placed in code {
-            starts[placed.pc as usize] = true;
-        }
-        Ok(Starts { starts })
+        let marks = marks_of(alloc, code, len)?;
+        Ok(Starts { code, marks })
     }
 
     /// Whether an instruction begins at a pc, which takes constant time.
     pub fn has(&self, pc: u32) -> bool
-        ensures { result ≡ is_marked self.now pc }
+        ensures { result ≡ is_start self.now pc }
     {
-        match self.starts.get(pc as usize) {
+        match self.marks.get(pc as usize) {
             Some(is_start) => *is_start,
             None => false,
         }
     }
 }
 
-fn are_marked(starts: &Starts, pcs: &[u32]) -> bool
-    ensures { result ≡ list_all (is_marked starts.now) pcs.now }
+fn marks_of(alloc: Global, code: &[Placed], len: usize) -> Result<Vec<bool>, AllocError>
+    requires { All (λ p. p.pc < len) code.now }
+    ensures { IfOk result (λ marks. AreMarksOf code.now marks.items) }
+{
+    let mut marks = Vec::from_elem(alloc, false, len)?;
+    for placed in code {
+        marks[placed.pc as usize] = true;
+    }
+    Ok(marks)
+}
+
+fn are_starts(starts: &Starts, pcs: &[u32]) -> bool
+    ensures { result ≡ list_all (is_start starts.now) pcs.now }
 {
     pcs.iter().all(|pc| starts.has(*pc))
 }
 
-fn lead_to_marks(starts: &Starts, cases: &[Case]) -> bool
-    ensures { result ≡ list_all (λ c. is_marked starts.now c.target) cases.now }
+fn lead_to_starts(starts: &Starts, cases: &[Case]) -> bool
+    ensures { result ≡ list_all (λ c. is_start starts.now c.target) cases.now }
 {
     cases.iter().all(|case| starts.has(case.target))
 }
 
 #[tactic(auto, using(crate::proofs::Jumps::list_all_of_map))]
-fn jumps_to_marks(starts: &Starts, ins: &Ins) -> bool
-    ensures { result ≡ list_all (is_marked starts.now) (targets_of ins.now) }
+fn jumps_to_starts(starts: &Starts, placed: &Placed) -> bool
+    ensures { result ≡ jumps_to_starts starts.now placed.now }
 {
-    match ins {
+    match &placed.ins {
         Ins::Branch(_, target) | Ins::GotoWide(target) => starts.has(*target),
         Ins::TableSwitch {
             default,
             targets,
             ..
-        } => starts.has(*default) && are_marked(starts, targets.as_slice()),
+        } => starts.has(*default) && are_starts(starts, targets.as_slice()),
         Ins::LookupSwitch { default, cases } => {
-            starts.has(*default) && lead_to_marks(starts, cases.as_slice())
+            starts.has(*default) && lead_to_starts(starts, cases.as_slice())
         }
         _ => true,
     }
@@ -86,7 +99,7 @@ pub(crate) fn check_targets(alloc: Global, code: &[Placed], len: usize) -> Resul
 {
     let starts = Starts::of(alloc, code, len)?;
     for placed in code {
-        if !jumps_to_marks(&starts, &placed.ins) {
+        if !jumps_to_starts(&starts, placed) {
             return Err(CodeRefusal::BadTarget(placed.pc));
         }
     }
