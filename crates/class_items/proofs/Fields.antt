@@ -15,7 +15,7 @@ either : (short : Bool) (at : ℕ) (x : List ℕ × Place)
 either true at x = refl
 either false at x = refl
 
-field_told : (n : ℕ) (file : Place) → field_at n file ≡ told of_field (field_from n file)
+pub field_told : (n : ℕ) (file : Place) → field_at n file ≡ told of_field (field_from n file)
 unfolding field_at field_from
 field_told n file = either (ltb (length file.1) n) file.0 (take n file.1, (file.0 + n, drop n file.1))
 
@@ -26,7 +26,7 @@ then_told : (n : ℕ) (field : Result (List ℕ × Place) PoolRefusal) → (told
 then_told n (Ok x) = refl
 then_told n (Err e) = refl
 
-number_told : (n : ℕ) (file : Place) → number_at n file ≡ told of_field (number_from n file)
+pub number_told : (n : ℕ) (file : Place) → number_at n file ≡ told of_field (number_from n file)
 unfolding number_at
 number_told n file =
     let at : number_at n file ≡ (told of_field (field_from n file) >>= then_number n) = rw (field_told n file) refl in

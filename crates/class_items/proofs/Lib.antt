@@ -3,3 +3,4 @@ pub mod Fields
 pub mod Moves
 pub mod Loops
 pub mod Past
+pub mod Taken

@@ -7,7 +7,8 @@ ghost use Rattle.class_items.specs.Items.{Gives, index_at};
 use crate::{ItemRefusal, u16};
 use const_pool::{Pool, Reader, Tag};
 
-fn is_tagged(pool: &Pool, index: u16, tag: Tag) -> bool
+/// Whether the entry at an index is there and of this kind.
+pub fn is_tagged(pool: &Pool, index: u16, tag: Tag) -> bool
     ensures { result ≡ is_tagged (entry_at pool.now index) tag }
 {
     match pool.get(index) {

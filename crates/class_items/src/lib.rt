@@ -5,11 +5,13 @@
 mod attribute;
 mod indices;
 mod kinds;
+mod laws;
 mod numbers;
 mod refusal;
 
 pub use attribute::{Attribute, RawAttribute, attributes, put_attributes, raw_attribute};
-pub use indices::index;
+pub use indices::{index, is_tagged};
 pub use kinds::{DescriptorKind, DescriptorKinds, FieldSort};
+pub use laws::attributes_are_spelled;
 pub use numbers::{field, u8, u16, u32};
 pub use refusal::ItemRefusal;

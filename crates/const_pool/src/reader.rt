@@ -1,6 +1,7 @@
 //! The fields of a file, from front to back.
 
-ghost use Rattle.std.specs.Prelude.{◌≡◌, ◌==◌, ◌+◌, ◌^◌, ◌<◌, length, IfOk};
+ghost use Rattle.std.specs.Prelude.{◌≡◌, ◌==◌, ◌+◌, ◌^◌, ◌<◌, length, IfOk, IfErr};
+ghost use Rattle.const_pool.specs.declared.refusal.PoolRefusal.TheVariants.{Truncated};
 ghost use Rattle.const_pool.specs.Reading.{Gives, field_from, number_from, name_from};
 
 use crate::name::first_bad;
@@ -54,6 +55,7 @@ impl<'a> Reader<'a> {
     pub fn field(&mut self, len: usize) -> Result<&'a [u8], PoolRefusal>
         ensures whole { IfOk result (λ x. length x.now ≡ len) }
         ensures within { IfOk result (λ x. self.old.0 + length x.now < 2 ^ 64) }
+        ensures short { IfErr result (λ e. e ≡ Truncated self.old.0) }
         ensures read { Gives (λ x. (x.now, self.new)) result (field_from len self.old) }
     {
         if self.rest.len() < len {

@@ -1,0 +1,18 @@
+//! Class files of version 52.0, read with the first fault and written byte for byte (JVMS 4).
+//!
+//! Classes that use float, double, invokedynamic, subroutines or multianewarray are refused.
+#![tactic(auto)]
+
+mod class;
+mod field;
+mod method;
+mod reading;
+mod refusal;
+mod writing;
+
+pub use class::ClassFile;
+pub use field::Field;
+pub use method::{Method, MethodAttribute};
+pub use reading::read_class;
+pub use refusal::ClassRefusal;
+pub use writing::write_class;
