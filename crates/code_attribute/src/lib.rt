@@ -14,3 +14,6 @@ pub use code::{Code, Handler};
 pub use fault::CodeFault;
 pub use reading::read_code_attribute;
 pub use writing::put_code_attribute;
+
+#[cfg(test)]
+mod tests;
