@@ -4,10 +4,14 @@
 #![tactic(auto)]
 
 mod class;
+mod facts;
 mod field;
+mod fields;
+mod items;
 mod method;
 mod reading;
 mod refusal;
+mod texts;
 mod writing;
 
 pub use class::ClassFile;

@@ -1,0 +1,2 @@
+pub mod FieldAttributes
+pub mod FieldLists
