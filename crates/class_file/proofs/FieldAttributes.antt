@@ -10,7 +10,8 @@ use Rattle.class_items.proofs.Moves.{done}
 use Rattle.class_file.specs.declared.refusal.ClassRefusal.{ClassRefusal}
 use Rattle.class_file.specs.declared.refusal.ClassRefusal.TheVariants.{OutOfMemory}
 use Rattle.class_file.specs.Refusals.{of_item}
-use Rattle.class_file.specs.Members.{Fact, Facts, fact_of, with_fact, field_attribute_at, field_attributes_from}
+use Rattle.class_file.specs.Members.{Fact, Facts, fact_of, with_fact, field_attributes_from}
+use Rattle.class_file.specs.FieldParts.{field_attribute_at}
 
 abbrev pub Read : Type 0
 Read = Result ((List Attribute × Facts) × Place) ClassRefusal

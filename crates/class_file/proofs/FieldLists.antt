@@ -1,5 +1,5 @@
 -- Fields, that a loop reads one after the other.
-use Rattle.std.proofs.Common.{◌≡◌, ℕ, suc, ◌-◌, ◌+◌, ◌≤◌, ◌<◌, List, [], ◌∷◌, ◌++◌, Result, Ok, Err, refl, sym, ap, ◌∙◌, ◌⊎◌, inl, inr, append_assoc, arith}
+use Rattle.std.proofs.Common.{◌≡◌, ℕ, suc, true, false, subst, ◌-◌, ◌+◌, ◌≤◌, ◌<◌, List, [], ◌∷◌, ◌++◌, Result, Ok, Err, refl, sym, ap, ◌∙◌, ◌⊎◌, inl, inr, append_assoc, arith}
 use Rattle.std.proofs.lemmas.List.{append-nil}
 use Rattle.const_pool.specs.Pool.{Slots}
 use Rattle.const_pool.specs.Reading.{Place}
@@ -31,6 +31,20 @@ module _ (pool : Slots) (roots : List ℕ) (front : List Field) (count i : ℕ) 
       let one : with_front front (fields_from pool roots i (count - i) file) ≡ with_front (front ++ f ∷ []) (fields_from pool (with_root roots f) (i + 1) (count - (i + 1)) after) =
           rw (k, h) (regroup front f (fields_from pool (with_root roots f) (i + 1) (count - (i + 1)) after)) in
       sym one ∙ so_far
+
+  pub goes_on_root : (f : Field) (after : Place) → f.root ≡ true → i < count → field_at pool roots i file ≡ Ok (f, after)
+      → with_front front (fields_from pool roots i (count - i) file) ≡ total
+      → with_front (front ++ f ∷ []) (fields_from pool (roots ++ f.name ∷ []) (i + 1) (count - (i + 1)) after) ≡ total
+  goes_on_root f after is lt h so_far =
+      let same : with_root roots f ≡ roots ++ f.name ∷ [] = rw is refl in
+      subst (λ (rs : List ℕ). with_front (front ++ f ∷ []) (fields_from pool rs (i + 1) (count - (i + 1)) after) ≡ total) same (goes_on f after lt h so_far)
+
+  pub goes_on_plain : (f : Field) (after : Place) → f.root ≡ false → i < count → field_at pool roots i file ≡ Ok (f, after)
+      → with_front front (fields_from pool roots i (count - i) file) ≡ total
+      → with_front (front ++ f ∷ []) (fields_from pool roots (i + 1) (count - (i + 1)) after) ≡ total
+  goes_on_plain f after is lt h so_far =
+      let same : with_root roots f ≡ roots = rw is refl in
+      subst (λ (rs : List ℕ). with_front (front ++ f ∷ []) (fields_from pool rs (i + 1) (count - (i + 1)) after) ≡ total) same (goes_on f after lt h so_far)
 
   pub ends : (e : ClassRefusal) → i < count → (e ≡ OutOfMemory) ⊎ (field_at pool roots i file ≡ Err e)
       → with_front front (fields_from pool roots i (count - i) file) ≡ total → (e ≡ OutOfMemory) ⊎ (total ≡ Err e)

@@ -1,2 +1,3 @@
 pub mod FieldAttributes
 pub mod FieldLists
+pub mod FieldHeads

@@ -74,13 +74,6 @@ with_fact facts (Marked marks) =
     record facts { root = facts.root || marks.root; unrecoverable = facts.unrecoverable || marks.unrecoverable }
 with_fact facts Nothing = facts
 
--- an attribute of a field, and what it says of it
-unfoldable pub field_attribute_at : Slots → Place → Result ((Attribute × Fact) × Place) ClassRefusal
-field_attribute_at pool file = do
-  a ← told of_item (attribute_at pool file)
-  fact ← fact_of pool file.0 a.0
-  Ok ((a.0, fact), a.1)
-
 -- so many attributes, and what they say beside what is known
 unfoldable pub field_attributes_from : Slots → ℕ → Facts → Place → Result ((List Attribute × Facts) × Place) ClassRefusal
 field_attributes_from pool zero facts file = Ok (([], facts), file)

@@ -4,7 +4,8 @@ ghost use Rattle.std.specs.Prelude.{◌≡◌, []};
 ghost use Rattle.std.specs.List.{list_any};
 ghost use Rattle.class_items.specs.Kinds.{AreKindsOf};
 ghost use Rattle.class_file.specs.Refusals.{Gives};
-ghost use Rattle.class_file.specs.Members.{is_static, has_byte, is_barred, no_facts, field_attribute_at, field_attributes_from, constant_tag, is_text, is_constant, constant_of, is_reference, is_field, is_among, is_no_root, judged, field_at, fields_from, fields_at};
+ghost use Rattle.class_file.specs.FieldParts.{field_attribute_at, field_head_at, field_behind_at};
+ghost use Rattle.class_file.specs.Members.{is_static, has_byte, is_barred, no_facts, field_attributes_from, constant_tag, is_text, is_constant, constant_of, is_reference, is_field, is_among, is_no_root, judged, field_at, fields_from, fields_at};
 
 use crate::facts::{Fact, Facts, fact_of};
 use crate::field::Field;
@@ -24,7 +25,33 @@ struct Head {
     descriptor: u16,
 }
 
-#[tactic(auto, unfolding(crate::specs::Members::field_attribute_at))]
+/// Where a field begins: its name and its descriptor are judged.
+#[tactic(auto, unfolding(crate::specs::FieldParts::field_head_at))]
+fn field_head(pool: &Pool, kinds: &DescriptorKinds, file: &mut Reader) -> Result<Head, ClassRefusal>
+    requires { AreKindsOf pool.now kinds.now }
+    ensures { Gives (λ head. (head, file.new)) result (field_head_at pool.now file.old) }
+{
+    let access = u16(file)?;
+    let offset = file.at();
+    let name = index(pool, Tag::Utf8, file)?;
+    if has_barred_byte(pool, name) {
+        return Err(ClassRefusal::BadIndex {
+            offset,
+            index: name,
+        });
+    }
+    let descriptor = index(pool, Tag::Utf8, file)?;
+    if !is_field(kind_at(pool, kinds, descriptor)) {
+        return Err(ClassRefusal::BadDescriptor(descriptor));
+    }
+    Ok(Head {
+        access,
+        name,
+        descriptor,
+    })
+}
+
+#[tactic(auto, unfolding(crate::specs::FieldParts::field_attribute_at))]
 fn field_attribute(
     alloc: Global,
     pool: &Pool,
@@ -211,4 +238,88 @@ fn judged(
         return Err(ClassRefusal::RootNotReference(field));
     }
     Ok(None)
+}
+
+/// What follows a field's head; `roots` are the indices of the names of the durable roots before.
+#[tactic(auto, unfolding(crate::specs::FieldParts::field_behind_at))]
+fn field_behind(
+    alloc: Global,
+    pool: &Pool,
+    kinds: &DescriptorKinds,
+    roots: &[u16],
+    number: u16,
+    head: Head,
+    file: &mut Reader,
+) -> Result<Field, ClassRefusal>
+    requires { AreKindsOf pool.now kinds.now }
+    ensures { Gives (λ f. (f, file.new)) result (field_behind_at pool.now roots.now number head file.old) }
+{
+    let count = u16(file)?;
+    let (attributes, facts) = field_attributes(alloc, pool, count, file)?;
+    let constant = judged(pool, kinds, roots, number, &head, &facts)?;
+    Ok(Field {
+        access: head.access,
+        name: head.name,
+        descriptor: head.descriptor,
+        attributes: ListOf::from_vec(attributes),
+        constant,
+        root: facts.root,
+        unrecoverable: facts.unrecoverable,
+    })
+}
+
+/// A field, of which the number among the fields is given.
+#[tactic(auto, using(crate::proofs::FieldHeads::head_ok, crate::proofs::FieldHeads::head_err))]
+fn field(
+    alloc: Global,
+    pool: &Pool,
+    kinds: &DescriptorKinds,
+    roots: &[u16],
+    number: u16,
+    file: &mut Reader,
+) -> Result<Field, ClassRefusal>
+    requires { AreKindsOf pool.now kinds.now }
+    ensures { Gives (λ f. (f, file.new)) result (field_at pool.now roots.now number file.old) }
+{
+    let head = field_head(pool, kinds, file)?;
+    field_behind(alloc, pool, kinds, roots, number, head, file)
+}
+
+/// So many fields.
+fn some_fields(
+    alloc: Global,
+    pool: &Pool,
+    kinds: &DescriptorKinds,
+    count: u16,
+    file: &mut Reader,
+) -> Result<Vec<Field>, ClassRefusal>
+    requires { AreKindsOf pool.now kinds.now }
+    ensures { Gives (λ v. (v.items, file.new)) result (fields_from pool.now [] 0 count file.old) }
+{
+    let mut fields = Vec::new(alloc);
+    let mut roots = Vec::new(alloc);
+    for number in 0..count {
+        let field = field(alloc, pool, kinds, roots.as_slice(), number, file)?;
+        if field.root {
+            roots.push(field.name)?;
+        }
+        fields.push(field)?;
+    }
+    Ok(fields)
+}
+
+/// A count, and so many fields.
+#[tactic(auto, unfolding(crate::specs::Members::fields_at))]
+pub(crate) fn fields(
+    alloc: Global,
+    pool: &Pool,
+    kinds: &DescriptorKinds,
+    file: &mut Reader,
+) -> Result<ListOf<Field>, ClassRefusal>
+    requires { AreKindsOf pool.now kinds.now }
+    ensures { Gives (λ list. (list, file.new)) result (fields_at pool.now file.old) }
+{
+    let count = u16(file)?;
+    let fields = some_fields(alloc, pool, kinds, count, file)?;
+    Ok(ListOf::from_vec(fields))
 }
