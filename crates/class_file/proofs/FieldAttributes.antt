@@ -58,7 +58,7 @@ module _ (pool : Slots) (front : List Attribute) (count i : ℕ) (facts : Facts)
   goes_on a fact after lt h so_far =
       let k : count - i ≡ suc (count - (i + 1)) = omega arith in
       let one : with_front front (field_attributes_from pool (count - i) facts file) ≡ with_front (front ++ a ∷ []) (field_attributes_from pool (count - (i + 1)) (with_fact facts fact) after) =
-          rw (k, first_then_others pool (count - (i + 1)) facts file, h) (regroup front a (field_attributes_from pool (count - (i + 1)) (with_fact facts fact) after)) in
+      rw (k, first_then_others pool (count - (i + 1)) facts file, h) (regroup front a (field_attributes_from pool (count - (i + 1)) (with_fact facts fact) after)) in
       sym one ∙ so_far
 
   pub ends : (e : ClassRefusal) → i < count → (e ≡ OutOfMemory) ⊎ (field_attribute_at pool file ≡ Err e)

@@ -29,7 +29,7 @@ module _ (pool : Slots) (roots : List ℕ) (front : List Field) (count i : ℕ) 
   goes_on f after lt h so_far =
       let k : count - i ≡ suc (count - (i + 1)) = omega arith in
       let one : with_front front (fields_from pool roots i (count - i) file) ≡ with_front (front ++ f ∷ []) (fields_from pool (with_root roots f) (i + 1) (count - (i + 1)) after) =
-          rw (k, h) (regroup front f (fields_from pool (with_root roots f) (i + 1) (count - (i + 1)) after)) in
+      rw (k, h) (regroup front f (fields_from pool (with_root roots f) (i + 1) (count - (i + 1)) after)) in
       sym one ∙ so_far
 
   pub goes_on_root : (f : Field) (after : Place) → f.root ≡ true → i < count → field_at pool roots i file ≡ Ok (f, after)

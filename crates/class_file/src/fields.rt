@@ -163,11 +163,7 @@ fn constant_of(
     if !is_static(head.access) {
         return Ok(None);
     }
-    let tag = constant_tag(
-        pool,
-        head.descriptor,
-        kind_at(pool, kinds, head.descriptor),
-    );
+    let tag = constant_tag(pool, head.descriptor, kind_at(pool, kinds, head.descriptor));
     if is_constant(pool, tag, index) {
         Ok(Some(index))
     } else {

@@ -9,6 +9,7 @@ mod field;
 mod fields;
 mod items;
 mod method;
+mod methods;
 mod reading;
 mod refusal;
 mod texts;
