@@ -21,3 +21,6 @@ pub use method::{Method, MethodAttribute};
 pub use reading::read_class;
 pub use refusal::ClassRefusal;
 pub use writing::write_class;
+
+#[cfg(test)]
+mod tests;
