@@ -19,6 +19,9 @@ use Rattle.annotations.specs.Annotations.{annotations_in}
 use Rattle.code_attribute.specs.declared.code.Code.{Code}
 use Rattle.code_attribute.specs.Code.{code_attribute_at, code_attribute_bytes}
 use Rattle.class_file.specs.declared.field.Field.{Field}
+pub use Rattle.class_file.specs.declared.facts.Fact.{Fact}
+pub use Rattle.class_file.specs.declared.facts.Fact.TheVariants.{Constant, Marked, Nothing}
+pub use Rattle.class_file.specs.declared.facts.Facts.{Facts}
 use Rattle.class_file.specs.declared.method.MethodAttribute.{MethodAttribute}
 use Rattle.class_file.specs.declared.method.MethodAttribute.TheVariants as attribute
 use Rattle.class_file.specs.declared.method.Method.{Method}
@@ -49,12 +52,6 @@ is_static access = not (bit_and access 8 == 0)
 
 -- ---- fields
 
--- What an attribute says of its field: a constant's index and where it stands, or annotations.
-pub data Fact : Type 0 where
-  Constant : (offset index : ℕ) → Fact
-  Marked : Marks → Fact
-  Nothing : Fact
-
 -- JVMS 4.7.2, 4.7.16, 4.7.17. The index of a constant is judged when the field's attributes are known.
 unfoldable pub fact_of : Slots → (at : ℕ) → Attribute → Result Fact ClassRefusal
 fact_of pool at a =
@@ -63,12 +60,6 @@ fact_of pool at a =
     else (if is_text pool a.name (codes "RuntimeVisibleAnnotations") || is_text pool a.name (codes "RuntimeInvisibleAnnotations") then
     (told (of_annotations at) (annotations_in pool (at + 6, a.content)) >>= λ marks. Ok (Marked marks))
     else Ok Nothing)
-
--- what the attributes say together; of two constants the first counts
-pub record Facts : Type 0 where
-  pub constant : Option (ℕ × ℕ)
-  pub root : Bool
-  pub unrecoverable : Bool
 
 abbrev pub no_facts : Facts
 no_facts = record { constant = None; root = false; unrecoverable = false }

@@ -4,10 +4,15 @@
 #![tactic(auto)]
 
 mod class;
+mod facts;
 mod field;
+mod fields;
+mod items;
 mod method;
+mod methods;
 mod reading;
 mod refusal;
+mod texts;
 mod writing;
 
 pub use class::ClassFile;
@@ -16,3 +21,6 @@ pub use method::{Method, MethodAttribute};
 pub use reading::read_class;
 pub use refusal::ClassRefusal;
 pub use writing::write_class;
+
+#[cfg(test)]
+mod tests;

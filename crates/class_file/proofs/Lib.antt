@@ -1,0 +1,6 @@
+pub mod FieldAttributes
+pub mod FieldLists
+pub mod FieldHeads
+pub mod Codes
+pub mod MethodLists
+pub mod PoolRefusals
