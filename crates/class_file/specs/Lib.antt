@@ -1,3 +1,4 @@
 pub mod Refusals
 pub mod Members
 pub mod Classes
+pub mod Fits
