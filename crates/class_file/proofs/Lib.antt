@@ -1,1 +1,2 @@
 pub mod SpelledFields
+pub mod SpelledMethods

@@ -98,10 +98,10 @@ field_attributes_spelled pool (suc count) facts file x fits e =
 abbrev FieldTaken : Place → Field × Place → Type 0
 FieldTaken file x = Takes file (field_bytes x.0) x.1 × FieldFits x.0
 
--- the numbers before a field's attributes
-field_head : (file access name descriptor after : Place) (a n d : ℕ) (text : List ℕ) → Takes file (big_bytes 2 a) access → Takes access (big_bytes 2 n) name
+-- the numbers before the attributes of a field or a method
+pub member_head : (file access name descriptor after : Place) (a n d : ℕ) (text : List ℕ) → Takes file (big_bytes 2 a) access → Takes access (big_bytes 2 n) name
     → Takes name (big_bytes 2 d) descriptor → Takes descriptor text after → Takes file (big_bytes 2 a ++ big_bytes 2 n ++ big_bytes 2 d ++ text) after
-field_head file access name descriptor after a n d text p q r s =
+member_head file access name descriptor after a n d text p q r s =
     Takes-then file (big_bytes 2 a) access (big_bytes 2 n ++ big_bytes 2 d ++ text) after p
     (Takes-then access (big_bytes 2 n) name (big_bytes 2 d ++ text) after q (Takes-then name (big_bytes 2 d) descriptor text after r s))
 
@@ -122,7 +122,7 @@ field_spelled pool roots field file x fits e =
     let s = number_spelled 2 descriptor.1 count r.rest_fits is_count in
     let t = field_attributes_spelled pool count.0 no_facts count.1 attributes s.0.rest_fits is_attributes in
     let u = counted IsShort attribute_bytes descriptor.1 count (attributes.0.0, attributes.1) s t in
-    let v = field_head file access.1 name.1 descriptor.1 attributes.1 access.0 name.0 descriptor.0 (big_bytes 2 (length attributes.0.0) ++ flat_map attribute_bytes attributes.0.0) p.0 q r u.takes in
+    let v = member_head file access.1 name.1 descriptor.1 attributes.1 access.0 name.0 descriptor.0 (big_bytes 2 (length attributes.0.0) ++ flat_map attribute_bytes attributes.0.0) p.0 q r u.takes in
     ok_then (FieldTaken file) _ x ends (v, record { count = u.count; contents = u.each })))))))))
 
 pub fields_spelled : (pool : Slots) (count : ℕ) (roots : List ℕ) (field : ℕ) (file : Place) (x : List Field × Place) → IsBytes file.1
