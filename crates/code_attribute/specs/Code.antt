@@ -1,5 +1,5 @@
 -- The content of a Code attribute, read from front to back with the first fault that is met, and its bytes (JVMS 4.7.3).
-use Rattle.std.specs.Prelude.{◌≡◌, ℕ, ◌^◌, ◌<◌, ◌&&◌, ◌||◌, ◌==◌, nat_lt, not, Bool, List, [], ◌∷◌, ◌++◌, length, Option, Some, None, Result, Ok, Err, if◌then◌else◌, All}
+use Rattle.std.specs.Prelude.{ℕ, ◌^◌, ◌<◌, ◌&&◌, ◌||◌, ◌==◌, nat_lt, not, Bool, List, ◌++◌, length, Option, Some, None, Result, Ok, Err, if◌then◌else◌, All}
 use Rattle.std.specs.List.{flat_map}
 use Rattle.byteorder.specs.Endian.{big_bytes}
 use Rattle.const_pool.specs.declared.entry.Tag.TheVariants.{Class}

@@ -4,6 +4,9 @@
 
 mod code;
 mod fault;
+mod handlers;
+mod numbers;
+mod operands;
 mod reading;
 mod writing;
 

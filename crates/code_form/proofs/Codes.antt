@@ -18,7 +18,7 @@ use Rattle.code_form.specs.Spelling.{longest, signed, offset, case_bytes, bytes_
 use Rattle.code_form.specs.Reading.{Gives, unsigned_at, ins_at, placed_at, first_astray, unless_astray, front_of, code_of}
 use Rattle.code_form.proofs.Numbers.{IsBytes, bind_ok, guard_ok, ok_is}
 use Rattle.code_form.proofs.Shrinking.{ins_shorter}
-use Rattle.code_form.proofs.Placing.{pcs_below}
+use Rattle.code_form.proofs.Placing.{pcs_below, all_below}
 use Rattle.code_form.proofs.Operands.{ins_found, ins_again}
 
 -- ---- lengths
@@ -108,9 +108,15 @@ front_whole : (bytes : List ℕ) → length bytes ≤ 65535 → front_of bytes �
 unfolding front_of
 front_whole bytes short = take_all 65535 bytes short
 
-pub code_takes : (bytes : List ℕ) (code : List Placed) → IsBytes bytes → code_of bytes ≡ Ok code → IsCode code × Spells code bytes
+-- what a code that was read came from
+record Read (bytes : List ℕ) (code : List Placed) : Type 0 where
+  short : length bytes ≤ 65535
+  placed : placed_at (length bytes) (length bytes) bytes ≡ Ok code
+  fine : first_astray code ≡ None
+
+code_read : (bytes : List ℕ) (code : List Placed) → code_of bytes ≡ Ok code → Read bytes code
 unfolding code_of
-code_takes bytes code fits e =
+code_read bytes code e =
     let n = length (front_of bytes) in
     let a = bind_ok (placed_at n n (front_of bytes)) _ code e in
     let b = bind_ok (cond (ltb longest (length bytes)) (Err (Truncated longest)) (Ok a.0)) _ code a.2 in
@@ -119,9 +125,18 @@ code_takes bytes code fits e =
     let u = unless_ok b.0 code (first_astray b.0) b.2 in
     let same : a.0 ≡ code = ok_is a.0 b.0 g.1 ∙ u.1 in
     let whole : front_of bytes ≡ bytes = front_whole bytes short in
-    let read : placed_at (length bytes) (length bytes) bytes ≡ Ok code = subst (λ (l : List ℕ). placed_at (length l) (length l) l ≡ Ok code) whole (a.1 ∙ ap (λ (c : List Placed). Ok c) same) in
-    let fine : first_astray code ≡ None = subst (λ (c : List Placed). first_astray c ≡ None) u.1 u.0 in
-    let jump : AllByRecursion (λ p. IsTrue (jumps_to_starts code p)) code = none_fails (jumps_to_starts code) code fine in
+    record {
+      short = short;
+      placed = subst (λ (l : List ℕ). placed_at (length l) (length l) l ≡ Ok code) whole (a.1 ∙ ap (λ (c : List Placed). Ok c) same);
+      fine = subst (λ (c : List Placed). first_astray c ≡ None) u.1 u.0;
+    }
+
+pub code_takes : (bytes : List ℕ) (code : List Placed) → IsBytes bytes → code_of bytes ≡ Ok code → IsCode code × Spells code bytes
+code_takes bytes code fits e =
+    let r = code_read bytes code e in
+    let short : length bytes ≤ 65535 = r.short in
+    let read = r.placed in
+    let jump : AllByRecursion (λ p. IsTrue (jumps_to_starts code p)) code = none_fails (jumps_to_starts code) code r.fine in
     let below = below_more (length bytes) code (omega arith) (pcs_below (length bytes) (length bytes) bytes code (omega arith) read) in
     let t = placed_take (length bytes) (length bytes) bytes code fits (omega arith) (omega arith) short read (all_reached code code below jump) in
     let from : length bytes - length bytes ≡ 0 = omega arith in
@@ -217,3 +232,11 @@ is_long bytes (Ok v) fits given long =
     let e = follow_end 0 bytes v.items t.0.follow t.1 in
     absurd (omega (arith, e))
 is_long bytes (Err e) fits given long = refl
+
+-- each instruction begins within the bytes
+code_within : (bytes : List ℕ) (code : List Placed) → code_of bytes ≡ Ok code → All (λ p. p.pc < length bytes) code
+code_within bytes code e = all_below (length bytes) bytes code refl (code_read bytes code e).placed
+
+pub is_within : (bytes : List ℕ) (r : Result (Vec Placed) CodeRefusal) → Gives (λ v. v.items) r (code_of bytes) → IfOk r (λ v. All (λ (p : Placed). p.pc < length bytes) v.items)
+is_within bytes (Ok v) given = code_within bytes v.items given
+is_within bytes (Err e) given = tt

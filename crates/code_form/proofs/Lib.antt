@@ -3,6 +3,6 @@ pub mod Numbers
 pub mod Loops
 pub mod Shrinking
 pub mod Placing
-pub mod Starts
+pub mod Jumps
 pub mod Operands
 pub mod Codes

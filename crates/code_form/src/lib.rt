@@ -20,6 +20,7 @@ pub use ins::{
 };
 pub use reading::read_code;
 pub use refusal::CodeRefusal;
+pub use targets::Starts;
 pub use writing::write_code;
 
 #[cfg(test)]

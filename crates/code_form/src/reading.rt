@@ -1,6 +1,6 @@
 //! Reading a code from front to back.
 
-ghost use Rattle.std.specs.Prelude.{◌≡◌, ◌+◌, ◌≤◌, ◌<◌, ◌-◌, length, List, IfOk, IsErr, Ok};
+ghost use Rattle.std.specs.Prelude.{◌≡◌, ◌+◌, ◌≤◌, ◌<◌, ◌-◌, length, List, All, IfOk, IsErr, Ok};
 ghost use Rattle.std.specs.Int.{w32};
 ghost use Rattle.code_form.specs.declared.ins.Placed.{Placed as OnePlaced};
 ghost use Rattle.code_form.specs.Spelling.{longest, IsCode, Spells};
@@ -297,6 +297,7 @@ pub fn read_code(alloc: Global, bytes: &[u8]) -> Result<Vec<Placed>, CodeRefusal
     // What is read is a code, and the bytes are its spelling.
     ensures found { IfOk result (λ v. IsCode v.items × Spells v.items bytes.now) }
     ensures long { longest < length bytes.now → IsErr result }
+    ensures within { IfOk result (λ v. All (λ (p : OnePlaced). p.pc < length bytes.now) v.items) }
     // The bytes of a code give that code, unless memory runs out.
     ensures only { (code : List OnePlaced) → IsCode code → Spells code bytes.now → Gives (λ v. v.items) result (Ok code) }
     // Which refusal it is: the first fault from front to back.

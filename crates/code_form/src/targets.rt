@@ -1,61 +1,92 @@
 //! Whether the jumps of a code lead to its instructions.
 
-ghost use Rattle.std.specs.Prelude.{◌≡◌, ◌<◌, ℕ, Ok, false, slice_index_or, length, All, IfOk};
+ghost use Rattle.std.specs.Prelude.{◌≡◌, ◌<◌, ℕ, Ok, false, length, All, IfOk};
 ghost use Rattle.std.specs.List.{list_all};
-ghost use Rattle.code_form.specs.Spelling.{is_start, targets_of};
+ghost use Rattle.code_form.specs.Spelling.{is_start, jumps_to_starts};
 ghost use Rattle.code_form.specs.Reading.{Gives, first_astray, unless_astray};
-ghost use Rattle.code_form.specs.Marks.{is_marked};
+ghost use Rattle.code_form.specs.Marks.{AreMarksOf};
 
 use crate::ins::{Case, Ins, Placed};
 use crate::refusal::CodeRefusal;
 use std::alloc::{AllocError, Global};
+use std::marker::Model;
 
-/// Whether an instruction begins at a pc, for the pcs of a code of `len` bytes.
-fn starts_of(alloc: Global, code: &[Placed], len: usize) -> Result<Vec<bool>, AllocError>
+/// Where the instructions of a code begin, in a table with a cell for each of its bytes. Contracts see the code.
+#[derive(Drop)]
+pub struct Starts<'a> {
+    code: &'a [Placed],
+    marks: Vec<bool>,
+}
+
+impl<'a> Model for Starts<'a> {
+    ghost use Rattle.std.specs.Prelude.{List};
+    ghost use Rattle.code_form.specs.declared.ins.Placed.{Placed as OnePlaced};
+    ghost use Rattle.code_form.specs.Marks.{AreMarksOf};
+
+    ghost Value = { List OnePlaced };
+
+    ghost view = { λ s. s.code.now };
+
+    ghost invariant = { λ s. AreMarksOf s.code.now s.marks.items };
+}
+
+impl<'a> Starts<'a> {
+    /// The starts of a code of `len` bytes.
+    pub fn of(alloc: Global, code: &'a [Placed], len: usize) -> Result<Starts<'a>, AllocError>
+        requires { All (λ p. p.pc < len) code.now }
+        ensures { IfOk result (λ starts. starts ≡ code.now) }
+    {
+        let marks = marks_of(alloc, code, len)?;
+        Ok(Starts { code, marks })
+    }
+
+    /// Whether an instruction begins at a pc, which takes constant time.
+    pub fn has(&self, pc: u32) -> bool
+        ensures { result ≡ is_start self.now pc }
+    {
+        match self.marks.get(pc as usize) {
+            Some(is_start) => *is_start,
+            None => false,
+        }
+    }
+}
+
+fn marks_of(alloc: Global, code: &[Placed], len: usize) -> Result<Vec<bool>, AllocError>
     requires { All (λ p. p.pc < len) code.now }
-    ensures { IfOk result (λ v. (pc : ℕ) → is_marked v.items pc ≡ is_start code.now pc) }
+    ensures { IfOk result (λ marks. AreMarksOf code.now marks.items) }
 {
-    let mut starts = Vec::from_elem(alloc, false, len)?;
+    let mut marks = Vec::from_elem(alloc, false, len)?;
     for placed in code {
-        starts[placed.pc as usize] = true;
+        marks[placed.pc as usize] = true;
     }
-    Ok(starts)
+    Ok(marks)
 }
 
-fn is_marked(starts: &[bool], pc: u32) -> bool
-    ensures { result ≡ is_marked starts.now pc }
+fn are_starts(starts: &Starts, pcs: &[u32]) -> bool
+    ensures { result ≡ list_all (is_start starts.now) pcs.now }
 {
-    match starts.get(pc as usize) {
-        Some(is_start) => *is_start,
-        None => false,
-    }
+    pcs.iter().all(|pc| starts.has(*pc))
 }
 
-fn are_marked(starts: &[bool], pcs: &[u32]) -> bool
-    ensures { result ≡ list_all (is_marked starts.now) pcs.now }
+fn lead_to_starts(starts: &Starts, cases: &[Case]) -> bool
+    ensures { result ≡ list_all (λ c. is_start starts.now c.target) cases.now }
 {
-    pcs.iter().all(|pc| is_marked(starts, *pc))
+    cases.iter().all(|case| starts.has(case.target))
 }
 
-fn lead_to_marks(starts: &[bool], cases: &[Case]) -> bool
-    ensures { result ≡ list_all (λ c. is_marked starts.now c.target) cases.now }
+#[tactic(auto, using(crate::proofs::Jumps::list_all_of_map))]
+fn jumps_to_starts(starts: &Starts, placed: &Placed) -> bool
+    ensures { result ≡ jumps_to_starts starts.now placed.now }
 {
-    cases.iter().all(|case| is_marked(starts, case.target))
-}
-
-#[tactic(auto, using(crate::proofs::Starts::list_all_of_map))]
-fn jumps_to_marks(starts: &[bool], ins: &Ins) -> bool
-    ensures { result ≡ list_all (is_marked starts.now) (targets_of ins.now) }
-{
-    match ins {
-        Ins::Branch(_, target) | Ins::GotoWide(target) => is_marked(starts, *target),
+    match &placed.ins {
+        Ins::Branch(_, target) | Ins::GotoWide(target) => starts.has(*target),
         Ins::TableSwitch {
             default,
             targets,
             ..
-        } => is_marked(starts, *default) && are_marked(starts, targets.as_slice()),
+        } => starts.has(*default) && are_starts(starts, targets.as_slice()),
         Ins::LookupSwitch { default, cases } => {
-            is_marked(starts, *default) && lead_to_marks(starts, cases.as_slice())
+            starts.has(*default) && lead_to_starts(starts, cases.as_slice())
         }
         _ => true,
     }
@@ -66,9 +97,9 @@ pub(crate) fn check_targets(alloc: Global, code: &[Placed], len: usize) -> Resul
     requires { All (λ p. p.pc < len) code.now }
     ensures { Gives (λ _. code.now) result (unless_astray code.now (first_astray code.now)) }
 {
-    let starts = starts_of(alloc, code, len)?;
+    let starts = Starts::of(alloc, code, len)?;
     for placed in code {
-        if !jumps_to_marks(&starts, &placed.ins) {
+        if !jumps_to_starts(&starts, placed) {
             return Err(CodeRefusal::BadTarget(placed.pc));
         }
     }
