@@ -1,2 +1,3 @@
 pub mod SpelledFields
 pub mod SpelledMethods
+pub mod Spelled
