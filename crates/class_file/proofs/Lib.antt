@@ -1,3 +1,4 @@
 pub mod SpelledFields
 pub mod SpelledMethods
 pub mod Spelled
+pub mod Written

@@ -5,6 +5,7 @@
 
 mod class;
 mod field;
+mod laws;
 mod method;
 mod reading;
 mod refusal;
@@ -12,6 +13,7 @@ mod writing;
 
 pub use class::ClassFile;
 pub use field::Field;
+pub use laws::{what_is_read_is_written, what_is_written_is_read};
 pub use method::{Method, MethodAttribute};
 pub use reading::read_class;
 pub use refusal::ClassRefusal;
