@@ -21,7 +21,9 @@ use std::alloc::{AllocError, Global};
 
 /// What a class file begins with (JVMS 4.1).
 const MAGIC: u32 = 0xCAFEBABE;
+
 const MINOR_VERSION: u16 = 0;
+
 const MAJOR_VERSION: u16 = 52;
 
 fn put_head(out: &mut Vec<u8>) -> Result<(), AllocError>
@@ -147,11 +149,7 @@ fn put_method(alloc: Global, out: &mut Vec<u8>, method: &Method) -> Result<(), A
     put_method_attributes(alloc, out, method.attributes.as_slice())
 }
 
-fn put_each_method(
-    alloc: Global,
-    out: &mut Vec<u8>,
-    methods: &[Method],
-) -> Result<(), AllocError>
+fn put_each_method(alloc: Global, out: &mut Vec<u8>, methods: &[Method]) -> Result<(), AllocError>
     requires { All MethodFits methods.now }
     ensures { OnOk result (out.new.items ≡ out.old.items ++ flat_map method_bytes methods.now) }
 {
@@ -162,11 +160,7 @@ fn put_each_method(
 }
 
 /// Appends the count of the methods and each of them.
-fn put_methods(
-    alloc: Global,
-    out: &mut Vec<u8>,
-    methods: &ListOf<Method>,
-) -> Result<(), AllocError>
+fn put_methods(alloc: Global, out: &mut Vec<u8>, methods: &ListOf<Method>) -> Result<(), AllocError>
     requires count { length methods.now < 2 ^ 16 }
     requires each { All MethodFits methods.now }
     ensures { OnOk result (out.new.items ≡ out.old.items ++ big_bytes 2 (length methods.now) ++ flat_map method_bytes methods.now) }
