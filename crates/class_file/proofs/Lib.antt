@@ -4,3 +4,7 @@ pub mod FieldHeads
 pub mod Codes
 pub mod MethodLists
 pub mod PoolRefusals
+pub mod SpelledFields
+pub mod SpelledMethods
+pub mod Spelled
+pub mod Written

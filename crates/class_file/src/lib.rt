@@ -8,6 +8,7 @@ mod facts;
 mod field;
 mod fields;
 mod items;
+mod laws;
 mod method;
 mod methods;
 mod reading;
@@ -17,6 +18,7 @@ mod writing;
 
 pub use class::ClassFile;
 pub use field::Field;
+pub use laws::{what_is_read_is_written, what_is_written_is_read};
 pub use method::{Method, MethodAttribute};
 pub use reading::read_class;
 pub use refusal::ClassRefusal;

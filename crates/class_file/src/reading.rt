@@ -146,7 +146,7 @@ fn pool(alloc: Global, bytes: &[u8]) -> Result<(Pool, usize), ClassRefusal>
 
 /// The class file that these bytes are, or the first fault.
 #[tactic(auto, unfolding(crate::specs::Classes::class_in))]
-pub(crate) fn class(alloc: Global, bytes: &[u8]) -> Result<ClassFile, ClassRefusal>
+fn class(alloc: Global, bytes: &[u8]) -> Result<ClassFile, ClassRefusal>
     ensures { Gives (λ c. c) result (class_in bytes.now) }
 {
     head(&mut Reader::new(0, bytes))?;
@@ -160,12 +160,12 @@ pub(crate) fn class(alloc: Global, bytes: &[u8]) -> Result<ClassFile, ClassRefus
 ///
 /// The answer is the first fault, from front to back. The index of a ConstantValue, a durable root and a missing Code are judged
 /// once the member's last attribute is read. `OutOfMemory` may stand in place of any answer.
-pub fn read_class(_alloc: Global, bytes: &[u8]) -> Result<ClassFile, ClassRefusal>
+pub fn read_class(alloc: Global, bytes: &[u8]) -> Result<ClassFile, ClassRefusal>
     // What is read is spelled so, each byte of it.
     ensures found { IfOk result (λ c. bytes.now ≡ class_bytes c) }
     ensures readable { IfOk result CanBeRead }
     // Which answer it is.
     ensures exact { Gives (λ c. c) result (class_in bytes.now) }
 {
-    Err(ClassRefusal::OutOfMemory)
+    class(alloc, bytes)
 }
