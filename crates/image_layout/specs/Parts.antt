@@ -38,6 +38,14 @@ IsInRow (DirectoryWord i) line = IsFromTo 33 4128 line
 IsInRow (LogHead thread word) line = IsFromTo 4129 20576 line
 IsInRow (LogEntry thread n half) line = IsFromTo 4129 20576 line
 
+-- the line of a log's part is one of that log's 257
+abbrev pub IsInItsLog : Part → ℕ → Type 0
+IsInItsLog (Superblock word) line = Unit {0}
+IsInItsLog (RootSlot root) line = Unit {0}
+IsInItsLog (DirectoryWord i) line = Unit {0}
+IsInItsLog (LogHead thread word) line = IsFromTo (log_head_line thread) (log_head_line thread + 256) line
+IsInItsLog (LogEntry thread n half) line = IsFromTo (log_head_line thread) (log_head_line thread + 256) line
+
 -- of slot i of the object that begins at line l
 abbrev pub object_spot : ℕ → ℕ → ℕ × ℕ
 object_spot l i = (object_line l i, object_word i)

@@ -2,7 +2,7 @@
 ghost use Rattle.std.specs.Prelude.{◌≡◌, ◌≢◌, ◌⊎◌, ◌+◌, ◌*◌, ◌^◌, ◌<◌, ◌≤◌, ℕ, codes};
 ghost use Rattle.std.specs.Int.{from_le_bytes, w64};
 ghost use Rattle.image_layout.specs.Places.{root_slots, directory_words, logs, log_entries, first_object_line, min_lines, max_lines, magic, version, slot_line, directory_line, log_head_line, lines_of, object_line, head_of};
-ghost use Rattle.image_layout.specs.Parts.{Part, IsPart, spot_of, IsInRow, object_spot};
+ghost use Rattle.image_layout.specs.Parts.{Part, IsPart, spot_of, IsInRow, IsInItsLog, object_spot};
 
 use crate::{
     DIRECTORY_WORDS, FIRST_DIRECTORY_LINE, FIRST_LOG_LINE, FIRST_OBJECT_LINE, FIRST_SLOT_LINE,
@@ -34,9 +34,11 @@ pub fn parts_apart()
     ensures { (part other : Part) → IsPart part → IsPart other → spot_of part ≡ spot_of other → part ≡ other }
 {}
 
-/// Each part lies in the lines of its row of the table, at one of the eight words of a line, before the objects.
+/// Each part lies in the lines of its row of the table, one of a log in that log's lines, at one of the eight words of
+/// a line, before the objects.
 pub fn parts_in_their_rows()
     ensures row { (part : Part) → IsPart part → IsInRow part (spot_of part).0 }
+    ensures own_log { (part : Part) → IsPart part → IsInItsLog part (spot_of part).0 }
     ensures word { (part : Part) → IsPart part → (spot_of part).1 < 8 }
     ensures before_objects { (part : Part) → IsPart part → (spot_of part).0 < first_object_line }
 {}
@@ -63,6 +65,8 @@ pub fn object_words_apart()
 pub fn object_words_within()
     ensures from { (line i : ℕ) → line ≤ object_line line i }
     ensures below { (line length i : ℕ) → i < length → object_line line i < line + lines_of length }
+    ensures apart { (line length i other j : ℕ) → i < length → line + lines_of length ≤ other
+        → object_spot line i ≢ object_spot other j }
 {}
 
 /// An object takes the fewest lines that have room for its head and its slots.
