@@ -1,8 +1,12 @@
-//! One word, stored, written and fenced for good.
+//! Words of an image, stored, written and fenced for good.
 #![tactic(auto)]
 
+mod changes;
 mod set;
 #[cfg(test)]
 mod tests;
+mod writes;
 
+pub use changes::{Change, set_all_for_good};
 pub use set::set_for_good;
+pub use writes::write_lines_for_good;

@@ -1,8 +1,8 @@
 // One word, changed for good.
-ghost use Rattle.std.specs.Prelude.{◌≡◌, ◌≢◌, ◌⊎◌, ◌<◌, ℕ, OnOk};
+ghost use Rattle.std.specs.Prelude.{◌≡◌, ◌≢◌, ◌⊎◌, ◌<◌, ◌≤◌, ◌+◌, ℕ, OnOk};
 ghost use Rattle.ap_base.specs.Causes.{HasCause};
-ghost use Rattle.line_memory.specs.Memory.{Memory, shown, IsResident, CanLeave, IsDurable, SameResident};
-ghost use Rattle.line_memory.specs.Moments.{Goes};
+ghost use Rattle.line_memory.specs.Memory.{Memory, shown, IsResident, CanLeave, IsDurable, SameResident, KeepsTelling};
+ghost use Rattle.line_memory.specs.Moments.{Goes, CountsFrom};
 ghost use Rattle.durable_word.specs.Word.{OldOrNew};
 
 use ap_base::Spot;
@@ -23,6 +23,9 @@ pub fn set_for_good<I: Image>(
         → shown memory.new l w ≡ shown memory.old l w }
     ensures size { memory.new.size ≡ memory.old.size }
     ensures resident_after { SameResident memory.old memory.new }
+    ensures telling { KeepsTelling memory.old memory.new }
+    ensures count { memory.new.calls ≤ memory.old.calls + 2 }
+    ensures counts { (begin : ℕ) → CountsFrom begin memory.old → CountsFrom begin memory.new }
     ensures durable { OnOk result (IsDurable memory.new spot.line spot.word) }
     ensures any_moment { Goes memory.old.image memory.new.image (OldOrNew memory.old spot.line spot.word value) }
     ensures leaves { (l w v : ℕ) → CanLeave memory.new l w v
