@@ -4,3 +4,5 @@ pub mod FieldHeads
 pub mod Codes
 pub mod MethodLists
 pub mod PoolRefusals
+pub mod RootTexts
+pub mod RootFields

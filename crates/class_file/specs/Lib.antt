@@ -2,3 +2,4 @@ pub mod Refusals
 pub mod Members
 pub mod Classes
 pub mod FieldParts
+pub mod RootNames
