@@ -6,6 +6,8 @@ mod form;
 mod printing;
 mod rows;
 mod status;
+#[cfg(test)]
+mod tests;
 mod texts;
 mod top_call;
 mod words;

@@ -1,5 +1,5 @@
 -- Fields, that a loop reads one after the other.
-use Rattle.std.proofs.Common.{◌≡◌, ℕ, suc, true, false, subst, ◌-◌, ◌+◌, ◌≤◌, ◌<◌, List, [], ◌∷◌, ◌++◌, Result, Ok, Err, refl, sym, ap, ◌∙◌, ◌⊎◌, inl, inr, append_assoc, arith}
+use Rattle.std.proofs.Common.{◌≡◌, ℕ, suc, ◌&&◌, ◌-◌, ◌+◌, ◌≤◌, ◌<◌, List, [], ◌∷◌, ◌++◌, Result, Ok, Err, refl, sym, ap, ◌∙◌, ◌⊎◌, inl, inr, append_assoc, arith}
 use Rattle.std.proofs.lemmas.List.{append-nil}
 use Rattle.const_pool.specs.Pool.{Slots}
 use Rattle.const_pool.specs.Reading.{Place}
@@ -7,8 +7,10 @@ use Rattle.class_items.specs.Parsing.{◌>>=◌}
 use Rattle.class_items.proofs.Moves.{done}
 use Rattle.class_file.specs.declared.field.Field.{Field}
 use Rattle.class_file.specs.declared.refusal.ClassRefusal.{ClassRefusal}
-use Rattle.class_file.specs.declared.refusal.ClassRefusal.TheVariants.{OutOfMemory}
-use Rattle.class_file.specs.Members.{field_at, with_root, fields_from}
+use Rattle.class_file.specs.declared.refusal.ClassRefusal.TheVariants.{OutOfMemory, RootNotReference}
+use Rattle.class_file.specs.Refusals.{unless}
+use Rattle.class_file.specs.Members.{is_among, field_at, with_root, fields_from}
+use Rattle.class_file.proofs.RootFields.{kept, refused_alone, refused_named}
 
 abbrev pub Read : Type 0
 Read = Result (List Field × Place) ClassRefusal
@@ -32,19 +34,12 @@ module _ (pool : Slots) (roots : List ℕ) (front : List Field) (count i : ℕ) 
       rw (k, h) (regroup front f (fields_from pool (with_root roots f) (i + 1) (count - (i + 1)) after)) in
       sym one ∙ so_far
 
-  pub goes_on_root : (f : Field) (after : Place) → f.root ≡ true → i < count → field_at pool roots i file ≡ Ok (f, after)
+  -- a field that is read by itself, and whose name no durable root before has
+  pub goes_on_noted : (f : Field) (after : Place) → i < count → field_at pool [] i file ≡ Ok (f, after)
+      → unless (f.root && is_among pool roots f.name) (RootNotReference i) ≡ Ok tt
       → with_front front (fields_from pool roots i (count - i) file) ≡ total
-      → with_front (front ++ f ∷ []) (fields_from pool (roots ++ f.name ∷ []) (i + 1) (count - (i + 1)) after) ≡ total
-  goes_on_root f after is lt h so_far =
-      let same : with_root roots f ≡ roots ++ f.name ∷ [] = rw is refl in
-      subst (λ (rs : List ℕ). with_front (front ++ f ∷ []) (fields_from pool rs (i + 1) (count - (i + 1)) after) ≡ total) same (goes_on f after lt h so_far)
-
-  pub goes_on_plain : (f : Field) (after : Place) → f.root ≡ false → i < count → field_at pool roots i file ≡ Ok (f, after)
-      → with_front front (fields_from pool roots i (count - i) file) ≡ total
-      → with_front (front ++ f ∷ []) (fields_from pool roots (i + 1) (count - (i + 1)) after) ≡ total
-  goes_on_plain f after is lt h so_far =
-      let same : with_root roots f ≡ roots = rw is refl in
-      subst (λ (rs : List ℕ). with_front (front ++ f ∷ []) (fields_from pool rs (i + 1) (count - (i + 1)) after) ≡ total) same (goes_on f after lt h so_far)
+      → with_front (front ++ f ∷ []) (fields_from pool (with_root roots f) (i + 1) (count - (i + 1)) after) ≡ total
+  goes_on_noted f after lt h own so_far = goes_on f after lt (kept pool roots i file f after h own) so_far
 
   pub ends : (e : ClassRefusal) → i < count → (e ≡ OutOfMemory) ⊎ (field_at pool roots i file ≡ Err e)
       → with_front front (fields_from pool roots i (count - i) file) ≡ total → (e ≡ OutOfMemory) ⊎ (total ≡ Err e)
@@ -54,6 +49,17 @@ module _ (pool : Slots) (roots : List ℕ) (front : List Field) (count i : ℕ) 
       let k : count - i ≡ suc (count - (i + 1)) = omega arith in
       let one : with_front front (fields_from pool roots i (count - i) file) ≡ Err e = rw (k, h) refl in
       inr (sym so_far ∙ one)
+
+  pub ends_alone : (e : ClassRefusal) → i < count → (e ≡ OutOfMemory) ⊎ (field_at pool [] i file ≡ Err e)
+      → with_front front (fields_from pool roots i (count - i) file) ≡ total → (e ≡ OutOfMemory) ⊎ (total ≡ Err e)
+  ends_alone e lt (inl memory) so_far = inl memory
+  ends_alone e lt (inr h) so_far = ends e lt (inr (refused_alone pool roots i file e h)) so_far
+
+  pub ends_noted : (f : Field) (after : Place) (e : ClassRefusal) → i < count → field_at pool [] i file ≡ Ok (f, after)
+      → (e ≡ OutOfMemory) ⊎ (unless (f.root && is_among pool roots f.name) (RootNotReference i) ≡ Err e)
+      → with_front front (fields_from pool roots i (count - i) file) ≡ total → (e ≡ OutOfMemory) ⊎ (total ≡ Err e)
+  ends_noted f after e lt h (inl memory) so_far = inl memory
+  ends_noted f after e lt h (inr named) so_far = ends e lt (inr (refused_named pool roots i file f after e h named)) so_far
 
   pub is_done : count ≤ i → with_front front (fields_from pool roots i (count - i) file) ≡ total → total ≡ Ok (front, file)
   unfolding fields_from

@@ -8,3 +8,5 @@ pub mod SpelledFields
 pub mod SpelledMethods
 pub mod Spelled
 pub mod Written
+pub mod RootTexts
+pub mod RootFields

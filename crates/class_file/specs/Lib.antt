@@ -3,3 +3,4 @@ pub mod Members
 pub mod Classes
 pub mod FieldParts
 pub mod Fits
+pub mod RootNames

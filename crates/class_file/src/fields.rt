@@ -5,17 +5,19 @@ ghost use Rattle.std.specs.List.{list_any};
 ghost use Rattle.class_items.specs.Kinds.{AreKindsOf};
 ghost use Rattle.class_file.specs.Refusals.{Gives};
 ghost use Rattle.class_file.specs.FieldParts.{field_attribute_at, field_head_at, field_behind_at};
-ghost use Rattle.class_file.specs.Members.{is_static, has_byte, is_barred, no_facts, field_attributes_from, constant_tag, is_text, is_constant, constant_of, is_reference, is_field, is_among, is_no_root, judged, field_at, fields_from, fields_at};
+ghost use Rattle.class_file.specs.Members.{is_static, has_byte, is_barred, no_facts, field_attributes_from, constant_tag, is_constant, constant_of, is_reference, is_field, is_no_root, judged, field_at, fields_from, fields_at};
 
 use crate::facts::{Fact, Facts, fact_of};
 use crate::field::Field;
 use crate::items::{index, raw_attribute, u16};
 use crate::refusal::ClassRefusal;
+use crate::roots::note_root;
 use crate::texts::{is_text, kind_at};
 use ap_base::{Bytes, ListOf};
 use class_items::{Attribute, DescriptorKind, DescriptorKinds, FieldSort, is_tagged};
 use const_pool::{Pool, Reader, Tag};
 use std::alloc::Global;
+use std::collections::BTreeSet;
 
 /// What a field begins with.
 #[derive(Clone, Copy)]
@@ -183,76 +185,51 @@ fn is_field(kind: DescriptorKind) -> bool
     matches!(kind, DescriptorKind::Field(_))
 }
 
-/// Whether a text is among those at these indices.
-fn is_spelled(pool: &Pool, names: &[u16], text: &[u8]) -> bool
-    ensures { result ≡ list_any (λ name. is_text pool.now name text.now) names.now }
-{
-    for name in names {
-        if is_text(pool, *name, text) {
-            return true;
-        }
-    }
-    false
-}
-
-/// Whether the text at an index is among those at these.
-fn is_among(pool: &Pool, names: &[u16], index: u16) -> bool
-    ensures { result ≡ is_among pool.now names.now index }
-{
-    match pool.utf8(index) {
-        Some(found) => is_spelled(pool, names, found.as_slice()),
-        None => false,
-    }
-}
-
-/// Whether a field may be no durable root, where these are the indices of the names of the durable roots before.
-fn is_no_root(pool: &Pool, kinds: &DescriptorKinds, roots: &[u16], head: &Head) -> bool
+/// Whether a field is not of the form of a durable root; its name is judged later.
+#[tactic(auto, using(crate::proofs::RootFields::none_among))]
+fn is_no_root(pool: &Pool, kinds: &DescriptorKinds, head: &Head) -> bool
     requires { AreKindsOf pool.now kinds.now }
-    ensures { result ≡ is_no_root pool.now roots.now head.now.access head.now.name head.now.descriptor }
+    ensures { result ≡ is_no_root pool.now [] head.now.access head.now.name head.now.descriptor }
 {
-    !is_static(head.access)
-        || !is_reference(kind_at(pool, kinds, head.descriptor))
-        || is_among(pool, roots, head.name)
+    !is_static(head.access) || !is_reference(kind_at(pool, kinds, head.descriptor))
 }
 
 /// The constant of a field, once all its attributes are known.
 fn judged(
     pool: &Pool,
     kinds: &DescriptorKinds,
-    roots: &[u16],
     field: u16,
     head: &Head,
     facts: &Facts,
 ) -> Result<Option<u16>, ClassRefusal>
     requires { AreKindsOf pool.now kinds.now }
-    ensures { result ≡ judged pool.now roots.now field head.now.access head.now.name head.now.descriptor facts.now }
+    ensures { result ≡ judged pool.now [] field head.now.access head.now.name head.now.descriptor facts.now }
 {
     if !facts.root {
         return constant_of(pool, kinds, head, facts.constant);
     }
-    if is_no_root(pool, kinds, roots, head) {
+    if is_no_root(pool, kinds, head) {
         return Err(ClassRefusal::RootNotReference(field));
     }
     Ok(None)
 }
 
-/// What follows a field's head; `roots` are the indices of the names of the durable roots before.
+/// What follows a field's head, where no durable root stands before.
 #[tactic(auto, unfolding(crate::specs::FieldParts::field_behind_at))]
 fn field_behind(
     alloc: Global,
     pool: &Pool,
     kinds: &DescriptorKinds,
-    roots: &[u16],
     number: u16,
     head: Head,
     file: &mut Reader,
 ) -> Result<Field, ClassRefusal>
     requires { AreKindsOf pool.now kinds.now }
-    ensures { Gives (λ f. (f, file.new)) result (field_behind_at pool.now roots.now number head file.old) }
+    ensures { Gives (λ f. (f, file.new)) result (field_behind_at pool.now [] number head file.old) }
 {
     let count = u16(file)?;
     let (attributes, facts) = field_attributes(alloc, pool, count, file)?;
-    let constant = judged(pool, kinds, roots, number, &head, &facts)?;
+    let constant = judged(pool, kinds, number, &head, &facts)?;
     Ok(Field {
         access: head.access,
         name: head.name,
@@ -264,21 +241,20 @@ fn field_behind(
     })
 }
 
-/// A field, of which the number among the fields is given.
+/// A field, of which the number among the fields is given, where no durable root stands before.
 #[tactic(auto, using(crate::proofs::FieldHeads::head_ok, crate::proofs::FieldHeads::head_err))]
 fn field(
     alloc: Global,
     pool: &Pool,
     kinds: &DescriptorKinds,
-    roots: &[u16],
     number: u16,
     file: &mut Reader,
 ) -> Result<Field, ClassRefusal>
     requires { AreKindsOf pool.now kinds.now }
-    ensures { Gives (λ f. (f, file.new)) result (field_at pool.now roots.now number file.old) }
+    ensures { Gives (λ f. (f, file.new)) result (field_at pool.now [] number file.old) }
 {
     let head = field_head(pool, kinds, file)?;
-    field_behind(alloc, pool, kinds, roots, number, head, file)
+    field_behind(alloc, pool, kinds, number, head, file)
 }
 
 /// So many fields.
@@ -293,12 +269,10 @@ fn some_fields(
     ensures { Gives (λ v. (v.items, file.new)) result (fields_from pool.now [] 0 count file.old) }
 {
     let mut fields = Vec::new(alloc);
-    let mut roots = Vec::new(alloc);
+    let mut roots = BTreeSet::new(alloc);
     for number in 0..count {
-        let field = field(alloc, pool, kinds, roots.as_slice(), number, file)?;
-        if field.root {
-            roots.push(field.name)?;
-        }
+        let field = field(alloc, pool, kinds, number, file)?;
+        note_root(pool, &mut roots, number, &field)?;
         fields.push(field)?;
     }
     Ok(fields)

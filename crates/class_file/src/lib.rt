@@ -13,6 +13,7 @@ mod method;
 mod methods;
 mod reading;
 mod refusal;
+mod roots;
 mod texts;
 mod writing;
 
