@@ -89,7 +89,8 @@ fn code_attribute_at(
 /// Reads the content of a Code attribute, which begins at an offset of the file (JVMS 4.7.3).
 ///
 /// The first fault is the answer, from front to back: the instructions, then the entries that they name, in order, then
-/// the exception table, entry by entry, and the attributes. `kinds` are the kinds of the pool's texts.
+/// the exception table, entry by entry, and the attributes. `kinds` are the kinds of the pool's texts. `OutOfMemory` may
+/// stand in place of any answer.
 pub fn read_code_attribute(
     alloc: Global,
     pool: &Pool,

@@ -9,7 +9,7 @@ use class_items::put_attributes;
 use const_pool::{put_u16, put_u32};
 use std::alloc::AllocError;
 
-/// Appends the content of a Code attribute as it stands in a class file.
+/// Appends the content of a Code attribute as it stands in a class file (JVMS 4.7.3). It fails only for want of memory.
 pub fn put_code_attribute(out: &mut Vec<u8>, code: &Code) -> Result<(), AllocError>
     requires { Fits code.now }
     ensures { OnOk result (out.new.items ≡ out.old.items ++ code_attribute_bytes code.now) }
