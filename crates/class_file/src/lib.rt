@@ -26,4 +26,6 @@ pub use refusal::ClassRefusal;
 pub use writing::write_class;
 
 #[cfg(test)]
+mod compiled_tests;
+#[cfg(test)]
 mod tests;

@@ -1,5 +1,5 @@
 use super::*;
-use crate::reading::class;
+use crate::read_class as class;
 use std::alloc::Global;
 use std::test::Fail;
 
