@@ -1,0 +1,7 @@
+pub mod Checks
+pub mod Directories
+pub mod Entries
+pub mod Logs
+pub mod Meaning
+pub mod Objects
+pub mod Places
