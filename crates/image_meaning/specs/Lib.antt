@@ -1,4 +1,5 @@
 pub mod Checks
+pub mod Corresponds
 pub mod Directories
 pub mod Entries
 pub mod Logs
