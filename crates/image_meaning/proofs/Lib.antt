@@ -1,3 +1,4 @@
+pub mod Entries
 pub mod Faults
 pub mod Pairs
 pub mod Stands

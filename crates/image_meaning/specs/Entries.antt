@@ -1,7 +1,7 @@
 -- The entries of an image's directory, as words: a shape, or a durable root's name. A name is spelled eight bytes a word, the first byte
 -- the lowest, and filled with zeros. Class names and descriptors are those of JVMS 4.2.1 and 4.3.2.
-use Rattle.std.specs.Prelude.{ℕ, zero, suc, ◌+◌, ◌-◌, ◌*◌, ◌/◌, ◌%◌, ◌^◌, ◌==◌, ◌&&◌, ◌||◌, nat_eq, nat_le, min, Bool, true, false, List, [], ◌∷◌, ◌++◌, length, take, drop, map, is_some, is_none, if◌then◌else◌, Option, Some, None}
-use Rattle.std.specs.List.{starts_with, flat_map}
+use Rattle.std.specs.Prelude.{◌≡◌, ◌≢◌, ◌<◌, ℕ, zero, suc, ◌+◌, ◌-◌, ◌*◌, ◌/◌, ◌%◌, ◌^◌, ◌==◌, ◌&&◌, ◌||◌, nat_eq, nat_le, min, Bool, true, false, List, [], ◌∷◌, ◌++◌, length, take, drop, map, is_some, is_none, if◌then◌else◌, Option, Some, None}
+use Rattle.std.specs.List.{starts_with, AllByRecursion}
 use Rattle.std.specs.Str.{bytes_eq}
 use Rattle.ap_base.specs.declared.kind.Kind.{Kind}
 use Rattle.ap_base.specs.declared.kind.Kind.TheVariants.{Z, B, C, S, I, J, L, Text}
@@ -119,6 +119,27 @@ is_shape name fields =
 abbrev pub is_entry : Entry → Bool
 is_entry (ShapeEntry shape) = is_shape shape.name shape.fields
 is_entry (RootEntry name) = true
+
+abbrev pub AreBytes : List ℕ → Type 0
+AreBytes bytes = AllByRecursion (λ b. b < 256) bytes
+
+-- a field of a kind that has a letter, which an image keeps
+pub record IsField (field : Field) : Type 0 where
+  pub name : AreBytes field.name
+  pub kind : field.kind ≢ Text
+  pub kept : field.kept ≡ true
+
+pub record IsShape (shape : Shape) : Type 0 where
+  pub name : AreBytes shape.name
+  pub short : length shape.name < 2 ^ 32
+  pub fields : AllByRecursion IsField shape.fields
+  pub element : shape.element ≡ element_of shape.name
+  pub form : is_shape shape.name shape.fields ≡ true
+
+-- what the directory can have
+abbrev pub IsEntry : Entry → Type 0
+IsEntry (ShapeEntry shape) = IsShape shape
+IsEntry (RootEntry name) = AreBytes name
 
 -- ---- reading: first what the words would spell, and then whether they do
 
