@@ -5,7 +5,6 @@ use Rattle.std.specs.List.{range_with_len, IsDistinct, list_any}
 use Rattle.std.proofs.lemmas.Bool.{cases_lt, le-leb, lt-leb, lt-ltb, le-ltb, ne_eqb, eq-eqb, eqb-false, and_left, and_right}
 use Rattle.std.proofs.lemmas.List.{get_or-map, get_or-take, length-map}
 use Rattle.std.proofs.lemmas.List.Folds.{list_any_none}
-use Rattle.std.proofs.lemmas.Option.{get_or_from_slice_get, slice_get-get_or}
 use Rattle.std.proofs.lemmas.Map.Keys.{apart_from_distinct}
 use Rattle.std.proofs.lemmas.Map.Steps.{length-le_from_distinct_below}
 use Rattle.ap_base.specs.declared.kind.Kind.TheVariants.{L}
@@ -29,24 +28,9 @@ use Rattle.image_meaning.specs.Objects.{is_reference, is_within, shape_number, s
 use Rattle.image_meaning.specs.Meaning.{root_word, root_fault, roots_fault, root_value, root_values_of, look_at, walk, root_at, node_at, graph_found, graph_from}
 use Rattle.image_meaning.specs.Corresponds.{LiesAt, HoldsReference, Holds, IsObject, AreApart, Corresponds, root_value_at}
 use Rattle.image_meaning.proofs.Faults.{first_fault-none, passes_if}
+use Rattle.image_meaning.proofs.Ranges.{get_or_any, mapped_alike}
 use Rattle.image_meaning.proofs.Pairs.{Pairs, none_left, pair, Alike, pairs-with_new, pairs-at, pairs-length, pairs-object, pairs-line, alike-renumbered}
 use Rattle.image_meaning.proofs.Words.{reference_passes, word_passes, words_alike, reference_renumbered}
-
--- a place within a list has one element
-get_or_any : {A : Type 0} (xs : List A) (i : ℕ) (d e : A) → i < length xs → slice_index_or xs i d ≡ slice_index_or xs i e
-get_or_any xs i d e h = get_or_from_slice_get xs i (slice_index_or xs i e) d (slice_get-get_or xs i e h)
-
--- a function of numbers and one of a list's elements that agree one by one
-mapped_alike : {A X : Type 0} (f : ℕ → X) (g : A → X) (i : ℕ) (xs : List A)
-    → ((j : ℕ) (d : A) → j < length xs → f (i + j) ≡ g (slice_index_or xs j d))
-    → map f (range_with_len i (length xs)) ≡ map g xs
-mapped_alike f g i [] agree = refl
-mapped_alike f g i (x ∷ xs) agree =
-    let z : i + 0 ≡ i = omega arith in
-    let first : f i ≡ g x = rw z at (agree 0 x (omega arith)) in
-    let rest = mapped_alike f g (i + 1) xs
-    (λ j d h. let e : i + suc j ≡ (i + 1) + j = omega arith in rw e at (agree (suc j) d (omega (arith, h)))) in
-    rw (first, rest) refl
 
 -- a walk goes no further than what it found
 pub walk-past : (shapes : List Shape) (size : ℕ) (words : Words) (start : List Value) (k : ℕ) (lines : List ℕ)

@@ -1,5 +1,5 @@
 -- The directory of an image: shapes and durable roots, numbered separately, in the order of their entries.
-use Rattle.std.specs.Prelude.{ℕ, zero, suc, ◌+◌, ◌||◌, nat_le, Bool, List, [], ◌∷◌, ◌++◌, length, map, if◌then◌else◌, Option, Some, None, Result, Ok, Err}
+use Rattle.std.specs.Prelude.{◌≡◌, ◌<◌, false, slice_index_or, ℕ, zero, suc, ◌+◌, ◌||◌, nat_le, Bool, List, [], ◌∷◌, ◌++◌, length, map, if◌then◌else◌, Option, Some, None, Result, Ok, Err}
 use Rattle.std.specs.List.{list_any, range_with_len}
 use Rattle.std.specs.Str.{bytes_eq}
 use Rattle.graph_model.specs.declared.types.Shape.{Shape}
@@ -7,7 +7,7 @@ use Rattle.image_meaning.specs.declared.reason.BadReason.{BadReason}
 use Rattle.image_meaning.specs.declared.reason.BadReason.TheVariants as bad
 use Rattle.image_meaning.specs.Places.{root_slots, directory_line, directory_word}
 use Rattle.image_meaning.specs.Checks.{Words, Bad, ◌>>=◌}
-use Rattle.image_meaning.specs.Entries.{Entry, ShapeEntry, RootEntry, spelled, read_entry}
+use Rattle.image_meaning.specs.Entries.{Entry, ShapeEntry, RootEntry, IsEntry, spelled, read_entry}
 
 pub record Directory : Type 0 where
   pub shapes : List Shape
@@ -54,3 +54,26 @@ directory_words_of words n = map (λ i. words (directory_line i) (directory_word
 -- word 3 of the superblock is how many words are in use
 unfoldable pub directory_of : Words → Result Directory Bad
 directory_of words = with_entries (words 0 3) 0 no_entries (directory_words_of words (words 0 3))
+
+-- ---- the grammar
+
+abbrev pub spelled_all : List Entry → List ℕ
+spelled_all [] = []
+spelled_all (entry ∷ entries) = spelled entry ++ spelled_all entries
+
+abbrev pub with_all : Directory → List Entry → Directory
+with_all directory [] = directory
+with_all directory (entry ∷ entries) = with_all (with_entry directory entry) entries
+
+-- each may stand in a directory after those before it
+abbrev pub AreEntries : Directory → List Entry → Type 0
+AreEntries directory [] = Unit {0}
+AreEntries directory (entry ∷ entries) =
+    IsEntry entry × (is_refused directory entry ≡ false) × AreEntries (with_entry directory entry) entries
+
+-- The words of the image's directory spell these entries, and no more are in use.
+pub record HasEntries (words : Words) (entries : List Entry) : Type 0 where
+  pub are : AreEntries no_entries entries
+  pub used : words 0 3 ≡ length (spelled_all entries)
+  pub spelled : (i : ℕ) → i < length (spelled_all entries)
+      → words (directory_line i) (directory_word i) ≡ slice_index_or (spelled_all entries) i 0
