@@ -61,11 +61,12 @@ pub record Corresponds (R : LiesAt) (directory : Directory) (size : ℕ) (words 
   pub one_line : (a b n : ℕ) → R a n → R b n → a ≡ b
   pub objects : (line n : ℕ) → R line n → IsObject R directory.shapes size words heap line n
   pub apart : (a b m n : ℕ) → R a m → R b n → a ≢ b → AreApart words a b
+  pub few : length heap.roots ≤ root_slots
   pub names : map (λ (root : Root). root.name) heap.roots ≡ directory.roots
   pub at_roots : (r : ℕ) → r < length heap.roots → HoldsReference R (root_word words r) (root_value_at heap r)
   pub unused : (r : ℕ) → length heap.roots ≤ r → r < root_slots → root_word words r ≡ 0
 
--- ---- changes of words
+-- ---- changes of words and heaps
 
 -- d has the words of c in all objects and root slots
 pub record SameWords (R : LiesAt) (heap : Heap) (c d : Words) : Type 0 where
@@ -87,3 +88,26 @@ pub record SameButRoot (R : LiesAt) (heap : Heap) (c d : Words) (at : ℕ) : Typ
   pub slots : (line n : ℕ) → R line n → (i : ℕ) → i < length (values_of heap n)
       → object_slot d line i ≡ object_slot c line i
   pub at_roots : (r : ℕ) → r < root_slots → r ≢ at → root_word d r ≡ root_word c r
+
+-- the static of the r-th durable root
+abbrev pub root_static : Heap → ℕ → ℕ
+root_static heap r = slice_index_or (map (λ (root : Root). root.at) heap.roots) r 0
+
+-- The other heap has the same roots and root values, and of the objects that lie somewhere the same shapes and values.
+pub record SameObjects (R : LiesAt) (heap other : Heap) : Type 0 where
+  pub roots : other.roots ≡ heap.roots
+  pub values : root_values other ≡ root_values heap
+  pub there : (line n : ℕ) → R line n → n < length other.objects
+  pub shapes : (line n : ℕ) → R line n → shape_at other (object_at other n).shape ≡ shape_at heap (object_at heap n).shape
+  pub slots : (line n : ℕ) → R line n → values_of other n ≡ values_of heap n
+
+-- an object of the one or the other relation
+abbrev pub Either : LiesAt → LiesAt → LiesAt
+Either R N line n = R line n ⊎ N line n
+
+-- New objects, which may refer to one another and to the old ones: they lie elsewhere.
+pub record CanJoin (R N : LiesAt) (directory : Directory) (size : ℕ) (words : Words) (heap : Heap) : Type 0 where
+  pub objects : (line n : ℕ) → N line n → IsObject (Either R N) directory.shapes size words heap line n
+  pub one_object : (line m n : ℕ) → Either R N line m → N line n → m ≡ n
+  pub one_line : (a b n : ℕ) → Either R N a n → N b n → a ≡ b
+  pub apart : (a b m n : ℕ) → Either R N a m → N b n → a ≢ b → AreApart words a b
