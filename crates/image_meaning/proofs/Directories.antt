@@ -1,10 +1,11 @@
 -- A directory is read exactly where its words spell entries that may stand there.
-use Rattle.std.proofs.Common.{◌≡◌, ◌⊎◌, inl, inr, ℕ, zero, suc, ◌+◌, ◌<◌, ◌≤◌, Bool, true, false, List, [], ◌∷◌, ◌++◌, length, map, refl, sym, ◌∙◌, ap, subst, arith, if◌then◌else◌, Option, Some, None, Result, Ok, Err, length-append, append_assoc, slice_index_or}
+use Rattle.std.proofs.Common.{◌≡◌, ◌⊎◌, inl, inr, ℕ, zero, suc, ◌+◌, ◌<◌, ◌≤◌, Bool, true, false, List, [], ◌∷◌, ◌++◌, length, map, refl, sym, ◌∙◌, ap, subst, arith, ◌||◌, nat_le, if◌then◌else◌, Option, Some, None, Result, Ok, Err, length-append, append_assoc, slice_index_or}
 use Rattle.std.specs.List.{range_with_len}
-use Rattle.image_meaning.specs.Places.{directory_line, directory_word}
+use Rattle.std.proofs.lemmas.Bool.{leb-false}
+use Rattle.image_meaning.specs.Places.{root_slots, directory_line, directory_word}
 use Rattle.image_meaning.specs.Checks.{Words, Bad}
-use Rattle.image_meaning.specs.Entries.{Entry, entry_body, spelled, read_entry, IsEntry}
-use Rattle.image_meaning.specs.Directories.{Directory, no_entries, is_refused, with_entry, bad_entry, take_entry, with_entries, directory_words_of, directory_of, spelled_all, with_all, AreEntries, HasEntries}
+use Rattle.image_meaning.specs.Entries.{Entry, ShapeEntry, RootEntry, entry_body, spelled, read_entry, IsEntry}
+use Rattle.image_meaning.specs.Directories.{Directory, no_entries, has_name, is_refused, with_entry, bad_entry, take_entry, with_entries, directory_words_of, directory_of, spelled_all, with_all, AreEntries, Spells}
 use Rattle.image_meaning.proofs.Entries.{entry-again, entry-taken}
 use Rattle.image_meaning.proofs.Ranges.{mapped_list, mapped_same}
 
@@ -40,13 +41,13 @@ entries_few (entry ∷ entries) =
     omega (arith, entries_few entries, length-append (spelled entry) (spelled_all entries))
 
 -- the entries that the image's directory spells are its entries
-pub directory-again : (words : Words) (entries : List Entry) → HasEntries words entries
+pub directory-again : (words : Words) (entries : List Entry) → AreEntries no_entries entries → Spells words entries
     → directory_of words ≡ Ok (with_all no_entries entries)
 unfolding directory_of
-directory-again words entries has =
+directory-again words entries are has =
     let list : directory_words_of words (length (spelled_all entries)) ≡ spelled_all entries =
     mapped_list (λ i. words (directory_line i) (directory_word i)) (spelled_all entries) has.spelled in
-    rw (has.used, list) (entries-again entries (length (spelled_all entries)) 0 no_entries has.are (entries_few entries))
+    rw (has.used, list) (entries-again entries (length (spelled_all entries)) 0 no_entries are (entries_few entries))
 
 some_or : {X : Type 0} (o : Option X) → (o ≡ None) ⊎ ((x : X) × (o ≡ Some x))
 some_or None = inl refl
@@ -93,3 +94,16 @@ directory-same c d used same =
     mapped_same (λ i. d (directory_line i) (directory_word i)) (λ i. c (directory_line i) (directory_word i)) 0 (c 0 3)
     (λ j low high. let e : 0 + c 0 3 ≡ c 0 3 = omega arith in same j (rw e at high)) in
     rw (used, list) refl
+
+-- no more roots than slots
+pub roots-few : (directory : Directory) (entries : List Entry) → AreEntries directory entries → length directory.roots ≤ root_slots
+    → length (with_all directory entries).roots ≤ root_slots
+roots-few directory [] are few = few
+roots-few directory (ShapeEntry shape ∷ entries) are few = roots-few (with_entry directory (ShapeEntry shape)) entries are.2 few
+roots-few directory (RootEntry name ∷ entries) are few =
+    let room = leb-false root_slots (length directory.roots) (or_right_false (has_name directory.roots name) (nat_le root_slots (length directory.roots)) are.1) in
+    roots-few (with_entry directory (RootEntry name)) entries are.2 (omega (arith, room, length-append directory.roots (name ∷ [])))
+  where
+    or_right_false : (a b : Bool) → (a || b) ≡ false → b ≡ false
+    or_right_false true b h = absurd (let e : true ≡ false = h in cc)
+    or_right_false false b h = h

@@ -2,6 +2,7 @@ pub mod Changes
 pub mod Directories
 pub mod Entries
 pub mod Faults
+pub mod Logs
 pub mod Pairs
 pub mod Ranges
 pub mod Stands

@@ -72,8 +72,7 @@ AreEntries directory (entry ∷ entries) =
     IsEntry entry × (is_refused directory entry ≡ false) × AreEntries (with_entry directory entry) entries
 
 -- The words of the image's directory spell these entries, and no more are in use.
-pub record HasEntries (words : Words) (entries : List Entry) : Type 0 where
-  pub are : AreEntries no_entries entries
+pub record Spells (words : Words) (entries : List Entry) : Type 0 where
   pub used : words 0 3 ≡ length (spelled_all entries)
   pub spelled : (i : ℕ) → i < length (spelled_all entries)
       → words (directory_line i) (directory_word i) ≡ slice_index_or (spelled_all entries) i 0

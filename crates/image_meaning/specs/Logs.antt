@@ -1,5 +1,5 @@
 -- The logs of an image, and the words once their entries are put back.
-use Rattle.std.specs.Prelude.{ℕ, zero, suc, ◌+◌, ◌/◌, ◌%◌, ◌==◌, ◌&&◌, ◌||◌, not, nat_le, nat_lt, Bool, List, [], ◌∷◌, ◌++◌, map, if◌then◌else◌, Option, Some, None}
+use Rattle.std.specs.Prelude.{◌≡◌, ◌<◌, ℕ, zero, suc, ◌+◌, ◌/◌, ◌%◌, ◌==◌, ◌&&◌, ◌||◌, not, nat_le, nat_lt, Bool, List, [], ◌∷◌, ◌++◌, map, if◌then◌else◌, Option, Some, None}
 use Rattle.std.specs.List.{list_any, range_with_len}
 use Rattle.image_meaning.specs.declared.reason.BadReason.{BadReason}
 use Rattle.image_meaning.specs.declared.reason.BadReason.TheVariants as bad
@@ -83,3 +83,12 @@ is_log_line line = nat_le (log_head_line 0) line && nat_lt line first_object_lin
 unfoldable pub put_back : Words → Words
 put_back words line word =
     if is_log_line line then 0 else or_else (old_word (logs_below words logs) line word) (words line word)
+
+-- d has the counts of c in all logs, and the counted entries
+pub record SameLogs (c d : Words) : Type 0 where
+  pub counts : (t : ℕ) → t < logs → log_count d t ≡ log_count c t
+  pub entries : (t n : ℕ) → t < logs → n < log_count c t → logged_at d t n ≡ logged_at c t n
+
+-- no entry of a log counts
+abbrev pub NoneLogged : Words → Type 0
+NoneLogged words = (t : ℕ) → t < logs → log_count words t ≡ 0
