@@ -3,6 +3,7 @@ pub mod Directories
 pub mod Entries
 pub mod Faults
 pub mod Logs
+pub mod Opened
 pub mod Pairs
 pub mod Ranges
 pub mod Stands

@@ -1,7 +1,9 @@
+pub mod Arrays
 pub mod Checks
 pub mod Corresponds
 pub mod Directories
 pub mod Entries
+pub mod Laws
 pub mod Logs
 pub mod Meaning
 pub mod Objects
