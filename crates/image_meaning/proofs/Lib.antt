@@ -1,3 +1,4 @@
+pub mod Arrays
 pub mod Changes
 pub mod Directories
 pub mod Entries
