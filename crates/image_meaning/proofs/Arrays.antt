@@ -1,29 +1,22 @@
 -- Images without objects, and with one array of ints.
-use Rattle.std.proofs.Common.{◌≡◌, ◌≢◌, ℕ, zero, suc, ◌+◌, ◌*◌, ◌/◌, ◌%◌, ◌^◌, ◌<◌, ◌≤◌, Bool, true, false, ℤ, pos, List, [], ◌∷◌, length, map, refl, ap, sym, ◌∙◌, subst, arith, slice_index_or, inl, inr}
-use Rattle.std.specs.Int.{w32, cast_signed}
+use Rattle.std.proofs.Common.{◌≡◌, ℕ, zero, suc, ◌*◌, ◌^◌, ◌<◌, ◌≤◌, true, ℤ, pos, List, [], ◌∷◌, length, map, refl, ap, sym, ◌∙◌, subst, arith, slice_index_or}
 use Rattle.std.proofs.lemmas.Bool.{lt-ltb}
 use Rattle.std.proofs.lemmas.List.{get_or-map, length-map}
-use Rattle.ap_base.specs.declared.kind.Kind.TheVariants.{I, Text}
-use Rattle.graph_model.specs.declared.types.Value.{Value}
-use Rattle.graph_model.specs.declared.types.Value.TheVariants.{Int, Null, Obj as Object}
+use Rattle.graph_model.specs.declared.types.Value.TheVariants.{Null, Obj as Object}
 use Rattle.graph_model.specs.declared.types.Root.{Root}
 use Rattle.graph_model.specs.declared.types.Obj.{Obj}
-use Rattle.graph_model.specs.declared.types.Shape.{Shape}
-use Rattle.graph_model.specs.declared.types.NamedValue.{NamedValue}
 use Rattle.graph_model.specs.declared.types.Heap.{Heap}
-use Rattle.graph_model.specs.declared.types.Graph.{Graph}
 use Rattle.graph_model.specs.Heaps.{root_values, values_of}
 use Rattle.graph_model.specs.Canon.{with_new, renumbered, root_of, found_from, canon_of}
 use Rattle.const_pool.specs.Utf8.{bad_place, char_len}
 use Rattle.const_pool.specs.Parsing.{descriptor_at, only_field, field_at, element_at, base_at, brackets, after_front}
-use Rattle.image_meaning.specs.Places.{root_slots, first_object_line, lines_of, head_of}
+use Rattle.image_meaning.specs.Places.{root_slots}
 use Rattle.image_meaning.specs.Checks.{Words}
-use Rattle.image_meaning.specs.Entries.{Entry, ShapeEntry, RootEntry, AreBytes, IsShape, is_shape}
+use Rattle.image_meaning.specs.Entries.{Entry, ShapeEntry, AreBytes, IsShape, is_shape}
 use Rattle.image_meaning.specs.Directories.{Directory, no_entries, with_all, AreEntries, Spells}
-use Rattle.image_meaning.specs.Logs.{put_back}
-use Rattle.image_meaning.specs.Objects.{shape_number, length_at, object_slot, shape_of, kind_of}
+use Rattle.image_meaning.specs.Objects.{shape_number, length_at, object_slot}
 use Rattle.image_meaning.specs.Meaning.{root_word, StandsFor}
-use Rattle.image_meaning.specs.Corresponds.{LiesAt, HoldsReference, Holds, Corresponds, IsObject, root_value_at}
+use Rattle.image_meaning.specs.Corresponds.{LiesAt, Corresponds, IsObject}
 use Rattle.image_meaning.specs.Arrays.{IsInUse, null_root, null_graph, int_array, array_entries, int_value, IsIntArray, array_graph}
 use Rattle.image_meaning.proofs.Directories.{roots-few}
 use Rattle.image_meaning.proofs.Opened.{stands, put_back-same_words, opens-in_use}
@@ -172,11 +165,11 @@ array_object R size words name line ints is =
       low = is.low;
       high = rw (array_count name ints) is.high;
       slots = λ i h.
-        let within : i < length ints = rw (array_count name ints) at h in
-        rw number (
-          lt-ltb (object_slot words line i) (2 ^ 32) (is.word i within),
-          array_value name ints i within ∙ ap int_value (is.int i within),
-        );
+          let within : i < length ints = rw (array_count name ints) at h in
+          rw number (
+            lt-ltb (object_slot words line i) (2 ^ 32) (is.word i within),
+            array_value name ints i within ∙ ap int_value (is.int i within),
+          );
     }
 
 array_corresponds : (size : ℕ) (words : Words) (name : List ℕ) (line : ℕ) (ints : List ℤ)

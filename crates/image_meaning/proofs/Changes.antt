@@ -1,25 +1,22 @@
 -- What changes of words and of heaps keep a correspondence.
-use Rattle.std.proofs.Common.{◌≡◌, ◌≢◌, ◌⊎◌, inl, inr, ℕ, ◌+◌, ◌<◌, ◌≤◌, true, false, List, [], length, map, refl, sym, ◌∙◌, ap, subst, arith, slice_index_or, slice_set, nat_eq, if◌then◌else◌}
+use Rattle.std.proofs.Common.{◌≡◌, ◌≢◌, inl, inr, ℕ, ◌<◌, true, false, [], length, sym, ◌∙◌, ap, subst, arith, slice_index_or, slice_set, nat_eq}
 use Rattle.std.proofs.lemmas.Bool.{cases_eq, eq-eqb, ne_eqb}
-use Rattle.std.proofs.lemmas.List.{get_or-set_same, get_or-set_other, length-set, get_or-map, length-map}
+use Rattle.std.proofs.lemmas.List.{get_or-set_same, get_or-set_other, length-set, get_or-map}
 use Rattle.ap_base.specs.declared.kind.Kind.{Kind}
 use Rattle.ap_base.specs.declared.kind.Kind.TheVariants.{Z, B, C, S, I, J, L, Text}
-use Rattle.ap_base.specs.declared.place.Place.{Place}
 use Rattle.ap_base.specs.declared.place.Place.TheVariants.{Static, Slot}
 use Rattle.graph_model.specs.declared.types.Value.{Value}
 use Rattle.graph_model.specs.declared.types.Value.TheVariants.{Int, Long, Null, Obj as Object}
 use Rattle.graph_model.specs.declared.types.Obj.{Obj}
 use Rattle.graph_model.specs.declared.types.Root.{Root}
-use Rattle.graph_model.specs.declared.types.Shape.{Shape}
 use Rattle.graph_model.specs.declared.types.Heap.{Heap}
-use Rattle.graph_model.specs.Heaps.{no_object, object_at, shape_at, values_of, root_values, with_slot, stored, value_at}
+use Rattle.graph_model.specs.Heaps.{no_object, object_at, values_of, with_slot, stored}
 use Rattle.graph_model.proofs.Stores.{value_at-stored}
-use Rattle.image_meaning.specs.Places.{root_slots, lines_of}
 use Rattle.image_meaning.specs.Checks.{Words}
 use Rattle.image_meaning.specs.Directories.{Directory}
-use Rattle.image_meaning.specs.Objects.{shape_of, length_at, object_slot, kind_of, has_length}
+use Rattle.image_meaning.specs.Objects.{shape_of, object_slot, kind_of}
 use Rattle.image_meaning.specs.Meaning.{root_word}
-use Rattle.image_meaning.specs.Corresponds.{LiesAt, HoldsReference, Holds, IsObject, AreApart, Corresponds, root_value_at, SameWords, SameButSlot, SameButRoot, root_static, SameObjects, Either, CanJoin}
+use Rattle.image_meaning.specs.Corresponds.{LiesAt, HoldsReference, Holds, AreApart, Corresponds, root_value_at, SameWords, SameButSlot, SameButRoot, root_static, SameObjects, Either, CanJoin}
 
 -- ---- words that say the same
 
@@ -76,21 +73,21 @@ corresponds-put R directory size c d heap at n i v k r li s new = record {
   one_object = k.one_object;
   one_line = k.one_line;
   objects = λ line m q.
-    let o = k.objects line m q in
-    let e = s.heads line m q in
-    let there = (k.objects at n r).there in
-    let shape = stored_shape heap n i m v there in
-    let len = stored_length heap n i m v there in
-    record {
-      there = rw (length-set heap.objects n (with_slot (object_at heap n) i v)) o.there;
-      known = rw e o.known;
-      shape = rw (e, shape) o.shape;
-      count = rw e (o.count ∙ sym len);
-      full = rw (e, len) o.full;
-      low = o.low;
-      high = rw len o.high;
-      slots = λ j h. let below : j < length (values_of heap m) = rw len at h in slot line m q j below (o.slots j below);
-    };
+      let o = k.objects line m q in
+      let e = s.heads line m q in
+      let there = (k.objects at n r).there in
+      let shape = stored_shape heap n i m v there in
+      let len = stored_length heap n i m v there in
+      record {
+        there = rw (length-set heap.objects n (with_slot (object_at heap n) i v)) o.there;
+        known = rw e o.known;
+        shape = rw (e, shape) o.shape;
+        count = rw e (o.count ∙ sym len);
+        full = rw (e, len) o.full;
+        low = o.low;
+        high = rw len o.high;
+        slots = λ j h. let below : j < length (values_of heap m) = rw len at h in slot line m q j below (o.slots j below);
+      };
   apart = λ a b m l x y ne. apart_same c d a b (s.heads a m x) (s.heads b l y) (k.apart a b m l x y ne);
   few = k.few;
   names = k.names;
@@ -100,6 +97,7 @@ corresponds-put R directory size c d heap at n i v k r li s new = record {
   where
     after : Heap
     after = stored heap (Slot n i) v
+
     slot : (line m : ℕ) → R line m → (j : ℕ) → j < length (values_of heap m)
         → Holds R (kind_of (shape_of directory.shapes c line) j) (object_slot c line j) (slice_index_or (values_of heap m) j Null)
         → Holds R (kind_of (shape_of directory.shapes d line) j) (object_slot d line j)
@@ -171,6 +169,7 @@ corresponds-put_root R directory size c d heap at v k there static own s new = r
   where
     no_root : Root
     no_root = record { name = []; at = 0 }
+
     root : (r : ℕ) → r < length heap.roots → HoldsReference R (root_word c r) (root_value_at heap r)
         → HoldsReference R (root_word d r) (root_value_at (stored heap (Static (root_static heap at)) v) r)
     root r h was =
@@ -259,9 +258,9 @@ corresponds-grow R N directory size words heap k j = record {
   apart = λ a b m n x y ne. elim y [
     | inr new ↦ j.apart a b m n x new ne
     | inl old ↦ elim x [
-        | inl before ↦ k.apart a b m n before old ne
-        | inr new ↦ (let f : b ≢ a = λ e. ne (sym e) in elim (j.apart b a n m (inl old) new f) [ inl z ↦ inr z | inr z ↦ inl z ])
-      ]
+      | inl before ↦ k.apart a b m n before old ne
+      | inr new ↦ (let f : b ≢ a = λ e. ne (sym e) in elim (j.apart b a n m (inl old) new f) [ inl z ↦ inr z | inr z ↦ inl z ])
+    ]
   ];
   few = k.few;
   names = k.names;

@@ -1,11 +1,10 @@
 -- A directory is read exactly where its words spell entries that may stand there.
-use Rattle.std.proofs.Common.{◌≡◌, ◌⊎◌, inl, inr, ℕ, zero, suc, ◌+◌, ◌<◌, ◌≤◌, Bool, true, false, List, [], ◌∷◌, ◌++◌, length, map, refl, sym, ◌∙◌, ap, subst, arith, ◌||◌, nat_le, if◌then◌else◌, Option, Some, None, Result, Ok, Err, length-append, append_assoc, slice_index_or}
-use Rattle.std.specs.List.{range_with_len}
+use Rattle.std.proofs.Common.{◌≡◌, ◌⊎◌, inl, inr, ℕ, zero, suc, ◌+◌, ◌<◌, ◌≤◌, Bool, true, false, List, [], ◌∷◌, ◌++◌, length, refl, ◌∙◌, ap, arith, ◌||◌, nat_le, Option, Some, None, Result, Ok, Err, length-append}
 use Rattle.std.proofs.lemmas.Bool.{leb-false}
 use Rattle.image_meaning.specs.Places.{root_slots, directory_line, directory_word}
 use Rattle.image_meaning.specs.Checks.{Words, Bad}
-use Rattle.image_meaning.specs.Entries.{Entry, ShapeEntry, RootEntry, entry_body, spelled, read_entry, IsEntry}
-use Rattle.image_meaning.specs.Directories.{Directory, no_entries, has_name, is_refused, with_entry, bad_entry, take_entry, with_entries, directory_words_of, directory_of, spelled_all, with_all, AreEntries, Spells}
+use Rattle.image_meaning.specs.Entries.{Entry, ShapeEntry, RootEntry, entry_body, spelled, read_entry}
+use Rattle.image_meaning.specs.Directories.{Directory, no_entries, has_name, is_refused, with_entry, bad_entry, with_entries, directory_words_of, directory_of, spelled_all, with_all, AreEntries, Spells}
 use Rattle.image_meaning.proofs.Entries.{entry-again, entry-taken}
 use Rattle.image_meaning.proofs.Ranges.{mapped_list, mapped_same}
 

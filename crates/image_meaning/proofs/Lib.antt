@@ -5,6 +5,7 @@ pub mod Entries
 pub mod Faults
 pub mod Logs
 pub mod Opened
+pub mod Order
 pub mod Pairs
 pub mod Ranges
 pub mod Stands

@@ -1,13 +1,12 @@
 -- Logs without counted entries, and logs that say the same.
-use Rattle.std.proofs.Common.{◌≡◌, ℕ, zero, suc, ◌+◌, ◌<◌, ◌≤◌, ◌/◌, ◌&&◌, true, false, List, [], ◌++◌, map, refl, ap, sym, ◌∙◌, subst, arith, nat_le, nat_lt, Option, Some, None, if◌then◌else◌}
+use Rattle.std.proofs.Common.{◌≡◌, ℕ, zero, suc, ◌<◌, ◌≤◌, ◌/◌, ◌&&◌, false, List, [], ◌++◌, refl, ap, ◌∙◌, arith, nat_le, nat_lt, None}
 use Rattle.std.specs.Prelude.{not}
-use Rattle.std.specs.List.{range_with_len, list_any}
-use Rattle.std.proofs.lemmas.Bool.{le-leb, lt-leb, le-ltb, and_left, and_right}
+use Rattle.std.proofs.lemmas.Bool.{lt-leb, le-ltb, and_left, and_right}
 use Rattle.image_meaning.specs.declared.reason.BadReason.TheVariants as bad
-use Rattle.image_meaning.specs.Places.{logs, log_entries, log_head_line, log_entry_line, first_object_line}
-use Rattle.image_meaning.specs.Checks.{Words, Bad, fails_unless, then_check, first_fault}
-use Rattle.image_meaning.specs.Logs.{Logged, log_count, logged_at, first_logged, log_of, logs_below, may_be_logged, has_place, entry_fault, log_fault, logs_fault, old_word, or_else, is_log_line, put_back, SameLogs, NoneLogged}
-use Rattle.image_meaning.proofs.Faults.{first_fault-none, first_fault-same, passes_if}
+use Rattle.image_meaning.specs.Places.{logs, log_head_line, log_entry_line, first_object_line}
+use Rattle.image_meaning.specs.Checks.{Words, fails_unless, first_fault}
+use Rattle.image_meaning.specs.Logs.{Logged, log_count, logged_at, first_logged, log_of, logs_below, may_be_logged, has_place, entry_fault, log_fault, logs_fault, is_log_line, put_back, SameLogs, NoneLogged}
+use Rattle.image_meaning.proofs.Faults.{first_fault-none, first_fault-same}
 use Rattle.image_meaning.proofs.Ranges.{mapped_same}
 
 -- ---- no entry counts

@@ -1,15 +1,13 @@
 -- Images that open.
-use Rattle.std.proofs.Common.{◌≡◌, ◌≢◌, ℕ, ◌+◌, ◌<◌, ◌≤◌, ◌==◌, Bool, true, false, List, length, refl, ap, sym, ◌∙◌, subst, arith, Option, Some, None, Result, Ok, if◌then◌else◌}
+use Rattle.std.proofs.Common.{◌≡◌, ℕ, ◌<◌, List, refl, ◌∙◌, arith}
 use Rattle.std.proofs.lemmas.Bool.{ne_eqb, eq-eqb, le-leb}
 use Rattle.graph_model.specs.declared.types.Heap.{Heap}
-use Rattle.graph_model.specs.Heaps.{values_of}
 use Rattle.graph_model.specs.Canon.{canon_of}
-use Rattle.image_meaning.specs.Places.{root_slots, slot_line, slot_word, first_object_line, object_line, object_word, super_check}
+use Rattle.image_meaning.specs.Places.{root_slots, slot_line, slot_word, object_line, object_word}
 use Rattle.image_meaning.specs.Checks.{Words}
-use Rattle.image_meaning.specs.Directories.{Directory, no_entries, with_all, AreEntries, Spells, directory_of}
+use Rattle.image_meaning.specs.Directories.{Directory, no_entries, with_all, AreEntries, Spells}
 use Rattle.image_meaning.specs.Entries.{Entry}
-use Rattle.image_meaning.specs.Logs.{logs_fault, put_back, SameLogs, NoneLogged}
-use Rattle.image_meaning.specs.Objects.{object_slot}
+use Rattle.image_meaning.specs.Logs.{put_back, SameLogs, NoneLogged}
 use Rattle.image_meaning.specs.Meaning.{root_word, meaning, StandsFor}
 use Rattle.image_meaning.specs.Corresponds.{LiesAt, Corresponds, SameWords}
 use Rattle.image_meaning.specs.Laws.{Opens, SameFront}
@@ -39,8 +37,8 @@ put_back-same_words R directory size words heap none same =
     corresponds-same R directory size words (put_back words) heap same record {
       heads = λ line n r. put_back-none words none line 0 (not_log_after line (same.objects line n r).low);
       slots = λ line n r i h.
-        let low = (same.objects line n r).low in
-        put_back-none words none (object_line line i) (object_word i) (not_log_after (object_line line i) (omega (arith, low)));
+          let low = (same.objects line n r).low in
+          put_back-none words none (object_line line i) (object_word i) (not_log_after (object_line line i) (omega (arith, low)));
       at_roots = λ r h. root_outside words none r h;
     }
 

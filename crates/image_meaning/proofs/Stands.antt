@@ -1,8 +1,8 @@
 -- Words that correspond to a heap stand for the heap's graph.
-use Rattle.std.proofs.Common.{◌≡◌, ◌≢◌, ℕ, zero, suc, ◌+◌, ◌<◌, ◌≤◌, ◌&&◌, ◌==◌, Bool, true, false, List, [], ◌∷◌, Option, None, Result, Ok, refl, ap, subst, sym, ◌∙◌, arith, length, map, take, slice_index_or, inl, inr, nat_eq, nat_le, nat_lt, length-take}
+use Rattle.std.proofs.Common.{◌≡◌, ◌≢◌, ℕ, zero, suc, ◌+◌, ◌<◌, ◌≤◌, ◌==◌, false, List, [], None, Ok, refl, ap, subst, sym, ◌∙◌, arith, length, map, take, slice_index_or, inl, inr, nat_eq, nat_le, nat_lt, length-take}
 use Rattle.std.specs.Prelude.{not}
 use Rattle.std.specs.List.{range_with_len, IsDistinct, list_any}
-use Rattle.std.proofs.lemmas.Bool.{cases_lt, le-leb, lt-leb, lt-ltb, le-ltb, ne_eqb, eq-eqb, eqb-false, and_left, and_right}
+use Rattle.std.proofs.lemmas.Bool.{cases_lt, le-leb, lt-leb, lt-ltb, le-ltb, eq-eqb, eqb-false, and_left, and_right}
 use Rattle.std.proofs.lemmas.List.{get_or-map, get_or-take, length-map}
 use Rattle.std.proofs.lemmas.List.Folds.{list_any_none}
 use Rattle.std.proofs.lemmas.Map.Keys.{apart_from_distinct}
@@ -12,21 +12,19 @@ use Rattle.graph_model.specs.declared.types.Value.{Value}
 use Rattle.graph_model.specs.declared.types.Value.TheVariants.{Null}
 use Rattle.graph_model.specs.declared.types.Root.{Root}
 use Rattle.graph_model.specs.declared.types.NamedValue.{NamedValue}
-use Rattle.graph_model.specs.declared.types.Node.{Node}
 use Rattle.graph_model.specs.declared.types.Shape.{Shape}
 use Rattle.graph_model.specs.declared.types.Heap.{Heap}
-use Rattle.graph_model.specs.declared.types.Graph.{Graph}
-use Rattle.graph_model.specs.Heaps.{values_of, object_at, shape_at, root_values}
-use Rattle.graph_model.specs.Canon.{with_new, found_after, found_from, renumbered, node_of, root_of, graph_by, canon_of}
+use Rattle.graph_model.specs.Heaps.{values_of, root_values}
+use Rattle.graph_model.specs.Canon.{with_new, found_after, found_from, renumbered, node_of, root_of, canon_of}
 use Rattle.graph_model.proofs.Numbers.{has_number-any, with_new-distinct}
 use Rattle.graph_model.proofs.FoundAfter.{found_after-past, found_after-distinct}
 use Rattle.image_meaning.specs.declared.reason.BadReason.TheVariants as bad
 use Rattle.image_meaning.specs.Places.{root_slots, slot_line, first_object_line, lines_of, object_line}
-use Rattle.image_meaning.specs.Checks.{Words, fails_unless, then_check, first_fault, after_check, ◌>>=◌}
+use Rattle.image_meaning.specs.Checks.{Words, first_fault}
 use Rattle.image_meaning.specs.Directories.{Directory}
-use Rattle.image_meaning.specs.Objects.{is_reference, is_within, shape_number, shape_of, length_at, object_slot, kind_of, has_length, values_at, line_fault, slot_fault, object_fault}
+use Rattle.image_meaning.specs.Objects.{is_reference, is_within, shape_number, shape_of, length_at, object_slot, kind_of, values_at, line_fault, slot_fault, object_fault}
 use Rattle.image_meaning.specs.Meaning.{root_word, root_fault, roots_fault, root_value, root_values_of, look_at, walk, root_at, node_at, graph_found, graph_from}
-use Rattle.image_meaning.specs.Corresponds.{LiesAt, HoldsReference, Holds, IsObject, AreApart, Corresponds, root_value_at}
+use Rattle.image_meaning.specs.Corresponds.{LiesAt, Holds, Corresponds, root_value_at}
 use Rattle.image_meaning.proofs.Faults.{first_fault-none, passes_if}
 use Rattle.image_meaning.proofs.Ranges.{get_or_any, mapped_alike}
 use Rattle.image_meaning.proofs.Pairs.{Pairs, none_left, pair, Alike, pairs-with_new, pairs-at, pairs-length, pairs-object, pairs-line, alike-renumbered}
@@ -103,8 +101,13 @@ module _ (R : LiesAt) (directory : Directory) (size : ℕ) (words : Words) (heap
       let o = same.objects line n r in
       let free = lines_pass k lines numbers p distinct h in
       let free_lines = rw o.count at free in
-      rw (lt-ltb (shape_number words line) (length directory.shapes) o.known, o.count, o.full,
-      le-leb (line + lines_of (length (values_of heap n))) size o.high, free_lines) (slots_pass line n r)
+      rw (
+        lt-ltb (shape_number words line) (length directory.shapes) o.known,
+        o.count,
+        o.full,
+        le-leb (line + lines_of (length (values_of heap n))) size o.high,
+        free_lines,
+      ) (slots_pass line n r)
 
   -- ---- the walk
 

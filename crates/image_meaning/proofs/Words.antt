@@ -1,7 +1,7 @@
 -- Words that hold values pass their checks, and their values are alike.
-use Rattle.std.proofs.Common.{◌≡◌, ℕ, zero, suc, ◌+◌, ◌*◌, ◌/◌, ◌%◌, ◌<◌, ◌≤◌, ◌==◌, true, false, List, [], ◌∷◌, Option, None, refl, ap, subst, sym, ◌∙◌, arith, length, map, slice_index_or}
+use Rattle.std.proofs.Common.{◌≡◌, ℕ, suc, ◌+◌, ◌*◌, ◌/◌, ◌%◌, ◌<◌, ◌≤◌, ◌==◌, true, false, List, [], ◌∷◌, None, refl, subst, sym, arith, length, map, slice_index_or}
 use Rattle.std.specs.List.{range_with_len}
-use Rattle.std.proofs.lemmas.Bool.{le-leb, lt-ltb, ne_eqb, eq-eqb}
+use Rattle.std.proofs.lemmas.Bool.{le-leb, lt-ltb, ne_eqb}
 use Rattle.ap_base.specs.declared.kind.Kind.{Kind}
 use Rattle.ap_base.specs.declared.kind.Kind.TheVariants.{Z, B, C, S, I, J, L, Text}
 use Rattle.graph_model.specs.declared.types.Value.{Value}
@@ -9,7 +9,6 @@ use Rattle.graph_model.specs.declared.types.Value.TheVariants.{Int, Long, Null, 
 use Rattle.graph_model.specs.Canon.{renumbered}
 use Rattle.image_meaning.specs.declared.reason.BadReason.TheVariants as bad
 use Rattle.image_meaning.specs.Places.{first_object_line}
-use Rattle.image_meaning.specs.Checks.{fails_unless}
 use Rattle.image_meaning.specs.Objects.{is_reference, is_number, value_of, word_fault}
 use Rattle.image_meaning.specs.Corresponds.{LiesAt, HoldsReference, Holds}
 use Rattle.image_meaning.proofs.Faults.{passes_if}

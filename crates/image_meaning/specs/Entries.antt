@@ -1,6 +1,6 @@
 -- The entries of an image's directory, as words: a shape, or a durable root's name. A name is spelled eight bytes a word, the first byte
 -- the lowest, and filled with zeros. Class names and descriptors are those of JVMS 4.2.1 and 4.3.2.
-use Rattle.std.specs.Prelude.{◌≡◌, ◌≢◌, ◌<◌, ℕ, zero, suc, ◌+◌, ◌-◌, ◌*◌, ◌/◌, ◌%◌, ◌^◌, ◌==◌, ◌&&◌, ◌||◌, nat_eq, nat_le, min, Bool, true, false, List, [], ◌∷◌, ◌++◌, length, take, drop, map, is_some, is_none, if◌then◌else◌, Option, Some, None}
+use Rattle.std.specs.Prelude.{◌≡◌, ◌≢◌, ◌<◌, ℕ, zero, suc, ◌+◌, ◌-◌, ◌*◌, ◌/◌, ◌%◌, ◌^◌, ◌==◌, ◌&&◌, nat_eq, min, Bool, true, false, List, [], ◌∷◌, ◌++◌, length, take, drop, is_some, is_none, if◌then◌else◌, Option, Some, None}
 use Rattle.std.specs.List.{starts_with, AllByRecursion}
 use Rattle.std.specs.Str.{bytes_eq}
 use Rattle.ap_base.specs.declared.kind.Kind.{Kind}

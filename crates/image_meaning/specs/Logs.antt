@@ -1,7 +1,6 @@
 -- The logs of an image, and the words once their entries are put back.
 use Rattle.std.specs.Prelude.{◌≡◌, ◌<◌, ℕ, zero, suc, ◌+◌, ◌/◌, ◌%◌, ◌==◌, ◌&&◌, ◌||◌, not, nat_le, nat_lt, Bool, List, [], ◌∷◌, ◌++◌, map, if◌then◌else◌, Option, Some, None}
 use Rattle.std.specs.List.{list_any, range_with_len}
-use Rattle.image_meaning.specs.declared.reason.BadReason.{BadReason}
 use Rattle.image_meaning.specs.declared.reason.BadReason.TheVariants as bad
 use Rattle.image_meaning.specs.Places.{logs, log_entries, root_slots, slot_line, first_object_line, log_head_line, log_entry_line, log_entry_word}
 use Rattle.image_meaning.specs.Checks.{Words, Bad, fails_unless, then_check, first_fault}
@@ -83,6 +82,19 @@ is_log_line line = nat_le (log_head_line 0) line && nat_lt line first_object_lin
 unfoldable pub put_back : Words → Words
 put_back words line word =
     if is_log_line line then 0 else or_else (old_word (logs_below words logs) line word) (words line word)
+
+-- ---- putting back one by one
+
+-- the words with one entry put back
+abbrev pub put_one : Logged → Words → Words
+put_one e words line word = if is_place e.place line word then e.old else words line word
+
+-- the words with these entries put back, from the last of the list to its first
+abbrev pub put_each : List Logged → Words → Words
+put_each [] words = words
+put_each (e ∷ entries) words = put_one e (put_each entries words)
+
+-- ---- logs that say the same
 
 -- d has the counts of c in all logs, and the counted entries
 pub record SameLogs (c d : Words) : Type 0 where

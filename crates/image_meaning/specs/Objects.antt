@@ -1,5 +1,5 @@
 -- The objects of an image, and the checks of one. Values are those of JVMS 2.3 and 2.4.
-use Rattle.std.specs.Prelude.{ℕ, ◌+◌, ◌/◌, ◌%◌, ◌^◌, ◌==◌, ◌&&◌, ◌||◌, not, nat_le, nat_lt, Bool, true, false, List, [], ◌∷◌, length, map, pos, slice_index_or, if◌then◌else◌, Option, Some, None}
+use Rattle.std.specs.Prelude.{ℕ, ◌+◌, ◌/◌, ◌%◌, ◌^◌, ◌==◌, ◌&&◌, ◌||◌, not, nat_le, nat_lt, Bool, true, false, List, length, map, pos, slice_index_or, if◌then◌else◌, Option, Some, None}
 use Rattle.std.specs.Int.{w32, w64, cast_signed}
 use Rattle.std.specs.List.{list_any, range_with_len}
 use Rattle.ap_base.specs.declared.kind.Kind.{Kind}
@@ -9,7 +9,6 @@ use Rattle.graph_model.specs.declared.types.Value.TheVariants.{Int, Long, Null, 
 use Rattle.graph_model.specs.declared.types.Field.{Field}
 use Rattle.graph_model.specs.declared.types.Shape.{Shape}
 use Rattle.graph_model.specs.Heaps.{no_shape}
-use Rattle.image_meaning.specs.declared.reason.BadReason.{BadReason}
 use Rattle.image_meaning.specs.declared.reason.BadReason.TheVariants as bad
 use Rattle.image_meaning.specs.Places.{first_object_line, lines_of, object_line, object_word}
 use Rattle.image_meaning.specs.Checks.{Words, Bad, fails_unless, then_check, first_fault}

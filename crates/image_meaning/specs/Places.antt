@@ -104,4 +104,3 @@ used_check line lines =
 abbrev pub super_check : (ℕ → ℕ) → ℕ → Option BadReason
 super_check line lines =
     checked (has_size lines) Size (if line 0 == 0 then None else used_check line lines)
-

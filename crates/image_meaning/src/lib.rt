@@ -1,6 +1,12 @@
-//! What the words of an image stand for: the first check that fails, or a graph. Definitions and laws; nothing here runs.
+//! What the words of an image stand for: a graph, or the first check that fails. Definitions and laws; nothing here runs.
 #![tactic(auto)]
 
+mod laws;
 mod reason;
 
+pub use laws::{
+    checks_come_in_order, corresponding_words_stand, directories_are_read,
+    entries_are_put_back_one_by_one, further_objects_correspond, null_roots_stand,
+    one_array_stands, same_words_stand, stores_correspond,
+};
 pub use reason::BadReason;

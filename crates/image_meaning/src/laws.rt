@@ -1,0 +1,54 @@
+// Laws of what an image stands for. Each function states one in its contract, and does nothing.
+ghost use Rattle.std.specs.Prelude.{ℕ};
+ghost use Rattle.image_meaning.specs.Checks.{Words};
+ghost use Rattle.image_meaning.specs.Laws.{ChecksComeInOrder, PutBackOneByOne, DirectoriesAreRead, CorrespondingWordsStand, SameWordsStand, SameWordsCorrespond, SlotStoreCorresponds, RootStoreCorresponds, OtherObjectsCorrespond, FurtherObjectsCorrespond};
+ghost use Rattle.image_meaning.specs.Arrays.{NullRootsStand, ArrayEntriesMayStand, OneArrayStands};
+
+/// The first check that fails counts: of the superblock, the directory, the logs, the root slots, the objects.
+pub fn checks_come_in_order()
+    ensures { (size : ℕ) (words : Words) → ChecksComeInOrder size words }
+{}
+
+/// Entries are put back log by log, in each log the last one first.
+pub fn entries_are_put_back_one_by_one()
+    ensures { PutBackOneByOne }
+{}
+
+/// A directory is read exactly where its words spell entries.
+pub fn directories_are_read()
+    ensures { DirectoriesAreRead }
+{}
+
+/// Words that correspond to a heap stand for its graph.
+pub fn corresponding_words_stand()
+    ensures { CorrespondingWordsStand }
+{}
+
+/// Words that agree where it counts stand for the same graph.
+pub fn same_words_stand()
+    ensures stand { SameWordsStand }
+    ensures correspond { SameWordsCorrespond }
+{}
+
+/// A change of one slot, or of one root slot, is a store into the heap.
+pub fn stores_correspond()
+    ensures slot { SlotStoreCorresponds }
+    ensures root { RootStoreCorresponds }
+{}
+
+/// Objects that lie nowhere don't matter, and a group of them can join those that lie somewhere.
+pub fn further_objects_correspond()
+    ensures other { OtherObjectsCorrespond }
+    ensures further { FurtherObjectsCorrespond }
+{}
+
+/// An image whose root slots are all 0 stands for roots that are all null.
+pub fn null_roots_stand()
+    ensures { NullRootsStand }
+{}
+
+/// An image of one array of ints, to which one root refers, stands for it.
+pub fn one_array_stands()
+    ensures entries { ArrayEntriesMayStand }
+    ensures stands { OneArrayStands }
+{}
