@@ -10,7 +10,7 @@ use Rattle.graph_model.specs.Heaps.{root_values, values_of}
 use Rattle.graph_model.specs.Canon.{with_new, renumbered, root_of, found_from, canon_of}
 use Rattle.const_pool.specs.Utf8.{bad_place, char_len}
 use Rattle.const_pool.specs.Parsing.{descriptor_at, only_field, field_at, element_at, base_at, brackets, after_front}
-use Rattle.image_meaning.specs.Places.{root_slots}
+use Rattle.image_layout.specs.Places.{root_slots}
 use Rattle.image_meaning.specs.Checks.{Words}
 use Rattle.image_meaning.specs.Entries.{Entry, ShapeEntry, AreBytes, IsShape, is_shape}
 use Rattle.image_meaning.specs.Directories.{Directory, no_entries, with_all, AreEntries, Spells}

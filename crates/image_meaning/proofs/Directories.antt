@@ -1,7 +1,7 @@
 -- A directory is read exactly where its words spell entries that may stand there.
 use Rattle.std.proofs.Common.{◌≡◌, ◌⊎◌, inl, inr, ℕ, zero, suc, ◌+◌, ◌<◌, ◌≤◌, Bool, true, false, List, [], ◌∷◌, ◌++◌, length, refl, ◌∙◌, ap, arith, ◌||◌, nat_le, Option, Some, None, Result, Ok, Err, length-append}
 use Rattle.std.proofs.lemmas.Bool.{leb-false}
-use Rattle.image_meaning.specs.Places.{root_slots, directory_line, directory_word}
+use Rattle.image_layout.specs.Places.{root_slots, directory_line, directory_word}
 use Rattle.image_meaning.specs.Checks.{Words, Bad}
 use Rattle.image_meaning.specs.Entries.{Entry, ShapeEntry, RootEntry, entry_body, spelled, read_entry}
 use Rattle.image_meaning.specs.Directories.{Directory, no_entries, has_name, is_refused, with_entry, bad_entry, with_entries, directory_words_of, directory_of, spelled_all, with_all, AreEntries, Spells}

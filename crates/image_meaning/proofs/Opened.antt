@@ -3,7 +3,7 @@ use Rattle.std.proofs.Common.{◌≡◌, ℕ, ◌<◌, List, refl, ◌∙◌, ar
 use Rattle.std.proofs.lemmas.Bool.{ne_eqb, eq-eqb, le-leb}
 use Rattle.graph_model.specs.declared.types.Heap.{Heap}
 use Rattle.graph_model.specs.Canon.{canon_of}
-use Rattle.image_meaning.specs.Places.{root_slots, slot_line, slot_word, object_line, object_word}
+use Rattle.image_layout.specs.Places.{root_slots, slot_line, slot_word, object_line, object_word}
 use Rattle.image_meaning.specs.Checks.{Words}
 use Rattle.image_meaning.specs.Directories.{Directory, no_entries, with_all, AreEntries, Spells}
 use Rattle.image_meaning.specs.Entries.{Entry}

@@ -1,8 +1,8 @@
 -- The order of checks and of putting back.
 use Rattle.std.proofs.Common.{◌≡◌, ◌≢◌, ℕ, true, false, List, [], ◌∷◌, length, refl, ◌∙◌, if◌then◌else◌, Some, None, Ok, Err}
 use Rattle.std.proofs.lemmas.Bool.{ne_eqb}
-use Rattle.image_meaning.specs.declared.reason.BadReason.{BadReason}
-use Rattle.image_meaning.specs.Places.{logs, has_size, IsBlank, super_check}
+use Rattle.image_layout.specs.declared.superblock.BadReason.{BadReason}
+use Rattle.image_layout.specs.Places.{logs, has_size, IsBlank, super_check}
 use Rattle.image_meaning.specs.Checks.{Words, Bad}
 use Rattle.image_meaning.specs.Directories.{Directory, directory_of}
 use Rattle.image_meaning.specs.Logs.{Logged, logs_below, logs_fault, is_place, old_word, or_else, is_log_line, put_back, put_each}

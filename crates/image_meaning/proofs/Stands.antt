@@ -18,8 +18,8 @@ use Rattle.graph_model.specs.Heaps.{values_of, root_values}
 use Rattle.graph_model.specs.Canon.{with_new, found_after, found_from, renumbered, node_of, root_of, canon_of}
 use Rattle.graph_model.proofs.Numbers.{has_number-any, with_new-distinct}
 use Rattle.graph_model.proofs.FoundAfter.{found_after-past, found_after-distinct}
-use Rattle.image_meaning.specs.declared.reason.BadReason.TheVariants as bad
-use Rattle.image_meaning.specs.Places.{root_slots, slot_line, first_object_line, lines_of, object_line}
+use Rattle.image_layout.specs.declared.superblock.BadReason.TheVariants as bad
+use Rattle.image_layout.specs.Places.{root_slots, slot_line, first_object_line, lines_of, object_line}
 use Rattle.image_meaning.specs.Checks.{Words, first_fault}
 use Rattle.image_meaning.specs.Directories.{Directory}
 use Rattle.image_meaning.specs.Objects.{is_reference, is_within, shape_number, shape_of, length_at, object_slot, kind_of, values_at, line_fault, slot_fault, object_fault}

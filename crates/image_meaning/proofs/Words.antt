@@ -7,8 +7,8 @@ use Rattle.ap_base.specs.declared.kind.Kind.TheVariants.{Z, B, C, S, I, J, L, Te
 use Rattle.graph_model.specs.declared.types.Value.{Value}
 use Rattle.graph_model.specs.declared.types.Value.TheVariants.{Int, Long, Null, Obj as Object}
 use Rattle.graph_model.specs.Canon.{renumbered}
-use Rattle.image_meaning.specs.declared.reason.BadReason.TheVariants as bad
-use Rattle.image_meaning.specs.Places.{first_object_line}
+use Rattle.image_layout.specs.declared.superblock.BadReason.TheVariants as bad
+use Rattle.image_layout.specs.Places.{first_object_line}
 use Rattle.image_meaning.specs.Objects.{is_reference, is_number, value_of, word_fault}
 use Rattle.image_meaning.specs.Corresponds.{LiesAt, HoldsReference, Holds}
 use Rattle.image_meaning.proofs.Faults.{passes_if}

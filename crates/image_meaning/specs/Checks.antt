@@ -1,6 +1,6 @@
 -- The words of an image, and checks of them. A check fails at a line, for a reason; the first that fails counts.
 use Rattle.std.specs.Prelude.{ℕ, zero, suc, Bool, true, false, Option, Some, None, Result, Ok, Err}
-use Rattle.image_meaning.specs.declared.reason.BadReason.{BadReason}
+use Rattle.image_layout.specs.declared.superblock.BadReason.{BadReason}
 
 -- the words of an image, by line and word of the line
 abbrev pub Words : Type 0

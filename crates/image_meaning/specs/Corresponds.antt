@@ -8,7 +8,7 @@ use Rattle.graph_model.specs.declared.types.Shape.{Shape}
 use Rattle.graph_model.specs.declared.types.Root.{Root}
 use Rattle.graph_model.specs.declared.types.Heap.{Heap}
 use Rattle.graph_model.specs.Heaps.{object_at, shape_at, values_of, root_values}
-use Rattle.image_meaning.specs.Places.{root_slots, first_object_line, lines_of}
+use Rattle.image_layout.specs.Places.{root_slots, first_object_line, lines_of}
 use Rattle.image_meaning.specs.Checks.{Words}
 use Rattle.image_meaning.specs.Directories.{Directory}
 use Rattle.image_meaning.specs.Objects.{is_number, value_of, shape_number, shape_of, length_at, object_slot, kind_of, has_length}

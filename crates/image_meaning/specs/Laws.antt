@@ -5,8 +5,8 @@ use Rattle.graph_model.specs.declared.types.Value.{Value}
 use Rattle.graph_model.specs.declared.types.Heap.{Heap}
 use Rattle.graph_model.specs.Heaps.{values_of, stored}
 use Rattle.graph_model.specs.Canon.{canon_of}
-use Rattle.image_meaning.specs.declared.reason.BadReason.{BadReason}
-use Rattle.image_meaning.specs.Places.{logs, directory_line, directory_word, IsBlank, super_check}
+use Rattle.image_layout.specs.declared.superblock.BadReason.{BadReason}
+use Rattle.image_layout.specs.Places.{logs, directory_line, directory_word, IsBlank, super_check}
 use Rattle.image_meaning.specs.Checks.{Words, Bad}
 use Rattle.image_meaning.specs.Entries.{Entry}
 use Rattle.image_meaning.specs.Directories.{Directory, directory_of, with_entries, spelled_all, with_all, AreEntries}

@@ -7,4 +7,3 @@ pub mod Laws
 pub mod Logs
 pub mod Meaning
 pub mod Objects
-pub mod Places

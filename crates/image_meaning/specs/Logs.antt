@@ -1,8 +1,8 @@
 -- The logs of an image, and the words once their entries are put back.
 use Rattle.std.specs.Prelude.{◌≡◌, ◌<◌, ℕ, zero, suc, ◌+◌, ◌/◌, ◌%◌, ◌==◌, ◌&&◌, ◌||◌, not, nat_le, nat_lt, Bool, List, [], ◌∷◌, ◌++◌, map, if◌then◌else◌, Option, Some, None}
 use Rattle.std.specs.List.{list_any, range_with_len}
-use Rattle.image_meaning.specs.declared.reason.BadReason.TheVariants as bad
-use Rattle.image_meaning.specs.Places.{logs, log_entries, root_slots, slot_line, first_object_line, log_head_line, log_entry_line, log_entry_word}
+use Rattle.image_layout.specs.declared.superblock.BadReason.TheVariants as bad
+use Rattle.image_layout.specs.Places.{logs, log_entries, root_slots, slot_line, first_object_line, log_head_line, log_entry_line, log_entry_word}
 use Rattle.image_meaning.specs.Checks.{Words, Bad, fails_unless, then_check, first_fault}
 
 -- a place, which is 8 × line + word, and the word that it had

@@ -8,9 +8,9 @@ use Rattle.graph_model.specs.declared.types.NamedValue.{NamedValue}
 use Rattle.graph_model.specs.declared.types.Node.{Node}
 use Rattle.graph_model.specs.declared.types.Graph.{Graph}
 use Rattle.graph_model.specs.Canon.{with_new, renumbered}
-use Rattle.image_meaning.specs.declared.reason.BadReason.{BadReason}
-use Rattle.image_meaning.specs.declared.reason.BadReason.TheVariants as bad
-use Rattle.image_meaning.specs.Places.{root_slots, slot_line, slot_word, super_check}
+use Rattle.image_layout.specs.declared.superblock.BadReason.{BadReason}
+use Rattle.image_layout.specs.declared.superblock.BadReason.TheVariants as bad
+use Rattle.image_layout.specs.Places.{root_slots, slot_line, slot_word, super_check}
 use Rattle.image_meaning.specs.Checks.{Words, Bad, fails_unless, first_fault, after_check, ◌>>=◌}
 use Rattle.image_meaning.specs.Directories.{Directory, directory_of}
 use Rattle.image_meaning.specs.Logs.{logs_fault, put_back}

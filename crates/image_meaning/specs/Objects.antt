@@ -9,8 +9,8 @@ use Rattle.graph_model.specs.declared.types.Value.TheVariants.{Int, Long, Null, 
 use Rattle.graph_model.specs.declared.types.Field.{Field}
 use Rattle.graph_model.specs.declared.types.Shape.{Shape}
 use Rattle.graph_model.specs.Heaps.{no_shape}
-use Rattle.image_meaning.specs.declared.reason.BadReason.TheVariants as bad
-use Rattle.image_meaning.specs.Places.{first_object_line, lines_of, object_line, object_word}
+use Rattle.image_layout.specs.declared.superblock.BadReason.TheVariants as bad
+use Rattle.image_layout.specs.Places.{first_object_line, lines_of, object_line, object_word}
 use Rattle.image_meaning.specs.Checks.{Words, Bad, fails_unless, then_check, first_fault}
 
 -- ---- words

@@ -2,11 +2,9 @@
 #![tactic(auto)]
 
 mod laws;
-mod reason;
 
 pub use laws::{
     checks_come_in_order, corresponding_words_stand, directories_are_read,
     entries_are_put_back_one_by_one, further_objects_correspond, null_roots_stand,
     one_array_stands, same_words_stand, stores_correspond,
 };
-pub use reason::BadReason;
