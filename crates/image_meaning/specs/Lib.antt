@@ -7,3 +7,4 @@ pub mod Laws
 pub mod Logs
 pub mod Meaning
 pub mod Objects
+pub mod Rows

@@ -2,6 +2,7 @@
 ghost use Rattle.std.specs.Prelude.{ℕ};
 ghost use Rattle.image_meaning.specs.Checks.{Words};
 ghost use Rattle.image_meaning.specs.Laws.{ChecksComeInOrder, PutBackOneByOne, DirectoriesAreRead, CorrespondingWordsStand, SameWordsStand, SameWordsCorrespond, SlotStoreCorresponds, RootStoreCorresponds, OtherObjectsCorrespond, FurtherObjectsCorrespond};
+ghost use Rattle.image_meaning.specs.Rows.{SuperblockRows, EntryRows, PutBackRow, ObjectRows, WordRows, WalkRows};
 ghost use Rattle.image_meaning.specs.Arrays.{NullRootsStand, ArrayEntriesMayStand, OneArrayStands};
 
 /// The first check that fails counts: of the superblock, the directory, the logs, the root slots, the objects.
@@ -51,4 +52,22 @@ pub fn null_roots_stand()
 pub fn one_array_stands()
     ensures entries { ArrayEntriesMayStand }
     ensures stands { OneArrayStands }
+{}
+
+/// Images without objects: what is wrong with their superblocks and directories, and blank ones.
+pub fn superblock_rows()
+    ensures { SuperblockRows }
+{}
+
+/// Entries of a directory.
+pub fn entry_rows()
+    ensures { EntryRows }
+{}
+
+/// Objects, their words, and those that are found.
+pub fn object_rows()
+    ensures put_back { PutBackRow }
+    ensures objects { ObjectRows }
+    ensures words { WordRows }
+    ensures walks { WalkRows }
 {}
