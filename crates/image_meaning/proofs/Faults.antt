@@ -20,7 +20,7 @@ first_fault-same check other (suc n) same =
     ap (λ before. then_check before (other n)) (first_fault-same check other n (λ i h. same i (omega (arith, h))))
     ∙ ap (λ now. then_check (first_fault check n) now) (same n (omega arith))
 
-both_none : (a b : Option Bad) → then_check a b ≡ None → (a ≡ None) × (b ≡ None)
+pub both_none : (a b : Option Bad) → then_check a b ≡ None → (a ≡ None) × (b ≡ None)
 both_none None b h = (refl, h)
 both_none (Some bad) b h = absurd (let e : Some bad ≡ None = h in cc)
 

@@ -7,6 +7,10 @@ pub mod Logs
 pub mod Opened
 pub mod Order
 pub mod Pairs
+pub mod Places
 pub mod Ranges
+pub mod Recovering
+pub mod Standing
 pub mod Stands
+pub mod Stopped
 pub mod Words

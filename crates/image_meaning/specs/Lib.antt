@@ -7,4 +7,5 @@ pub mod Laws
 pub mod Logs
 pub mod Meaning
 pub mod Objects
+pub mod Recovering
 pub mod Rows

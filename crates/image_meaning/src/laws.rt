@@ -2,6 +2,7 @@
 ghost use Rattle.std.specs.Prelude.{ℕ};
 ghost use Rattle.image_meaning.specs.Checks.{Words};
 ghost use Rattle.image_meaning.specs.Laws.{ChecksComeInOrder, PutBackOneByOne, DirectoriesAreRead, CorrespondingWordsStand, SameWordsStand, SameWordsCorrespond, SlotStoreCorresponds, RootStoreCorresponds, OtherObjectsCorrespond, FurtherObjectsCorrespond};
+ghost use Rattle.image_meaning.specs.Recovering.{StoppedRecoveryStands, StoppedRecoveriesAreOne};
 ghost use Rattle.image_meaning.specs.Rows.{SuperblockRows, EntryRows, PutBackRow, ObjectRows, WordRows, WalkRows};
 ghost use Rattle.image_meaning.specs.Arrays.{NullRootsStand, ArrayEntriesMayStand, OneArrayStands};
 
@@ -41,6 +42,12 @@ pub fn stores_correspond()
 pub fn further_objects_correspond()
     ensures other { OtherObjectsCorrespond }
     ensures further { FurtherObjectsCorrespond }
+{}
+
+/// What stops within recoveries leave stands for the graph that the image stood for at first.
+pub fn stopped_recoveries_stand()
+    ensures stand { StoppedRecoveryStands }
+    ensures again { StoppedRecoveriesAreOne }
 {}
 
 /// An image whose root slots are all 0 stands for roots that are all null.
