@@ -1,3 +1,4 @@
+pub mod Appending
 pub mod Arrays
 pub mod Changes
 pub mod Directories

@@ -1,15 +1,14 @@
 -- A stop within a recovery leaves words that stand for the same graph.
-use Rattle.std.proofs.Common.{◌≡◌, ◌≢◌, ◌⊎◌, inl, inr, ℕ, zero, suc, ◌+◌, ◌/◌, ◌%◌, ◌<◌, ◌≤◌, ◌==◌, ◌&&◌, ◌||◌, Bool, true, false, List, [], ◌∷◌, ◌++◌, length, nat_le, nat_lt, Option, Some, None, Ok, refl, sym, ◌∙◌, ap, subst, arith, if◌then◌else◌}
+use Rattle.std.proofs.Common.{◌≡◌, ◌⊎◌, inl, inr, ℕ, zero, suc, ◌+◌, ◌/◌, ◌<◌, ◌≤◌, ◌==◌, ◌&&◌, ◌||◌, Bool, true, false, List, [], ◌∷◌, ◌++◌, Option, Some, None, refl, sym, ◌∙◌, ap, subst, arith, if◌then◌else◌}
 use Rattle.std.specs.Prelude.{not}
-use Rattle.std.specs.List.{list_any}
-use Rattle.std.proofs.lemmas.Bool.{cases_lt, lt-leb, le-leb, lt-ltb, le-ltb, and_from, true≢false, false≢true, cases_Bool}
+use Rattle.std.proofs.lemmas.Bool.{cases_lt, lt-leb, le-leb, lt-ltb, le-ltb, true≢false, false≢true}
 use Rattle.std.proofs.lemmas.List.Folds.{list_any-append}
 use Rattle.image_layout.specs.declared.superblock.BadReason.TheVariants as bad
 use Rattle.image_layout.specs.Places.{logs, log_entries, slot_line, root_slots, first_object_line, log_head_line, log_entry_line, log_entry_word}
-use Rattle.image_meaning.specs.Checks.{Words, Bad, fails_unless, then_check, first_fault}
+use Rattle.image_meaning.specs.Checks.{Words, first_fault}
 use Rattle.image_meaning.specs.Logs.{Logged, log_count, logged_at, first_logged, log_of, logs_below, may_be_logged, has_place, entry_fault, log_fault, logs_fault, is_place, old_word, or_else, is_log_line, put_back}
 use Rattle.image_meaning.specs.Recovering.{IsUnchanged, IsEmptied, IsRecovering}
-use Rattle.image_meaning.proofs.Faults.{first_fault-none, first_fault-passes, passes_if, both_none}
+use Rattle.image_meaning.proofs.Faults.{first_fault-none, passes_if}
 use Rattle.image_meaning.proofs.Logs.{not_log_before, not_log_after}
 use Rattle.image_meaning.proofs.Ranges.{mapped_same}
 use Rattle.image_meaning.proofs.Places.{log_passes, entry_passes, once, in_place}

@@ -1,6 +1,6 @@
 -- An image that stands for a graph, and isn't blank, opens.
-use Rattle.std.proofs.Common.{◌≡◌, ◌≢◌, ℕ, ◌<◌, ◌≤◌, ◌==◌, Bool, true, false, nat_le, Option, Some, None, Result, Ok, Err, refl, sym, ◌∙◌, if◌then◌else◌}
-use Rattle.std.proofs.lemmas.Bool.{ne_eqb, leb-true}
+use Rattle.std.proofs.Common.{◌≡◌, ◌≢◌, ℕ, ◌≤◌, ◌==◌, Bool, true, false, nat_le, Option, Some, None, Result, Ok, Err, refl, if◌then◌else◌}
+use Rattle.std.proofs.lemmas.Bool.{ne_eqb, leb-true, le-leb}
 use Rattle.graph_model.specs.declared.types.Graph.{Graph}
 use Rattle.image_layout.specs.declared.superblock.BadReason.{BadReason}
 use Rattle.image_layout.specs.declared.superblock.BadReason.TheVariants.{Size, Magic, Version, LineCount, DirectoryUse}
@@ -54,3 +54,14 @@ use-within size line used h =
     let d = held (line 2 == size) LineCount _ c.1 in
     let e = held (nat_le (line 3) directory_words) DirectoryUse _ d.1 in
     leb-true (line 3) directory_words e.0
+
+-- with any number of words in use that there are
+pub used-still : (size : ℕ) (line other : ℕ → ℕ) → line 0 ≢ 0 → super_check line size ≡ None → other 0 ≡ line 0 → other 1 ≡ line 1
+    → other 2 ≡ line 2 → other 3 ≤ directory_words → super_check other size ≡ None
+used-still size line other used h zeroth first second room =
+    let isnt : (line 0 == 0) ≡ false = ne_eqb (line 0) 0 used in
+    let a = held (has_size size) Size (if line 0 == 0 then None else used_check line size) h in
+    let b = held (line 0 == magic) Magic _ (rw isnt at a.1) in
+    let c = held (line 1 == version) Version _ b.1 in
+    let d = held (line 2 == size) LineCount _ c.1 in
+    rw (zeroth, first, second, a.0, isnt, b.0, c.0, d.0, le-leb (other 3) directory_words room) refl

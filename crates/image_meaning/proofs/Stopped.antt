@@ -1,11 +1,11 @@
 -- What a stopped recovery leaves stands for the same graph.
-use Rattle.std.proofs.Common.{◌≡◌, ◌≢◌, ℕ, ◌+◌, ◌/◌, ◌<◌, ◌≤◌, ◌&&◌, ◌||◌, true, false, nat_le, nat_lt, None, Ok, refl, sym, ◌∙◌, ap, arith, if◌then◌else◌}
+use Rattle.std.proofs.Common.{◌≡◌, ◌≢◌, ℕ, ◌<◌, ◌≤◌, false, None, Ok, refl, ◌∙◌, arith}
 use Rattle.std.proofs.lemmas.Bool.{ne_eqb, lt-leb, le-ltb, le-leb}
 use Rattle.graph_model.specs.declared.types.Graph.{Graph}
-use Rattle.image_layout.specs.Places.{logs, slot_line, root_slots, first_object_line, directory_line, directory_word, directory_words, super_check}
+use Rattle.image_layout.specs.Places.{logs, slot_line, root_slots, first_object_line, directory_line, directory_word, directory_words}
 use Rattle.image_meaning.specs.Checks.{Words}
 use Rattle.image_meaning.specs.Directories.{Directory}
-use Rattle.image_meaning.specs.Logs.{log_fault, logs_fault, may_be_logged, is_log_line, put_back}
+use Rattle.image_meaning.specs.Logs.{log_fault, logs_fault, may_be_logged, put_back}
 use Rattle.image_meaning.specs.Meaning.{graph_from, meaning, StandsFor}
 use Rattle.image_meaning.specs.Laws.{Opens}
 use Rattle.image_meaning.specs.Recovering.{IsRecovering}

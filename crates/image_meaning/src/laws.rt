@@ -2,6 +2,7 @@
 ghost use Rattle.std.specs.Prelude.{ℕ};
 ghost use Rattle.image_meaning.specs.Checks.{Words};
 ghost use Rattle.image_meaning.specs.Laws.{ChecksComeInOrder, PutBackOneByOne, DirectoriesAreRead, CorrespondingWordsStand, SameWordsStand, SameWordsCorrespond, SlotStoreCorresponds, RootStoreCorresponds, OtherObjectsCorrespond, FurtherObjectsCorrespond};
+ghost use Rattle.image_meaning.specs.Appending.{AddedEntryOpens, AddedShapeCorresponds, AddedRootCorresponds, NullRootIsAdded};
 ghost use Rattle.image_meaning.specs.Recovering.{StoppedRecoveryStands, StoppedRecoveriesAreOne};
 ghost use Rattle.image_meaning.specs.Rows.{SuperblockRows, EntryRows, PutBackRow, ObjectRows, WordRows, WalkRows};
 ghost use Rattle.image_meaning.specs.Arrays.{NullRootsStand, ArrayEntriesMayStand, OneArrayStands};
@@ -42,6 +43,15 @@ pub fn stores_correspond()
 pub fn further_objects_correspond()
     ensures other { OtherObjectsCorrespond }
     ensures further { FurtherObjectsCorrespond }
+{}
+
+/// An image whose directory has one more entry opens with it, and corresponds to the same heap, with one more null root
+/// where the entry is a root's.
+pub fn added_entries_correspond()
+    ensures opens { AddedEntryOpens }
+    ensures shape { AddedShapeCorresponds }
+    ensures root { AddedRootCorresponds }
+    ensures graph { NullRootIsAdded }
 {}
 
 /// What stops within recoveries leave stands for the graph that the image stood for at first.
