@@ -4,8 +4,10 @@ pub mod Changes
 pub mod Directories
 pub mod Entries
 pub mod Faults
+pub mod FoundImage
 pub mod Logs
 pub mod Opened
+pub mod Opening
 pub mod Order
 pub mod Pairs
 pub mod Places
@@ -13,5 +15,6 @@ pub mod Ranges
 pub mod Recovering
 pub mod Standing
 pub mod Stands
+pub mod Steps
 pub mod Stopped
 pub mod Words

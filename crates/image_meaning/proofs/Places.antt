@@ -53,7 +53,7 @@ not_named (e ∷ entries) p line word h here =
 
 -- ---- logs that pass
 
-passed : (b : Bool) (bad : Bad) → fails_unless b bad ≡ None → b ≡ true
+pub passed : (b : Bool) (bad : Bad) → fails_unless b bad ≡ None → b ≡ true
 passed true bad h = refl
 passed false bad h = absurd (let e : Some bad ≡ None = h in cc)
 

@@ -11,12 +11,12 @@ use Rattle.image_meaning.specs.Logs.{logs_fault, put_back}
 use Rattle.image_meaning.specs.Meaning.{at_super, graph_from, graph_after_logs, graph_after_super, meaning, StandsFor}
 use Rattle.image_meaning.specs.Laws.{Opens}
 
-after_ok : {A : Type 0} (check : Option Bad) (given : Result A Bad) (x : A) → after_check check given ≡ Ok x
+pub after_ok : {A : Type 0} (check : Option Bad) (given : Result A Bad) (x : A) → after_check check given ≡ Ok x
     → (check ≡ None) × (given ≡ Ok x)
 after_ok None given x h = (refl, h)
 after_ok {A} (Some bad) given x h = absurd (let wrong : Result A Bad = Err bad in let e : wrong ≡ Ok x = h in cc)
 
-bind_ok : {A B : Type 0} (r : Result A Bad) (f : A → Result B Bad) (y : B) → (r >>= f) ≡ Ok y
+pub bind_ok : {A B : Type 0} (r : Result A Bad) (f : A → Result B Bad) (y : B) → (r >>= f) ≡ Ok y
     → (x : A) × (r ≡ Ok x) × (f x ≡ Ok y)
 bind_ok (Ok x) f y h = (x, refl, h)
 bind_ok {B = B} (Err bad) f y h = absurd (let wrong : Result B Bad = Err bad in let e : wrong ≡ Ok y = h in cc)

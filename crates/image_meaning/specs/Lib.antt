@@ -8,5 +8,6 @@ pub mod Laws
 pub mod Logs
 pub mod Meaning
 pub mod Objects
+pub mod Opening
 pub mod Recovering
 pub mod Rows
