@@ -1,7 +1,7 @@
 -- What is found in an image corresponds to each heap that holds its graph.
-use Rattle.std.proofs.Common.{◌≡◌, ◌≢◌, inl, inr, ℕ, zero, suc, ◌+◌, ◌<◌, ◌≤◌, Bool, true, false, List, [], ◌∷◌, length, map, take, nat_eq, None, Result, Ok, Err, refl, sym, ◌∙◌, ap, subst, arith, slice_index_or}
+use Rattle.std.proofs.Common.{◌≡◌, ◌≢◌, inl, inr, ℕ, ◌+◌, ◌<◌, ◌≤◌, Bool, true, false, List, [], ◌∷◌, length, map, take, None, Ok, refl, sym, ◌∙◌, ap, subst, arith, slice_index_or}
 use Rattle.std.specs.List.{range_with_len, list_any}
-use Rattle.std.proofs.lemmas.Bool.{cases_lt, ne_eqb}
+use Rattle.std.proofs.lemmas.Bool.{cases_lt}
 use Rattle.std.proofs.lemmas.List.{get_or-map, get_or-take, length-map, length-take, map-id}
 use Rattle.std.proofs.lemmas.List.FromFn.{length-map-range_with_len, get_or-map-range_with_len}
 use Rattle.std.proofs.lemmas.List.Folds.{list_any_at}
@@ -12,23 +12,20 @@ use Rattle.graph_model.specs.declared.types.NamedValue.{NamedValue}
 use Rattle.graph_model.specs.declared.types.Node.{Node}
 use Rattle.graph_model.specs.declared.types.Heap.{Heap}
 use Rattle.graph_model.specs.declared.types.Graph.{Graph}
-use Rattle.graph_model.specs.Heaps.{has_number, object_at, shape_at, values_of, root_values}
+use Rattle.graph_model.specs.Heaps.{values_of}
 use Rattle.graph_model.specs.Canon.{renumbered}
 use Rattle.graph_model.proofs.Numbers.{has_number-from_Contains}
 use Rattle.std.proofs.lemmas.List.Elements.{Contains-get_or}
-use Rattle.image_layout.specs.Places.{root_slots, first_object_line, lines_of}
-use Rattle.image_meaning.specs.Checks.{Words, ◌>>=◌}
-use Rattle.image_meaning.specs.Directories.{Directory, no_entries, with_all, directory_of, directory_words_of}
-use Rattle.image_meaning.specs.Logs.{put_back}
-use Rattle.image_meaning.specs.Objects.{value_of, shape_of, length_at, object_slot, kind_of, values_at, is_within, object_fault}
-use Rattle.image_meaning.specs.Meaning.{root_word, roots_fault, root_value, root_values_of, walk, root_at, node_at, graph_found, graph_from, StandsFor}
-use Rattle.image_meaning.specs.Corresponds.{LiesAt, HoldsReference, Holds, IsObject, AreApart, Corresponds, root_value_at}
-use Rattle.image_meaning.specs.Laws.{Opens}
-use Rattle.image_meaning.specs.Opening.{no_node, graph_node, HoldsGraph, found_at, Finds, FoundImage}
+use Rattle.image_layout.specs.Places.{root_slots, first_object_line}
+use Rattle.image_meaning.specs.Checks.{Words}
+use Rattle.image_meaning.specs.Directories.{Directory, no_entries, directory_of, directory_words_of}
+use Rattle.image_meaning.specs.Objects.{value_of, shape_of, length_at, object_slot, kind_of, values_at, is_within}
+use Rattle.image_meaning.specs.Meaning.{roots_fault, root_value, root_values_of, walk, root_at, node_at, graph_found}
+use Rattle.image_meaning.specs.Corresponds.{IsObject, AreApart, Corresponds, root_value_at}
+use Rattle.image_meaning.specs.Opening.{no_node, graph_node, HoldsGraph, found_at}
 use Rattle.image_meaning.proofs.Directories.{entries-taken, roots-few}
 use Rattle.image_meaning.proofs.Ranges.{get_or_any, mapped_alike}
-use Rattle.image_meaning.proofs.Standing.{after_ok, bind_ok, opens-standing}
-use Rattle.image_meaning.proofs.Steps.{AreAmong, Gone, all_gone}
+use Rattle.image_meaning.proofs.Steps.{Gone, all_gone}
 use Rattle.image_meaning.proofs.Opening.{ObjectPasses, object_passed, values_in_image, roots_in_image, root_unused, root_held, slot_held, one_number, apart_from_free}
 
 not_if : (b c : Bool) → (b ≡ true → c ≡ true) → c ≡ false → b ≡ false

@@ -14,6 +14,7 @@ pub mod Places
 pub mod Ranges
 pub mod Recovering
 pub mod Standing
+pub mod Standings
 pub mod Stands
 pub mod Steps
 pub mod Stopped

@@ -43,7 +43,7 @@ put_back-same_words R directory size words heap none same =
     }
 
 -- words that say the same where it counts are put back to words that do
-put_back-agrees : (R : LiesAt) (directory : Directory) (size : ℕ) (c d : Words) (heap : Heap) → SameLogs c d
+pub put_back-agrees : (R : LiesAt) (directory : Directory) (size : ℕ) (c d : Words) (heap : Heap) → SameLogs c d
     → Corresponds R directory size (put_back c) heap → SameWords R heap c d → SameWords R heap (put_back c) (put_back d)
 put_back-agrees R directory size c d heap logs k same = record {
   heads = λ line n r. put_back-same c d logs line 0 (same.heads line n r);

@@ -1,30 +1,27 @@
 -- An image that stands for a graph corresponds to each heap that holds the graph.
-use Rattle.std.proofs.Common.{◌≡◌, ◌≢◌, ◌⊎◌, inl, inr, ℕ, zero, suc, ◌+◌, ◌-◌, ◌*◌, ◌/◌, ◌%◌, ◌<◌, ◌≤◌, ◌==◌, ◌&&◌, ◌||◌, Bool, true, false, List, [], ◌∷◌, ◌++◌, length, map, take, nat_eq, nat_le, nat_lt, Option, Some, None, Result, Ok, Err, refl, sym, ◌∙◌, ap, subst, arith, slice_index_or, if◌then◌else◌}
-use Rattle.std.specs.Prelude.{Contains, not}
-use Rattle.std.specs.List.{IsDistinct, range_with_len, list_any}
-use Rattle.std.proofs.lemmas.Bool.{cases_lt, cases_eq, lt-ltb, le-ltb, le-leb, eq-eqb, ne_eqb, true≢false, false≢true, and_parts, and_from, leb-true, ltb-true, eqb-true, eqb-false, not-true}
-use Rattle.std.proofs.lemmas.List.{get_or-map, get_or-take, length-map, length-take, map-id}
+use Rattle.std.proofs.Common.{◌≡◌, ◌≢◌, inl, inr, ℕ, ◌+◌, ◌-◌, ◌*◌, ◌/◌, ◌%◌, ◌<◌, ◌≤◌, ◌==◌, ◌&&◌, true, false, List, [], ◌∷◌, length, nat_eq, nat_le, nat_lt, None, refl, sym, ◌∙◌, arith, slice_index_or, if◌then◌else◌}
+use Rattle.std.specs.Prelude.{not}
+use Rattle.std.specs.List.{IsDistinct, list_any}
+use Rattle.std.proofs.lemmas.Bool.{cases_lt, cases_eq, lt-ltb, le-ltb, le-leb, eq-eqb, ne_eqb, false≢true, and_parts, and_from, leb-true, ltb-true, eqb-true, eqb-false, not-true}
 use Rattle.std.proofs.lemmas.List.FromFn.{length-map-range_with_len, get_or-map-range_with_len}
-use Rattle.std.proofs.lemmas.List.Folds.{list_any_at}
 use Rattle.std.proofs.lemmas.Map.Keys.{apart_from_distinct}
 use Rattle.ap_base.specs.declared.kind.Kind.{Kind}
 use Rattle.ap_base.specs.declared.kind.Kind.TheVariants.{Z, B, C, S, I, J, L, Text}
 use Rattle.graph_model.specs.declared.types.Value.{Value}
-use Rattle.graph_model.specs.declared.types.Value.TheVariants.{Int, Long, Null, Obj as Object}
+use Rattle.graph_model.specs.declared.types.Value.TheVariants.{Null, Obj as Object}
 use Rattle.graph_model.specs.declared.types.Shape.{Shape}
 use Rattle.graph_model.specs.Heaps.{has_number}
 use Rattle.graph_model.specs.Canon.{place_in, renumbered}
 use Rattle.image_layout.specs.declared.superblock.BadReason.TheVariants as bad
 use Rattle.image_layout.specs.Places.{root_slots, slot_line, first_object_line, lines_of, object_line}
-use Rattle.image_meaning.specs.Checks.{Words, Bad, fails_unless, then_check, first_fault}
+use Rattle.image_meaning.specs.Checks.{Words, fails_unless, first_fault}
 use Rattle.image_meaning.specs.Objects.{is_reference, is_number, value_of, word_fault, shape_number, shape_of, length_at, object_slot, kind_of, has_length, values_at, is_within, line_fault, slot_fault, object_fault}
-use Rattle.image_meaning.specs.Meaning.{root_word, root_fault, roots_fault, root_value, root_values_of, walk}
-use Rattle.image_meaning.specs.Corresponds.{LiesAt, HoldsReference, Holds, AreApart}
+use Rattle.image_meaning.specs.Meaning.{root_word, root_fault, roots_fault, root_value, root_values_of}
+use Rattle.image_meaning.specs.Corresponds.{HoldsReference, Holds, AreApart}
 use Rattle.image_meaning.specs.Opening.{found_at}
 use Rattle.image_meaning.proofs.Faults.{first_fault-passes, both_none}
 use Rattle.image_meaning.proofs.Places.{passed}
-use Rattle.image_meaning.proofs.Ranges.{get_or_any}
-use Rattle.image_meaning.proofs.Steps.{AreInImage, AreAmong, Gone, all_gone}
+use Rattle.image_meaning.proofs.Steps.{AreInImage, AreAmong}
 
 -- ---- words that pass
 

@@ -1,21 +1,20 @@
 -- What a walk that ends well has seen, step by step.
-use Rattle.std.proofs.Common.{◌≡◌, ◌≢◌, ◌⊎◌, inl, inr, ℕ, zero, suc, ◌+◌, ◌*◌, ◌/◌, ◌%◌, ◌<◌, ◌≤◌, ◌==◌, ◌&&◌, ◌||◌, Bool, true, false, List, [], ◌∷◌, ◌++◌, length, map, take, nat_eq, nat_le, nat_lt, Option, Some, None, Result, Ok, Err, refl, sym, ◌∙◌, ap, subst, arith, slice_index_or, if◌then◌else◌, length-append}
-use Rattle.std.specs.Prelude.{Contains, All}
-use Rattle.std.specs.List.{IsDistinct, range_with_len}
-use Rattle.std.proofs.lemmas.Bool.{cases_lt, lt-ltb, le-ltb, true≢false, false≢true, or_cases, and_parts, leb-true, ltb-true, eqb-true}
+use Rattle.std.proofs.Common.{◌≡◌, inl, inr, ℕ, zero, suc, ◌+◌, ◌<◌, ◌≤◌, true, false, List, [], length, take, nat_eq, nat_lt, None, Ok, ◌∙◌, ap, subst, arith, slice_index_or, length-append}
+use Rattle.std.specs.Prelude.{Contains}
+use Rattle.std.specs.List.{IsDistinct}
+use Rattle.std.proofs.lemmas.Bool.{cases_lt, lt-ltb, le-ltb, false≢true}
 use Rattle.std.proofs.lemmas.List.{get_or_append_left, take-append-le}
 use Rattle.std.proofs.lemmas.Map.Steps.{length-le_from_distinct_below}
 use Rattle.graph_model.specs.declared.types.Value.{Value}
-use Rattle.graph_model.specs.declared.types.Value.TheVariants.{Int, Long, Null, Obj as Object}
+use Rattle.graph_model.specs.declared.types.Value.TheVariants.{Obj as Object}
 use Rattle.graph_model.specs.declared.types.Shape.{Shape}
 use Rattle.graph_model.specs.Heaps.{has_number}
 use Rattle.graph_model.specs.Canon.{with_new}
 use Rattle.graph_model.proofs.Numbers.{has_number-any, with_new-keeps, with_new-has, with_new-only, with_new-prefix, with_new-distinct}
 use Rattle.image_layout.specs.Places.{first_object_line}
-use Rattle.image_meaning.specs.Checks.{Words, Bad, after_check, ◌>>=◌}
+use Rattle.image_meaning.specs.Checks.{Words}
 use Rattle.image_meaning.specs.Objects.{values_at, object_fault}
 use Rattle.image_meaning.specs.Meaning.{look_at, walk}
-use Rattle.image_meaning.proofs.Stands.{walk-past}
 use Rattle.image_meaning.proofs.Standing.{after_ok, bind_ok}
 
 -- an object that the values refer to lies within an image of so many lines

@@ -5,11 +5,12 @@ use Rattle.graph_model.specs.declared.types.Shape.{Shape}
 use Rattle.graph_model.specs.declared.types.Heap.{Heap}
 use Rattle.graph_model.specs.declared.types.Graph.{Graph}
 use Rattle.graph_model.specs.Canon.{canon_of}
-use Rattle.image_layout.specs.Places.{directory_words, directory_line, directory_word}
+use Rattle.image_layout.specs.Places.{root_slots, first_object_line, directory_words, directory_line, directory_word}
 use Rattle.image_meaning.specs.Checks.{Words}
 use Rattle.image_meaning.specs.Entries.{Entry, ShapeEntry, RootEntry, spelled, IsEntry}
 use Rattle.image_meaning.specs.Directories.{Directory, is_refused, with_entry}
 use Rattle.image_meaning.specs.Logs.{SameLogs}
+use Rattle.image_meaning.specs.Meaning.{root_word, StandsFor}
 use Rattle.image_meaning.specs.Corresponds.{Corresponds}
 use Rattle.image_meaning.specs.Arrays.{null_root}
 use Rattle.image_meaning.specs.Laws.{Opens, told_by}
@@ -55,3 +56,20 @@ with_null_root graph name = record graph { roots = graph.roots ++ null_root name
 abbrev pub NullRootIsAdded : Type 0
 NullRootIsAdded = (heap : Heap) (name : List ℕ) (static : ℕ) → slice_index_or heap.statics static Null ≡ Null
     → canon_of (with_root heap name static) ≡ with_null_root (canon_of heap) name
+
+-- d has the words of c in the root slots and in the lines of objects
+pub record SameBehind (c d : Words) : Type 0 where
+  pub roots : (r : ℕ) → r < root_slots → root_word d r ≡ root_word c r
+  pub objects : (line word : ℕ) → first_object_line ≤ line → d line word ≡ c line word
+
+-- what an image stands for with this entry too
+abbrev pub with_entry_too : Graph → Entry → Graph
+with_entry_too graph (ShapeEntry shape) = graph
+with_entry_too graph (RootEntry name) = with_null_root graph name
+
+-- An added shape leaves the graph as it was, and an added root comes to it as null.
+abbrev pub AddedEntryStands : Type 0
+AddedEntryStands = (size : ℕ) (c d : Words) (directory : Directory) (entry : Entry) (graph : Graph)
+    → Opens size c directory → StandsFor size c graph
+    → IsEntry entry → is_refused directory entry ≡ false → AddsEntry c d entry → SameLogs c d → SameBehind c d
+    → StandsFor size d (with_entry_too graph entry)

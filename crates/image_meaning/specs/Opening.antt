@@ -1,6 +1,5 @@
 -- An image that stands for a graph corresponds to each heap that holds the graph.
 use Rattle.std.specs.Prelude.{◌≡◌, ◌≢◌, ℕ, ◌<◌, ◌≤◌, List, [], length, map, slice_index_or, None, Ok}
-use Rattle.graph_model.specs.declared.types.Shape.{Shape}
 use Rattle.graph_model.specs.declared.types.Root.{Root}
 use Rattle.graph_model.specs.declared.types.NamedValue.{NamedValue}
 use Rattle.graph_model.specs.declared.types.Node.{Node}
@@ -38,8 +37,7 @@ pub record Finds (size : ℕ) (words : Words) (directory : Directory) (lines : L
   pub roots : roots_fault size (put_back words) (length directory.roots) ≡ None
   pub walk : walk directory.shapes size (put_back words) (root_values_of (put_back words) (length directory.roots)) size ≡ Ok lines
 
--- An image stands for a graph, and isn't blank, where lines are found that give the graph; their objects correspond to each heap that
--- holds it.
+-- Lines are found that give the graph, and their objects correspond to each heap that holds it.
 pub record FoundImage (size : ℕ) (words : Words) (graph : Graph) : Type 0 where
   pub directory : Directory
   pub lines : List ℕ
@@ -47,6 +45,12 @@ pub record FoundImage (size : ℕ) (words : Words) (graph : Graph) : Type 0 wher
   pub gives : graph_found directory (put_back words) lines ≡ graph
   pub corresponds : (heap : Heap) → HoldsGraph heap graph → Corresponds (found_at lines) directory size (put_back words) heap
 
+-- So it is with each image that stands for a graph and isn't blank.
 abbrev pub StandingImageIsFound : Type 0
 StandingImageIsFound = (size : ℕ) (words : Words) (graph : Graph) → words 0 0 ≢ 0 → StandsFor size words graph
     → FoundImage size words graph
+
+-- And what is found is what the image stands for.
+abbrev pub FoundImageStands : Type 0
+FoundImageStands = (size : ℕ) (words : Words) (directory : Directory) (lines : List ℕ) → Finds size words directory lines
+    → StandsFor size words (graph_found directory (put_back words) lines)

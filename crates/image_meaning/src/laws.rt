@@ -2,7 +2,8 @@
 ghost use Rattle.std.specs.Prelude.{ℕ};
 ghost use Rattle.image_meaning.specs.Checks.{Words};
 ghost use Rattle.image_meaning.specs.Laws.{ChecksComeInOrder, PutBackOneByOne, DirectoriesAreRead, CorrespondingWordsStand, SameWordsStand, SameWordsCorrespond, SlotStoreCorresponds, RootStoreCorresponds, OtherObjectsCorrespond, FurtherObjectsCorrespond};
-ghost use Rattle.image_meaning.specs.Appending.{AddedEntryOpens, AddedShapeCorresponds, AddedRootCorresponds, NullRootIsAdded};
+ghost use Rattle.image_meaning.specs.Appending.{AddedEntryOpens, AddedShapeCorresponds, AddedRootCorresponds, NullRootIsAdded, AddedEntryStands};
+ghost use Rattle.image_meaning.specs.Opening.{StandingImageIsFound, FoundImageStands};
 ghost use Rattle.image_meaning.specs.Recovering.{StoppedRecoveryStands, StoppedRecoveriesAreOne};
 ghost use Rattle.image_meaning.specs.Rows.{SuperblockRows, EntryRows, PutBackRow, ObjectRows, WordRows, WalkRows};
 ghost use Rattle.image_meaning.specs.Arrays.{NullRootsStand, ArrayEntriesMayStand, OneArrayStands};
@@ -52,6 +53,13 @@ pub fn added_entries_correspond()
     ensures shape { AddedShapeCorresponds }
     ensures root { AddedRootCorresponds }
     ensures graph { NullRootIsAdded }
+    ensures stands { AddedEntryStands }
+{}
+
+/// An image that stands for a graph corresponds to each heap that holds the graph, object by object.
+pub fn found_objects_correspond()
+    ensures found { StandingImageIsFound }
+    ensures stands { FoundImageStands }
 {}
 
 /// What stops within recoveries leave stands for the graph that the image stood for at first.
