@@ -1,16 +1,27 @@
 -- Rows worked out by hand: superblocks, entries, logs, and the checks of small objects.
-use Rattle.std.specs.Prelude.{◌≡◌, ℕ, ◌+◌, ◌*◌, ◌^◌, ◌==◌, true, negsuc, List, [], ◌∷◌, slice_index, if◌then◌else◌, Option, Some, None, Ok, Err}
+use Rattle.std.specs.Prelude.{◌<◌, ◌≤◌, ◌++◌, false, map, ◌≡◌, ℕ, ◌+◌, ◌*◌, ◌^◌, ◌==◌, true, negsuc, List, [], ◌∷◌, slice_index, if◌then◌else◌, Option, Some, None, Ok, Err}
+use Rattle.std.specs.List.{range_with_len}
 use Rattle.ap_base.specs.declared.kind.Kind.TheVariants.{Z, B, C, I, J, L}
 use Rattle.graph_model.specs.declared.types.Value.TheVariants.{Int, Long, Obj as Object}
 use Rattle.graph_model.specs.declared.types.Shape.{Shape}
 use Rattle.image_layout.specs.declared.superblock.BadReason.TheVariants as bad
-use Rattle.image_layout.specs.Places.{magic}
-use Rattle.image_meaning.specs.Checks.{Words, Bad}
+use Rattle.image_layout.specs.Places.{magic, log_head_line}
+use Rattle.image_meaning.specs.Checks.{Words, Bad, first_fault}
 use Rattle.image_meaning.specs.Entries.{ShapeEntry, RootEntry, spelled, read_entry}
-use Rattle.image_meaning.specs.Logs.{put_each}
+use Rattle.image_meaning.specs.Directories.{Directory, no_entries, is_refused, with_entries}
+use Rattle.image_meaning.specs.Logs.{log_count, logged_at, entry_fault, log_fault, put_each}
 use Rattle.image_meaning.specs.Objects.{value_of, word_fault, values_at, object_fault}
-use Rattle.image_meaning.specs.Meaning.{walk, empty_graph, meaning}
+use Rattle.image_meaning.specs.Meaning.{root_fault, walk, empty_graph, meaning}
 use Rattle.image_meaning.specs.Arrays.{int_array}
+
+-- ---- words
+
+-- the words of a line, or 0
+abbrev pub line_words : ℕ → List ℕ → Words → Words
+line_words at words others line word = if line == at then slice_index words word else others line word
+
+abbrev pub nothing_there : Words
+nothing_there line word = 0
 
 -- ---- whole images
 
@@ -67,6 +78,33 @@ pub record EntryRows : Type 0 where
   pub array_of_floats : read_entry ((1 + 2 ^ 32 * 3) ∷ 2 ∷ 0x465B ∷ []) ≡ None
   pub array_with_a_field : read_entry ((1 + 2 ^ 32 * 5) ∷ (2 + 2 ^ 32 * 1) ∷ 0x495B ∷ (73 + 2 ^ 32 * 1) ∷ 118 ∷ []) ≡ None
 
+-- ---- directories
+
+-- a root of one byte
+abbrev pub short_root : ℕ → List ℕ
+short_root b = (2 + 2 ^ 32 * 3) ∷ 1 ∷ b ∷ []
+
+-- so many roots, of one byte each
+abbrev pub some_roots : ℕ → Directory
+some_roots n = record { shapes = []; roots = map (λ b. b ∷ []) (range_with_len 0 n) }
+
+abbrev pub short_shape : List ℕ
+short_shape = (1 + 2 ^ 32 * 3) ∷ 1 ∷ 65 ∷ []
+
+abbrev pub empty_shape : Shape
+empty_shape = record { name = 65 ∷ []; fields = []; element = None }
+
+-- entries whose first word is word 6 of the directory
+pub record DirectoryRows : Type 0 where
+  pub two_roots : with_entries 9 6 no_entries (short_root 65 ++ short_root 66)
+      ≡ Ok (record { shapes = []; roots = (65 ∷ []) ∷ (66 ∷ []) ∷ [] })
+  pub a_root_twice : with_entries 9 6 no_entries (short_root 65 ++ short_root 65) ≡ Err (34, bad.Entry)
+  pub a_shape_twice : with_entries 9 6 no_entries (short_shape ++ short_root 66 ++ short_shape) ≡ Err (34, bad.Entry)
+  pub one_of_each : with_entries 9 6 no_entries (short_root 65 ++ short_shape)
+      ≡ Ok (record { shapes = empty_shape ∷ []; roots = (65 ∷ []) ∷ [] })
+  pub root_256 : is_refused (some_roots 255) (RootEntry (255 ∷ [])) ≡ false
+  pub root_257 : is_refused (some_roots 256) (RootEntry (0 ∷ 0 ∷ [])) ≡ true
+
 -- ---- logs
 
 -- two entries of one place, the line 2 and its word 3: the first of them stands
@@ -74,14 +112,41 @@ abbrev pub PutBackRow : Type 0
 PutBackRow =
     put_each (record { place = 19; old = 5 } ∷ record { place = 19; old = 6 } ∷ []) (front 0 0 0 0) 2 3 ≡ 5
 
+-- Log 0 has five entries that count: of the first root slot and the last one, of the first line of objects and the last line's last
+-- word, and one of this place. It is the first of the log's second line.
+abbrev pub five_logged : ℕ → Words
+five_logged place =
+    line_words 4129 (5 ∷ [])
+    (line_words 4130 (8 ∷ 1 ∷ 263 ∷ 2 ∷ 164616 ∷ 3 ∷ 262143 ∷ 4 ∷ [])
+    (line_words 4131 (place ∷ 5 ∷ []) nothing_there))
+
+pub record LogRows : Type 0 where
+  pub a_slot : log_fault 32768 (five_logged 9) 0 ≡ None
+  pub the_superblock : log_fault 32768 (five_logged 7) 0 ≡ Some (4131, bad.LogPlace)
+  pub the_directory : log_fault 32768 (five_logged 264) 0 ≡ Some (4131, bad.LogPlace)
+  pub the_logs : log_fault 32768 (five_logged 164615) 0 ≡ Some (4131, bad.LogPlace)
+  pub past_the_image : log_fault 32768 (five_logged 262144) 0 ≡ Some (4131, bad.LogPlace)
+  pub a_place_twice : log_fault 32768 (five_logged 263) 0 ≡ Some (4131, bad.LogPlace)
+  pub twice_in_two_logs : log_fault 32768 (line_words 4386 (1 ∷ []) (line_words 4387 (9 ∷ []) (five_logged 9))) 1
+      ≡ Some (4387, bad.LogPlace)
+  pub old : logged_at (five_logged 9) 0 1 ≡ record { place = 263; old = 2 }
+
+-- A count above 1,024 fails first, and no smaller one does.
+pub record LogCountIsChecked : Type 0 where
+  pub above : (size : ℕ) (words : Words) (t : ℕ) → 1024 < log_count words t
+      → log_fault size words t ≡ Some (log_head_line t, bad.LogCount)
+  pub within : (size : ℕ) (words : Words) (t : ℕ) → log_count words t ≤ 1024
+      → log_fault size words t ≡ first_fault (entry_fault size words t) (log_count words t)
+
+-- ---- root slots
+
+pub record RootRows : Type 0 where
+  pub reference : root_fault 20600 (line_words 2 ((2 * 20577) ∷ []) nothing_there) 9 8 ≡ None
+  pub odd : root_fault 20600 (line_words 2 ((2 * 20577 + 1) ∷ []) nothing_there) 9 8 ≡ Some (2, bad.Reference)
+  pub unused : root_fault 20600 (line_words 2 ((2 * 20577) ∷ []) nothing_there) 8 8 ≡ Some (2, bad.Reference)
+  pub unused_null : root_fault 20600 nothing_there 8 8 ≡ None
+
 -- ---- objects
-
--- the words of a line, or 0
-abbrev pub line_words : ℕ → List ℕ → Words → Words
-line_words at words others line word = if line == at then slice_index words word else others line word
-
-abbrev pub nothing_there : Words
-nothing_there line word = 0
 
 -- Of class N: -1 and itself; 5 and the first. An array of eight ints, on two lines.
 abbrev pub two_pairs : Words

@@ -5,7 +5,7 @@ ghost use Rattle.image_meaning.specs.Laws.{ChecksComeInOrder, PutBackOneByOne, D
 ghost use Rattle.image_meaning.specs.Appending.{AddedEntryOpens, AddedShapeCorresponds, AddedRootCorresponds, NullRootIsAdded, AddedEntryStands};
 ghost use Rattle.image_meaning.specs.Opening.{StandingImageIsFound, FoundImageStands};
 ghost use Rattle.image_meaning.specs.Recovering.{StoppedRecoveryStands, StoppedRecoveriesAreOne};
-ghost use Rattle.image_meaning.specs.Rows.{SuperblockRows, EntryRows, PutBackRow, ObjectRows, WordRows, WalkRows};
+ghost use Rattle.image_meaning.specs.Rows.{SuperblockRows, EntryRows, DirectoryRows, PutBackRow, LogRows, LogCountIsChecked, RootRows, ObjectRows, WordRows, WalkRows};
 ghost use Rattle.image_meaning.specs.Arrays.{NullRootsStand, ArrayEntriesMayStand, OneArrayStands};
 
 /// The first check that fails counts: of the superblock, the directory, the logs, the root slots, the objects.
@@ -84,14 +84,22 @@ pub fn superblock_rows()
     ensures { SuperblockRows }
 {}
 
-/// Entries of a directory.
+/// Entries of a directory, and whole directories.
 pub fn entry_rows()
-    ensures { EntryRows }
+    ensures entries { EntryRows }
+    ensures directories { DirectoryRows }
 {}
 
-/// Objects, their words, and those that are found.
-pub fn object_rows()
+/// Logs: their counts, their places, and putting back.
+pub fn log_rows()
+    ensures counts { LogCountIsChecked }
+    ensures places { LogRows }
     ensures put_back { PutBackRow }
+{}
+
+/// Root slots, objects, their words, and those that are found.
+pub fn object_rows()
+    ensures roots { RootRows }
     ensures objects { ObjectRows }
     ensures words { WordRows }
     ensures walks { WalkRows }

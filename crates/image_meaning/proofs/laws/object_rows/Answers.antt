@@ -3,8 +3,8 @@ use Rattle.image_meaning.specs.Checks.{first_fault}
 use Rattle.image_meaning.specs.Meaning.{walk}
 use Rattle.image_meaning.proofs.laws.object_rows.Goals as goal
 
-pub returns-clause-put_back : goal.returns-clause-put_back
-returns-clause-put_back c = refl
+pub returns-clause-roots : goal.returns-clause-roots
+returns-clause-roots c = record { reference = refl; odd = refl; unused = refl; unused_null = refl }
 
 pub returns-clause-objects : goal.returns-clause-objects
 unfolding first_fault
