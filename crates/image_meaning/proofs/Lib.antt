@@ -13,6 +13,7 @@ pub mod Pairs
 pub mod Places
 pub mod Ranges
 pub mod Recovering
+pub mod Spelling
 pub mod Standing
 pub mod Standings
 pub mod Stands

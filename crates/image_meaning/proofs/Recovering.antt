@@ -98,7 +98,7 @@ module _ (size : ℕ) (c : Words) (pass : (t : ℕ) → t < logs → log_fault s
   or_parts false b h = (refl, h)
   or_parts true b h = absurd (true≢false h)
 
-  fewer_below : (d : Words) → ((t : ℕ) → t < logs → IsUnchanged c d t ⊎ IsEmptied c d t) → (t : ℕ) → t ≤ logs → (p : ℕ)
+  fewer_below : (d : Words) → ((t : ℕ) → t < logs → IsUnchanged c d t ⊎ (log_count d t ≡ 0)) → (t : ℕ) → t ≤ logs → (p : ℕ)
       → has_place (logs_below c t) p ≡ false → has_place (logs_below d t) p ≡ false
   unfolding logs_below
   fewer_below d each zero le p h = refl
@@ -107,10 +107,10 @@ module _ (size : ℕ) (c : Words) (pass : (t : ℕ) → t < logs → log_fault s
       let lower = fewer_below d each t (omega (arith, le)) p x.1 in
       elim (each t (omega (arith, le))) [
         | inl u ↦ rw (unchanged_log c d t u, named_append (log_of c t) (logs_below d t) p, x.0) lower
-        | inr u ↦ rw (emptied_log d t u.empty) lower
+        | inr u ↦ rw (emptied_log d t u) lower
       ]
 
-  entry_still : (d : Words) → ((t : ℕ) → t < logs → IsUnchanged c d t ⊎ IsEmptied c d t) → (t : ℕ) → t < logs → IsUnchanged c d t
+  entry_still : (d : Words) → ((t : ℕ) → t < logs → IsUnchanged c d t ⊎ (log_count d t ≡ 0)) → (t : ℕ) → t < logs → IsUnchanged c d t
       → (n : ℕ) → n < log_count c t → entry_fault size d t n ≡ None
   entry_still d each t h u n below =
       let entry = entry_passes size c t n ((log_passes size c t (pass t h)).1 n below) in
@@ -133,17 +133,18 @@ module _ (size : ℕ) (c : Words) (pass : (t : ℕ) → t < logs → log_fault s
           passes_if (log_entry_line t n, bad.LogPlace)
           (may_be_logged size ((logged_at d t n).place / 8) && not (has_place (first_logged d t n ++ logs_below d t) (logged_at d t n).place)) test
 
-  log_still : (d : Words) → ((t : ℕ) → t < logs → IsUnchanged c d t ⊎ IsEmptied c d t) → (t : ℕ) → t < logs → log_fault size d t ≡ None
+  log_still : (d : Words) → ((t : ℕ) → t < logs → IsUnchanged c d t ⊎ (log_count d t ≡ 0)) → (t : ℕ) → t < logs → log_fault size d t ≡ None
   unfolding first_fault
   log_still d each t h = elim (each t h) [
-    | inr u ↦ rw u.empty refl
+    | inr u ↦ rw u refl
     | inl u ↦ (
         let entries : first_fault (entry_fault size d t) (log_count c t) ≡ None =
         first_fault-none (entry_fault size d t) (log_count c t) (entry_still d each t h u) in
         rw (u.count, le-leb (log_count c t) log_entries (log_passes size c t (pass t h)).0) entries)
   ]
 
-  pub logs_still : (d : Words) → ((t : ℕ) → t < logs → IsUnchanged c d t ⊎ IsEmptied c d t) → logs_fault size d ≡ None
+  -- where each log is as it was or counts no entry
+  pub logs_still : (d : Words) → ((t : ℕ) → t < logs → IsUnchanged c d t ⊎ (log_count d t ≡ 0)) → logs_fault size d ≡ None
   unfolding logs_fault
   logs_still d each = first_fault-none (log_fault size d) logs (log_still d each)
 

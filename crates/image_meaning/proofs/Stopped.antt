@@ -1,5 +1,5 @@
 -- What a stopped recovery leaves stands for the same graph.
-use Rattle.std.proofs.Common.{◌≡◌, ◌≢◌, ℕ, ◌<◌, ◌≤◌, false, None, Ok, refl, ◌∙◌, arith}
+use Rattle.std.proofs.Common.{◌≡◌, ◌≢◌, inl, inr, ℕ, ◌<◌, ◌≤◌, false, None, Ok, refl, ◌∙◌, arith}
 use Rattle.std.proofs.lemmas.Bool.{ne_eqb, lt-leb, le-ltb, le-leb}
 use Rattle.graph_model.specs.declared.types.Graph.{Graph}
 use Rattle.image_layout.specs.Places.{logs, slot_line, root_slots, first_object_line, directory_line, directory_word, directory_words}
@@ -15,7 +15,7 @@ use Rattle.image_meaning.proofs.Logs.{not_log_before}
 use Rattle.image_meaning.proofs.Recovering.{put_back-again, logs_still, line_still, recovering-on}
 use Rattle.image_meaning.proofs.Standing.{opens-standing, use-within}
 
-logs_pass : (size : ℕ) (words : Words) → logs_fault size words ≡ None → (t : ℕ) → t < logs → log_fault size words t ≡ None
+pub logs_pass : (size : ℕ) (words : Words) → logs_fault size words ≡ None → (t : ℕ) → t < logs → log_fault size words t ≡ None
 unfolding logs_fault
 logs_pass size words h t below = first_fault-passes (log_fault size words) logs h t below
 
@@ -42,7 +42,7 @@ module _ (size : ℕ) (c d : Words) (directory : Directory) (opens : Opens size 
     super = rw (front_still 0, front_still 1, front_still 2, front_still 3) opens.super;
     used = rw (front_still 0) opens.used;
     entries = directory-same c d (front_still 3) directory_still ∙ opens.entries;
-    logs = logs_still size c (logs_pass size c opens.logs) d r.each;
+    logs = logs_still size c (logs_pass size c opens.logs) d (λ t h. elim (r.each t h) [ inl u ↦ inl u | inr u ↦ inr u.empty ]);
   }
 
   pub stands-still : (graph : Graph) → graph_from size directory (put_back c) ≡ Ok graph → StandsFor size d graph

@@ -11,3 +11,4 @@ pub mod Objects
 pub mod Opening
 pub mod Recovering
 pub mod Rows
+pub mod Spelling

@@ -5,6 +5,7 @@ ghost use Rattle.image_meaning.specs.Laws.{ChecksComeInOrder, PutBackOneByOne, D
 ghost use Rattle.image_meaning.specs.Appending.{AddedEntryOpens, AddedShapeCorresponds, AddedRootCorresponds, NullRootIsAdded, AddedEntryStands};
 ghost use Rattle.image_meaning.specs.Opening.{StandingImageIsFound, FoundImageStands};
 ghost use Rattle.image_meaning.specs.Recovering.{StoppedRecoveryStands, StoppedRecoveriesAreOne};
+ghost use Rattle.image_meaning.specs.Spelling.{NumbersAreSpelled};
 ghost use Rattle.image_meaning.specs.Rows.{SuperblockRows, EntryRows, DirectoryRows, PutBackRow, LogRows, LogCountIsChecked, RootRows, ObjectRows, WordRows, WalkRows};
 ghost use Rattle.image_meaning.specs.Arrays.{NullRootsStand, ArrayEntriesMayStand, OneArrayStands};
 
@@ -32,6 +33,11 @@ pub fn corresponding_words_stand()
 pub fn same_words_stand()
     ensures stand { SameWordsStand }
     ensures correspond { SameWordsCorrespond }
+{}
+
+/// The word that is written for a number holds it.
+pub fn numbers_are_spelled()
+    ensures { NumbersAreSpelled }
 {}
 
 /// A change of one slot, or of one root slot, is a store into the heap.
