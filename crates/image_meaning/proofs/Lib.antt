@@ -5,6 +5,7 @@ pub mod Directories
 pub mod Entries
 pub mod Faults
 pub mod FoundImage
+pub mod Logging
 pub mod Logs
 pub mod Opened
 pub mod Opening

@@ -40,7 +40,7 @@ or_false false b h = (refl, h)
 or_false true b h = absurd (true≢false h)
 
 -- where no entry has the place, there is no old word
-not_named : (entries : List Logged) (p line word : ℕ) → has_place entries p ≡ false → is_place p line word ≡ true
+pub not_named : (entries : List Logged) (p line word : ℕ) → has_place entries p ≡ false → is_place p line word ≡ true
     → old_word entries line word ≡ None
 not_named [] p line word h here = refl
 not_named (e ∷ entries) p line word h here =

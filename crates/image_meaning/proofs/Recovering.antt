@@ -30,13 +30,13 @@ pub some_or : (o : Option ℕ) → (o ≡ None) ⊎ ((v : ℕ) × (o ≡ Some v)
 some_or None = inl refl
 some_or (Some v) = inr (v, refl)
 
-unchanged_log : (c d : Words) (t : ℕ) → IsUnchanged c d t → log_of d t ≡ log_of c t
+pub unchanged_log : (c d : Words) (t : ℕ) → IsUnchanged c d t → log_of d t ≡ log_of c t
 unchanged_log c d t u =
     let entries : first_logged d t (log_count c t) ≡ first_logged c t (log_count c t) =
     mapped_same (logged_at d t) (logged_at c t) 0 (log_count c t) (λ j low high. u.entries j (omega (arith, high))) in
     rw (u.count, entries) refl
 
-emptied_log : (d : Words) (t : ℕ) → log_count d t ≡ 0 → log_of d t ≡ []
+pub emptied_log : (d : Words) (t : ℕ) → log_count d t ≡ 0 → log_of d t ≡ []
 emptied_log d t e = rw e refl
 
 -- of the logs below t, the old word is the same, or it is there already

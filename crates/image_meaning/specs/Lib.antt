@@ -5,6 +5,7 @@ pub mod Corresponds
 pub mod Directories
 pub mod Entries
 pub mod Laws
+pub mod Logging
 pub mod Logs
 pub mod Meaning
 pub mod Objects

@@ -4,6 +4,7 @@ ghost use Rattle.image_meaning.specs.Checks.{Words};
 ghost use Rattle.image_meaning.specs.Laws.{ChecksComeInOrder, PutBackOneByOne, DirectoriesAreRead, CorrespondingWordsStand, SameWordsStand, SameWordsCorrespond, SlotStoreCorresponds, RootStoreCorresponds, OtherObjectsCorrespond, FurtherObjectsCorrespond};
 ghost use Rattle.image_meaning.specs.Appending.{AddedEntryOpens, AddedShapeCorresponds, AddedRootCorresponds, NullRootIsAdded, AddedEntryStands};
 ghost use Rattle.image_meaning.specs.Opening.{StandingImageIsFound, FoundImageStands};
+ghost use Rattle.image_meaning.specs.Logging.{FreePlacesAreLogged, LoggedStoresAreUndone, EmptiedLogsCommit};
 ghost use Rattle.image_meaning.specs.Recovering.{StoppedRecoveryStands, StoppedRecoveriesAreOne};
 ghost use Rattle.image_meaning.specs.Spelling.{NumbersAreSpelled};
 ghost use Rattle.image_meaning.specs.Rows.{SuperblockRows, EntryRows, DirectoryRows, PutBackRow, LogRows, LogCountIsChecked, RootRows, ObjectRows, WordRows, WalkRows};
@@ -66,6 +67,14 @@ pub fn added_entries_correspond()
 pub fn found_objects_correspond()
     ensures found { StandingImageIsFound }
     ensures stands { FoundImageStands }
+{}
+
+/// What is put back stays the same where a free place is logged and where logged words are stored to; where a log is
+/// emptied, the words that it named show as they are then, and all others as before.
+pub fn logs_undo_stores()
+    ensures logged { FreePlacesAreLogged }
+    ensures undone { LoggedStoresAreUndone }
+    ensures emptied { EmptiedLogsCommit }
 {}
 
 /// What stops within recoveries leave stands for the graph that the image stood for at first.
