@@ -2,6 +2,7 @@ pub mod Appending
 pub mod Arrays
 pub mod Changes
 pub mod Directories
+pub mod Elsewhere
 pub mod Entries
 pub mod Faults
 pub mod FoundImage

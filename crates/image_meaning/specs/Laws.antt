@@ -3,7 +3,7 @@ use Rattle.std.specs.Prelude.{◌≡◌, ◌≢◌, ℕ, ◌<◌, ◌≤◌, Boo
 use Rattle.ap_base.specs.declared.place.Place.TheVariants.{Static, Slot}
 use Rattle.graph_model.specs.declared.types.Value.{Value}
 use Rattle.graph_model.specs.declared.types.Heap.{Heap}
-use Rattle.graph_model.specs.Heaps.{values_of, stored}
+use Rattle.graph_model.specs.Heaps.{values_of, stored, with_fresh}
 use Rattle.graph_model.specs.Canon.{canon_of}
 use Rattle.image_layout.specs.declared.superblock.BadReason.{BadReason}
 use Rattle.image_layout.specs.Places.{logs, directory_line, directory_word, IsBlank, super_check}
@@ -107,6 +107,19 @@ abbrev pub OtherObjectsCorrespond : Type 0
 OtherObjectsCorrespond = (lies : ℕ → ℕ → Bool) (size : ℕ) (words : Words) (directory : Directory) (heap other : Heap)
     → Corresponds (told_by lies) directory size words heap → SameObjects (told_by lies) heap other
     → Corresponds (told_by lies) directory size words other
+
+-- So it is with a heap that has one object more, after a store into an object that lies nowhere, and after one into a static that is no
+-- root's.
+pub record ChangesElsewhereCorrespond : Type 0 where
+  pub fresh : (lies : ℕ → ℕ → Bool) (size : ℕ) (words : Words) (directory : Directory) (heap : Heap) (shape count : ℕ)
+      → Corresponds (told_by lies) directory size words heap
+      → Corresponds (told_by lies) directory size words (with_fresh heap shape count)
+  pub slot : (lies : ℕ → ℕ → Bool) (size : ℕ) (words : Words) (directory : Directory) (heap : Heap) (m i : ℕ) (value : Value)
+      → Corresponds (told_by lies) directory size words heap → ((line n : ℕ) → told_by lies line n → n ≢ m)
+      → Corresponds (told_by lies) directory size words (stored heap (Slot m i) value)
+  pub static : (lies : ℕ → ℕ → Bool) (size : ℕ) (words : Words) (directory : Directory) (heap : Heap) (s : ℕ) (value : Value)
+      → Corresponds (told_by lies) directory size words heap → ((r : ℕ) → r < length heap.roots → root_static heap r ≢ s)
+      → Corresponds (told_by lies) directory size words (stored heap (Static s) value)
 
 -- A group of objects whose slots hold the old ones, one another or null can join.
 abbrev pub FurtherObjectsCorrespond : Type 0

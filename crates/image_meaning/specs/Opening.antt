@@ -1,14 +1,16 @@
 -- An image that stands for a graph corresponds to each heap that holds the graph.
-use Rattle.std.specs.Prelude.{◌≡◌, ◌≢◌, ℕ, ◌<◌, ◌≤◌, List, [], length, map, slice_index_or, None, Ok}
+use Rattle.std.specs.Prelude.{◌∷◌, ◌+◌, max, ◌≡◌, ◌≢◌, ℕ, ◌<◌, ◌≤◌, List, [], length, map, slice_index_or, None, Ok}
 use Rattle.graph_model.specs.declared.types.Root.{Root}
 use Rattle.graph_model.specs.declared.types.NamedValue.{NamedValue}
 use Rattle.graph_model.specs.declared.types.Node.{Node}
 use Rattle.graph_model.specs.declared.types.Graph.{Graph}
 use Rattle.graph_model.specs.declared.types.Heap.{Heap}
 use Rattle.graph_model.specs.Heaps.{no_shape, object_at, shape_at, values_of, root_values}
+use Rattle.image_layout.specs.Places.{first_object_line, lines_of}
 use Rattle.image_meaning.specs.Checks.{Words}
 use Rattle.image_meaning.specs.Directories.{Directory}
 use Rattle.image_meaning.specs.Logs.{put_back}
+use Rattle.image_meaning.specs.Objects.{length_at}
 use Rattle.image_meaning.specs.Meaning.{root_values_of, roots_fault, walk, graph_found, StandsFor}
 use Rattle.image_meaning.specs.Corresponds.{LiesAt, Corresponds}
 use Rattle.image_meaning.specs.Laws.{Opens}
@@ -54,3 +56,13 @@ StandingImageIsFound = (size : ℕ) (words : Words) (graph : Graph) → words 0 
 abbrev pub FoundImageStands : Type 0
 FoundImageStands = (size : ℕ) (words : Words) (directory : Directory) (lines : List ℕ) → Finds size words directory lines
     → StandsFor size words (graph_found directory (put_back words) lines)
+
+-- the first line behind all the objects that begin at these lines
+abbrev pub free_line : Words → List ℕ → ℕ
+free_line words [] = first_object_line
+free_line words (line ∷ lines) = max (line + lines_of (length_at words line)) (free_line words lines)
+
+-- The objects that are found lie before it.
+abbrev pub FoundObjectsLieBefore : Type 0
+FoundObjectsLieBefore = (words : Words) (lines : List ℕ) (line n : ℕ) → found_at lines line n
+    → line + lines_of (length_at words line) ≤ free_line words lines

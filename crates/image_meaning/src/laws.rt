@@ -1,9 +1,9 @@
 // Laws of what an image stands for. Each function states one in its contract, and does nothing.
 ghost use Rattle.std.specs.Prelude.{ℕ};
 ghost use Rattle.image_meaning.specs.Checks.{Words};
-ghost use Rattle.image_meaning.specs.Laws.{ChecksComeInOrder, PutBackOneByOne, DirectoriesAreRead, CorrespondingWordsStand, SameWordsStand, SameWordsCorrespond, SlotStoreCorresponds, RootStoreCorresponds, OtherObjectsCorrespond, FurtherObjectsCorrespond};
+ghost use Rattle.image_meaning.specs.Laws.{ChecksComeInOrder, PutBackOneByOne, DirectoriesAreRead, CorrespondingWordsStand, SameWordsStand, SameWordsCorrespond, SlotStoreCorresponds, RootStoreCorresponds, OtherObjectsCorrespond, ChangesElsewhereCorrespond, FurtherObjectsCorrespond};
 ghost use Rattle.image_meaning.specs.Appending.{AddedEntryOpens, AddedShapeCorresponds, AddedRootCorresponds, NullRootIsAdded, AddedEntryStands};
-ghost use Rattle.image_meaning.specs.Opening.{StandingImageIsFound, FoundImageStands};
+ghost use Rattle.image_meaning.specs.Opening.{StandingImageIsFound, FoundImageStands, FoundObjectsLieBefore};
 ghost use Rattle.image_meaning.specs.Logging.{FreePlacesAreLogged, LoggedStoresAreUndone, EmptiedLogsCommit};
 ghost use Rattle.image_meaning.specs.Recovering.{StoppedRecoveryStands, StoppedRecoveriesAreOne};
 ghost use Rattle.image_meaning.specs.Spelling.{NumbersAreSpelled};
@@ -50,6 +50,7 @@ pub fn stores_correspond()
 /// Objects that lie nowhere don't matter, and a group of them can join those that lie somewhere.
 pub fn further_objects_correspond()
     ensures other { OtherObjectsCorrespond }
+    ensures elsewhere { ChangesElsewhereCorrespond }
     ensures further { FurtherObjectsCorrespond }
 {}
 
@@ -67,6 +68,7 @@ pub fn added_entries_correspond()
 pub fn found_objects_correspond()
     ensures found { StandingImageIsFound }
     ensures stands { FoundImageStands }
+    ensures before { FoundObjectsLieBefore }
 {}
 
 /// What is put back stays the same where a free place is logged and where logged words are stored to; where a log is
