@@ -105,6 +105,6 @@ meaning size words = after_check (at_super (super_check (words 0) size)) (graph_
 abbrev pub StandsFor : ℕ → Words → Graph → Type 0
 StandsFor size words graph = meaning size words ≡ Ok graph
 
--- no check fails
+-- No check fails. A blank image is one of these.
 abbrev pub IsWellFormed : ℕ → Words → Type 0
 IsWellFormed size words = (graph : Graph) × StandsFor size words graph
