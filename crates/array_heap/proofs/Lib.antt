@@ -1,3 +1,5 @@
 pub mod Held
+pub mod Placing
+pub mod Roots
 pub mod Storing
 pub mod Turning

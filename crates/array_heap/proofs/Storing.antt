@@ -1,5 +1,5 @@
 -- The stores into elements.
-use Rattle.std.proofs.Common.{◌≡◌, ◌≢◌, ◌⊎◌, inl, inr, ℕ, ◌+◌, ◌<◌, ◌≤◌, length, ℤ, Some, refl, sym, ◌∙◌, ap, arith}
+use Rattle.std.proofs.Common.{◌≡◌, ◌≢◌, ◌⊎◌, inl, inr, ℕ, ◌+◌, ◌<◌, ◌≤◌, length, ℤ, Some, arith}
 use Rattle.std.specs.Prelude.{FitsSigned}
 use Rattle.std.specs.Int.{w32, cast_unsigned}
 use Rattle.std.proofs.lemmas.Bool.{cases_eq}
@@ -8,13 +8,12 @@ use Rattle.ap_base.specs.declared.place.Place.TheVariants.{Slot}
 use Rattle.graph_model.specs.declared.types.Value.TheVariants.{Int}
 use Rattle.graph_model.specs.declared.types.Shape.{Shape}
 use Rattle.graph_model.specs.declared.types.Heap.{Heap}
-use Rattle.graph_model.specs.Heaps.{object_at, shape_at, values_of, stored}
+use Rattle.graph_model.specs.Heaps.{values_of, stored}
 use Rattle.line_memory.specs.Memory.{Memory, shown, CanLeave, SameResident, SameImage}
-use Rattle.image_layout.specs.Places.{root_slots, first_object_line, lines_of, slot_line, slot_word, object_line, object_word}
-use Rattle.image_meaning.specs.Checks.{Words}
+use Rattle.image_layout.specs.Places.{first_object_line, lines_of, slot_line, slot_word, object_line, object_word}
 use Rattle.image_meaning.specs.Directories.{Directory}
 use Rattle.image_meaning.specs.Objects.{length_at, shape_of, object_slot, kind_of}
-use Rattle.image_meaning.specs.Corresponds.{LiesAt, Holds, HoldsNumber, AreApart, Corresponds, SameButSlot}
+use Rattle.image_meaning.specs.Corresponds.{LiesAt, Holds, HoldsNumber, SameButSlot}
 use Rattle.image_meaning.proofs.Changes.{corresponds-put}
 use Rattle.image_meaning.proofs.Spelling.{spelled_number}
 use Rattle.array_heap.specs.Holding.{HoldsHeap, TurnedInto}
@@ -31,7 +30,7 @@ head_apart a b x y j (inl before) k e = omega (arith, before, k, e)
 head_apart a b x y j (inr behind) k e = omega (arith, behind, k, e)
 
 -- the kind of the elements is the shape's
-int_kind : (R : LiesAt) (shape : Shape) (i w : ℕ) (value : ℤ) → shape.element ≡ Some I → HoldsNumber I w (Int value)
+pub int_kind : (R : LiesAt) (shape : Shape) (i w : ℕ) (value : ℤ) → shape.element ≡ Some I → HoldsNumber I w (Int value)
     → Holds R (kind_of shape i) w (Int value)
 int_kind R shape i w value e holds = rw e holds
 

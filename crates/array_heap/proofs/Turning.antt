@@ -1,10 +1,10 @@
 -- One word stored, which turns the heap into another, and then made durable.
-use Rattle.std.proofs.Common.{◌≡◌, ◌≢◌, ◌⊎◌, inl, inr, ⊎_elim, ℕ, ◌+◌, ◌<◌, ◌≤◌, length, refl, sym, ◌∙◌, ap, subst, arith}
+use Rattle.std.proofs.Common.{◌≡◌, ◌≢◌, ◌⊎◌, inl, inr, ⊎_elim, ℕ, ◌<◌, ◌≤◌, length, refl, sym, ◌∙◌, ap, subst, arith}
 use Rattle.std.proofs.lemmas.Bool.{cases_eq}
 use Rattle.graph_model.specs.declared.types.Heap.{Heap}
 use Rattle.graph_model.specs.Heaps.{values_of}
 use Rattle.line_image.specs.History.{Outcome}
-use Rattle.line_memory.specs.Memory.{Memory, Told, shown, IsKnown, IsTelling, CanLeave, CanLeaveAll, IsDurable, SameResident, SameImage, KeepsTelling}
+use Rattle.line_memory.specs.Memory.{Memory, Told, shown, IsTelling, CanLeave, CanLeaveAll, IsDurable, SameResident, SameImage, KeepsTelling}
 use Rattle.line_memory.specs.Moments.{Goes}
 use Rattle.line_memory.proofs.Chain.{goes_on, goes_nowhere}
 use Rattle.image_layout.specs.Places.{first_object_line, logs, directory_words, directory_line, directory_word, log_head_line}

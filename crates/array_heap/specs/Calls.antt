@@ -6,7 +6,7 @@ use Rattle.graph_model.specs.declared.types.Value.{Value}
 use Rattle.graph_model.specs.declared.types.Value.TheVariants.{Int, Null}
 use Rattle.graph_model.specs.declared.types.Heap.{Heap}
 use Rattle.graph_model.specs.Heaps.{no_shape, object_at, shape_at, values_of, stored}
-use Rattle.line_memory.specs.Memory.{Memory}
+use Rattle.line_memory.specs.Memory.{Memory, shown, CanLeave, SameResident, SameImage}
 use Rattle.image_layout.specs.Places.{first_object_line, lines_of}
 use Rattle.image_meaning.specs.Directories.{Directory}
 use Rattle.image_meaning.specs.Arrays.{int_value}
@@ -78,3 +78,15 @@ OnRoom m line shape ints P = (lies : ℕ → ℕ → Bool) (directory : Director
     → HoldsHeap (told_by lies) directory heap m
     → IsRoom (told_by lies) directory heap m.size line shape (length ints) heap_shape
     → P (told_by (lies_too lies line (length heap.objects))) directory heap (with_ints heap heap_shape ints)
+
+-- it is one of so many lines from this one on
+abbrev pub IsIn : ℕ → ℕ → ℕ → Type 0
+IsIn first count line = (first ≤ line) × (line < first + count)
+
+-- Words of these lines were stored, with no call of the image, and of no others.
+pub record StoresIn (first count : ℕ) (old new : Memory) : Type 0 where
+  pub others : (l w : ℕ) → ¬ IsIn first count l → shown new l w ≡ shown old l w
+  pub leaves : (l w v : ℕ) → ¬ IsIn first count l → CanLeave new l w v → CanLeave old l w v
+  pub size : new.size ≡ old.size
+  pub resident : SameResident old new
+  pub same : SameImage old new

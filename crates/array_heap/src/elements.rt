@@ -21,7 +21,7 @@ use line_image::{Image, ImageFailed};
 use line_memory::LineMemory;
 
 /// The word of an element.
-fn element_spot(line: u32, index: u32) -> Spot
+pub(crate) fn element_spot(line: u32, index: u32) -> Spot
     requires { object_line line index < max_lines }
     ensures line { result.line ≡ object_line line index }
     ensures word { result.word ≡ object_word index }

@@ -1,8 +1,12 @@
-//! A durable root of ints in an image: the calls that read and change its array, each with what a stop leaves.
+//! A durable root of ints in an image: the calls that place, read and change its array, each with what a stop leaves.
 #![tactic(auto)]
 
 mod durable;
 mod elements;
+mod place;
+mod root;
 
 pub use durable::make_durable;
 pub use elements::{element, length, set_element, store_element};
+pub use place::place_array;
+pub use root::{set_root, store_root};
