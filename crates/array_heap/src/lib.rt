@@ -5,6 +5,8 @@ mod durable;
 mod elements;
 mod place;
 mod root;
+#[cfg(test)]
+mod tests;
 
 pub use durable::make_durable;
 pub use elements::{element, length, set_element, store_element};
