@@ -1,3 +1,4 @@
+pub mod Attaching
 pub mod Held
 pub mod Placing
 pub mod Roots

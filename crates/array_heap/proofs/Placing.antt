@@ -52,7 +52,7 @@ holds_kind R Q f J w v hold = hold
 holds_kind R Q f Text w v hold = hold
 holds_kind R Q f L w v hold = holds_along R Q f w v hold
 
-corresponds-along : (R Q : LiesAt) (directory : Directory) (size : ℕ) (words : Words) (heap : Heap)
+pub corresponds-along : (R Q : LiesAt) (directory : Directory) (size : ℕ) (words : Words) (heap : Heap)
     → ((line n : ℕ) → R line n → Q line n) → ((line n : ℕ) → Q line n → R line n)
     → Corresponds R directory size words heap → Corresponds Q directory size words heap
 corresponds-along R Q directory size words heap f b k = record {
@@ -86,7 +86,7 @@ true_or : (a b : Bool) → b ≡ true → (a || b) ≡ true
 true_or true b h = refl
 true_or false b h = h
 
-and_true : (a b : Bool) → (a && b) ≡ true → (a ≡ true) × (b ≡ true)
+pub and_true : (a b : Bool) → (a && b) ≡ true → (a ≡ true) × (b ≡ true)
 and_true true b h = (refl, h)
 and_true false b h = absurd (cc)
 

@@ -1,6 +1,7 @@
 -- A memory over an image that stands for a plain heap: which words count, and that these are durable.
-use Rattle.std.specs.Prelude.{◌≡◌, ◌⊎◌, ◌≢◌, ℕ, ◌<◌, length}
+use Rattle.std.specs.Prelude.{◌≡◌, ◌⊎◌, ◌≢◌, ℕ, ◌<◌, Bool, length}
 use Rattle.graph_model.specs.declared.types.Heap.{Heap}
+use Rattle.graph_model.specs.declared.types.Graph.{Graph}
 use Rattle.graph_model.specs.Heaps.{values_of}
 use Rattle.graph_model.specs.Canon.{canon_of}
 use Rattle.line_image.specs.History.{Outcome}
@@ -11,7 +12,8 @@ use Rattle.image_meaning.specs.Directories.{Directory}
 use Rattle.image_meaning.specs.Logs.{NoneLogged}
 use Rattle.image_meaning.specs.Meaning.{StandsFor}
 use Rattle.image_meaning.specs.Corresponds.{LiesAt, Corresponds}
-use Rattle.image_meaning.specs.Laws.{Opens}
+use Rattle.image_meaning.specs.Laws.{told_by, Opens}
+use Rattle.image_meaning.specs.Opening.{HoldsGraph}
 
 -- The word counts: it is one of the superblock, of the directory as far as it is in use, the count of a log, a root slot, or the head or a
 -- slot of an object that lies somewhere.
@@ -54,3 +56,22 @@ pub record TurnedInto (R : LiesAt) (directory : Directory) (heap after : Heap) (
   pub shows : ShowsHeap R directory after m
   pub leaves : (c : Outcome) → CanLeaveAll m c → StandsForOne m.size heap after c
   pub others : (l w : ℕ) → Counts R after (shown m) l w → (l ≡ line → w ≢ word) → IsDurable m l w
+
+-- ---- laws
+
+-- What a stop leaves of a memory that holds a heap stands for the heap's graph.
+abbrev pub HeldHeapStands : Type 0
+HeldHeapStands = (lies : ℕ → ℕ → Bool) (directory : Directory) (heap : Heap) (m : Memory) (c : Outcome)
+    → HoldsHeap (told_by lies) directory heap m → CanLeaveAll m c → StandsForHeap m.size heap c
+
+-- the memory holds each heap that has this graph
+pub record HoldsFound (m : Memory) (graph : Graph) : Type 0 where
+  pub lies : ℕ → ℕ → Bool
+  pub directory : Directory
+  pub holds : (heap : Heap) → HoldsGraph heap graph → HoldsHeap (told_by lies) directory heap m
+
+-- So it is with a memory that was just attached to an image that stands for a graph, isn't blank, and has no counted entry in a log.
+abbrev pub AttachedImageIsHeld : Type 0
+AttachedImageIsHeld = (m : Memory) (graph : Graph) → ((line : ℕ) → line < m.size → IsKnown m line)
+    → ((line word : ℕ) → line < m.size → IsDurable m line word) → shown m 0 0 ≢ 0 → NoneLogged (shown m)
+    → StandsFor m.size (shown m) graph → HoldsFound m graph

@@ -3,6 +3,7 @@
 
 mod durable;
 mod elements;
+mod laws;
 mod place;
 mod root;
 #[cfg(test)]
@@ -10,5 +11,6 @@ mod tests;
 
 pub use durable::make_durable;
 pub use elements::{element, length, set_element, store_element};
+pub use laws::{attached_images_are_held, held_heaps_stand};
 pub use place::place_array;
 pub use root::{set_root, store_root};
