@@ -1,0 +1,83 @@
+// A new array.
+ghost use Rattle.std.specs.Prelude.{◌≡◌, ◌≢◌, ◌⊎◌, ◌<◌, ◌≤◌, ◌+◌, ◌^◌, ℕ, length, slice_index_or, pos, FitsSigned, OnOk};
+ghost use Rattle.std.specs.Int.{w32, cast_unsigned};
+ghost use Rattle.ap_base.specs.Causes.{HasCause};
+ghost use Rattle.line_image.specs.History.{Outcome};
+ghost use Rattle.line_memory.specs.Memory.{shown, IsResident, IsKnown, CanLeave, CanLeaveAll, SameResident, SameImage, KeepsTelling};
+ghost use Rattle.line_memory.specs.Moments.{Goes, CountsFrom};
+ghost use Rattle.image_layout.specs.Places.{max_lines, lines_of, head_of, object_line, object_word};
+ghost use Rattle.array_heap.specs.Holding.{ShowsHeap, HoldsHeap, StandsForHeap};
+ghost use Rattle.array_heap.specs.Calls.{IsIn, StoresIn, OnRoom};
+
+use crate::elements::element_spot;
+use ap_base::Spot;
+use durable_word::write_lines_for_good;
+use image_layout::{head_word, lines_of};
+use line_image::{Image, ImageFailed};
+use line_memory::LineMemory;
+
+/// Copies an array of a shape's number and these elements into lines that nothing refers to, from this one on, of an
+/// image of at most 4,194,304 lines: its words are stored, each of its lines is written back, and one fence is made. A
+/// stop at any moment leaves the heap as it was; the heap that is shown has one more array.
+pub fn place_array<I: Image>(
+    memory: &mut LineMemory<I>,
+    line: u32,
+    shape: u32,
+    elements: &[i32],
+) -> Result<(), ImageFailed>
+    requires size { memory.old.size ≤ max_lines }
+    requires in_range { line + lines_of (length elements.now) ≤ memory.old.size }
+    requires resident { (l : ℕ) → line ≤ l → l < line + lines_of (length elements.now) → IsResident memory.old l }
+    ensures durable { OnOk result (OnRoom memory.old line shape elements.now (λ R directory heap after.
+        HoldsHeap R directory after memory.new)) }
+    ensures shows { OnRoom memory.old line shape elements.now (λ R directory heap after.
+        ShowsHeap R directory after memory.new) }
+    ensures any_moment { OnRoom memory.old line shape elements.now (λ R directory heap after.
+        Goes memory.old.image memory.new.image (StandsForHeap memory.old.size heap)) }
+    ensures leaves { OnRoom memory.old line shape elements.now (λ R directory heap after.
+        (c : Outcome) → CanLeaveAll memory.new c → StandsForHeap memory.old.size heap c) }
+    ensures others { (l w : ℕ) → IsKnown memory.old l → ¬ IsIn line (lines_of (length elements.now)) l
+        → shown memory.new l w ≡ shown memory.old l w }
+    ensures size_after { memory.new.size ≡ memory.old.size }
+    ensures resident_after { SameResident memory.old memory.new }
+    ensures telling { KeepsTelling memory.old memory.new }
+    ensures count { memory.new.calls ≤ memory.old.calls + lines_of (length elements.now) + 1 }
+    ensures counts { (begin : ℕ) → CountsFrom begin memory.old → CountsFrom begin memory.new }
+    ensures cause { HasCause memory.old.faults memory.new.faults result }
+{
+    store_array(memory, line, shape, elements);
+    write_lines_for_good(memory, line, line + lines_of(elements.len() as u32))
+}
+
+/// Stores the head and the elements, with no image call.
+fn store_array<I: Image>(memory: &mut LineMemory<I>, line: u32, shape: u32, elements: &[i32])
+    requires size { memory.old.size ≤ max_lines }
+    requires in_range { line + lines_of (length elements.now) ≤ memory.old.size }
+    requires resident { (l : ℕ) → line ≤ l → l < line + lines_of (length elements.now) → IsResident memory.old l }
+    ensures head { shown memory.new line 0 ≡ head_of shape (length elements.now) }
+    ensures elements { (i : ℕ) → i < length elements.now
+        → shown memory.new (object_line line i) (object_word i) ≡ cast_unsigned w32 (slice_index_or elements.now i (pos 0)) }
+    ensures fit { (i : ℕ) → i < length elements.now → FitsSigned w32 (slice_index_or elements.now i (pos 0)) }
+    ensures lines { StoresIn line (lines_of (length elements.now)) memory.old memory.new }
+{
+    let head = head_word(shape, elements.len() as u32);
+    memory.store(Spot { line, word: 0 }, head);
+    store_elements(memory, line, elements);
+}
+
+/// Stores the elements in order, with no image call.
+fn store_elements<I: Image>(memory: &mut LineMemory<I>, line: u32, elements: &[i32])
+    requires size { memory.old.size ≤ max_lines }
+    requires in_range { line + lines_of (length elements.now) ≤ memory.old.size }
+    requires resident { (l : ℕ) → line ≤ l → l < line + lines_of (length elements.now) → IsResident memory.old l }
+    ensures elements { (i : ℕ) → i < length elements.now
+        → shown memory.new (object_line line i) (object_word i) ≡ cast_unsigned w32 (slice_index_or elements.now i (pos 0)) }
+    ensures fit { (i : ℕ) → i < length elements.now → FitsSigned w32 (slice_index_or elements.now i (pos 0)) }
+    ensures head { shown memory.new line 0 ≡ shown memory.old line 0 }
+    ensures lines { StoresIn line (lines_of (length elements.now)) memory.old memory.new }
+{
+    for (i, element) in elements.iter().enumerate() {
+        let spot = element_spot(line, i as u32);
+        memory.store(spot, u64::from(element.cast_unsigned()));
+    }
+}
