@@ -2,5 +2,7 @@
 #![tactic(auto)]
 
 mod program;
+mod rows;
 
 pub use program::{Group, Program};
+pub use rows::{a_negative_length_throws, seven_is_stored_and_printed};
