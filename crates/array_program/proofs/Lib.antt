@@ -1,2 +1,3 @@
 pub mod Seven
 pub mod Refused
+pub mod SmallPools

@@ -1,6 +1,9 @@
 //! The programs with at most one durable array: which class files are of this form, and what their code does.
 #![tactic(auto)]
 
+mod groups;
+mod instructions;
+mod names;
 mod program;
 mod rows;
 
