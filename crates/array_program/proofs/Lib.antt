@@ -1,3 +1,3 @@
 pub mod Seven
 pub mod Refused
-pub mod SmallPools
+pub mod GroupChains

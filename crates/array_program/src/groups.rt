@@ -14,7 +14,8 @@ use const_pool::Pool;
 use std::alloc::{AllocError, Global};
 
 fn prints_number_at(pool: &Pool, code: &[Placed]) -> Option<Group>
-    ensures { result ≡ prints_number_at pool.now code.now }
+    ensures group { result ≡ prints_number_at pool.now code.now }
+    ensures size { IfSome result (λ g. suc (more_of g) ≤ length code.now) }
 {
     let [out, push, call, ..] = code else {
         return None;
@@ -39,7 +40,8 @@ fn makes_array_at(
     root: &Option<Bytes>,
     code: &[Placed],
 ) -> Option<Group>
-    ensures { result ≡ makes_array_at pool.now class.now root.now code.now }
+    ensures group { result ≡ makes_array_at pool.now class.now root.now code.now }
+    ensures size { IfSome result (λ g. suc (more_of g) ≤ length code.now) }
 {
     let [push, make, put, ..] = code else {
         return None;
@@ -61,7 +63,8 @@ fn stores_element_at(
     root: &Option<Bytes>,
     code: &[Placed],
 ) -> Option<Group>
-    ensures { result ≡ stores_element_at pool.now class.now root.now code.now }
+    ensures group { result ≡ stores_element_at pool.now class.now root.now code.now }
+    ensures size { IfSome result (λ g. suc (more_of g) ≤ length code.now) }
 {
     let [fetch, first, second, store, ..] = code else {
         return None;
@@ -88,7 +91,8 @@ fn prints_element_at(
     root: &Option<Bytes>,
     code: &[Placed],
 ) -> Option<Group>
-    ensures { result ≡ prints_element_at pool.now class.now root.now code.now }
+    ensures group { result ≡ prints_element_at pool.now class.now root.now code.now }
+    ensures size { IfSome result (λ g. suc (more_of g) ≤ length code.now) }
 {
     let [out, fetch, push, load, call, ..] = code else {
         return None;
@@ -116,7 +120,8 @@ fn array_group_at(
     root: &Option<Bytes>,
     code: &[Placed],
 ) -> Option<Group>
-    ensures { result ≡ array_group_at pool.now class.now root.now code.now }
+    ensures group { result ≡ array_group_at pool.now class.now root.now code.now }
+    ensures size { IfSome result (λ g. suc (more_of g) ≤ length code.now) }
 {
     if let Some(group) = makes_array_at(pool, class, root, code) {
         return Some(group);
@@ -129,7 +134,8 @@ fn array_group_at(
 
 // The group at the front of a code.
 fn group_at(pool: &Pool, class: &Bytes, root: &Option<Bytes>, code: &[Placed]) -> Option<Group>
-    ensures { result ≡ group_at pool.now class.now root.now code.now }
+    ensures group { result ≡ group_at pool.now class.now root.now code.now }
+    ensures size { IfSome result (λ g. suc (more_of g) ≤ length code.now) }
 {
     if let Some(group) = prints_number_at(pool, code) {
         return Some(group);
@@ -155,4 +161,26 @@ fn is_only_return(code: &[Placed]) -> bool
         [last] => is_return(&last.ins),
         _ => false,
     }
+}
+
+// The groups of a code that is any number of groups and a return.
+pub(crate) fn read_groups(
+    alloc: Global,
+    pool: &Pool,
+    class: &Bytes,
+    root: &Option<Bytes>,
+    code: &[Placed],
+) -> Result<Option<Vec<Group>>, AllocError>
+    ensures { IfOk result (λ found. option_map (λ v. v.items) found ≡ groups_of pool.now class.now root.now code.now) }
+{
+    let mut groups = Vec::new(alloc);
+    let mut rest = code;
+    'groups: while rest.len() > 1 {
+        let Some(group) = group_at(pool, class, root, rest) else {
+            return Ok(None);
+        };
+        groups.push(group)?;
+        rest = &rest[size_of(group)..];
+    }
+    Ok(is_only_return(rest).then_some(groups))
 }
