@@ -1,8 +1,11 @@
 //! The programs with at most one durable array: which class files are of this form, and what their code does.
 #![tactic(auto)]
 
+mod fields;
 mod groups;
 mod instructions;
+mod literals;
+mod methods;
 mod names;
 mod program;
 mod rows;
