@@ -8,7 +8,9 @@ mod literals;
 mod methods;
 mod names;
 mod program;
+mod reading;
 mod rows;
 
 pub use program::{Group, Program};
+pub use reading::read_program;
 pub use rows::{a_negative_length_throws, seven_is_stored_and_printed};

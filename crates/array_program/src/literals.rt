@@ -1,9 +1,12 @@
 //! The string literals of a class.
-ghost use Rattle.std.specs.Prelude.{◌≡◌, ◌≢◌, ◌<◌, ◌≤◌, ◌∷◌, [], drop, length, IfOk};
+ghost use Rattle.std.specs.Prelude.{◌≡◌, ◌≢◌, ◌<◌, ◌≤◌, ◌∷◌, [], drop, length, IfOk, OnOk};
 ghost use Rattle.std.specs.List.{list_any};
 ghost use Rattle.std.specs.Str.{bytes_eq};
-ghost use Rattle.array_program.specs.Pools.{chars_of};
+ghost use Rattle.const_pool.specs.Pool.{entry_at};
+ghost use Rattle.array_program.specs.Pools.{chars_of, with_text, literal_in, literals_from};
 
+use ap_base::ListOf;
+use const_pool::{Entry, Pool};
 use std::alloc::{AllocError, Global};
 
 // The UTF-16 code unit at the front of a text in modified UTF-8, and how many bytes spell it.
@@ -42,4 +45,49 @@ fn same_text(one: &[u16], other: &[u16]) -> bool
     ensures { result ≡ bytes_eq one.now other.now }
 {
     one == other
+}
+
+fn has_text(texts: &[ListOf<u16>], text: &[u16]) -> bool
+    ensures { result ≡ list_any (bytes_eq text.now) texts.now }
+{
+    texts.iter().any(|known| same_text(text, known.as_slice()))
+}
+
+// Adds a text that isn't there yet.
+fn add_text(texts: &mut Vec<ListOf<u16>>, text: Vec<u16>) -> Result<(), AllocError>
+    ensures { OnOk result (texts.new.items ≡ with_text texts.old.items text.items) }
+{
+    if !has_text(texts.as_slice(), text.as_slice()) {
+        texts.push(ListOf::from_vec(text))?;
+    }
+    Ok(())
+}
+
+// Adds the string literal at an index, where one is there.
+fn add_literal(
+    alloc: Global,
+    pool: &Pool,
+    index: u16,
+    texts: &mut Vec<ListOf<u16>>,
+) -> Result<(), AllocError>
+    ensures { OnOk result (texts.new.items ≡ literal_in pool.now (entry_at pool.now index) texts.old.items) }
+{
+    let Some(Entry::String { text }) = pool.get(index) else {
+        return Ok(());
+    };
+    match pool.utf8(*text) {
+        Some(bytes) => add_text(texts, chars_of(alloc, bytes.as_slice())?),
+        None => Ok(()),
+    }
+}
+
+/// The distinct string literals of a pool, in order.
+pub(crate) fn read_literals(alloc: Global, pool: &Pool) -> Result<Vec<ListOf<u16>>, AllocError>
+    ensures { IfOk result (λ texts. texts.items ≡ literals_from pool.now [] pool.now) }
+{
+    let mut texts = Vec::new(alloc);
+    for index in 0..pool.len() {
+        add_literal(alloc, pool, index, &mut texts)?;
+    }
+    Ok(texts)
 }
