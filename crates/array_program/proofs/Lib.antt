@@ -1,0 +1,3 @@
+pub mod Seven
+pub mod Refused
+pub mod GroupChains

@@ -1,0 +1,5 @@
+pub mod Facts
+pub mod Running
+pub mod Rows
+pub mod Pools
+pub mod Form
