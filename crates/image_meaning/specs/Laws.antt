@@ -1,0 +1,116 @@
+-- The laws of what an image stands for. In a law a test tells which object lies at a line.
+use Rattle.std.specs.Prelude.{◌≡◌, ◌≢◌, ℕ, ◌<◌, ◌≤◌, Bool, true, false, List, length, Some, None, Ok, Err}
+use Rattle.ap_base.specs.declared.place.Place.TheVariants.{Static, Slot}
+use Rattle.graph_model.specs.declared.types.Value.{Value}
+use Rattle.graph_model.specs.declared.types.Heap.{Heap}
+use Rattle.graph_model.specs.Heaps.{values_of, stored}
+use Rattle.graph_model.specs.Canon.{canon_of}
+use Rattle.image_layout.specs.declared.superblock.BadReason.{BadReason}
+use Rattle.image_layout.specs.Places.{logs, directory_line, directory_word, IsBlank, super_check}
+use Rattle.image_meaning.specs.Checks.{Words, Bad}
+use Rattle.image_meaning.specs.Entries.{Entry}
+use Rattle.image_meaning.specs.Directories.{Directory, directory_of, with_entries, spelled_all, with_all, AreEntries}
+use Rattle.image_meaning.specs.Logs.{logs_below, logs_fault, is_log_line, put_back, put_each, SameLogs}
+use Rattle.image_meaning.specs.Objects.{shape_of, kind_of, object_slot}
+use Rattle.image_meaning.specs.Meaning.{root_word, roots_fault, root_values_of, walk, empty_graph, meaning, StandsFor}
+use Rattle.image_meaning.specs.Corresponds.{LiesAt, Holds, HoldsReference, Corresponds, SameWords, SameButSlot, SameButRoot, SameObjects, Either, CanJoin, root_static}
+
+-- the relation that a test tells
+abbrev pub told_by : (ℕ → ℕ → Bool) → LiesAt
+told_by lies line n = lies line n ≡ true
+
+-- The image isn't blank, its superblock and logs pass, and this is its directory.
+pub record Opens (size : ℕ) (words : Words) (directory : Directory) : Type 0 where
+  pub super : super_check (words 0) size ≡ None
+  pub used : words 0 0 ≢ 0
+  pub entries : directory_of words ≡ Ok directory
+  pub logs : logs_fault size words ≡ None
+
+-- d has the words of c in the superblock, and in the directory as far as it is in use
+pub record SameFront (c d : Words) : Type 0 where
+  pub super : (word : ℕ) → word < 4 → d 0 word ≡ c 0 word
+  pub directory : (i : ℕ) → i < c 0 3 → d (directory_line i) (directory_word i) ≡ c (directory_line i) (directory_word i)
+
+-- ---- the order of checks
+
+-- What is wrong comes in the order of the checks: the superblock's, then the directory's, the logs', the root slots', the objects'.
+pub record ChecksComeInOrder (size : ℕ) (words : Words) : Type 0 where
+  pub super : (reason : BadReason) → super_check (words 0) size ≡ Some reason → meaning size words ≡ Err (0, reason)
+  pub blank : IsBlank (words 0) size → StandsFor size words empty_graph
+  pub directory : (bad : Bad) → super_check (words 0) size ≡ None → words 0 0 ≢ 0 → directory_of words ≡ Err bad
+      → meaning size words ≡ Err bad
+  pub logs : (directory : Directory) (bad : Bad) → super_check (words 0) size ≡ None → words 0 0 ≢ 0
+      → directory_of words ≡ Ok directory → logs_fault size words ≡ Some bad → meaning size words ≡ Err bad
+  pub roots : (directory : Directory) (bad : Bad) → Opens size words directory
+      → roots_fault size (put_back words) (length directory.roots) ≡ Some bad → meaning size words ≡ Err bad
+  pub objects : (directory : Directory) (bad : Bad) → Opens size words directory
+      → roots_fault size (put_back words) (length directory.roots) ≡ None
+      → walk directory.shapes size (put_back words) (root_values_of (put_back words) (length directory.roots)) size ≡ Err bad
+      → meaning size words ≡ Err bad
+
+-- Outside the logs, the words after putting back are those after the counted entries were put back one by one: log by log, and in each log
+-- the last entry first.
+abbrev pub PutBackOneByOne : Type 0
+PutBackOneByOne = (words : Words) (line word : ℕ) → is_log_line line ≡ false
+    → put_back words line word ≡ put_each (logs_below words logs) words line word
+
+-- A directory is read exactly where its words spell entries that may stand there, in their order.
+pub record DirectoriesAreRead : Type 0 where
+  pub again : (entries : List Entry) (most at : ℕ) (directory : Directory) → AreEntries directory entries → length entries ≤ most
+      → with_entries most at directory (spelled_all entries) ≡ Ok (with_all directory entries)
+  pub taken : (most at : ℕ) (directory given : Directory) (words : List ℕ) → with_entries most at directory words ≡ Ok given
+      → (entries : List Entry) × (words ≡ spelled_all entries) × AreEntries directory entries
+      × (given ≡ with_all directory entries)
+
+-- ---- words that correspond to a heap
+
+-- Where the words that were put back correspond to a heap, the image stands for the heap's graph.
+abbrev pub CorrespondingWordsStand : Type 0
+CorrespondingWordsStand = (lies : ℕ → ℕ → Bool) (size : ℕ) (words : Words) (directory : Directory) (heap : Heap)
+    → Opens size words directory → Corresponds (told_by lies) directory size (put_back words) heap
+    → StandsFor size words (canon_of heap)
+
+-- Other words that agree in the front, the logs, all objects and the root slots stand for the same graph, whatever else they say.
+abbrev pub SameWordsStand : Type 0
+SameWordsStand = (lies : ℕ → ℕ → Bool) (size : ℕ) (c d : Words) (directory : Directory) (heap : Heap)
+    → Opens size c directory → Corresponds (told_by lies) directory size (put_back c) heap
+    → SameFront c d → SameLogs c d → SameWords (told_by lies) heap c d
+    → StandsFor size d (canon_of heap)
+
+-- The same of a correspondence alone.
+abbrev pub SameWordsCorrespond : Type 0
+SameWordsCorrespond = (lies : ℕ → ℕ → Bool) (size : ℕ) (c d : Words) (directory : Directory) (heap : Heap)
+    → Corresponds (told_by lies) directory size c heap → SameWords (told_by lies) heap c d
+    → Corresponds (told_by lies) directory size d heap
+
+-- Words where one slot changed correspond to the heap after the store.
+abbrev pub SlotStoreCorresponds : Type 0
+SlotStoreCorresponds = (lies : ℕ → ℕ → Bool) (size : ℕ) (c d : Words) (directory : Directory) (heap : Heap)
+    (line n i : ℕ) (value : Value)
+    → Corresponds (told_by lies) directory size c heap → told_by lies line n → i < length (values_of heap n)
+    → SameButSlot (told_by lies) heap c d line i
+    → Holds (told_by lies) (kind_of (shape_of directory.shapes d line) i) (object_slot d line i) value
+    → Corresponds (told_by lies) directory size d (stored heap (Slot n i) value)
+
+-- Words where one root slot changed correspond to the heap after a store into that root's static, which is no other root's.
+abbrev pub RootStoreCorresponds : Type 0
+RootStoreCorresponds = (lies : ℕ → ℕ → Bool) (size : ℕ) (c d : Words) (directory : Directory) (heap : Heap)
+    (r : ℕ) (value : Value)
+    → Corresponds (told_by lies) directory size c heap → r < length heap.roots
+    → root_static heap r < length heap.statics
+    → ((s : ℕ) → s < length heap.roots → s ≢ r → root_static heap s ≢ root_static heap r)
+    → SameButRoot (told_by lies) heap c d r → HoldsReference (told_by lies) (root_word d r) value
+    → Corresponds (told_by lies) directory size d (stored heap (Static (root_static heap r)) value)
+
+-- The words correspond to any heap that is the same in the roots and in the objects that lie somewhere.
+abbrev pub OtherObjectsCorrespond : Type 0
+OtherObjectsCorrespond = (lies : ℕ → ℕ → Bool) (size : ℕ) (words : Words) (directory : Directory) (heap other : Heap)
+    → Corresponds (told_by lies) directory size words heap → SameObjects (told_by lies) heap other
+    → Corresponds (told_by lies) directory size words other
+
+-- A group of objects whose slots hold the old ones, one another or null can join.
+abbrev pub FurtherObjectsCorrespond : Type 0
+FurtherObjectsCorrespond = (lies new : ℕ → ℕ → Bool) (size : ℕ) (words : Words) (directory : Directory) (heap : Heap)
+    → Corresponds (told_by lies) directory size words heap
+    → CanJoin (told_by lies) (told_by new) directory size words heap
+    → Corresponds (Either (told_by lies) (told_by new)) directory size words heap

@@ -1,0 +1,14 @@
+pub mod Appending
+pub mod Arrays
+pub mod Checks
+pub mod Corresponds
+pub mod Directories
+pub mod Entries
+pub mod Laws
+pub mod Logs
+pub mod Meaning
+pub mod Objects
+pub mod Opening
+pub mod Recovering
+pub mod Rows
+pub mod Spelling
