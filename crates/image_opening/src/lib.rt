@@ -1,0 +1,4 @@
+//! Opens an image for a class set with at most one durable root, which holds an array of ints.
+#![tactic(auto)]
+
+mod words;
