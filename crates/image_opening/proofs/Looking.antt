@@ -1,14 +1,13 @@
 -- Words that are looked at, and single words that are put.
-use Rattle.std.proofs.Common.{◌≡◌, ◌≢◌, ◌⊎◌, inl, inr, ⊎_elim, ◌<◌, ℕ, List, [], ◌∷◌, refl, sym, ◌∙◌, ap, subst, get_or, arith}
+use Rattle.std.proofs.Common.{◌≡◌, ◌≢◌, ◌⊎◌, inl, inr, ⊎_elim, ◌<◌, ℕ, [], ◌∷◌, refl, sym, ◌∙◌, subst, get_or, arith}
 use Rattle.std.proofs.lemmas.Bool.{cases_eq}
-use Rattle.image_meaning.specs.Checks.{Words}
 use Rattle.line_image.specs.History.{Outcome}
-use Rattle.line_memory.specs.Memory.{Memory, Told, shown, IsTelling, IsKnown, CanLeave, CanLeaveAll, IsDurable, SameShown, SameImage, OneCall, KeepsTelling, Narrows}
-use Rattle.line_memory.specs.Moments.{Goes, CountsFrom}
+use Rattle.line_memory.specs.Memory.{Memory, shown, IsKnown, CanLeaveAll, IsDurable, SameShown, SameImage, OneCall, KeepsTelling, Narrows}
+use Rattle.line_memory.specs.Moments.{Goes}
 use Rattle.line_memory.proofs.Chain.{goes_on, goes_nowhere, counts_on, counts_same}
 use Rattle.durable_word.specs.declared.changes.Change.{Change}
 use Rattle.durable_word.specs.Changes.{IsChanged, IsGiven, OldOrGiven}
-use Rattle.image_opening.specs.Rest.{Agrees, IsAtRest, LooksOn, OldOrPut}
+use Rattle.image_opening.specs.Rest.{Agrees, IsAtRest, LooksOn, OldOrPut, HasKept, ChangesOthers}
 
 -- one call or none
 pub looks_once : (old new : Memory) → new.size ≡ old.size → KeepsTelling old new → SameShown old new → Narrows old new
@@ -107,3 +106,34 @@ module _ (old mid new : Memory) (change : Change) (looks : LooksOn old mid) (res
           (still.durable l w (subst (λ n. l < n) size below))
     ];
   }
+
+-- ---- words that are kept
+
+pub changes_nothing : (Kept : ℕ → ℕ → Type 0) (m : Memory) → ChangesOthers Kept m m
+changes_nothing Kept m = record { size = refl; shows = λ l w kept. refl; any_moment = goes_nowhere m.image (HasKept Kept m) }
+
+pub changes_more : (Kept : ℕ → ℕ → Type 0) (a b c : Memory) → ChangesOthers Kept a b → ChangesOthers Kept b c → ChangesOthers Kept a c
+changes_more Kept a b c first second = record {
+  size = second.size ∙ first.size;
+  shows = λ l w kept. second.shows l w kept ∙ first.shows l w kept;
+  any_moment = goes_on a.image b.image c.image (HasKept Kept a) (HasKept Kept b) (HasKept Kept a) first.any_moment second.any_moment
+      (λ k has. has)
+      (λ k has l w below kept. has l w (subst (λ n. l < n) (sym first.size) below) kept ∙ first.shows l w kept);
+}
+
+-- a put elsewhere
+pub put_changes : (Kept : ℕ → ℕ → Type 0) (old new : Memory) (line word value : ℕ) → (Kept line word → ⊥)
+    → new.size ≡ old.size
+    → ((l w : ℕ) → (l ≡ line → w ≢ word) → shown new l w ≡ shown old l w)
+    → Goes old.image new.image (OldOrPut old line word value) → ChangesOthers Kept old new
+put_changes Kept old new line word value elsewhere size others moments = record {
+  size = size;
+  shows = λ l w kept. others l w (λ at same. elsewhere (subst (λ k. Kept k word) at (subst (λ k. Kept l k) same kept)));
+  any_moment = goes_on old.image old.image new.image (HasKept Kept old) (OldOrPut old line word value) (HasKept Kept old)
+      (goes_nowhere old.image (HasKept Kept old)) moments
+      (λ k has. has)
+      (λ k either l w below kept. ⊎_elim
+          (λ was. was)
+          (λ put. absurd (elsewhere (subst (λ n. Kept n word) put.0 (subst (λ n. Kept l n) put.1 kept))))
+          (either l w below));
+}

@@ -27,3 +27,13 @@ pub record LooksOn (old new : Memory) : Type 0 where
 abbrev pub OldOrPut : Memory → ℕ → ℕ → ℕ → Outcome → Type 0
 OldOrPut m line word value c =
     (l w : ℕ) → l < m.size → (c l w ≡ shown m l w) ⊎ ((l ≡ line) × (w ≡ word) × (c l w ≡ value))
+
+-- c has what m shows in the words that are kept
+abbrev pub HasKept : (ℕ → ℕ → Type 0) → Memory → Outcome → Type 0
+HasKept Kept m c = (l w : ℕ) → l < m.size → Kept l w → c l w ≡ shown m l w
+
+-- Words were changed but for those that are kept: these each stop left as they were.
+pub record ChangesOthers (Kept : ℕ → ℕ → Type 0) (old new : Memory) : Type 0 where
+  pub size : new.size ≡ old.size
+  pub shows : (l w : ℕ) → Kept l w → shown new l w ≡ shown old l w
+  pub any_moment : Goes old.image new.image (HasKept Kept old)

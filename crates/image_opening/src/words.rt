@@ -3,12 +3,32 @@ ghost use Rattle.std.specs.Prelude.{◌≡◌, ◌≢◌, ◌<◌, ℕ, OnOk, If
 ghost use Rattle.ap_base.specs.Causes.{HasCause};
 ghost use Rattle.line_memory.specs.Memory.{shown, IsResident, IsTelling};
 ghost use Rattle.line_memory.specs.Moments.{Goes, CountsFrom};
+ghost use Rattle.image_layout.specs.Places.{root_slots, logs, slot_line, slot_word, log_head_line};
 ghost use Rattle.image_opening.specs.Rest.{IsAtRest, LooksOn, OldOrPut};
 
-use ap_base::Spot;
+use ap_base::{Spot, ThreadNo};
 use durable_word::{Change, set_all_for_good};
+use image_layout::{log_head, slot_spot};
 use line_image::{Image, ImageFailed};
 use line_memory::{LineMemory, Touch};
+
+/// The word of a root slot.
+pub(crate) fn root_spot(root: u32) -> Spot
+    requires { root < root_slots }
+    ensures line { result.line ≡ slot_line root }
+    ensures word { result.word ≡ slot_word root }
+{
+    slot_spot(root).unwrap()
+}
+
+/// The word that counts the entries of the log of this number.
+pub(crate) fn count_spot(thread: u8) -> Spot
+    requires { thread < logs }
+    ensures line { result.line ≡ log_head_line thread }
+    ensures word { result.word ≡ 0 }
+{
+    log_head(ThreadNo::new(thread).unwrap())
+}
 
 /// Makes a line resident.
 fn make_resident<I: Image>(memory: &mut LineMemory<I>, line: u32) -> Result<(), ImageFailed>
