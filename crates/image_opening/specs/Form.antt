@@ -1,11 +1,12 @@
 -- Images without objects.
-use Rattle.std.specs.Prelude.{◌≡◌, ◌⊎◌, ◌<◌, ◌≤◌, ℕ, List}
-use Rattle.image_layout.specs.Places.{root_slots, log_head_line, directory_line}
+use Rattle.std.specs.Prelude.{◌≡◌, ◌⊎◌, ◌<◌, ◌≤◌, ◌+◌, ◌*◌, ℕ, List, ◌++◌, length, slice_index_or}
+use Rattle.graph_model.specs.declared.types.Graph.{Graph}
+use Rattle.image_layout.specs.Places.{root_slots, log_head_line, directory_line, directory_word}
 use Rattle.image_meaning.specs.Checks.{Words}
 use Rattle.image_meaning.specs.Entries.{Entry}
-use Rattle.image_meaning.specs.Directories.{Spells}
+use Rattle.image_meaning.specs.Directories.{no_entries, with_all, spelled_all, AreEntries, Spells}
 use Rattle.image_meaning.specs.Meaning.{root_word}
-use Rattle.image_meaning.specs.Arrays.{IsInUse}
+use Rattle.image_meaning.specs.Arrays.{IsInUse, null_graph}
 
 -- The image is in use, its directory spells these entries, and no root refers to anything.
 pub record HasOnly (size : ℕ) (words : Words) (entries : List Entry) : Type 0 where
@@ -15,9 +16,6 @@ pub record HasOnly (size : ℕ) (words : Words) (entries : List Entry) : Type 0 
 
 -- ---- parts of an image
 
-abbrev pub IsFirstWord : ℕ → ℕ → Type 0
-IsFirstWord line word = (line ≡ 0) × (word ≡ 0)
-
 -- the line is that of no root slot
 abbrev pub IsNoSlot : ℕ → ℕ → Type 0
 IsNoSlot line word = (line ≡ 0) ⊎ (directory_line 0 ≤ line)
@@ -25,3 +23,25 @@ IsNoSlot line word = (line ≡ 0) ⊎ (directory_line 0 ≤ line)
 -- the line is before the logs
 abbrev pub IsBeforeLogs : ℕ → ℕ → Type 0
 IsBeforeLogs line word = line < log_head_line 0
+
+-- the word lies before word `used` of the directory, or behind the directory
+abbrev pub IsOutsideFree : ℕ → ℕ → ℕ → Type 0
+IsOutsideFree used line word = (8 * line + word < 8 * directory_line 0 + used) ⊎ (log_head_line 0 ≤ line)
+
+-- ---- further entries
+
+-- the words of the directory from word `used` on are these
+abbrev pub StandFrom : Words → ℕ → List ℕ → Type 0
+StandFrom words used spelling =
+    (i : ℕ) → i < length spelling → words (directory_line (used + i)) (directory_word (used + i)) ≡ slice_index_or spelling i 0
+
+-- Behind the entries before, of so many words, these words spell further ones.
+pub record IsContinued (many : ℕ) (spelling : List ℕ) (before after : List Entry) : Type 0 where
+  pub used : length (spelled_all before) ≡ many
+  pub further : spelled_all after ≡ spelled_all before ++ spelling
+  pub were : AreEntries no_entries before
+  pub are : AreEntries no_entries after
+
+-- the graph of an image with these entries whose roots refer to nothing
+abbrev pub graph_of_entries : List Entry → Graph
+graph_of_entries entries = null_graph (with_all no_entries entries).roots

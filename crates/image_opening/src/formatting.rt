@@ -7,7 +7,7 @@ ghost use Rattle.image_layout.specs.Places.{min_lines, max_lines, root_slots};
 ghost use Rattle.image_meaning.specs.Logs.{NoneLogged};
 ghost use Rattle.image_meaning.specs.Meaning.{root_word, empty_graph, StandsFor};
 ghost use Rattle.image_opening.specs.Rest.{IsAtRest, ChangesOthers};
-ghost use Rattle.image_opening.specs.Form.{HasOnly, IsFirstWord, IsNoSlot, IsBeforeLogs};
+ghost use Rattle.image_opening.specs.Form.{HasOnly, IsNoSlot, IsBeforeLogs};
 
 use crate::words::{count_spot, put_word, root_spot};
 use ap_base::Spot;

@@ -1,7 +1,9 @@
 //! Opens an image for a class set with at most one durable root, which holds an array of ints.
 #![tactic(auto)]
 
+mod appending;
 mod formatting;
 mod words;
 
+pub use appending::append_entries;
 pub use formatting::format_image;

@@ -3,12 +3,12 @@ ghost use Rattle.std.specs.Prelude.{◌≡◌, ◌≢◌, ◌<◌, ℕ, OnOk, If
 ghost use Rattle.ap_base.specs.Causes.{HasCause};
 ghost use Rattle.line_memory.specs.Memory.{shown, IsResident, IsTelling};
 ghost use Rattle.line_memory.specs.Moments.{Goes, CountsFrom};
-ghost use Rattle.image_layout.specs.Places.{root_slots, logs, slot_line, slot_word, log_head_line};
+ghost use Rattle.image_layout.specs.Places.{root_slots, directory_words, logs, slot_line, slot_word, directory_line, directory_word, log_head_line};
 ghost use Rattle.image_opening.specs.Rest.{IsAtRest, LooksOn, OldOrPut};
 
 use ap_base::{Spot, ThreadNo};
 use durable_word::{Change, set_all_for_good};
-use image_layout::{log_head, slot_spot};
+use image_layout::{directory_spot, log_head, slot_spot};
 use line_image::{Image, ImageFailed};
 use line_memory::{LineMemory, Touch};
 
@@ -28,6 +28,15 @@ pub(crate) fn count_spot(thread: u8) -> Spot
     ensures word { result.word ≡ 0 }
 {
     log_head(ThreadNo::new(thread).unwrap())
+}
+
+/// The word of the directory's word of this number.
+pub(crate) fn word_spot(word: u32) -> Spot
+    requires { word < directory_words }
+    ensures line { result.line ≡ directory_line word }
+    ensures word { result.word ≡ directory_word word }
+{
+    directory_spot(word).unwrap()
 }
 
 /// Makes a line resident.
