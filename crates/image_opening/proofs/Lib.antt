@@ -1,3 +1,4 @@
 pub mod Entering
 pub mod Layouts
 pub mod Looking
+pub mod Spellings

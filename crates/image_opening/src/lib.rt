@@ -2,6 +2,7 @@
 #![tactic(auto)]
 
 mod appending;
+mod entries;
 mod formatting;
 mod words;
 
