@@ -1,10 +1,11 @@
 -- Images without objects.
-use Rattle.std.specs.Prelude.{◌≡◌, ◌⊎◌, ◌<◌, ◌≤◌, ◌+◌, ◌*◌, ℕ, List, ◌++◌, length, slice_index_or}
+use Rattle.std.specs.Prelude.{◌≡◌, ◌⊎◌, ◌<◌, ◌≤◌, ◌+◌, ◌*◌, ℕ, List, ◌++◌, length, take, slice_index_or}
 use Rattle.graph_model.specs.declared.types.Graph.{Graph}
-use Rattle.image_layout.specs.Places.{root_slots, log_head_line, directory_line, directory_word}
+use Rattle.image_layout.specs.Places.{magic, version, root_slots, log_head_line, directory_line, directory_word}
 use Rattle.image_meaning.specs.Checks.{Words}
 use Rattle.image_meaning.specs.Entries.{Entry}
 use Rattle.image_meaning.specs.Directories.{no_entries, with_all, spelled_all, AreEntries, Spells}
+use Rattle.image_meaning.specs.Logs.{NoneLogged}
 use Rattle.image_meaning.specs.Meaning.{root_word}
 use Rattle.image_meaning.specs.Arrays.{IsInUse, null_graph}
 
@@ -45,3 +46,25 @@ pub record IsContinued (many : ℕ) (spelling : List ℕ) (before after : List E
 -- the graph of an image with these entries whose roots refer to nothing
 abbrev pub graph_of_entries : List Entry → Graph
 graph_of_entries entries = null_graph (with_all no_entries entries).roots
+
+-- ---- the form that is opened
+
+-- all root slots but the first are 0
+abbrev pub OthersAreNull : Words → Type 0
+OthersAreNull words = (r : ℕ) → 0 < r → r < root_slots → root_word words r ≡ 0
+
+-- The directory has none of the wanted entries, the first of them, which takes three words, or all.
+abbrev pub IsPart : ℕ → List ℕ → Type 0
+IsPart used spelling = (used ≡ 0) ⊎ (used ≡ 3) ⊎ (used ≡ length spelling)
+
+-- The image is in use without counted entries of logs, so many words of the directory are in use, of those that spell the wanted entries,
+-- and no root but the first refers to anything.
+pub record IsFront (size : ℕ) (words : Words) (spelling : List ℕ) (used : ℕ) : Type 0 where
+  pub magic : words 0 0 ≡ magic
+  pub version : words 0 1 ≡ version
+  pub lines : words 0 2 ≡ size
+  pub directory : words 0 3 ≡ used
+  pub some : IsPart used spelling
+  pub spelled : StandFrom words 0 (take used spelling)
+  pub logs : NoneLogged words
+  pub others : OthersAreNull words

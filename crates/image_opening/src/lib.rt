@@ -3,6 +3,7 @@
 
 mod appending;
 mod entries;
+mod form;
 mod formatting;
 mod words;
 
