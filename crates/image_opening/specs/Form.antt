@@ -57,14 +57,19 @@ OthersAreNull words = (r : ℕ) → 0 < r → r < root_slots → root_word words
 abbrev pub IsPart : ℕ → List ℕ → Type 0
 IsPart used spelling = (used ≡ 0) ⊎ (used ≡ 3) ⊎ (used ≡ length spelling)
 
--- The image is in use without counted entries of logs, so many words of the directory are in use, of those that spell the wanted entries,
--- and no root but the first refers to anything.
-pub record IsFront (size : ℕ) (words : Words) (spelling : List ℕ) (used : ℕ) : Type 0 where
-  pub magic : words 0 0 ≡ magic
-  pub version : words 0 1 ≡ version
-  pub lines : words 0 2 ≡ size
-  pub directory : words 0 3 ≡ used
-  pub some : IsPart used spelling
+-- words 0 to 2 of the superblock are those of an image of so many lines
+abbrev pub HasSuper : ℕ → Words → Type 0
+HasSuper size words = (words 0 0 ≡ magic) × (words 0 1 ≡ version) × (words 0 2 ≡ size)
+
+-- so many words of the directory are in use, of those that spell the wanted entries
+pub record HasDirectory (words : Words) (spelling : List ℕ) (used : ℕ) : Type 0 where
+  pub count : words 0 3 ≡ used
+  pub part : IsPart used spelling
   pub spelled : StandFrom words 0 (take used spelling)
+
+-- The image is in use, no entry of a log counts, and no root but the first refers to anything.
+pub record IsFront (size : ℕ) (words : Words) (spelling : List ℕ) (used : ℕ) : Type 0 where
+  pub super : HasSuper size words
+  pub directory : HasDirectory words spelling used
   pub logs : NoneLogged words
   pub others : OthersAreNull words

@@ -1,14 +1,15 @@
 // Whether an image has the form that is opened.
-ghost use Rattle.std.specs.Prelude.{◌≡◌, ◌<◌, ◌≤◌, ◌↔◌, ℕ, length, IsTrue, IfOk};
+ghost use Rattle.std.specs.Prelude.{◌≡◌, ◌<◌, ◌≤◌, ◌↔◌, ℕ, length, IsTrue, IfOk, MatchOption};
 ghost use Rattle.ap_base.specs.Causes.{HasCause};
 ghost use Rattle.line_memory.specs.Memory.{shown, IsTelling};
 ghost use Rattle.image_layout.specs.Places.{min_lines, directory_words};
 ghost use Rattle.image_meaning.specs.Logs.{NoneLogged};
 ghost use Rattle.image_opening.specs.Rest.{LooksOn};
-ghost use Rattle.image_opening.specs.Form.{StandFrom, OthersAreNull};
+ghost use Rattle.image_opening.specs.Form.{StandFrom, OthersAreNull, HasSuper, HasDirectory, IsFront};
 
+use ap_base::Spot;
 use crate::words::{count_spot, read_word, root_spot, word_spot};
-use image_layout::{LOGS, ROOT_SLOTS};
+use image_layout::{LOGS, MAGIC, ROOT_SLOTS, VERSION};
 use line_image::{Image, ImageFailed};
 use line_memory::LineMemory;
 
@@ -62,4 +63,71 @@ fn begins_with<I: Image>(
         }
     }
     Ok(true)
+}
+
+/// Whether the superblock is that of an image of so many lines, whatever its directory.
+fn has_super<I: Image>(memory: &mut LineMemory<I>, lines: u64) -> Result<bool, ImageFailed>
+    requires { min_lines ≤ memory.old.size }
+    ensures is { IsTelling memory.old.image.history
+        → IfOk result (λ is. IsTrue is ↔ HasSuper lines (shown memory.old)) }
+    ensures looks { LooksOn memory.old memory.new }
+    ensures cause { HasCause memory.old.faults memory.new.faults result }
+{
+    if read_word(memory, Spot { line: 0, word: 0 })? != MAGIC {
+        return Ok(false);
+    }
+    if read_word(memory, Spot { line: 0, word: 1 })? != VERSION {
+        return Ok(false);
+    }
+    let count = read_word(memory, Spot { line: 0, word: 2 })?;
+    Ok(count == lines)
+}
+
+/// How many words of the directory are in use, if the image is one of the form but for its first root slot.
+pub(crate) fn read_front<I: Image>(
+    memory: &mut LineMemory<I>,
+    lines: u64,
+    spelling: &[u64],
+) -> Result<Option<u64>, ImageFailed>
+    requires enough { min_lines ≤ memory.old.size }
+    requires some { 3 ≤ length spelling.now }
+    requires room { length spelling.now ≤ directory_words }
+    ensures front { IsTelling memory.old.image.history → IfOk result (λ front. MatchOption front
+        ((used : ℕ) → ¬ IsFront lines (shown memory.old) spelling.now used)
+        (λ used. IsFront lines (shown memory.old) spelling.now used)) }
+    ensures looks { LooksOn memory.old memory.new }
+    ensures cause { HasCause memory.old.faults memory.new.faults result }
+{
+    if !has_super(memory, lines)? {
+        return Ok(None);
+    }
+    if !logs_are_empty(memory)? {
+        return Ok(None);
+    }
+    if !others_are_null(memory)? {
+        return Ok(None);
+    }
+    read_directory(memory, spelling)
+}
+
+/// How many words of the directory are in use, if they are none, three or all of these.
+fn read_directory<I: Image>(
+    memory: &mut LineMemory<I>,
+    spelling: &[u64],
+) -> Result<Option<u64>, ImageFailed>
+    requires enough { min_lines ≤ memory.old.size }
+    requires some { 3 ≤ length spelling.now }
+    requires room { length spelling.now ≤ directory_words }
+    ensures directory { IsTelling memory.old.image.history → IfOk result (λ used. MatchOption used
+        ((used : ℕ) → ¬ HasDirectory (shown memory.old) spelling.now used)
+        (λ used. HasDirectory (shown memory.old) spelling.now used)) }
+    ensures looks { LooksOn memory.old memory.new }
+    ensures cause { HasCause memory.old.faults memory.new.faults result }
+{
+    let used = read_word(memory, Spot { line: 0, word: 3 })?;
+    if used != 0 && used != 3 && used != spelling.len() as u64 {
+        return Ok(None);
+    }
+    let begins = begins_with(memory, &spelling[..used as usize])?;
+    Ok(if begins { Some(used) } else { None })
 }
