@@ -3,9 +3,11 @@
 
 mod appending;
 mod entries;
+mod filling;
 mod form;
 mod formatting;
 mod words;
 
 pub use appending::append_entries;
+pub use filling::{fill_directory, lay_out};
 pub use formatting::format_image;
