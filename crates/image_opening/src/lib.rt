@@ -6,6 +6,8 @@ mod entries;
 mod filling;
 mod form;
 mod formatting;
+#[cfg(test)]
+mod tests;
 mod words;
 
 pub use appending::append_entries;
