@@ -51,3 +51,8 @@ root_moments size other name a b d same first second =
 pub empty_moments : (size : ℕ) (name : List ℕ) (a b : Told) → Goes a b (λ c. StandsFor size c empty_graph) → Goes a b (NoRootOrNull size name)
 empty_moments size name a b moments =
     goes_weaker a b (λ c. StandsFor size c empty_graph) (NoRootOrNull size name) moments (λ k none. inl none)
+
+pub last_moments : (size : ℕ) (name : List ℕ) (a b : Told) → Goes a b (Either size shape_alone (array_entries name))
+    → Goes a b (NoRootOrNull size name)
+last_moments size name a b moments =
+    goes_weaker a b (Either size shape_alone (array_entries name)) (NoRootOrNull size name) moments (λ k either. either)

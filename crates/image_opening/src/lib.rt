@@ -11,5 +11,5 @@ mod tests;
 mod words;
 
 pub use appending::append_entries;
-pub use filling::{fill_directory, lay_out};
+pub use filling::{complete_directory, fill_directory, lay_out};
 pub use formatting::format_image;
