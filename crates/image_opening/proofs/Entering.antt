@@ -1,0 +1,122 @@
+-- Entries that are added to a directory, and the stops of that.
+use Rattle.std.proofs.Common.{◌≡◌, ◌≢◌, ◌⊎◌, inl, inr, ⊎_elim, ◌<◌, ◌≤◌, ◌+◌, ◌-◌, ℕ, List, ◌++◌, length, slice_index_or, sym, ◌∙◌, ap, subst, length-append, arith}
+use Rattle.std.proofs.lemmas.Bool.{cases_lt}
+use Rattle.std.proofs.lemmas.List.{get_or_append_left, get_or-append-add}
+use Rattle.line_image.specs.History.{Outcome}
+use Rattle.line_memory.specs.Memory.{Memory, shown}
+use Rattle.line_memory.specs.Moments.{Goes}
+use Rattle.image_layout.specs.Places.{min_lines, directory_words, slot_line, slot_word, log_head_line, directory_line, directory_word}
+use Rattle.image_meaning.specs.Checks.{Words}
+use Rattle.image_meaning.specs.Entries.{Entry}
+use Rattle.image_meaning.specs.Directories.{spelled_all}
+use Rattle.image_meaning.specs.Meaning.{StandsFor}
+use Rattle.image_opening.specs.Rest.{OldOrPut, HasKept, ChangesOthers}
+use Rattle.image_opening.specs.Form.{HasOnly, IsOutsideFree, StandFrom, IsContinued, graph_of_entries}
+use Rattle.image_opening.proofs.Layouts.{goes_then, goes_weaker, only_stands}
+
+-- words that are the same outside the free part of the directory
+pub only_same : (size used : ℕ) (c d : Words) (entries : List Entry) → min_lines ≤ size → HasOnly size d entries
+    → length (spelled_all entries) ≡ used → used ≤ directory_words
+    → ((l w : ℕ) → l < size → IsOutsideFree used l w → c l w ≡ d l w) → HasOnly size c entries
+only_same size used c d entries enough has many few same =
+    let count : c 0 3 ≡ d 0 3 = same 0 3 (omega (arith, enough)) (inl (omega arith)) in
+    record {
+      in_use = record {
+        enough = has.in_use.enough;
+        most = has.in_use.most;
+        magic = same 0 0 (omega (arith, enough)) (inl (omega arith)) ∙ has.in_use.magic;
+        version = same 0 1 (omega (arith, enough)) (inl (omega arith)) ∙ has.in_use.version;
+        lines = same 0 2 (omega (arith, enough)) (inl (omega arith)) ∙ has.in_use.lines;
+        directory = omega (arith, count, has.in_use.directory);
+        logs = λ t below. same (log_head_line t) 0 (omega (arith, enough, below)) (inr (omega arith)) ∙ has.in_use.logs t below;
+      };
+      directory = record {
+        used = count ∙ has.directory.used;
+        spelled = λ i below.
+            same (directory_line i) (directory_word i) (omega (arith, enough, below, many, few)) (inl (omega (arith, below, many)))
+            ∙ has.directory.spelled i below;
+      };
+      roots = λ r below. same (slot_line r) (slot_word r) (omega (arith, enough, below)) (inl (omega (arith, below))) ∙ has.roots r below;
+    }
+
+-- further words are in use once word 3 of the superblock says so
+pub raised_only : (size used : ℕ) (c d : Words) (spelling : List ℕ) (before after : List Entry) → min_lines ≤ size
+    → HasOnly size d before → IsContinued used spelling before after → used + length spelling ≤ directory_words
+    → StandFrom d used spelling
+    → ((l w : ℕ) → l < size → (l ≡ 0 → w ≢ 3) → c l w ≡ d l w) → c 0 3 ≡ used + length spelling → HasOnly size c after
+raised_only size used c d spelling before after enough has on few written same count =
+    let many = on.used in
+    let total : length (spelled_all after) ≡ used + length spelling =
+        ap length on.further ∙ length-append (spelled_all before) spelling ∙ ap (λ n. n + length spelling) many in
+    record {
+      in_use = record {
+        enough = has.in_use.enough;
+        most = has.in_use.most;
+        magic = same 0 0 (omega (arith, enough)) (λ at. omega arith) ∙ has.in_use.magic;
+        version = same 0 1 (omega (arith, enough)) (λ at. omega arith) ∙ has.in_use.version;
+        lines = same 0 2 (omega (arith, enough)) (λ at. omega arith) ∙ has.in_use.lines;
+        directory = omega (arith, count, few);
+        logs = λ t below. same (log_head_line t) 0 (omega (arith, enough, below)) (λ at. absurd (omega (arith, at))) ∙ has.in_use.logs t below;
+      };
+      directory = record {
+        used = count ∙ sym total;
+        spelled = λ i below.
+            same (directory_line i) (directory_word i) (omega (arith, enough, below, total, few)) (λ at. absurd (omega (arith, at)))
+            ∙ (⊎_elim
+                (λ (low : i < used).
+                has.directory.spelled i (omega (arith, low, many))
+                ∙ sym (get_or_append_left (spelled_all before) spelling 0 i (omega (arith, low, many))))
+                (λ (high : used ≤ i).
+                let at : used + (i - used) ≡ i = omega (arith, high) in
+                subst (λ (k : ℕ). d (directory_line k) (directory_word k) ≡ slice_index_or (spelled_all before ++ spelling) k 0) at
+                (written (i - used) (omega (arith, below, total, high))
+                ∙ sym (get_or-append-add (spelled_all before) spelling (i - used) 0)
+                ∙ ap (λ n. slice_index_or (spelled_all before ++ spelling) (n + (i - used)) 0) many))
+                (cases_lt i used)
+            ∙ ap (λ some. slice_index_or some i 0) (sym on.further));
+      };
+      roots = λ r below. same (slot_line r) (slot_word r) (omega (arith, enough, below)) (λ at. absurd (omega (arith, at))) ∙ has.roots r below;
+    }
+
+abbrev pub Either : ℕ → List Entry → List Entry → Outcome → Type 0
+Either size before after c = StandsFor size c (graph_of_entries before) ⊎ StandsFor size c (graph_of_entries after)
+
+module _ (old mid : Memory) (used : ℕ) (spelling : List ℕ) (before after : List Entry) (enough : min_lines ≤ old.size)
+    (has : HasOnly old.size (shown old) before) (on : IsContinued used spelling before after)
+    (few : used + length spelling ≤ directory_words) (writes : ChangesOthers (IsOutsideFree used) old mid) where
+  room : used ≤ directory_words
+  room = omega (arith, few)
+
+  pub writing_moments : Goes old.image mid.image (Either old.size before after)
+  writing_moments = goes_weaker old.image mid.image (HasKept (IsOutsideFree used) old) (Either old.size before after) writes.any_moment
+      (λ k kept. inl (only_stands old.size k before (only_same old.size used k (shown old) before enough has on.used room kept) on.were))
+
+  pub written_only : HasOnly mid.size (shown mid) before
+  written_only = subst (λ n. HasOnly n (shown mid) before) (sym writes.size)
+      (only_same old.size used (shown mid) (shown old) before enough has on.used room (λ l w below kept. writes.shows l w kept))
+
+  more : min_lines ≤ mid.size
+  more = omega (arith, enough, writes.size)
+
+  module _ (new : Memory) (written : StandFrom (shown mid) used spelling)
+      (others : (l w : ℕ) → (l ≡ 0 → w ≢ 3) → shown new l w ≡ shown mid l w) where
+    pub raised_moments : Goes mid.image new.image (OldOrPut mid 0 3 (used + length spelling))
+        → Goes old.image new.image (Either old.size before after)
+    raised_moments moments = goes_then old.image mid.image new.image (Either old.size before after) writing_moments
+        (subst (λ n. Goes mid.image new.image (Either n before after)) writes.size
+        (goes_weaker mid.image new.image (OldOrPut mid 0 3 (used + length spelling)) (Either mid.size before after) moments
+        (λ k either.
+        let same : (l w : ℕ) → l < mid.size → (l ≡ 0 → w ≢ 3) → k l w ≡ shown mid l w = λ l w below elsewhere.
+            ⊎_elim (λ was. was) (λ put. absurd (elsewhere put.0 put.1)) (either l w below) in
+        ⊎_elim
+        (λ was. inl (only_stands mid.size k before (only_same mid.size used k (shown mid) before more written_only on.used room
+            (λ l w below kept. ⊎_elim (λ it. it) (λ put. ap (λ n. k n w) put.0 ∙ ap (λ n. k 0 n) put.1 ∙ was ∙ ap (λ n. shown mid 0 n) (sym put.1) ∙ ap (λ n. shown mid n w) (sym put.0)) (either l w below)))
+            on.were))
+        (λ put. inr (only_stands mid.size k after
+            (raised_only mid.size used k (shown mid) spelling before after more written_only on few written same put.2) on.are))
+        (either 0 3 (omega (arith, more))))))
+
+    pub raised : shown new 0 3 ≡ used + length spelling → HasOnly old.size (shown new) after
+    raised here = subst (λ n. HasOnly n (shown new) after) writes.size
+        (raised_only mid.size used (shown new) (shown mid) spelling before after more written_only on few written
+        (λ l w below elsewhere. others l w elsewhere) here)

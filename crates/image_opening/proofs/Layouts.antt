@@ -1,0 +1,102 @@
+-- Layouts of images without objects, and the stops of their writing.
+use Rattle.std.proofs.Common.{◌≡◌, ◌≢◌, ⊎_elim, ◌<◌, ◌≤◌, ℕ, List, [], refl, ◌∙◌, arith}
+use Rattle.std.proofs.lemmas.Bool.{le-leb}
+use Rattle.line_image.specs.History.{Outcome}
+use Rattle.line_memory.specs.Memory.{Memory, Told, shown}
+use Rattle.line_memory.specs.Moments.{Goes}
+use Rattle.line_memory.proofs.Chain.{goes_on, goes_nowhere}
+use Rattle.image_layout.specs.Places.{magic, version, min_lines, max_lines, root_slots, slot_line, slot_word, log_head_line}
+use Rattle.image_meaning.specs.Checks.{Words}
+use Rattle.image_meaning.specs.Entries.{Entry}
+use Rattle.image_meaning.specs.Directories.{no_entries, with_all, AreEntries}
+use Rattle.image_meaning.specs.Logs.{NoneLogged}
+use Rattle.image_meaning.specs.Meaning.{root_word, empty_graph, StandsFor}
+use Rattle.image_meaning.specs.Arrays.{null_graph}
+use Rattle.image_meaning.proofs.Arrays.{null_roots-stand}
+use Rattle.image_meaning.proofs.Order.{blank-stands}
+use Rattle.image_opening.specs.Rest.{OldOrPut, HasKept, ChangesOthers}
+use Rattle.image_opening.specs.Form.{HasOnly}
+
+pub goes_then : (a b c : Told) (P : Outcome → Type 0) → Goes a b P → Goes b c P → Goes a c P
+goes_then a b c P first second = goes_on a b c P P P first second (λ k p. p) (λ k p. p)
+
+pub goes_weaker : (a b : Told) (P Q : Outcome → Type 0) → Goes a b P → ((k : Outcome) → P k → Q k) → Goes a b Q
+goes_weaker a b P Q goes weaker = goes_on a a b P P Q (goes_nowhere a P) goes weaker weaker
+
+-- the image of so many lines has a size that an image may have
+pub record MayBe (lines size : ℕ) : Type 0 where
+  pub is : lines ≡ size
+  pub enough : min_lines ≤ lines
+  pub most : lines ≤ max_lines
+
+pub first_zero-stands : (lines size : ℕ) (c : Words) → MayBe lines size → c 0 0 ≡ 0 → StandsFor lines c empty_graph
+first_zero-stands lines size c may zero =
+    blank-stands lines c (rw (le-leb 32768 lines may.enough, le-leb lines 4194304 may.most) refl, zero)
+
+-- where word 0 is kept, each stop leaves a blank image
+pub kept_blank : (Kept : ℕ → ℕ → Type 0) (lines : ℕ) (old new : Memory) → MayBe lines old.size → Kept 0 0 → shown old 0 0 ≡ 0
+    → ChangesOthers Kept old new → Goes old.image new.image (λ c. StandsFor lines c empty_graph)
+kept_blank Kept lines old new may kept zero changes =
+    goes_weaker old.image new.image (HasKept Kept old) (λ c. StandsFor lines c empty_graph) changes.any_moment
+    (λ k has. first_zero-stands lines old.size k may (has 0 0 (omega (arith, may.is, may.enough)) kept ∙ zero))
+
+-- another word of line 0 is put
+pub put_blank : (lines : ℕ) (old new : Memory) (word value : ℕ) → MayBe lines old.size → 0 < word → shown old 0 0 ≡ 0
+    → Goes old.image new.image (OldOrPut old 0 word value) → Goes old.image new.image (λ c. StandsFor lines c empty_graph)
+put_blank lines old new word value may some zero moments =
+    goes_weaker old.image new.image (OldOrPut old 0 word value) (λ c. StandsFor lines c empty_graph) moments
+    (λ k either. ⊎_elim
+        (λ was. first_zero-stands lines old.size k may (was ∙ zero))
+        (λ put. absurd (omega (arith, put.1, some)))
+        (either 0 0 (omega (arith, may.is, may.enough))))
+
+-- what the words but the magic one say
+pub record IsReady (lines : ℕ) (words : Words) : Type 0 where
+  pub version : words 0 1 ≡ version
+  pub count : words 0 2 ≡ lines
+  pub used : words 0 3 ≡ 0
+  pub roots : (r : ℕ) → r < root_slots → root_word words r ≡ 0
+  pub logs : NoneLogged words
+
+pub ready_magic : (lines size : ℕ) (c : Words) → MayBe lines size → IsReady lines c → c 0 0 ≡ magic → HasOnly lines c []
+ready_magic lines size c may ready is = record {
+  in_use = record {
+    enough = may.enough;
+    most = may.most;
+    magic = is;
+    version = ready.version;
+    lines = ready.count;
+    directory = omega (arith, ready.used);
+    logs = ready.logs;
+  };
+  directory = record { used = ready.used; spelled = λ i below. absurd (omega (arith, below)) };
+  roots = ready.roots;
+}
+
+pub only_stands : (lines : ℕ) (c : Words) (entries : List Entry) → HasOnly lines c entries → AreEntries no_entries entries
+    → StandsFor lines c (null_graph (with_all no_entries entries).roots)
+only_stands lines c entries has are = null_roots-stand lines c entries has.in_use are has.directory has.roots
+
+-- what holds of the words but the magic one holds of each stop while that one is put
+pub ready_left : (lines : ℕ) (old : Memory) (value : ℕ) (c : Outcome) → MayBe lines old.size → IsReady lines (shown old)
+    → OldOrPut old 0 0 value c → IsReady lines c
+ready_left lines old value c may ready either =
+    let same : (l w : ℕ) → l < 32768 → (l ≡ 0 → w ≢ 0) → c l w ≡ shown old l w = λ l w below elsewhere.
+        ⊎_elim (λ was. was) (λ put. absurd (elsewhere put.0 put.1)) (either l w (omega (arith, may.is, may.enough))) in
+    record {
+      version = same 0 1 (omega arith) (λ at. omega arith) ∙ ready.version;
+      count = same 0 2 (omega arith) (λ at. omega arith) ∙ ready.count;
+      used = same 0 3 (omega arith) (λ at. omega arith) ∙ ready.used;
+      roots = λ r below. same (slot_line r) (slot_word r) (omega (arith, below)) (λ at. absurd (omega (arith, at))) ∙ ready.roots r below;
+      logs = λ t below. same (log_head_line t) 0 (omega (arith, below)) (λ at. absurd (omega (arith, at))) ∙ ready.logs t below;
+    }
+
+-- the magic word is put last: each stop leaves a blank image or the whole layout
+pub magic_moments : (lines : ℕ) (old new : Memory) → MayBe lines old.size → IsReady lines (shown old) → shown old 0 0 ≡ 0
+    → Goes old.image new.image (OldOrPut old 0 0 magic) → Goes old.image new.image (λ c. StandsFor lines c empty_graph)
+magic_moments lines old new may ready zero moments =
+    goes_weaker old.image new.image (OldOrPut old 0 0 magic) (λ c. StandsFor lines c empty_graph) moments
+    (λ k either. ⊎_elim
+        (λ was. first_zero-stands lines old.size k may (was ∙ zero))
+        (λ put. only_stands lines k [] (ready_magic lines old.size k may (ready_left lines old magic k may ready either) put.2) tt)
+        (either 0 0 (omega (arith, may.is, may.enough))))
