@@ -1,0 +1,9 @@
+//! Listings of class files, line by line.
+//!
+//! A listing is ASCII lines, each of which begins, ends or goes on with a class, or says nothing. This crate says what each line
+//! means by itself; what lines mean together is another crate's part.
+#![tactic(auto)]
+
+mod numbers;
+mod texts;
+mod words;
