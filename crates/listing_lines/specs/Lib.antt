@@ -2,3 +2,4 @@ pub mod Words
 pub mod Numbers
 pub mod Texts
 pub mod Mnemonics
+pub mod Reading

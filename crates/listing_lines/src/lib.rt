@@ -4,7 +4,13 @@
 //! means by itself; what lines mean together is another crate's part.
 #![tactic(auto)]
 
+mod lines;
 mod mnemonics;
 mod numbers;
+mod operands;
+mod refusal;
 mod texts;
 mod words;
+
+pub use lines::{Instruction, KeyLabel, Line, MemberKind, MemberName, Wanted};
+pub use refusal::ListingFault;
