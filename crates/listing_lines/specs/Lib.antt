@@ -3,3 +3,4 @@ pub mod Numbers
 pub mod Texts
 pub mod Mnemonics
 pub mod Reading
+pub mod Instructions

@@ -4,6 +4,7 @@
 //! means by itself; what lines mean together is another crate's part.
 #![tactic(auto)]
 
+mod instructions;
 mod lines;
 mod mnemonics;
 mod numbers;

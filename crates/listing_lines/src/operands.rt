@@ -2,6 +2,7 @@
 
 ghost use Rattle.std.specs.Prelude.{◌≡◌, IfOk};
 ghost use Rattle.std.specs.List.{list_all};
+ghost use Rattle.std.specs.Str.{bytes_eq};
 ghost use Rattle.listing_lines.specs.Reading.{Gives, or_fault, no_operand, one_operand, two_operands, three_operands, taken, natural, is_ascii, descriptor_of, field_type, parameters};
 
 use crate::numbers::number;
@@ -62,6 +63,12 @@ pub(crate) fn taken<'a>(word: &[u8], words: &'a [Bytes]) -> (bool, &'a [Bytes])
         [a, rest @ ..] if a.as_slice() == word => (true, rest),
         _ => (false, words),
     }
+}
+
+pub(crate) fn is_word(word: &[u8], text: &[u8]) -> bool
+    ensures { result ≡ bytes_eq word.now text.now }
+{
+    word == text
 }
 
 /// A number from 0 to a limit.
