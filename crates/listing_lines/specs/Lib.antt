@@ -4,3 +4,4 @@ pub mod Texts
 pub mod Mnemonics
 pub mod Reading
 pub mod Instructions
+pub mod Lines

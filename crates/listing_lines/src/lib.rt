@@ -4,14 +4,17 @@
 //! means by itself; what lines mean together is another crate's part.
 #![tactic(auto)]
 
+mod directives;
 mod instructions;
 mod lines;
 mod mnemonics;
 mod numbers;
 mod operands;
+mod reading;
 mod refusal;
 mod texts;
 mod words;
 
 pub use lines::{Instruction, KeyLabel, Line, MemberKind, MemberName, Wanted};
+pub use reading::read_lines;
 pub use refusal::ListingFault;

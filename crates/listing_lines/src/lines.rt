@@ -85,6 +85,7 @@ pub enum Line {
         descriptor: Bytes,
         stack: u16,
         locals: u16,
+        is_abstract: bool,
     },
     Label(Bytes),
     Instruction(Instruction),
