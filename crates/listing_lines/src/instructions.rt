@@ -9,7 +9,8 @@ use crate::lines::{Instruction, KeyLabel, MemberKind, MemberName, Wanted};
 use crate::mnemonics::Operands;
 use crate::numbers::number;
 use crate::operands::{
-    SYNTAX, field_type, is_word, natural, no_operand, one_operand, parameters, three_operands, two_operands,
+    SYNTAX, field_type, is_word, natural, no_operand, one_operand, parameters, three_operands,
+    two_operands,
 };
 use crate::refusal::{LineRefusal, ListingFault};
 use crate::texts::{begins_text, text};
@@ -74,7 +75,10 @@ fn increment(alloc: Global, opcode: u8, words: &[Bytes]) -> Result<Instruction, 
     let (first, second) = two_operands(words)?;
     let local = natural(255, first).ok_or(BAD_NUMBER)?;
     let number = number(-128, 127, second).ok_or(BAD_NUMBER)?;
-    whole(alloc, &[opcode, local as u8, (number as i8).cast_unsigned()])
+    whole(
+        alloc,
+        &[opcode, local as u8, (number as i8).cast_unsigned()],
+    )
 }
 
 /// The code of an element type (JVMS table 6.5.newarray-A).
@@ -316,8 +320,9 @@ fn interface_use(alloc: Global, words: &[Bytes]) -> Result<Instruction, LineRefu
 {
     let (class, name, descriptor) = three_operands(words)?;
     let types = parameters(alloc, descriptor)?;
-    let count =
-        interface_count(types.as_slice()).ok_or(LineRefusal::Fault(ListingFault::TooLarge))?;
+    let count = interface_count(types.as_slice()).ok_or(LineRefusal::Fault(
+        ListingFault::TooLarge,
+    ))?;
     let method = member(alloc, MemberKind::InterfaceMethod, class, name, descriptor)?;
     Ok(Instruction::Interface { method, count })
 }

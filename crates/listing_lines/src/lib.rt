@@ -18,3 +18,6 @@ mod words;
 pub use lines::{Instruction, KeyLabel, Line, MemberKind, MemberName, Wanted};
 pub use reading::read_lines;
 pub use refusal::ListingFault;
+
+#[cfg(test)]
+mod tests;

@@ -43,7 +43,10 @@ pub enum Instruction {
     /// One without a label or an entry of the constant pool: its bytes.
     Whole(Bytes),
     /// A jump whose offset is written in two bytes.
-    Jump { opcode: u8, label: Bytes },
+    Jump {
+        opcode: u8,
+        label: Bytes,
+    },
     /// `tableswitch`, with a label for each key from `low` to `high`.
     Table {
         low: i32,
@@ -57,9 +60,15 @@ pub enum Instruction {
         pairs: ListOf<KeyLabel>,
     },
     /// One with an entry of the constant pool, whose index is written in two bytes.
-    Entry { opcode: u8, entry: Wanted },
+    Entry {
+        opcode: u8,
+        entry: Wanted,
+    },
     /// `invokeinterface`, with its count byte.
-    Interface { method: MemberName, count: u8 },
+    Interface {
+        method: MemberName,
+        count: u8,
+    },
 }
 
 /// What a line means.
@@ -69,7 +78,10 @@ pub enum Line {
     Nothing,
     Wrong(ListingFault),
     /// It begins a class with these access flags.
-    Class { access: u16, name: Bytes },
+    Class {
+        access: u16,
+        name: Bytes,
+    },
     Super(Bytes),
     Implements(Bytes),
     Field {

@@ -7,7 +7,6 @@ ghost use Rattle.listing_lines.specs.Numbers.{is_digit, decimal, at_most, within
 /// How far below 0 a number may be.
 const DEEPEST: u64 = 0x8000_0000_0000_0000;
 
-
 /// The number that at least one digit spells, where it is at most [`DEEPEST`].
 #[tactic(auto, using(crate::proofs::Steps::front, crate::proofs::Steps::too_much), unfolding(crate::specs::Numbers::decimal_from))]
 fn decimal(digits: &[u8]) -> Option<u64>
@@ -41,7 +40,11 @@ fn integer(word: &[u8]) -> Option<i64>
         },
         digits => {
             let number = decimal(digits)?;
-            if number == DEEPEST { None } else { Some(number as i64) }
+            if number == DEEPEST {
+                None
+            } else {
+                Some(number as i64)
+            }
         }
     }
 }

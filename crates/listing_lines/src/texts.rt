@@ -45,7 +45,11 @@ fn text_behind(alloc: Global, bytes: &[u8]) -> Result<Option<Bytes>, AllocError>
             behind = false;
         } else if *b == b'"' {
             let is_last = at + 1 == bytes.len();
-            return Ok(if is_last { Some(Bytes::from_vec(text)) } else { None });
+            return Ok(if is_last {
+                Some(Bytes::from_vec(text))
+            } else {
+                None
+            });
         } else if *b == b'\\' {
             behind = true;
         } else {
