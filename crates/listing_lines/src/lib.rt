@@ -17,7 +17,7 @@ mod words;
 
 pub use lines::{Instruction, KeyLabel, Line, MemberKind, MemberName, Wanted};
 pub use reading::read_lines;
-pub use refusal::ListingFault;
+pub use refusal::{LineRefusal, ListingFault};
 
 #[cfg(test)]
 mod tests;

@@ -41,11 +41,13 @@ pub enum ListingFault {
     NoClass = 10,
 }
 
-/// Why a line isn't read.
+/// Why something of a listing isn't read or written.
 #[derive(Clone, Copy, Debug, PartialEq, Eq, Error)]
-pub(crate) enum LineRefusal {
+pub enum LineRefusal {
+    /// It is bad.
     #[error("{0}")]
     Fault(ListingFault),
+    /// No memory was left.
     #[error("out of memory")]
     OutOfMemory,
 }
