@@ -1,0 +1,7 @@
+//! Class files from listings.
+#![tactic(auto)]
+
+mod code;
+mod labels;
+mod marks;
+mod pool;

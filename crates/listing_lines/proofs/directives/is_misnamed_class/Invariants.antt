@@ -1,0 +1,7 @@
+use Rattle.std.proofs.Common.{◌≡◌, drop}
+use Rattle.std.specs.List.{list_any}
+use Rattle.listing_lines.specs.Lines.{is_barred_in_class}
+use Rattle.listing_lines.proofs.directives.is_misnamed_class.Given as goal
+
+abbrev pub invariant-loop-b : goal.invariant-loop-b
+invariant-loop-b l = list_any is_barred_in_class (drop l.b-index l.name) ≡ list_any is_barred_in_class l.name

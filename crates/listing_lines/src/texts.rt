@@ -1,0 +1,70 @@
+//! Texts in quotes.
+
+ghost use Rattle.std.specs.Prelude.{◌≡◌, [], false, IfOk};
+ghost use Rattle.std.specs.Option.{option_map};
+ghost use Rattle.listing_lines.specs.Texts.{escaped, begins_text, text_from, text};
+
+use ap_base::Bytes;
+use std::alloc::{AllocError, Global};
+
+/// What a byte behind a backslash stands for.
+fn escaped(byte: u8) -> Option<u8>
+    ensures { result ≡ escaped byte }
+{
+    match byte {
+        b'"' => Some(b'"'),
+        b'\\' => Some(b'\\'),
+        b'n' => Some(b'\n'),
+        _ => None,
+    }
+}
+
+/// Whether a word is a text in quotes, or the beginning of one.
+pub(crate) fn begins_text(word: &[u8]) -> bool
+    ensures { result ≡ begins_text word.now }
+{
+    match word {
+        [first, ..] => *first == b'"',
+        [] => false,
+    }
+}
+
+/// The text that a word spells behind its opening quotation mark.
+#[tactic(auto, using(crate::proofs::Steps::front), unfolding(crate::specs::Texts::text_from))]
+fn text_behind(alloc: Global, bytes: &[u8]) -> Result<Option<Bytes>, AllocError>
+    ensures { IfOk result (λ found. found ≡ text_from false [] bytes.now) }
+{
+    let mut text = Vec::new(alloc);
+    let mut behind = false;
+    for (at, b) in bytes.iter().enumerate() {
+        if behind {
+            match escaped(*b) {
+                Some(byte) => text.push(byte)?,
+                None => return Ok(None),
+            }
+            behind = false;
+        } else if *b == b'"' {
+            let is_last = at + 1 == bytes.len();
+            return Ok(if is_last {
+                Some(Bytes::from_vec(text))
+            } else {
+                None
+            });
+        } else if *b == b'\\' {
+            behind = true;
+        } else {
+            text.push(*b)?;
+        }
+    }
+    Ok(None)
+}
+
+/// The text that a word spells with its quotation marks, `None` exactly where it spells none.
+pub(crate) fn text(alloc: Global, word: &[u8]) -> Result<Option<Bytes>, AllocError>
+    ensures { IfOk result (λ found. found ≡ text word.now) }
+{
+    match word {
+        [b'"', rest @ ..] => text_behind(alloc, rest),
+        _ => Ok(None),
+    }
+}
