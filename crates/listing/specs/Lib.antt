@@ -1,3 +1,0 @@
-pub mod Pool
-pub mod Labels
-pub mod Code

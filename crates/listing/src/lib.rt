@@ -1,7 +1,0 @@
-//! Class files from listings.
-#![tactic(auto)]
-
-mod code;
-mod labels;
-mod marks;
-mod pool;
