@@ -30,7 +30,7 @@ returns-clause-filled g c name bytes is rest front zero =
     let spelling = c.args.spelling.now in
     let three : c.args.used ≡ 3 = ⊎_elim (λ none. absurd (omega (arith, none))) (λ it. it) c.requires.part in
     let behind : take (length spelling - 3) (drop 3 spelling) ≡ drop 3 spelling =
-        take_all (length spelling - 3) (drop 3 spelling) (omega (arith, length-drop 3 spelling)) in
+    take_all (length spelling - 3) (drop 3 spelling) (omega (arith, length-drop 3 spelling)) in
     c.append_entries.ensures.appended shape_alone (array_entries name) rest
     (front_shape a.size (shown a) name spelling c.requires.enough c.requires.most is zero
     (subst (λ (k : ℕ). IsFront a.size (shown a) spelling k) three front))
@@ -42,7 +42,7 @@ returns-clause-any_moment g c name bytes is rest front zero =
     let spelling = c.args.spelling.now in
     let three : c.args.used ≡ 3 = ⊎_elim (λ none. absurd (omega (arith, none))) (λ it. it) c.requires.part in
     let behind : take (length spelling - 3) (drop 3 spelling) ≡ drop 3 spelling =
-        take_all (length spelling - 3) (drop 3 spelling) (omega (arith, length-drop 3 spelling)) in
+    take_all (length spelling - 3) (drop 3 spelling) (omega (arith, length-drop 3 spelling)) in
     last_moments a.size name a.image c.append_entries.new.memory.image
     (c.append_entries.ensures.any_moment shape_alone (array_entries name) rest
     (front_shape a.size (shown a) name spelling c.requires.enough c.requires.most is zero
