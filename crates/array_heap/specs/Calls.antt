@@ -1,4 +1,6 @@
--- What the calls do to each heap that a memory holds.
+-- What the calls do to each heap that a memory holds: a store into an array of ints (iastore, JVMS 6.5), one into the root's static field
+-- (putstatic), and a new array (newarray), whose lines are written back and fenced (CLWB and SFENCE, Intel 64 and IA-32 Architectures
+-- Software Developer's Manual, volume 2).
 use Rattle.std.specs.Prelude.{◌≡◌, ◌≢◌, ◌⊎◌, ℕ, ◌+◌, ◌*◌, ◌<◌, ◌≤◌, ℤ, Bool, ◌||◌, ◌&&◌, ◌==◌, List, [], ◌∷◌, ◌++◌, length, map, slice_index_or, Option, Some, None}
 use Rattle.ap_base.specs.declared.kind.Kind.TheVariants.{I}
 use Rattle.ap_base.specs.declared.place.Place.TheVariants.{Static, Slot}

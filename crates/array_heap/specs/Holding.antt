@@ -1,4 +1,5 @@
--- A memory over an image that stands for a plain heap: which words count, and that these are durable.
+-- A memory over an image that stands for a plain heap: which words count, and that these are durable. What a durable root reaches is in
+-- durable memory before the root refers to it (Shull, Huang and Torrellas, "AutoPersist", PLDI 2019).
 use Rattle.std.specs.Prelude.{◌≡◌, ◌⊎◌, ◌≢◌, ℕ, ◌<◌, Bool, length}
 use Rattle.graph_model.specs.declared.types.Heap.{Heap}
 use Rattle.graph_model.specs.declared.types.Graph.{Graph}
