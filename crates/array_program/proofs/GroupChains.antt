@@ -44,9 +44,9 @@ module _ (pool : Slots) (class : List ℕ) (root : Option (List ℕ)) where
       let short : length left ≤ length (p ∷ q ∷ code) - suc (more_of g) = rw (length-drop (more_of g) (q ∷ code)) (omega arith) in
       let whole : take (length (p ∷ q ∷ code) - suc (more_of g)) left ≡ left = take_all (length (p ∷ q ∷ code) - suc (more_of g)) left short in
       let one : groups_of pool class root (p ∷ q ∷ code) ≡ with_first g (groups_of pool class root left) =
-          two p q code
-          ∙ ap (λ (o : Option Group). o >>= λ first. with_first first (groups_from pool class root (more_of first) (q ∷ code))) (sym is)
-          ∙ ap (with_first g) (passed_over (more_of g) (q ∷ code)) in
+      two p q code
+      ∙ ap (λ (o : Option Group). o >>= λ first. with_first first (groups_from pool class root (more_of first) (q ∷ code))) (sym is)
+      ∙ ap (with_first g) (passed_over (more_of g) (q ∷ code)) in
       ap (λ (code' : List Placed). behind (front ++ g ∷ []) (groups_of pool class root code')) whole
       ∙ sym (first_moves front g (groups_of pool class root left)) ∙ ap (behind front) (sym one) ∙ so_far
 
@@ -57,7 +57,7 @@ module _ (pool : Slots) (class : List ℕ) (root : Option (List ℕ)) where
   stops front (p ∷ []) total lt is so_far = absurd (omega arith)
   stops front (p ∷ q ∷ code) total lt is so_far =
       let one : groups_of pool class root (p ∷ q ∷ code) ≡ None =
-          two p q code ∙ ap (λ (o : Option Group). o >>= λ first. with_first first (groups_from pool class root (more_of first) (q ∷ code))) (sym is) in
+      two p q code ∙ ap (λ (o : Option Group). o >>= λ first. with_first first (groups_from pool class root (more_of first) (q ∷ code))) (sym is) in
       sym (ap (behind front) one) ∙ so_far
 
   last : (b : Bool) (front : List Group) → behind front (cond b (Some []) None) ≡ cond b (Some front) None

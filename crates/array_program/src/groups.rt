@@ -4,8 +4,8 @@ ghost use Rattle.std.specs.Option.{option_map};
 ghost use Rattle.array_program.specs.Form.{prints_number_at, makes_array_at, stores_element_at, prints_element_at, array_group_at, group_at, more_of, ends_well, groups_of};
 
 use crate::instructions::{
-    calls_println, gets_out, gets_root, is_return, loads_element, makes_ints, puts_root,
-    pushed_by, stores_element,
+    calls_println, gets_out, gets_root, is_return, loads_element, makes_ints, pushed_by, puts_root,
+    stores_element,
 };
 use crate::program::Group;
 use ap_base::Bytes;

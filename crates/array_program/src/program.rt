@@ -6,9 +6,17 @@ use ap_base::{Bytes, ListOf};
 #[derive(Clone, Copy, Debug, PartialEq, Eq)]
 pub enum Group {
     /// getstatic of `System.out`, an int constant, invokevirtual of `println(I)V`
-    PrintsNumber { out: u32, number: i32, call: u32 },
+    PrintsNumber {
+        out: u32,
+        number: i32,
+        call: u32,
+    },
     /// an int constant, `newarray int`, putstatic of the root
-    MakesArray { count: i32, make: u32, put: u32 },
+    MakesArray {
+        count: i32,
+        make: u32,
+        put: u32,
+    },
     /// getstatic of the root, two int constants, iastore
     StoresElement {
         fetch: u32,
