@@ -10,6 +10,8 @@ mod names;
 mod program;
 mod reading;
 mod rows;
+#[cfg(test)]
+mod tests;
 
 pub use program::{Group, Program};
 pub use reading::read_program;
