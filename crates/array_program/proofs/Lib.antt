@@ -1,3 +1,4 @@
 pub mod Seven
 pub mod Refused
 pub mod GroupChains
+pub mod Consistent

@@ -23,7 +23,7 @@ use Rattle.plain_model.proofs.ClosedTest.{closed_by_test}
 use Rattle.array_program.specs.declared.program.Group.{Group}
 use Rattle.array_program.specs.Facts.{program_facts, int_array_number}
 use Rattle.array_program.specs.Running.{Frame, Entering, line_of, program_code}
-use Rattle.array_program.specs.Rows.{stores_seven, makes_negative, null_root, IsRunOf, StoresSeven, seven_acts, negative_acts, initialised, made, asked, joined, root_stored, fenced, root_read, element_stored, element_read, printed, by_main, stored_and_printed}
+use Rattle.array_program.specs.Rows.{stores_seven, makes_negative, stores_past_end, past_end_acts, prints_of_null, null_acts, null_root, IsRunOf, StoresSeven, seven_acts, negative_acts, initialised, made, asked, joined, root_stored, fenced, root_read, element_stored, element_read, printed, by_main, stored_and_printed}
 
 alone_once : (n : ℕ) → AllPairs (λ i j. i ≢ j) (n ∷ [])
 alone_once n i j d before within = absurd (omega (arith, before, within))
@@ -146,9 +146,9 @@ stored = (
   ),
 )
 
-pub thrown : IsRunOf makes_negative negative_acts
+pub negative_throws : IsRunOf makes_negative negative_acts
 unfolding first_world first_heap known_after_op frames_after_op step program_facts program_code
-thrown = (
+negative_throws = (
   record { later = lit≤ tt; rule = refl; named = refl; fence = refl; is_closed = closed_by_test _ refl },
   (
     record { later = lit≤ tt; rule = refl; named = refl; fence = refl; is_closed = closed_by_test _ refl },
@@ -157,6 +157,88 @@ thrown = (
       (
         record { later = lit≤ tt; rule = refl; named = refl; fence = refl; is_closed = closed_by_test _ refl },
         tt,
+      ),
+    ),
+  ),
+)
+
+abbrev made_past_end : Heap
+made_past_end = with_fresh (first_heap (program_facts stores_past_end) null_root) int_array_number 3
+
+pub past_end_throws : IsRunOf stores_past_end past_end_acts
+unfolding first_world first_heap known_after_op frames_after_op step program_facts program_code
+past_end_throws = (
+  record { later = lit≤ tt; rule = refl; named = refl; fence = refl; is_closed = closed_by_test _ refl },
+  (
+    record { later = lit≤ tt; rule = refl; named = refl; fence = refl; is_closed = closed_by_test _ refl },
+    (
+      record { later = lit≤ tt; rule = refl; named = refl; fence = refl; is_closed = closed_by_test _ refl },
+      (
+        record {
+          later = lit≤ tt;
+          rule = record { none_pending = refl; is_about = refl; volatile = (2, refl, refl); holder = inl refl };
+          named = refl;
+          fence = refl;
+          is_closed = closed_by_test _ refl;
+        },
+        (
+          record {
+            later = lit≤ tt;
+            rule = record {
+              some = λ none. let no : 2 ∷ [] ≡ [] = none in cc;
+              once = alone_once 2;
+              volatile = alone (λ n. has_number [] n ≡ false) 2 refl;
+              wanted = λ k d within. (0, alone (Reaches made_past_end (λ m. (Object 2 ≡ Object m) ⊎ ⊥)) 2 (here 2 (inl refl)) k d within);
+            };
+            named = tt;
+            fence = refl;
+            is_closed = closed_by_test _ refl;
+          },
+          (
+            record {
+              later = lit≤ tt;
+              rule = record { is_about = refl; no_race = λ durable. inl refl; guarded = λ durable within. absurd (within refl) };
+              named = refl;
+              fence = refl;
+              is_closed = closed_by_test _ refl;
+            },
+            (
+              record { later = lit≤ tt; rule = tt; named = refl; fence = refl; is_closed = closed_by_test _ refl },
+              (
+                record { later = lit≤ tt; rule = refl; named = refl; fence = refl; is_closed = closed_by_test _ refl },
+                (
+                  record { later = lit≤ tt; rule = refl; named = refl; fence = refl; is_closed = closed_by_test _ refl },
+                  (
+                    record { later = lit≤ tt; rule = refl; named = refl; fence = refl; is_closed = closed_by_test _ refl },
+                    tt,
+                  ),
+                ),
+              ),
+            ),
+          ),
+        ),
+      ),
+    ),
+  ),
+)
+
+pub null_throws : IsRunOf prints_of_null null_acts
+unfolding first_world first_heap known_after_op frames_after_op step program_facts program_code
+null_throws = (
+  record { later = lit≤ tt; rule = refl; named = refl; fence = refl; is_closed = closed_by_test _ refl },
+  (
+    record { later = lit≤ tt; rule = refl; named = refl; fence = refl; is_closed = closed_by_test _ refl },
+    (
+      record { later = lit≤ tt; rule = refl; named = refl; fence = refl; is_closed = closed_by_test _ refl },
+      (
+        record { later = lit≤ tt; rule = refl; named = refl; fence = refl; is_closed = closed_by_test _ refl },
+        (
+          record { later = lit≤ tt; rule = refl; named = refl; fence = refl; is_closed = closed_by_test _ refl },
+          (
+            record { later = lit≤ tt; rule = refl; named = refl; fence = refl; is_closed = closed_by_test _ refl },
+            tt,
+          ),
+        ),
       ),
     ),
   ),

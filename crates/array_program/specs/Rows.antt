@@ -34,6 +34,14 @@ stores_seven = main_of (
 abbrev pub makes_negative : Program
 makes_negative = main_of (group.MakesArray (negsuc 0) 1 3 ∷ [])
 
+-- `data = new int[3]; data[3] = 7;`
+abbrev pub stores_past_end : Program
+stores_past_end = main_of (group.MakesArray (pos 3) 1 3 ∷ group.StoresElement 6 (pos 3) (pos 7) 12 ∷ [])
+
+-- `System.out.println(data[1]);`
+abbrev pub prints_of_null : Program
+prints_of_null = main_of (group.PrintsElement 0 3 (pos 1) 7 8 ∷ [])
+
 -- the graph whose one root, `Main.data`, is null
 abbrev pub null_root : Graph
 null_root = record { roots = record { name = codes "Main.data"; value = Null } ∷ []; nodes = [] }
@@ -96,3 +104,11 @@ seven_acts = asked ++ joined (2 ∷ []) ++ root_stored ++ fenced ++ stored_and_p
 -- The negative length throws; NegativeArraySizeException is class 17, and the throwable object 2.
 abbrev pub negative_acts : List Recorded
 negative_acts = initialised ++ by_main (op.Throw 2 17 ∷ op.Ended (Some 17) ∷ [])
+
+-- The index is past the end; ArrayIndexOutOfBoundsException is class 5, and the throwable object 3.
+abbrev pub past_end_acts : List Recorded
+past_end_acts = initialised ++ made ++ asked ++ joined (2 ∷ []) ++ root_stored ++ fenced ++ root_read ++ by_main (op.Throw 3 5 ∷ op.Ended (Some 5) ∷ [])
+
+-- There is no array; NullPointerException is class 18, and the throwable object 2.
+abbrev pub null_acts : List Recorded
+null_acts = initialised ++ by_main (op.Read (Static 0) (Object 0) ∷ op.Read data_place Null ∷ op.Throw 2 18 ∷ op.Ended (Some 18) ∷ [])

@@ -10,7 +10,9 @@ mod names;
 mod program;
 mod reading;
 mod rows;
+#[cfg(test)]
+mod tests;
 
 pub use program::{Group, Program};
 pub use reading::read_program;
-pub use rows::{a_negative_length_throws, seven_is_stored_and_printed};
+pub use rows::{seven_is_stored_and_printed, the_set_is_consistent, what_throws_ends_the_program};
