@@ -6,6 +6,8 @@ mod entries;
 mod filling;
 mod form;
 mod formatting;
+mod finding;
+mod preparing;
 #[cfg(test)]
 mod tests;
 mod words;
@@ -13,3 +15,5 @@ mod words;
 pub use appending::append_entries;
 pub use filling::{complete_directory, fill_directory, lay_out};
 pub use formatting::format_image;
+pub use finding::{Found, look_at_image};
+pub use preparing::prepare_image;
