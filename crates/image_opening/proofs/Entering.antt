@@ -47,7 +47,7 @@ pub raised_only : (size used : ℕ) (c d : Words) (spelling : List ℕ) (before 
 raised_only size used c d spelling before after enough has on few written same count =
     let many = on.used in
     let total : length (spelled_all after) ≡ used + length spelling =
-        ap length on.further ∙ length-append (spelled_all before) spelling ∙ ap (λ n. n + length spelling) many in
+    ap length on.further ∙ length-append (spelled_all before) spelling ∙ ap (λ n. n + length spelling) many in
     record {
       in_use = record {
         enough = has.in_use.enough;
@@ -63,16 +63,16 @@ raised_only size used c d spelling before after enough has on few written same c
         spelled = λ i below.
             same (directory_line i) (directory_word i) (omega (arith, enough, below, total, few)) (λ at. absurd (omega (arith, at)))
             ∙ (⊎_elim
-                (λ (low : i < used).
-                has.directory.spelled i (omega (arith, low, many))
-                ∙ sym (get_or_append_left (spelled_all before) spelling 0 i (omega (arith, low, many))))
-                (λ (high : used ≤ i).
-                let at : used + (i - used) ≡ i = omega (arith, high) in
-                subst (λ (k : ℕ). d (directory_line k) (directory_word k) ≡ slice_index_or (spelled_all before ++ spelling) k 0) at
-                (written (i - used) (omega (arith, below, total, high))
-                ∙ sym (get_or-append-add (spelled_all before) spelling (i - used) 0)
-                ∙ ap (λ n. slice_index_or (spelled_all before ++ spelling) (n + (i - used)) 0) many))
-                (cases_lt i used)
+            (λ (low : i < used).
+            has.directory.spelled i (omega (arith, low, many))
+            ∙ sym (get_or_append_left (spelled_all before) spelling 0 i (omega (arith, low, many))))
+            (λ (high : used ≤ i).
+            let at : used + (i - used) ≡ i = omega (arith, high) in
+            subst (λ (k : ℕ). d (directory_line k) (directory_word k) ≡ slice_index_or (spelled_all before ++ spelling) k 0) at
+            (written (i - used) (omega (arith, below, total, high))
+            ∙ sym (get_or-append-add (spelled_all before) spelling (i - used) 0)
+            ∙ ap (λ n. slice_index_or (spelled_all before ++ spelling) (n + (i - used)) 0) many))
+            (cases_lt i used)
             ∙ ap (λ some. slice_index_or some i 0) (sym on.further));
       };
       roots = λ r below. same (slot_line r) (slot_word r) (omega (arith, enough, below)) (λ at. absurd (omega (arith, at))) ∙ has.roots r below;
@@ -107,13 +107,13 @@ module _ (old mid : Memory) (used : ℕ) (spelling : List ℕ) (before after : L
         (goes_weaker mid.image new.image (OldOrPut mid 0 3 (used + length spelling)) (Either mid.size before after) moments
         (λ k either.
         let same : (l w : ℕ) → l < mid.size → (l ≡ 0 → w ≢ 3) → k l w ≡ shown mid l w = λ l w below elsewhere.
-            ⊎_elim (λ was. was) (λ put. absurd (elsewhere put.0 put.1)) (either l w below) in
+        ⊎_elim (λ was. was) (λ put. absurd (elsewhere put.0 put.1)) (either l w below) in
         ⊎_elim
         (λ was. inl (only_stands mid.size k before (only_same mid.size used k (shown mid) before more written_only on.used room
-            (λ l w below kept. ⊎_elim (λ it. it) (λ put. ap (λ n. k n w) put.0 ∙ ap (λ n. k 0 n) put.1 ∙ was ∙ ap (λ n. shown mid 0 n) (sym put.1) ∙ ap (λ n. shown mid n w) (sym put.0)) (either l w below)))
-            on.were))
+        (λ l w below kept. ⊎_elim (λ it. it) (λ put. ap (λ n. k n w) put.0 ∙ ap (λ n. k 0 n) put.1 ∙ was ∙ ap (λ n. shown mid 0 n) (sym put.1) ∙ ap (λ n. shown mid n w) (sym put.0)) (either l w below)))
+        on.were))
         (λ put. inr (only_stands mid.size k after
-            (raised_only mid.size used k (shown mid) spelling before after more written_only on few written same put.2) on.are))
+        (raised_only mid.size used k (shown mid) spelling before after more written_only on few written same put.2) on.are))
         (either 0 3 (omega (arith, more))))))
 
     pub raised : shown new 0 3 ≡ used + length spelling → HasOnly old.size (shown new) after

@@ -46,9 +46,9 @@ pub put_blank : (lines : ℕ) (old new : Memory) (word value : ℕ) → MayBe li
 put_blank lines old new word value may some zero moments =
     goes_weaker old.image new.image (OldOrPut old 0 word value) (λ c. StandsFor lines c empty_graph) moments
     (λ k either. ⊎_elim
-        (λ was. first_zero-stands lines old.size k may (was ∙ zero))
-        (λ put. absurd (omega (arith, put.1, some)))
-        (either 0 0 (omega (arith, may.is, may.enough))))
+    (λ was. first_zero-stands lines old.size k may (was ∙ zero))
+    (λ put. absurd (omega (arith, put.1, some)))
+    (either 0 0 (omega (arith, may.is, may.enough))))
 
 -- what the words but the magic one say
 pub record IsReady (lines : ℕ) (words : Words) : Type 0 where
@@ -82,7 +82,7 @@ pub ready_left : (lines : ℕ) (old : Memory) (value : ℕ) (c : Outcome) → Ma
     → OldOrPut old 0 0 value c → IsReady lines c
 ready_left lines old value c may ready either =
     let same : (l w : ℕ) → l < 32768 → (l ≡ 0 → w ≢ 0) → c l w ≡ shown old l w = λ l w below elsewhere.
-        ⊎_elim (λ was. was) (λ put. absurd (elsewhere put.0 put.1)) (either l w (omega (arith, may.is, may.enough))) in
+    ⊎_elim (λ was. was) (λ put. absurd (elsewhere put.0 put.1)) (either l w (omega (arith, may.is, may.enough))) in
     record {
       version = same 0 1 (omega arith) (λ at. omega arith) ∙ ready.version;
       count = same 0 2 (omega arith) (λ at. omega arith) ∙ ready.count;
@@ -97,6 +97,6 @@ pub magic_moments : (lines : ℕ) (old new : Memory) → MayBe lines old.size �
 magic_moments lines old new may ready zero moments =
     goes_weaker old.image new.image (OldOrPut old 0 0 magic) (λ c. StandsFor lines c empty_graph) moments
     (λ k either. ⊎_elim
-        (λ was. first_zero-stands lines old.size k may (was ∙ zero))
-        (λ put. only_stands lines k [] (ready_magic lines old.size k may (ready_left lines old magic k may ready either) put.2) tt)
-        (either 0 0 (omega (arith, may.is, may.enough))))
+    (λ was. first_zero-stands lines old.size k may (was ∙ zero))
+    (λ put. only_stands lines k [] (ready_magic lines old.size k may (ready_left lines old magic k may ready either) put.2) tt)
+    (either 0 0 (omega (arith, may.is, may.enough))))

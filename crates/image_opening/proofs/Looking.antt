@@ -85,9 +85,9 @@ module _ (old mid new : Memory) (change : Change) (looks : LooksOn old mid) (res
       (looks_agree old mid looks rest) moments
       (λ k agrees l w below. inl (agrees l w below))
       (λ k all l w below. ⊎_elim
-          (λ had. inl (still.durable l w (subst (λ n. l < n) (sym looks.size) below) (k l w) had ∙ looks.shows rest.tells l w))
-          (λ given. inr (given_one change l w (k l w) given))
-          (all l w))
+      (λ had. inl (still.durable l w (subst (λ n. l < n) (sym looks.size) below) (k l w) had ∙ looks.shows rest.tells l w))
+      (λ given. inr (given_one change l w (k l w) given))
+      (all l w))
 
   pub put_others : ((l w : ℕ) → IsKnown mid l → (IsChanged (change ∷ []) l w → ⊥) → shown new l w ≡ shown mid l w)
       → (l w : ℕ) → (l ≡ change.spot.line → w ≢ change.spot.word) → shown new l w ≡ shown old l w
@@ -133,7 +133,7 @@ put_changes Kept old new line word value elsewhere size others moments = record 
       (goes_nowhere old.image (HasKept Kept old)) moments
       (λ k has. has)
       (λ k either l w below kept. ⊎_elim
-          (λ was. was)
-          (λ put. absurd (elsewhere (subst (λ n. Kept n word) put.0 (subst (λ n. Kept l n) put.1 kept))))
-          (either l w below));
+      (λ was. was)
+      (λ put. absurd (elsewhere (subst (λ n. Kept n word) put.0 (subst (λ n. Kept l n) put.1 kept))))
+      (either l w below));
 }

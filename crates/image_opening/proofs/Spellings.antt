@@ -51,7 +51,7 @@ name_step done all name count i below so_far =
     let at : 8 * i + 8 ≡ 8 * (i + 1) = omega arith in
     append_assoc done (word_of_bytes (take 8 (drop (8 * i) name)) ∷ []) (some_words (count - (i + 1)) (drop (8 * (i + 1)) name))
     ∙ ap (λ (rest : List ℕ). done ++ word_of_bytes (take 8 (drop (8 * i) name)) ∷ some_words (count - (i + 1)) rest)
-        (ap (λ (n : ℕ). drop n name) (sym at) ∙ sym (drop-drop 8 (8 * i) name))
+    (ap (λ (n : ℕ). drop n name) (sym at) ∙ sym (drop-drop 8 (8 * i) name))
     ∙ ap (λ (n : ℕ). done ++ some_words n (drop (8 * i) name)) (sym next)
     ∙ so_far
 

@@ -58,13 +58,13 @@ module _ (lines : ℕ) (name spelling : List ℕ) (enough : min_lines ≤ lines)
   front_left : (c d : Words) (used : ℕ) → Agrees lines c d → IsNullFront lines d spelling used → NoRootOrNull lines name c
   front_left c d used agrees null = ⊎_elim
       (λ none. inl (only_stands lines c [] (only_agrees lines c d [] enough agrees
-          (front_empty lines d name spelling enough most is null.1 (subst (λ (k : ℕ). IsFront lines d spelling k) none null.0))) tt))
+      (front_empty lines d name spelling enough most is null.1 (subst (λ (k : ℕ). IsFront lines d spelling k) none null.0))) tt))
       (λ more. ⊎_elim
-          (λ three. inl (only_stands lines c shape_alone (only_agrees lines c d shape_alone enough agrees
-              (front_shape lines d name spelling enough most is null.1 (subst (λ (k : ℕ). IsFront lines d spelling k) three null.0))) shape-may_stand))
-          (λ all. inr (only_stands lines c (array_entries name) (only_agrees lines c d (array_entries name) enough agrees
-              (front_all lines d name spelling enough most is null.1 few (subst (λ (k : ℕ). IsFront lines d spelling k) all null.0))) (root-may_stand name bytes)))
-          more)
+      (λ three. inl (only_stands lines c shape_alone (only_agrees lines c d shape_alone enough agrees
+      (front_shape lines d name spelling enough most is null.1 (subst (λ (k : ℕ). IsFront lines d spelling k) three null.0))) shape-may_stand))
+      (λ all. inr (only_stands lines c (array_entries name) (only_agrees lines c d (array_entries name) enough agrees
+      (front_all lines d name spelling enough most is null.1 few (subst (λ (k : ℕ). IsFront lines d spelling k) all null.0))) (root-may_stand name bytes)))
+      more)
       null.0.directory.part
 
   unfilled_left : (c d : Words) → Agrees lines c d → IsUnfilled lines d spelling → NoRootOrNull lines name c

@@ -7,8 +7,8 @@ ghost use Rattle.image_meaning.specs.Logs.{NoneLogged};
 ghost use Rattle.image_opening.specs.Rest.{LooksOn};
 ghost use Rattle.image_opening.specs.Form.{StandFrom, OthersAreNull, HasSuper, HasDirectory, IsFront};
 
-use ap_base::Spot;
 use crate::words::{count_spot, read_word, root_spot, word_spot};
+use ap_base::Spot;
 use image_layout::{LOGS, MAGIC, ROOT_SLOTS, VERSION};
 use line_image::{Image, ImageFailed};
 use line_memory::LineMemory;
@@ -46,10 +46,7 @@ fn others_are_null<I: Image>(memory: &mut LineMemory<I>) -> Result<bool, ImageFa
 }
 
 /// Whether the directory begins with these words.
-fn begins_with<I: Image>(
-    memory: &mut LineMemory<I>,
-    spelling: &[u64],
-) -> Result<bool, ImageFailed>
+fn begins_with<I: Image>(memory: &mut LineMemory<I>, spelling: &[u64]) -> Result<bool, ImageFailed>
     requires enough { min_lines ≤ memory.old.size }
     requires room { length spelling.now ≤ directory_words }
     ensures begins { IsTelling memory.old.image.history

@@ -22,12 +22,12 @@ returns-in_err-append_entries-2-clause-any_moment g c name bytes is rest has =
     let spelling = c.args.spelling.now in
     let shape_on = shape_continued name spelling _ is refl in
     let behind : take (length spelling - 3) (drop 3 spelling) ≡ drop 3 spelling =
-        take_all (length spelling - 3) (drop 3 spelling) (omega (arith, length-drop 3 spelling)) in
+    take_all (length spelling - 3) (drop 3 spelling) (omega (arith, length-drop 3 spelling)) in
     let root_on = root_continued name spelling _ bytes is behind in
     let still = c.in_ok-append_entries.ensures.rest rest in
     let has_shape : HasOnly b.size (shown b) shape_alone =
-        subst (λ n. HasOnly n (shown b) shape_alone) (sym c.append_entries.ensures.size)
-        (c.in_ok-append_entries.ensures.appended [] shape_alone rest has shape_on) in
+    subst (λ n. HasOnly n (shown b) shape_alone) (sym c.append_entries.ensures.size)
+    (c.in_ok-append_entries.ensures.appended [] shape_alone rest has shape_on) in
     root_moments a.size b.size name a.image b.image d.image c.append_entries.ensures.size
     (c.append_entries.ensures.any_moment [] shape_alone rest has shape_on)
     (c.append_entries-2.ensures.any_moment shape_alone (array_entries name) still has_shape root_on)
@@ -40,12 +40,12 @@ returns-clause-any_moment g c name bytes is rest has =
     let spelling = c.args.spelling.now in
     let shape_on = shape_continued name spelling _ is refl in
     let behind : take (length spelling - 3) (drop 3 spelling) ≡ drop 3 spelling =
-        take_all (length spelling - 3) (drop 3 spelling) (omega (arith, length-drop 3 spelling)) in
+    take_all (length spelling - 3) (drop 3 spelling) (omega (arith, length-drop 3 spelling)) in
     let root_on = root_continued name spelling _ bytes is behind in
     let still = c.in_ok-append_entries.ensures.rest rest in
     let has_shape : HasOnly b.size (shown b) shape_alone =
-        subst (λ n. HasOnly n (shown b) shape_alone) (sym c.append_entries.ensures.size)
-        (c.in_ok-append_entries.ensures.appended [] shape_alone rest has shape_on) in
+    subst (λ n. HasOnly n (shown b) shape_alone) (sym c.append_entries.ensures.size)
+    (c.in_ok-append_entries.ensures.appended [] shape_alone rest has shape_on) in
     root_moments a.size b.size name a.image b.image d.image c.append_entries.ensures.size
     (c.append_entries.ensures.any_moment [] shape_alone rest has shape_on)
     (c.append_entries-2.ensures.any_moment shape_alone (array_entries name) still has_shape root_on)
@@ -58,11 +58,11 @@ returns-clause-filled g c name bytes is rest has =
     let spelling = c.args.spelling.now in
     let shape_on = shape_continued name spelling _ is refl in
     let behind : take (length spelling - 3) (drop 3 spelling) ≡ drop 3 spelling =
-        take_all (length spelling - 3) (drop 3 spelling) (omega (arith, length-drop 3 spelling)) in
+    take_all (length spelling - 3) (drop 3 spelling) (omega (arith, length-drop 3 spelling)) in
     let root_on = root_continued name spelling _ bytes is behind in
     let still = c.in_ok-append_entries.ensures.rest rest in
     let has_shape : HasOnly b.size (shown b) shape_alone =
-        subst (λ n. HasOnly n (shown b) shape_alone) (sym c.append_entries.ensures.size)
-        (c.in_ok-append_entries.ensures.appended [] shape_alone rest has shape_on) in
+    subst (λ n. HasOnly n (shown b) shape_alone) (sym c.append_entries.ensures.size)
+    (c.in_ok-append_entries.ensures.appended [] shape_alone rest has shape_on) in
     subst (λ n. HasOnly n (shown d) (array_entries name)) c.append_entries.ensures.size
     (c.in_ok-append_entries-2.ensures.appended shape_alone (array_entries name) still has_shape root_on)

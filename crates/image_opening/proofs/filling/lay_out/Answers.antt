@@ -20,7 +20,7 @@ returns-in_err-fill_directory-clause-any_moment g c name bytes is rest zero =
     let size : b.size ≡ lines = c.format_image.ensures.size ∙ sym c.requires.lines in
     let still = c.in_ok-format_image.ensures.rest rest in
     let has : HasOnly b.size (shown b) [] =
-        subst (λ n. HasOnly n (shown b) []) (sym size) (c.in_ok-format_image.ensures.formatted rest) in
+    subst (λ n. HasOnly n (shown b) []) (sym size) (c.in_ok-format_image.ensures.formatted rest) in
     goes_then a.image b.image d.image (NoRootOrNull lines name)
     (empty_moments lines name a.image b.image (c.format_image.ensures.any_moment rest zero))
     (subst (λ n. Goes b.image d.image (NoRootOrNull n name)) size
@@ -35,7 +35,7 @@ returns-clause-any_moment g c name bytes is rest zero =
     let size : b.size ≡ lines = c.format_image.ensures.size ∙ sym c.requires.lines in
     let still = c.in_ok-format_image.ensures.rest rest in
     let has : HasOnly b.size (shown b) [] =
-        subst (λ n. HasOnly n (shown b) []) (sym size) (c.in_ok-format_image.ensures.formatted rest) in
+    subst (λ n. HasOnly n (shown b) []) (sym size) (c.in_ok-format_image.ensures.formatted rest) in
     goes_then a.image b.image d.image (NoRootOrNull lines name)
     (empty_moments lines name a.image b.image (c.format_image.ensures.any_moment rest zero))
     (subst (λ n. Goes b.image d.image (NoRootOrNull n name)) size
@@ -50,6 +50,6 @@ returns-clause-filled g c name bytes is rest =
     let size : b.size ≡ lines = c.format_image.ensures.size ∙ sym c.requires.lines in
     let still = c.in_ok-format_image.ensures.rest rest in
     let has : HasOnly b.size (shown b) [] =
-        subst (λ n. HasOnly n (shown b) []) (sym size) (c.in_ok-format_image.ensures.formatted rest) in
+    subst (λ n. HasOnly n (shown b) []) (sym size) (c.in_ok-format_image.ensures.formatted rest) in
     subst (λ n. HasOnly n (shown d) (array_entries name)) size
     (c.in_ok-fill_directory.ensures.filled name bytes is still has)

@@ -37,10 +37,9 @@ returns-in-None-clause-says g c tells =
     let same = looks_shown a b c.read_word.ensures.looks tells in
     let some : shown a 0 0 ≢ 0 = λ zero. c.if-branch-eq0.false (c.in_ok-read_word.ensures.reads tells ∙ zero) in
     let none : (used : ℕ) → IsFront lines (shown b) spelling used → ⊥ =
-        rw c.in-None.is at (c.in_ok-used.ensures.front (c.read_word.ensures.looks.telling tells)) in
+    rw c.in-None.is at (c.in_ok-used.ensures.front (c.read_word.ensures.looks.telling tells)) in
     let none_at : (used : ℕ) → IsFront lines (shown a) spelling used → ⊥ =
-        subst (λ (w : Words). (used : ℕ) → IsFront lines w spelling used → ⊥) same none in
-    (
+    subst (λ (w : Words). (used : ℕ) → IsFront lines w spelling used → ⊥) same none in (
       (λ unfilled. ⊎_elim some (λ null. none_at null.0 null.1.0) unfilled),
       (λ filled. none_at (length spelling) filled.0),
     )
@@ -60,9 +59,9 @@ returns-clause-says g c tells =
     let some : shown a 0 0 ≢ 0 = λ zero. c.if-branch-eq0.false (c.in_ok-read_word.ensures.reads tells ∙ zero) in
     let front : IsFront lines (shown b) spelling c.in-Some.used = rw c.in-Some.is at (c.in_ok-used.ensures.front tells_b) in
     let root : c.in_ok-root.root ≡ root_word (shown a) 0 =
-        c.in_ok-root.ensures.reads tells_d
-        ∙ ap (λ (l : ℕ). shown d l spot.word) c.root_spot.ensures.line
-        ∙ ap (λ (w : ℕ). shown d (slot_line 0) w) c.root_spot.ensures.word
-        ∙ ap (λ (w : Words). root_word w 0) same_d in
+    c.in_ok-root.ensures.reads tells_d
+    ∙ ap (λ (l : ℕ). shown d l spot.word) c.root_spot.ensures.line
+    ∙ ap (λ (w : ℕ). shown d (slot_line 0) w) c.root_spot.ensures.word
+    ∙ ap (λ (w : Words). root_word w 0) same_d in
     says_found lines (shown a) spelling c.in-Some.used c.in_ok-root.root c.found_by.result some
     (subst (λ (w : Words). IsFront lines w spelling c.in-Some.used) same front) root c.found_by.ensures

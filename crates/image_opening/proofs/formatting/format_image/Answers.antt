@@ -22,8 +22,8 @@ returns-in_err-clear_logs-clause-any_moment g c rest zero =
     let second = c.clear_logs.ensures.others rest2 in
     let zero2 : shown b 0 0 ≡ 0 = first.shows 0 0 (inl refl) ∙ zero in
     let so_far = goes_then a.image b.image d.image (λ c'. StandsFor c.args.lines c' empty_graph)
-        (kept_blank IsNoSlot c.args.lines a b may (inl refl) zero first)
-        (kept_blank IsBeforeLogs c.args.lines b d may2 (omega arith) zero2 second) in
+    (kept_blank IsNoSlot c.args.lines a b may (inl refl) zero first)
+    (kept_blank IsBeforeLogs c.args.lines b d may2 (omega arith) zero2 second) in
     so_far
 
 pub returns-clause-any_moment : goal.returns-clause-any_moment
@@ -38,8 +38,8 @@ returns-clause-any_moment g c rest zero =
     let second = c.clear_logs.ensures.others rest2 in
     let zero2 : shown b 0 0 ≡ 0 = first.shows 0 0 (inl refl) ∙ zero in
     let so_far = goes_then a.image b.image d.image (λ c'. StandsFor c.args.lines c' empty_graph)
-        (kept_blank IsNoSlot c.args.lines a b may (inl refl) zero first)
-        (kept_blank IsBeforeLogs c.args.lines b d may2 (omega arith) zero2 second) in
+    (kept_blank IsNoSlot c.args.lines a b may (inl refl) zero first)
+    (kept_blank IsBeforeLogs c.args.lines b d may2 (omega arith) zero2 second) in
     let rest3 = c.in_ok-clear_logs.ensures.rest rest2 in
     goes_then a.image d.image c.write_superblock.new.memory.image (λ c'. StandsFor c.args.lines c' empty_graph) so_far
     (c.write_superblock.ensures.any_moment rest3 (second.shows 0 0 (omega arith) ∙ zero2)

@@ -144,4 +144,3 @@ returns-clause-any_moment g c rest zero roots logs =
     (goes_then m0.image m2.image m3.image (λ c'. StandsFor c.args.lines c' empty_graph)
     (goes_then m0.image m1.image m2.image (λ c'. StandsFor c.args.lines c' empty_graph)
     (g1) g2) g3) g4
-

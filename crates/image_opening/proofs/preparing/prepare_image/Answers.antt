@@ -103,8 +103,8 @@ returns-in_err-fill_directory-in-Empty-clause-any_moment g c name bytes is rest 
     let size : b.size ≡ lines = looks.size ∙ sym c.requires.lines in
     let says : Says lines (shown a) spelling Empty = rw c.in-Empty.is at (c.in_ok-look_at_image.ensures.says rest.tells) in
     let has : HasOnly b.size (shown b) [] =
-        subst (λ n. HasOnly n (shown b) []) (sym size) (subst (λ (w : Words). HasOnly lines w []) (sym same)
-        (front_empty lines (shown a) name spelling c.requires.enough c.requires.most is says.1 says.0)) in
+    subst (λ n. HasOnly n (shown b) []) (sym size) (subst (λ (w : Words). HasOnly lines w []) (sym same)
+    (front_empty lines (shown a) name spelling c.requires.enough c.requires.most is says.1 says.0)) in
     goes_then a.image b.image c.fill_directory.new.memory.image (NoRootOrNull lines name)
     (unfilled_moments lines name spelling c.requires.enough c.requires.most bytes is c.requires.room a b c.requires.lines looks rest unfilled)
     (subst (λ n. Goes b.image c.fill_directory.new.memory.image (NoRootOrNull n name)) size
@@ -122,8 +122,8 @@ returns-in_ok-fill_directory-in-Empty-clause-any_moment g c name bytes is rest u
     let size : b.size ≡ lines = looks.size ∙ sym c.requires.lines in
     let says : Says lines (shown a) spelling Empty = rw c.in-Empty.is at (c.in_ok-look_at_image.ensures.says rest.tells) in
     let has : HasOnly b.size (shown b) [] =
-        subst (λ n. HasOnly n (shown b) []) (sym size) (subst (λ (w : Words). HasOnly lines w []) (sym same)
-        (front_empty lines (shown a) name spelling c.requires.enough c.requires.most is says.1 says.0)) in
+    subst (λ n. HasOnly n (shown b) []) (sym size) (subst (λ (w : Words). HasOnly lines w []) (sym same)
+    (front_empty lines (shown a) name spelling c.requires.enough c.requires.most is says.1 says.0)) in
     goes_then a.image b.image c.fill_directory.new.memory.image (NoRootOrNull lines name)
     (unfilled_moments lines name spelling c.requires.enough c.requires.most bytes is c.requires.room a b c.requires.lines looks rest unfilled)
     (subst (λ n. Goes b.image c.fill_directory.new.memory.image (NoRootOrNull n name)) size
@@ -141,8 +141,8 @@ returns-in_ok-fill_directory-in-Empty-clause-filled g c name bytes is rest unfil
     let size : b.size ≡ lines = looks.size ∙ sym c.requires.lines in
     let says : Says lines (shown a) spelling Empty = rw c.in-Empty.is at (c.in_ok-look_at_image.ensures.says rest.tells) in
     let has : HasOnly b.size (shown b) [] =
-        subst (λ n. HasOnly n (shown b) []) (sym size) (subst (λ (w : Words). HasOnly lines w []) (sym same)
-        (front_empty lines (shown a) name spelling c.requires.enough c.requires.most is says.1 says.0)) in
+    subst (λ n. HasOnly n (shown b) []) (sym size) (subst (λ (w : Words). HasOnly lines w []) (sym same)
+    (front_empty lines (shown a) name spelling c.requires.enough c.requires.most is says.1 says.0)) in
     subst (λ n. HasOnly n (shown c.fill_directory.new.memory) (array_entries name)) size
     (c.in_ok-fill_directory-in-Empty.ensures.filled name bytes is rest_b has)
 
@@ -158,10 +158,10 @@ returns-in_err-append_entries-in-Shape-clause-any_moment g c name bytes is rest 
     let size : b.size ≡ lines = looks.size ∙ sym c.requires.lines in
     let says : Says lines (shown a) spelling Shape = rw c.in-Shape.is at (c.in_ok-look_at_image.ensures.says rest.tells) in
     let has : HasOnly b.size (shown b) shape_alone =
-        subst (λ n. HasOnly n (shown b) shape_alone) (sym size) (subst (λ (w : Words). HasOnly lines w shape_alone) (sym same)
-        (front_shape lines (shown a) name spelling c.requires.enough c.requires.most is says.1 says.0)) in
+    subst (λ n. HasOnly n (shown b) shape_alone) (sym size) (subst (λ (w : Words). HasOnly lines w shape_alone) (sym same)
+    (front_shape lines (shown a) name spelling c.requires.enough c.requires.most is says.1 says.0)) in
     let behind : take (length spelling - 3) (drop 3 spelling) ≡ drop 3 spelling =
-        take_all (length spelling - 3) (drop 3 spelling) (omega (arith, length-drop 3 spelling)) in
+    take_all (length spelling - 3) (drop 3 spelling) (omega (arith, length-drop 3 spelling)) in
     goes_then a.image b.image c.append_entries.new.memory.image (NoRootOrNull lines name)
     (unfilled_moments lines name spelling c.requires.enough c.requires.most bytes is c.requires.room a b c.requires.lines looks rest unfilled)
     (subst (λ n. Goes b.image c.append_entries.new.memory.image (NoRootOrNull n name)) size
@@ -180,10 +180,10 @@ returns-in_ok-append_entries-in-Shape-clause-any_moment g c name bytes is rest u
     let size : b.size ≡ lines = looks.size ∙ sym c.requires.lines in
     let says : Says lines (shown a) spelling Shape = rw c.in-Shape.is at (c.in_ok-look_at_image.ensures.says rest.tells) in
     let has : HasOnly b.size (shown b) shape_alone =
-        subst (λ n. HasOnly n (shown b) shape_alone) (sym size) (subst (λ (w : Words). HasOnly lines w shape_alone) (sym same)
-        (front_shape lines (shown a) name spelling c.requires.enough c.requires.most is says.1 says.0)) in
+    subst (λ n. HasOnly n (shown b) shape_alone) (sym size) (subst (λ (w : Words). HasOnly lines w shape_alone) (sym same)
+    (front_shape lines (shown a) name spelling c.requires.enough c.requires.most is says.1 says.0)) in
     let behind : take (length spelling - 3) (drop 3 spelling) ≡ drop 3 spelling =
-        take_all (length spelling - 3) (drop 3 spelling) (omega (arith, length-drop 3 spelling)) in
+    take_all (length spelling - 3) (drop 3 spelling) (omega (arith, length-drop 3 spelling)) in
     goes_then a.image b.image c.append_entries.new.memory.image (NoRootOrNull lines name)
     (unfilled_moments lines name spelling c.requires.enough c.requires.most bytes is c.requires.room a b c.requires.lines looks rest unfilled)
     (subst (λ n. Goes b.image c.append_entries.new.memory.image (NoRootOrNull n name)) size
@@ -202,10 +202,10 @@ returns-in_ok-append_entries-in-Shape-clause-filled g c name bytes is rest unfil
     let size : b.size ≡ lines = looks.size ∙ sym c.requires.lines in
     let says : Says lines (shown a) spelling Shape = rw c.in-Shape.is at (c.in_ok-look_at_image.ensures.says rest.tells) in
     let has : HasOnly b.size (shown b) shape_alone =
-        subst (λ n. HasOnly n (shown b) shape_alone) (sym size) (subst (λ (w : Words). HasOnly lines w shape_alone) (sym same)
-        (front_shape lines (shown a) name spelling c.requires.enough c.requires.most is says.1 says.0)) in
+    subst (λ n. HasOnly n (shown b) shape_alone) (sym size) (subst (λ (w : Words). HasOnly lines w shape_alone) (sym same)
+    (front_shape lines (shown a) name spelling c.requires.enough c.requires.most is says.1 says.0)) in
     let behind : take (length spelling - 3) (drop 3 spelling) ≡ drop 3 spelling =
-        take_all (length spelling - 3) (drop 3 spelling) (omega (arith, length-drop 3 spelling)) in
+    take_all (length spelling - 3) (drop 3 spelling) (omega (arith, length-drop 3 spelling)) in
     subst (λ n. HasOnly n (shown c.append_entries.new.memory) (array_entries name)) size
     (c.in_ok-append_entries-in-Shape.ensures.appended shape_alone (array_entries name) rest_b has (root_continued name spelling _ bytes is behind))
 
@@ -220,4 +220,3 @@ returns-in-Null-clause-filled g c name bytes is rest unfilled =
     let says : Says lines (shown a) spelling Null = rw c.in-Null.is at (c.in_ok-look_at_image.ensures.says rest.tells) in
     subst (λ (w : Words). HasOnly lines w (array_entries name)) (sym same)
     (front_all lines (shown a) name spelling c.requires.enough c.requires.most is says.1 c.requires.room says.0)
-
