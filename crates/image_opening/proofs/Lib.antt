@@ -4,3 +4,4 @@ pub mod Fronts
 pub mod Layouts
 pub mod Looking
 pub mod Spellings
+pub mod Unfilled

@@ -1,3 +1,4 @@
 pub mod Form
+pub mod Prepared
 pub mod Rest
 pub mod Wanted

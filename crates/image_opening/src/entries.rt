@@ -13,7 +13,7 @@ const LONGEST_NAME: usize = 262_104;
 const SHAPE_WORDS: [u64; 3] = [1 + (3 << 32), 2, 0x495B];
 
 /// Whether the directory has room for the wanted entries.
-pub(crate) fn has_room(root: Option<&[u8]>) -> bool
+pub fn has_room(root: Option<&[u8]>) -> bool
     ensures { IsTrue result ↔ HasRoom (option_copied root.entry) }
 {
     match root {
@@ -23,7 +23,7 @@ pub(crate) fn has_room(root: Option<&[u8]>) -> bool
 }
 
 /// The words of the shape of arrays of ints, and behind them those of the root of a name, where there is one.
-pub(crate) fn wanted_words(alloc: Global, root: Option<&[u8]>) -> Result<Vec<u64>, AllocError>
+pub fn wanted_words(alloc: Global, root: Option<&[u8]>) -> Result<Vec<u64>, AllocError>
     requires { HasRoom (option_copied root) }
     ensures { IfOk result (λ words. words.items ≡ spelled_all (wanted (option_copied root.entry))) }
 {

@@ -6,10 +6,10 @@ ghost use Rattle.line_memory.specs.Moments.{Goes, CountsFrom};
 ghost use Rattle.image_layout.specs.Places.{min_lines, max_lines, directory_words};
 ghost use Rattle.image_meaning.specs.Entries.{AreBytes};
 ghost use Rattle.image_meaning.specs.Directories.{spelled_all};
-ghost use Rattle.image_meaning.specs.Meaning.{root_word, empty_graph, StandsFor};
+ghost use Rattle.image_meaning.specs.Meaning.{empty_graph, StandsFor};
 ghost use Rattle.image_meaning.specs.Arrays.{array_entries, null_graph};
 ghost use Rattle.image_opening.specs.Rest.{IsAtRest};
-ghost use Rattle.image_opening.specs.Form.{HasOnly, IsFront};
+ghost use Rattle.image_opening.specs.Form.{HasOnly};
 
 use crate::appending::append_entries;
 use crate::formatting::format_image;
@@ -68,35 +68,4 @@ pub fn fill_directory<I: Image>(
     append_entries(memory, 0, &spelling[..3])?;
     append_entries(memory, 3, &spelling[3..])?;
     Ok(())
-}
-
-/// Adds what is missing to a directory that has none or the first three of these words, which spell the shape of arrays
-/// of ints and a root; no root of the image refers to anything. A stop leaves an image without roots, or one whose root
-/// is null. Fails where the image does.
-pub fn complete_directory<I: Image>(
-    memory: &mut LineMemory<I>,
-    used: u64,
-    spelling: &[u64],
-) -> Result<(), ImageFailed>
-    requires enough { min_lines ≤ memory.old.size }
-    requires most { memory.old.size ≤ max_lines }
-    requires part { (used ≡ 0) ⊎ (used ≡ 3) }
-    requires some { 3 ≤ length spelling.now }
-    requires room { length spelling.now ≤ directory_words }
-    ensures size { memory.new.size ≡ memory.old.size }
-    ensures rest { IsAtRest memory.old → OnOk result (IsAtRest memory.new) }
-    ensures filled { (name : List ℕ) → AreBytes name → spelling.now ≡ spelled_all (array_entries name)
-        → IsAtRest memory.old → IsFront memory.old.size (shown memory.old) spelling.now used → root_word (shown memory.old) 0 ≡ 0
-        → OnOk result (HasOnly memory.old.size (shown memory.new) (array_entries name)) }
-    ensures any_moment { (name : List ℕ) → AreBytes name → spelling.now ≡ spelled_all (array_entries name)
-        → IsAtRest memory.old → IsFront memory.old.size (shown memory.old) spelling.now used → root_word (shown memory.old) 0 ≡ 0
-        → Goes memory.old.image memory.new.image
-        (λ c. StandsFor memory.old.size c empty_graph ⊎ StandsFor memory.old.size c (null_graph (name ∷ []))) }
-    ensures counts { (begin : ℕ) → CountsFrom begin memory.old → CountsFrom begin memory.new }
-    ensures cause { HasCause memory.old.faults memory.new.faults result }
-{
-    if used == 0 {
-        return fill_directory(memory, spelling);
-    }
-    append_entries(memory, 3, &spelling[3..])
 }

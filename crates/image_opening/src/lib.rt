@@ -1,15 +1,22 @@
-//! Opens an image for a class set with at most one durable root, which holds an array of ints.
+//! Prepares an image for a class set with one durable root, which holds an array of ints: a blank one is laid out, and what
+//! is missing in its directory is added, so that each stop leaves an image that stands for the same graph, or for that with
+//! the new root as null.
 #![tactic(auto)]
 
 mod appending;
 mod entries;
 mod filling;
+mod finding;
 mod form;
 mod formatting;
+mod preparing;
 #[cfg(test)]
 mod tests;
 mod words;
 
 pub use appending::append_entries;
-pub use filling::{complete_directory, fill_directory, lay_out};
+pub use entries::{has_room, wanted_words};
+pub use filling::{fill_directory, lay_out};
+pub use finding::{Found, look_at_image};
 pub use formatting::format_image;
+pub use preparing::prepare_image;

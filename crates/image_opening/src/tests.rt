@@ -2,9 +2,8 @@
 ghost use Rattle.std.specs.Prelude.{◌≡◌, IfOk};
 
 use crate::entries::{has_room, wanted_words};
-use crate::form::read_front;
-use crate::lay_out;
 use crate::words::put_word;
+use crate::{Found, prepare_image};
 use ap_base::Spot;
 use line_image::{Fails, Image, MemoryImage};
 use line_memory::LineMemory;
@@ -66,12 +65,14 @@ fn a_blank_image_is_laid_out(rt: HostRuntime) -> Result<(), Fail> {
     if spelling.len() != 7 {
         return Err(Fail::from("seven words"));
     }
-    assert_eq!(rt; read_front(&mut memory, LINES, spelling)?, None);
-    lay_out(&mut memory, LINES, spelling)?;
-    assert_eq!(rt; read_front(&mut memory, LINES, spelling)?, Some(7));
+    assert_eq!(rt; prepare_image(&mut memory, LINES, spelling)?, Found::Blank);
+    assert_eq!(rt; prepare_image(&mut memory, LINES, spelling)?, Found::Null);
     // Another version.
     put_word(&mut memory, Spot { line: 0, word: 1 }, 2)?;
-    assert_eq!(rt; read_front(&mut memory, LINES, spelling)?, None);
+    assert_eq!(rt;
+        prepare_image(&mut memory, LINES, spelling)?,
+        Found::NotOfForm
+    );
     let image = memory.into_image().crash(alloc, 0, no_fails(alloc)?)?;
     for (line, word, value) in [
         (0, 0, 0x5352_4550_4F54_5541),
