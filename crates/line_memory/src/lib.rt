@@ -8,5 +8,5 @@ mod memory;
 mod tests;
 
 pub use attach::AttachFault;
-pub use laws::laws_of_stop_sets;
+pub use laws::{every_line_is_resident, laws_of_stop_sets};
 pub use memory::{LineMemory, MAX_LINES, MIN_LINES, Touch};
