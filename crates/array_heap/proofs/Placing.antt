@@ -91,16 +91,16 @@ and_true true b h = (refl, h)
 and_true false b h = absurd (cc)
 
 -- only object n, at this line
-abbrev only : ℕ → ℕ → LiesAt
+abbrev pub only : ℕ → ℕ → LiesAt
 only at n line m = (line ≡ at) × (m ≡ n)
 
-to_either : (lies : ℕ → ℕ → Bool) (at n line m : ℕ) → told_by (lies_too lies at n) line m → Either (told_by lies) (only at n) line m
+pub to_either : (lies : ℕ → ℕ → Bool) (at n line m : ℕ) → told_by (lies_too lies at n) line m → Either (told_by lies) (only at n) line m
 to_either lies at n line m h = ⊎_elim
     (λ old. inl old)
     (λ new. let both = and_true (line == at) (m == n) new in inr (eqb-true line at both.0, eqb-true m n both.1))
     (or_true (lies line m) (line == at && m == n) h)
 
-from_either : (lies : ℕ → ℕ → Bool) (at n line m : ℕ) → Either (told_by lies) (only at n) line m → told_by (lies_too lies at n) line m
+pub from_either : (lies : ℕ → ℕ → Bool) (at n line m : ℕ) → Either (told_by lies) (only at n) line m → told_by (lies_too lies at n) line m
 from_either lies at n line m (inl old) = rw old refl
 from_either lies at n line m (inr new) =
     true_or (lies line m) (line == at && m == n) (rw (eq-eqb line at new.0, eq-eqb m n new.1) refl)

@@ -12,5 +12,5 @@ mod tests;
 pub use durable::make_durable;
 pub use elements::{element, length, set_element, store_element};
 pub use laws::{attached_images_are_held, held_heaps_stand};
-pub use place::place_array;
+pub use place::{place_array, place_zeros};
 pub use root::{set_root, store_root};

@@ -1,5 +1,5 @@
 // A new array.
-ghost use Rattle.std.specs.Prelude.{◌≡◌, ◌≢◌, ◌⊎◌, ◌<◌, ◌≤◌, ◌+◌, ◌^◌, ℕ, length, slice_index_or, pos, FitsSigned, OnOk};
+ghost use Rattle.std.specs.Prelude.{◌≡◌, ◌≢◌, ◌⊎◌, ◌<◌, ◌≤◌, ◌+◌, ◌^◌, ℕ, length, replicate, slice_index_or, pos, FitsSigned, OnOk};
 ghost use Rattle.std.specs.Int.{w32, cast_unsigned};
 ghost use Rattle.ap_base.specs.Causes.{HasCause};
 ghost use Rattle.line_image.specs.History.{Outcome};
@@ -47,6 +47,48 @@ pub fn place_array<I: Image>(
 {
     store_array(memory, line, shape, elements);
     write_lines_for_good(memory, line, line + lines_of(elements.len() as u32))
+}
+
+/// Copies an array of a shape's number and so many zeros, as `place_array` does one of elements: a new array is placed
+/// without any memory for what it holds.
+pub fn place_zeros<I: Image>(
+    memory: &mut LineMemory<I>,
+    line: u32,
+    shape: u32,
+    count: u32,
+) -> Result<(), ImageFailed>
+    requires size { memory.old.size ≤ max_lines }
+    requires in_range { line + lines_of count ≤ memory.old.size }
+    requires resident { (l : ℕ) → line ≤ l → l < line + lines_of count → IsResident memory.old l }
+    ensures durable { OnOk result (OnRoom memory.old line shape (replicate count (pos 0)) (λ R directory heap after.
+        HoldsHeap R directory after memory.new)) }
+    ensures any_moment { OnRoom memory.old line shape (replicate count (pos 0)) (λ R directory heap after.
+        Goes memory.old.image memory.new.image (StandsForHeap memory.old.size heap)) }
+    ensures leaves { OnRoom memory.old line shape (replicate count (pos 0)) (λ R directory heap after.
+        (c : Outcome) → CanLeaveAll memory.new c → StandsForHeap memory.old.size heap c) }
+    ensures size_after { memory.new.size ≡ memory.old.size }
+    ensures counts { (begin : ℕ) → CountsFrom begin memory.old → CountsFrom begin memory.new }
+    ensures later { memory.old.calls < 2 ^ 64 → memory.old.calls ≤ memory.new.calls }
+    ensures cause { HasCause memory.old.faults memory.new.faults result }
+{
+    store_zeros(memory, line, shape, count);
+    write_lines_for_good(memory, line, line + lines_of(count))
+}
+
+/// Stores the head and zeros, with no image call.
+fn store_zeros<I: Image>(memory: &mut LineMemory<I>, line: u32, shape: u32, count: u32)
+    requires size { memory.old.size ≤ max_lines }
+    requires in_range { line + lines_of count ≤ memory.old.size }
+    requires resident { (l : ℕ) → line ≤ l → l < line + lines_of count → IsResident memory.old l }
+    ensures head { shown memory.new line 0 ≡ head_of shape count }
+    ensures elements { (i : ℕ) → i < count → shown memory.new (object_line line i) (object_word i) ≡ 0 }
+    ensures lines { StoresIn line (lines_of count) memory.old memory.new }
+{
+    let head = head_word(shape, count);
+    memory.store(Spot { line, word: 0 }, head);
+    for i in 0..count {
+        memory.store(element_spot(line, i), 0);
+    }
 }
 
 /// Stores the head and the elements, with no image call.

@@ -1,5 +1,5 @@
 -- Changes one after another.
-use Rattle.std.proofs.Common.{◌≡◌, ◌≢◌, ◌⊎◌, inl, inr, ⊎_elim, ◌<◌, ◌≤◌, ◌+◌, ℕ, suc, List, [], ◌∷◌, length, drop, get_or, true, false, nat_eq, if◌then◌else◌, refl, sym, ◌∙◌, ap, subst, arith}
+use Rattle.std.proofs.Common.{◌≡◌, ◌≢◌, ◌⊎◌, inl, inr, ⊎_elim, ◌<◌, ◌≤◌, ◌+◌, ◌^◌, ℕ, suc, List, [], ◌∷◌, length, drop, get_or, true, false, nat_eq, if◌then◌else◌, refl, sym, ◌∙◌, ap, subst, arith}
 use Rattle.std.proofs.lemmas.Bool.{cases_eq}
 use Rattle.std.proofs.lemmas.Bool.Decides.{nat_tests}
 use Rattle.std.proofs.lemmas.List.{at_drop_more, at_drop_all}
@@ -113,3 +113,8 @@ module _ (old stored_m new : Memory) (changes : List Change)
 
   pub set-counts : (begin : ℕ) → CountsFrom begin old → CountsFrom begin new
   set-counts begin counts = on.counts begin (counts_same begin old stored_m counts same)
+
+  pub set-later : old.calls < 2 ^ 64 → (old.calls ≤ new.calls) × (new.calls < 2 ^ 64)
+  set-later fits =
+      let after = on.later (omega (arith, fits, same.calls)) in
+      (omega (arith, same.calls, after.0), after.1)

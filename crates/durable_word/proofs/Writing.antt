@@ -1,5 +1,5 @@
 -- Write-backs one after another.
-use Rattle.std.proofs.Common.{◌≡◌, inl, inr, ℕ, refl, ◌∙◌}
+use Rattle.std.proofs.Common.{◌≡◌, inl, inr, ℕ, refl, ◌∙◌, arith}
 use Rattle.line_memory.specs.Memory.{Memory, IsKnown, CanLeaveAll, SameShown, SameResident, KeepsTelling, Narrows, OneCall}
 use Rattle.line_memory.specs.Moments.{Goes}
 use Rattle.line_memory.proofs.Chain.{goes_on, goes_nowhere, counts_on}
@@ -15,6 +15,7 @@ writes_nothing m = record {
   telling = λ tells. tells;
   size = refl;
   counts = λ begin counts. counts;
+  later = λ fits. (omega arith, fits);
 }
 
 -- one call
@@ -27,6 +28,7 @@ one_write old new shows leaves any_moment resident telling size one = record {
   telling = telling;
   size = size;
   counts = λ begin counts. counts_on begin old new counts one;
+  later = λ fits. (omega (arith, fits, one.calls), omega (arith, fits, one.calls));
 }
 
 -- a known line stays known
@@ -49,4 +51,8 @@ writes_more a b c first second = record {
   telling = λ tells. second.telling (first.telling tells);
   size = second.size ∙ first.size;
   counts = λ begin counts. second.counts begin (first.counts begin counts);
+  later = λ fits.
+      let there = first.later fits in
+      let after = second.later there.1 in
+      (omega (arith, there.0, after.0), after.1);
 }

@@ -1,5 +1,5 @@
 -- Write-backs and fences, which store nothing.
-use Rattle.std.specs.Prelude.{◌≡◌, ℕ}
+use Rattle.std.specs.Prelude.{◌≡◌, ◌<◌, ◌≤◌, ◌^◌, ℕ}
 use Rattle.line_memory.specs.Memory.{Memory, IsResident, IsWritten, SameShown, SameResident, KeepsTelling, Narrows, CanLeaveAll}
 use Rattle.line_memory.specs.Moments.{Goes, CountsFrom}
 
@@ -21,3 +21,5 @@ pub record WritesOn (old new : Memory) : Type 0 where
   pub telling : KeepsTelling old new
   pub size : new.size ≡ old.size
   pub counts : (begin : ℕ) → CountsFrom begin old → CountsFrom begin new
+  -- the count of 64 bits doesn't fall
+  pub later : old.calls < 2 ^ 64 → (old.calls ≤ new.calls) × (new.calls < 2 ^ 64)

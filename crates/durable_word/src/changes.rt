@@ -1,5 +1,5 @@
 // Many words, changed for good.
-ghost use Rattle.std.specs.Prelude.{◌≡◌, ◌<◌, ◌≤◌, ◌+◌, ℕ, length, All, OnOk};
+ghost use Rattle.std.specs.Prelude.{◌≡◌, ◌<◌, ◌≤◌, ◌+◌, ◌^◌, ℕ, length, All, OnOk};
 ghost use Rattle.ap_base.specs.Causes.{HasCause};
 ghost use Rattle.line_memory.specs.Memory.{shown, IsResident, IsKnown, IsDurable, SameResident, SameImage, KeepsTelling};
 ghost use Rattle.line_memory.specs.Moments.{Goes, CountsFrom};
@@ -42,6 +42,9 @@ pub fn set_all_for_good<I: Image>(
     ensures telling { KeepsTelling memory.old memory.new }
     ensures count { memory.new.calls ≤ memory.old.calls + length changes.now + 1 }
     ensures counts { (begin : ℕ) → CountsFrom begin memory.old → CountsFrom begin memory.new }
+    // the count of 64 bits doesn't fall
+    ensures later { memory.old.calls < 2 ^ 64
+        → (memory.old.calls ≤ memory.new.calls) × (memory.new.calls < 2 ^ 64) }
     ensures cause { HasCause memory.old.faults memory.new.faults result }
 {
     store_all(memory, changes);

@@ -1,7 +1,7 @@
 -- Images that stand for a graph: what is found in them, and with one more entry.
-use Rattle.std.proofs.Common.{◌≡◌, ◌≢◌, ℕ, ◌+◌, ◌<◌, false, List, [], ◌∷◌, length, map, None, Result, Ok, refl, sym, ◌∙◌, ap, subst, arith, slice_index_or}
+use Rattle.std.proofs.Common.{◌≡◌, ◌≢◌, inl, inr, ℕ, ◌+◌, ◌<◌, ◌≤◌, ◌&&◌, true, false, nat_le, List, [], ◌∷◌, length, map, None, Result, Ok, refl, sym, ◌∙◌, ap, subst, arith, slice_index_or}
 use Rattle.std.specs.List.{range_with_len}
-use Rattle.std.proofs.lemmas.Bool.{ne_eqb}
+use Rattle.std.proofs.lemmas.Bool.{cases_eq, ne_eqb, le-leb}
 use Rattle.std.proofs.lemmas.List.{get_or-map, get_or_past, length-map}
 use Rattle.std.proofs.lemmas.List.FromFn.{length-map-range_with_len, get_or-map-range_with_len}
 use Rattle.graph_model.specs.declared.types.Value.TheVariants.{Null}
@@ -13,20 +13,23 @@ use Rattle.graph_model.specs.declared.types.Heap.{Heap}
 use Rattle.graph_model.specs.declared.types.Graph.{Graph}
 use Rattle.graph_model.specs.Heaps.{no_shape, no_object}
 use Rattle.graph_model.specs.Canon.{canon_of}
-use Rattle.image_layout.specs.Places.{object_line, object_word}
+use Rattle.image_layout.specs.Places.{min_lines, max_lines, directory_words, log_entries, slot_line, slot_word, directory_line, directory_word, log_head_line, log_entry_line, log_entry_word, object_line, object_word}
 use Rattle.image_meaning.specs.Checks.{Words, Bad, ◌>>=◌}
 use Rattle.image_meaning.specs.Entries.{Entry, ShapeEntry, RootEntry, IsEntry}
 use Rattle.image_meaning.specs.Directories.{Directory, directory_of, is_refused, with_entry}
-use Rattle.image_meaning.specs.Logs.{put_back, SameLogs}
-use Rattle.image_meaning.specs.Meaning.{roots_fault, root_values_of, walk, graph_found, graph_from, meaning, StandsFor}
+use Rattle.image_meaning.specs.Logs.{log_count, put_back, SameLogs}
+use Rattle.image_meaning.specs.Meaning.{roots_fault, root_values_of, walk, graph_found, graph_from, empty_graph, meaning, StandsFor}
 use Rattle.image_meaning.specs.Corresponds.{Corresponds, SameWords}
-use Rattle.image_meaning.specs.Laws.{Opens}
+use Rattle.image_meaning.specs.Laws.{Opens, SameFront}
 use Rattle.image_meaning.specs.Opening.{no_node, graph_node, HoldsGraph, found_at, Finds, FoundImage}
 use Rattle.image_meaning.specs.Appending.{AddsEntry, with_root, with_null_root, SameBehind, with_entry_too}
 use Rattle.image_meaning.proofs.Ranges.{get_or_any, mapped_alike}
 use Rattle.image_meaning.proofs.Changes.{corresponds-same}
-use Rattle.image_meaning.proofs.Opened.{stands, put_back-agrees}
-use Rattle.image_meaning.proofs.Standing.{after_ok, bind_ok, opens-standing}
+use Rattle.image_meaning.proofs.Opened.{stands, stands-same, put_back-agrees}
+use Rattle.image_meaning.proofs.Standing.{after_ok, bind_ok, opens-standing, use-within}
+use Rattle.image_meaning.proofs.Order.{blank-stands}
+use Rattle.image_meaning.proofs.Places.{log_passes}
+use Rattle.image_meaning.proofs.Stopped.{logs_pass}
 use Rattle.image_meaning.proofs.FoundImage.{directory-few, corresponds-found}
 use Rattle.image_meaning.proofs.Appending.{opens-more, corresponds-more_shapes, corresponds-more_roots, canon-more_roots}
 
@@ -171,3 +174,40 @@ added-stands size c d directory (RootEntry name) graph opens stand is accepted a
     let opened = opens-more size c d directory (RootEntry name) opens is accepted adds logs in
     subst (λ g. StandsFor size d g) (canon-more_roots (heap_of graph) name static (no_static graph) ∙ ap (λ g. with_null_root g name) found.2)
     (stands (found_at found.0) size d (with_entry directory (RootEntry name)) (with_root (heap_of graph) name static) opened more)
+
+-- ---- the lines of an image
+
+-- what an image stands for, the words of its lines tell
+pub stands-within : (size : ℕ) (c d : Words) (graph : Graph) → min_lines ≤ size → size ≤ max_lines → StandsFor size c graph
+    → ((line word : ℕ) → line < size → d line word ≡ c line word) → StandsFor size d graph
+stands-within size c d graph enough most stand same = elim (cases_eq (c 0 0) 0) [
+  | inl zero ↦ (
+      let range : (nat_le min_lines size && nat_le size max_lines) ≡ true = rw (le-leb min_lines size enough, le-leb size max_lines most) refl in
+      let first : d 0 0 ≡ 0 = same 0 0 (omega (arith, enough)) ∙ zero in
+      subst (λ g. StandsFor size d g) (ok_same (meaning size c) empty_graph graph (blank-stands size c (range, zero)) stand)
+      (blank-stands size d (range, first)))
+  | inr used ↦ (
+      let o = opens-standing size c graph used stand in
+      let opens = o.1 in
+      let found = heap_found size c o.0 graph opens stand in
+      let k = found.1 in
+      let most_words : c 0 3 ≤ directory_words = use-within size (c 0) used opens.super in
+      let front : SameFront c d = record {
+        super = λ word h. same 0 word (omega (arith, enough));
+        directory = λ i h. same (directory_line i) (directory_word i) (omega (arith, enough, h, most_words));
+      } in
+      let logs_same : SameLogs c d = record {
+        counts = λ t h. same (log_head_line t) 0 (omega (arith, enough, h));
+        entries = λ t n h below.
+            let few : log_count c t ≤ log_entries = (log_passes size c t (logs_pass size c opens.logs t h)).0 in
+            let inside : log_entry_line t n < size = omega (arith, enough, h, below, few) in
+            rw (same (log_entry_line t n) (log_entry_word n) inside, same (log_entry_line t n) (log_entry_word n + 1) inside) refl;
+      } in
+      let words : SameWords (found_at found.0) (heap_of graph) c d = record {
+        heads = λ line n r. let high = (k.objects line n r).high in same line 0 (omega (arith, high));
+        slots = λ line n r i h. let high = (k.objects line n r).high in same (object_line line i) (object_word i) (omega (arith, high, h));
+        at_roots = λ r h. same (slot_line r) (slot_word r) (omega (arith, enough, h));
+      } in
+      subst (λ g. StandsFor size d g) found.2
+      (stands-same (found_at found.0) size c d o.0 (heap_of graph) opens k front logs_same words))
+]

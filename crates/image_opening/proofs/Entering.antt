@@ -4,15 +4,15 @@ use Rattle.std.proofs.lemmas.Bool.{cases_lt}
 use Rattle.std.proofs.lemmas.List.{get_or_append_left, get_or-append-add}
 use Rattle.line_image.specs.History.{Outcome}
 use Rattle.line_memory.specs.Memory.{Memory, shown}
-use Rattle.line_memory.specs.Moments.{Goes}
 use Rattle.image_layout.specs.Places.{min_lines, directory_words, slot_line, slot_word, log_head_line, directory_line, directory_word}
 use Rattle.image_meaning.specs.Checks.{Words}
 use Rattle.image_meaning.specs.Entries.{Entry}
 use Rattle.image_meaning.specs.Directories.{spelled_all}
 use Rattle.image_meaning.specs.Meaning.{StandsFor}
-use Rattle.image_opening.specs.Rest.{OldOrPut, HasKept, ChangesOthers}
+use Rattle.image_opening.specs.Rest.{StopsLeave, OldOrPut, HasKept, ChangesOthers}
 use Rattle.image_opening.specs.Form.{HasOnly, IsOutsideFree, StandFrom, IsContinued, graph_of_entries}
-use Rattle.image_opening.proofs.Layouts.{goes_then, goes_weaker, only_stands}
+use Rattle.image_opening.proofs.Putting.{stops_then, stops_weaker}
+use Rattle.image_opening.proofs.Layouts.{only_stands}
 
 -- words that are the same outside the free part of the directory
 pub only_same : (size used : ℕ) (c d : Words) (entries : List Entry) → min_lines ≤ size → HasOnly size d entries
@@ -87,24 +87,24 @@ module _ (old mid : Memory) (used : ℕ) (spelling : List ℕ) (before after : L
   room : used ≤ directory_words
   room = omega (arith, few)
 
-  pub writing_moments : Goes old.image mid.image (Either old.size before after)
-  writing_moments = goes_weaker old.image mid.image (HasKept (IsOutsideFree used) old) (Either old.size before after) writes.any_moment
+  pub writing_moments : StopsLeave old mid (Either old.size before after)
+  writing_moments = stops_weaker old mid (HasKept (IsOutsideFree used) old) (Either old.size before after) writes.any_moment
       (λ k kept. inl (only_stands old.size k before (only_same old.size used k (shown old) before enough has on.used room kept) on.were))
 
   pub written_only : HasOnly mid.size (shown mid) before
   written_only = subst (λ n. HasOnly n (shown mid) before) (sym writes.size)
-      (only_same old.size used (shown mid) (shown old) before enough has on.used room (λ l w below kept. writes.shows l w kept))
+      (only_same old.size used (shown mid) (shown old) before enough has on.used room (λ l w below kept. writes.shows l w below kept))
 
   more : min_lines ≤ mid.size
   more = omega (arith, enough, writes.size)
 
   module _ (new : Memory) (written : StandFrom (shown mid) used spelling)
-      (others : (l w : ℕ) → (l ≡ 0 → w ≢ 3) → shown new l w ≡ shown mid l w) where
-    pub raised_moments : Goes mid.image new.image (OldOrPut mid 0 3 (used + length spelling))
-        → Goes old.image new.image (Either old.size before after)
-    raised_moments moments = goes_then old.image mid.image new.image (Either old.size before after) writing_moments
-        (subst (λ n. Goes mid.image new.image (Either n before after)) writes.size
-        (goes_weaker mid.image new.image (OldOrPut mid 0 3 (used + length spelling)) (Either mid.size before after) moments
+      (others : (l w : ℕ) → l < mid.size → (l ≡ 0 → w ≢ 3) → shown new l w ≡ shown mid l w) where
+    pub raised_moments : StopsLeave mid new (OldOrPut mid 0 3 (used + length spelling))
+        → StopsLeave old new (Either old.size before after)
+    raised_moments moments = stops_then old mid new (Either old.size before after) writing_moments
+        (subst (λ n. StopsLeave mid new (Either n before after)) writes.size
+        (stops_weaker mid new (OldOrPut mid 0 3 (used + length spelling)) (Either mid.size before after) moments
         (λ k either.
         let same : (l w : ℕ) → l < mid.size → (l ≡ 0 → w ≢ 3) → k l w ≡ shown mid l w = λ l w below elsewhere.
         ⊎_elim (λ was. was) (λ put. absurd (elsewhere put.0 put.1)) (either l w below) in
@@ -119,4 +119,4 @@ module _ (old mid : Memory) (used : ℕ) (spelling : List ℕ) (before after : L
     pub raised : shown new 0 3 ≡ used + length spelling → HasOnly old.size (shown new) after
     raised here = subst (λ n. HasOnly n (shown new) after) writes.size
         (raised_only mid.size used (shown new) (shown mid) spelling before after more written_only on few written
-        (λ l w below elsewhere. others l w elsewhere) here)
+        others here)

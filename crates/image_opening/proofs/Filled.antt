@@ -1,16 +1,16 @@
 -- The wanted entries are added to an empty directory.
 use Rattle.std.proofs.Common.{◌≡◌, ◌⊎◌, inl, ⊎_elim, ℕ, List, [], ◌∷◌, ◌++◌, take, drop, refl, sym, ◌∙◌, ap, subst}
 use Rattle.line_image.specs.History.{Outcome}
-use Rattle.line_memory.specs.Memory.{Told}
-use Rattle.line_memory.specs.Moments.{Goes}
+use Rattle.line_memory.specs.Memory.{Memory}
 use Rattle.image_meaning.specs.Entries.{AreBytes}
 use Rattle.image_meaning.specs.Directories.{spelled_all}
 use Rattle.image_meaning.specs.Meaning.{empty_graph, StandsFor}
 use Rattle.image_meaning.specs.Arrays.{array_entries, null_graph}
 use Rattle.image_meaning.proofs.Arrays.{shape-may_stand, root-may_stand}
+use Rattle.image_opening.specs.Rest.{StopsLeave}
 use Rattle.image_opening.specs.Form.{IsContinued}
 use Rattle.image_opening.specs.Wanted.{shape_alone}
-use Rattle.image_opening.proofs.Layouts.{goes_then, goes_weaker}
+use Rattle.image_opening.proofs.Putting.{stops_then, stops_weaker}
 use Rattle.image_opening.proofs.Entering.{Either}
 
 -- the first three words spell the shape
@@ -37,22 +37,22 @@ root_continued name spelling some bytes is behind = record {
 abbrev pub NoRootOrNull : ℕ → List ℕ → Outcome → Type 0
 NoRootOrNull size name c = StandsFor size c empty_graph ⊎ StandsFor size c (null_graph (name ∷ []))
 
-pub shape_moments : (size : ℕ) (name : List ℕ) (a b : Told) → Goes a b (Either size [] shape_alone) → Goes a b (NoRootOrNull size name)
-shape_moments size name a b moments = goes_weaker a b (Either size [] shape_alone) (NoRootOrNull size name) moments
+pub shape_moments : (size : ℕ) (name : List ℕ) (a b : Memory) → StopsLeave a b (Either size [] shape_alone) → StopsLeave a b (NoRootOrNull size name)
+shape_moments size name a b moments = stops_weaker a b (Either size [] shape_alone) (NoRootOrNull size name) moments
     (λ k either. ⊎_elim (λ none. inl none) (λ none. inl none) either)
 
-pub root_moments : (size other : ℕ) (name : List ℕ) (a b d : Told) → other ≡ size → Goes a b (Either size [] shape_alone)
-    → Goes b d (Either other shape_alone (array_entries name)) → Goes a d (NoRootOrNull size name)
+pub root_moments : (size other : ℕ) (name : List ℕ) (a b d : Memory) → other ≡ size → StopsLeave a b (Either size [] shape_alone)
+    → StopsLeave b d (Either other shape_alone (array_entries name)) → StopsLeave a d (NoRootOrNull size name)
 root_moments size other name a b d same first second =
-    goes_then a b d (NoRootOrNull size name) (shape_moments size name a b first)
-    (subst (λ n. Goes b d (NoRootOrNull n name)) same
-    (goes_weaker b d (Either other shape_alone (array_entries name)) (NoRootOrNull other name) second (λ k either. either)))
+    stops_then a b d (NoRootOrNull size name) (shape_moments size name a b first)
+    (subst (λ n. StopsLeave b d (NoRootOrNull n name)) same
+    (stops_weaker b d (Either other shape_alone (array_entries name)) (NoRootOrNull other name) second (λ k either. either)))
 
-pub empty_moments : (size : ℕ) (name : List ℕ) (a b : Told) → Goes a b (λ c. StandsFor size c empty_graph) → Goes a b (NoRootOrNull size name)
+pub empty_moments : (size : ℕ) (name : List ℕ) (a b : Memory) → StopsLeave a b (λ c. StandsFor size c empty_graph) → StopsLeave a b (NoRootOrNull size name)
 empty_moments size name a b moments =
-    goes_weaker a b (λ c. StandsFor size c empty_graph) (NoRootOrNull size name) moments (λ k none. inl none)
+    stops_weaker a b (λ c. StandsFor size c empty_graph) (NoRootOrNull size name) moments (λ k none. inl none)
 
-pub last_moments : (size : ℕ) (name : List ℕ) (a b : Told) → Goes a b (Either size shape_alone (array_entries name))
-    → Goes a b (NoRootOrNull size name)
+pub last_moments : (size : ℕ) (name : List ℕ) (a b : Memory) → StopsLeave a b (Either size shape_alone (array_entries name))
+    → StopsLeave a b (NoRootOrNull size name)
 last_moments size name a b moments =
-    goes_weaker a b (Either size shape_alone (array_entries name)) (NoRootOrNull size name) moments (λ k either. either)
+    stops_weaker a b (Either size shape_alone (array_entries name)) (NoRootOrNull size name) moments (λ k either. either)

@@ -2,9 +2,7 @@
 use Rattle.std.proofs.Common.{◌≡◌, ◌≢◌, ⊎_elim, ◌<◌, ◌≤◌, ℕ, List, [], refl, ◌∙◌, arith}
 use Rattle.std.proofs.lemmas.Bool.{le-leb}
 use Rattle.line_image.specs.History.{Outcome}
-use Rattle.line_memory.specs.Memory.{Memory, Told, shown}
-use Rattle.line_memory.specs.Moments.{Goes}
-use Rattle.line_memory.proofs.Chain.{goes_on, goes_nowhere}
+use Rattle.line_memory.specs.Memory.{Memory, shown}
 use Rattle.image_layout.specs.Places.{magic, version, min_lines, max_lines, root_slots, slot_line, slot_word, log_head_line}
 use Rattle.image_meaning.specs.Checks.{Words}
 use Rattle.image_meaning.specs.Entries.{Entry}
@@ -14,14 +12,9 @@ use Rattle.image_meaning.specs.Meaning.{root_word, empty_graph, StandsFor}
 use Rattle.image_meaning.specs.Arrays.{null_graph}
 use Rattle.image_meaning.proofs.Arrays.{null_roots-stand}
 use Rattle.image_meaning.proofs.Order.{blank-stands}
-use Rattle.image_opening.specs.Rest.{OldOrPut, HasKept, ChangesOthers}
+use Rattle.image_opening.specs.Rest.{StopsLeave, OldOrPut, HasKept, ChangesOthers}
 use Rattle.image_opening.specs.Form.{HasOnly}
-
-pub goes_then : (a b c : Told) (P : Outcome → Type 0) → Goes a b P → Goes b c P → Goes a c P
-goes_then a b c P first second = goes_on a b c P P P first second (λ k p. p) (λ k p. p)
-
-pub goes_weaker : (a b : Told) (P Q : Outcome → Type 0) → Goes a b P → ((k : Outcome) → P k → Q k) → Goes a b Q
-goes_weaker a b P Q goes weaker = goes_on a a b P P Q (goes_nowhere a P) goes weaker weaker
+use Rattle.image_opening.proofs.Putting.{stops_weaker}
 
 -- the image of so many lines has a size that an image may have
 pub record MayBe (lines size : ℕ) : Type 0 where
@@ -35,16 +28,16 @@ first_zero-stands lines size c may zero =
 
 -- where word 0 is kept, each stop leaves a blank image
 pub kept_blank : (Kept : ℕ → ℕ → Type 0) (lines : ℕ) (old new : Memory) → MayBe lines old.size → Kept 0 0 → shown old 0 0 ≡ 0
-    → ChangesOthers Kept old new → Goes old.image new.image (λ c. StandsFor lines c empty_graph)
+    → ChangesOthers Kept old new → StopsLeave old new (λ c. StandsFor lines c empty_graph)
 kept_blank Kept lines old new may kept zero changes =
-    goes_weaker old.image new.image (HasKept Kept old) (λ c. StandsFor lines c empty_graph) changes.any_moment
+    stops_weaker old new (HasKept Kept old) (λ c. StandsFor lines c empty_graph) changes.any_moment
     (λ k has. first_zero-stands lines old.size k may (has 0 0 (omega (arith, may.is, may.enough)) kept ∙ zero))
 
 -- another word of line 0 is put
 pub put_blank : (lines : ℕ) (old new : Memory) (word value : ℕ) → MayBe lines old.size → 0 < word → shown old 0 0 ≡ 0
-    → Goes old.image new.image (OldOrPut old 0 word value) → Goes old.image new.image (λ c. StandsFor lines c empty_graph)
+    → StopsLeave old new (OldOrPut old 0 word value) → StopsLeave old new (λ c. StandsFor lines c empty_graph)
 put_blank lines old new word value may some zero moments =
-    goes_weaker old.image new.image (OldOrPut old 0 word value) (λ c. StandsFor lines c empty_graph) moments
+    stops_weaker old new (OldOrPut old 0 word value) (λ c. StandsFor lines c empty_graph) moments
     (λ k either. ⊎_elim
     (λ was. first_zero-stands lines old.size k may (was ∙ zero))
     (λ put. absurd (omega (arith, put.1, some)))
@@ -93,9 +86,9 @@ ready_left lines old value c may ready either =
 
 -- the magic word is put last: each stop leaves a blank image or the whole layout
 pub magic_moments : (lines : ℕ) (old new : Memory) → MayBe lines old.size → IsReady lines (shown old) → shown old 0 0 ≡ 0
-    → Goes old.image new.image (OldOrPut old 0 0 magic) → Goes old.image new.image (λ c. StandsFor lines c empty_graph)
+    → StopsLeave old new (OldOrPut old 0 0 magic) → StopsLeave old new (λ c. StandsFor lines c empty_graph)
 magic_moments lines old new may ready zero moments =
-    goes_weaker old.image new.image (OldOrPut old 0 0 magic) (λ c. StandsFor lines c empty_graph) moments
+    stops_weaker old new (OldOrPut old 0 0 magic) (λ c. StandsFor lines c empty_graph) moments
     (λ k either. ⊎_elim
     (λ was. first_zero-stands lines old.size k may (was ∙ zero))
     (λ put. only_stands lines k [] (ready_magic lines old.size k may (ready_left lines old magic k may ready either) put.2) tt)

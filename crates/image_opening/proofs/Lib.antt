@@ -2,6 +2,8 @@ pub mod Entering
 pub mod Filled
 pub mod Fronts
 pub mod Layouts
-pub mod Looking
+pub mod Openings
+pub mod Putting
+pub mod ReadArrays
 pub mod Spellings
 pub mod Unfilled

@@ -1,27 +1,26 @@
--- A memory at rest, and what reads and single words change of it.
-use Rattle.std.specs.Prelude.{◌≡◌, ◌⊎◌, ◌<◌, ℕ}
+-- A memory at rest, and what single words that are put change of it.
+use Rattle.std.specs.Prelude.{◌≡◌, ◌⊎◌, ◌^◌, ◌<◌, ◌≤◌, ℕ}
 use Rattle.image_meaning.specs.Checks.{Words}
 use Rattle.line_image.specs.History.{Outcome}
-use Rattle.line_memory.specs.Memory.{Memory, Narrows, IsTelling, KeepsTelling, CanLeaveAll, IsDurable, shown}
-use Rattle.line_memory.specs.Moments.{Goes, CountsFrom}
+use Rattle.line_memory.specs.Memory.{Memory, CanLeaveAll, IsDurable, shown}
+use Rattle.line_memory.specs.Moments.{Goes}
 
 -- the words say the same in all lines of an image of so many lines
 abbrev pub Agrees : ℕ → Words → Words → Type 0
 Agrees size c d = (l w : ℕ) → l < size → c l w ≡ d l w
 
--- The image tells what was done to it, and each word of its lines is durable.
+-- Each word of the image's lines is durable. An image that tells nothing of what was done to it is at rest.
 pub record IsAtRest (m : Memory) : Type 0 where
-  pub tells : IsTelling m.image.history
   pub durable : (l w : ℕ) → l < m.size → IsDurable m l w
 
--- Words were looked at, and nothing was stored.
-pub record LooksOn (old new : Memory) : Type 0 where
-  pub size : new.size ≡ old.size
-  pub telling : KeepsTelling old new
-  pub shows : IsTelling old.image.history → (l w : ℕ) → shown new l w ≡ shown old l w
-  pub leaves : Narrows old new
-  pub any_moment : Goes old.image new.image (CanLeaveAll old)
-  pub counts : (begin : ℕ) → CountsFrom begin old → CountsFrom begin new
+-- Each stop from the old memory on to the new one, and each after that, leaves words that have P.
+pub record StopsLeave (old new : Memory) (P : Outcome → Type 0) : Type 0 where
+  pub within : Goes old.image new.image P
+  pub after : (c : Outcome) → CanLeaveAll new c → P c
+
+-- the count of the memory's calls, of 64 bits, didn't fall
+abbrev pub CallsGoOn : Memory → Memory → Type 0
+CallsGoOn old new = old.calls < 2 ^ 64 → (old.calls ≤ new.calls) × (new.calls < 2 ^ 64)
 
 -- c has the words that m shows, or this value in one word and else the same
 abbrev pub OldOrPut : Memory → ℕ → ℕ → ℕ → Outcome → Type 0
@@ -35,5 +34,5 @@ HasKept Kept m c = (l w : ℕ) → l < m.size → Kept l w → c l w ≡ shown m
 -- Words were changed but for those that are kept: these each stop left as they were.
 pub record ChangesOthers (Kept : ℕ → ℕ → Type 0) (old new : Memory) : Type 0 where
   pub size : new.size ≡ old.size
-  pub shows : (l w : ℕ) → Kept l w → shown new l w ≡ shown old l w
-  pub any_moment : Goes old.image new.image (HasKept Kept old)
+  pub shows : (l w : ℕ) → l < old.size → Kept l w → shown new l w ≡ shown old l w
+  pub any_moment : StopsLeave old new (HasKept Kept old)

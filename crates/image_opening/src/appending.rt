@@ -2,11 +2,11 @@
 ghost use Rattle.std.specs.Prelude.{◌≡◌, ◌⊎◌, ◌+◌, ◌<◌, ◌≤◌, ℕ, List, length, OnOk};
 ghost use Rattle.ap_base.specs.Causes.{HasCause};
 ghost use Rattle.line_memory.specs.Memory.{shown};
-ghost use Rattle.line_memory.specs.Moments.{Goes, CountsFrom};
+ghost use Rattle.line_memory.specs.Moments.{CountsFrom};
 ghost use Rattle.image_layout.specs.Places.{min_lines, directory_words};
 ghost use Rattle.image_meaning.specs.Entries.{Entry};
 ghost use Rattle.image_meaning.specs.Meaning.{StandsFor};
-ghost use Rattle.image_opening.specs.Rest.{IsAtRest, ChangesOthers};
+ghost use Rattle.image_opening.specs.Rest.{IsAtRest, CallsGoOn, StopsLeave, ChangesOthers};
 ghost use Rattle.image_opening.specs.Form.{HasOnly, IsOutsideFree, StandFrom, IsContinued, graph_of_entries};
 
 use crate::words::{put_word, word_spot};
@@ -31,9 +31,10 @@ pub fn append_entries<I: Image>(
         → OnOk result (HasOnly memory.old.size (shown memory.new) after) }
     ensures any_moment { (before after : List Entry) → IsAtRest memory.old → HasOnly memory.old.size (shown memory.old) before
         → IsContinued used spelling.now before after
-        → Goes memory.old.image memory.new.image (λ c. StandsFor memory.old.size c (graph_of_entries before)
+        → StopsLeave memory.old memory.new (λ c. StandsFor memory.old.size c (graph_of_entries before)
         ⊎ StandsFor memory.old.size c (graph_of_entries after)) }
     ensures counts { (begin : ℕ) → CountsFrom begin memory.old → CountsFrom begin memory.new }
+    ensures calls { CallsGoOn memory.old memory.new }
     ensures cause { HasCause memory.old.faults memory.new.faults result }
 {
     write_entries(memory, used, spelling)?;
@@ -55,6 +56,7 @@ fn write_entries<I: Image>(
     ensures others { IsAtRest memory.old → ChangesOthers (IsOutsideFree used) memory.old memory.new }
     ensures size { memory.new.size ≡ memory.old.size }
     ensures counts { (begin : ℕ) → CountsFrom begin memory.old → CountsFrom begin memory.new }
+    ensures calls { CallsGoOn memory.old memory.new }
     ensures cause { HasCause memory.old.faults memory.new.faults result }
 {
     for (i, word) in spelling.iter().enumerate() {

@@ -2,13 +2,13 @@
 ghost use Rattle.std.specs.Prelude.{◌≡◌, ◌⊎◌, ◌<◌, ◌≤◌, ℕ, List, [], ◌∷◌, length, OnOk};
 ghost use Rattle.ap_base.specs.Causes.{HasCause};
 ghost use Rattle.line_memory.specs.Memory.{shown};
-ghost use Rattle.line_memory.specs.Moments.{Goes, CountsFrom};
+ghost use Rattle.line_memory.specs.Moments.{CountsFrom};
 ghost use Rattle.image_layout.specs.Places.{min_lines, max_lines, directory_words};
 ghost use Rattle.image_meaning.specs.Entries.{AreBytes};
 ghost use Rattle.image_meaning.specs.Directories.{spelled_all};
 ghost use Rattle.image_meaning.specs.Meaning.{empty_graph, StandsFor};
 ghost use Rattle.image_meaning.specs.Arrays.{array_entries, null_graph};
-ghost use Rattle.image_opening.specs.Rest.{IsAtRest};
+ghost use Rattle.image_opening.specs.Rest.{IsAtRest, CallsGoOn, StopsLeave};
 ghost use Rattle.image_opening.specs.Form.{HasOnly};
 
 use crate::appending::append_entries;
@@ -34,9 +34,10 @@ pub fn lay_out<I: Image>(
         → IsAtRest memory.old → OnOk result (HasOnly lines (shown memory.new) (array_entries name)) }
     ensures any_moment { (name : List ℕ) → AreBytes name → spelling.now ≡ spelled_all (array_entries name)
         → IsAtRest memory.old → shown memory.old 0 0 ≡ 0
-        → Goes memory.old.image memory.new.image
+        → StopsLeave memory.old memory.new
         (λ c. StandsFor lines c empty_graph ⊎ StandsFor lines c (null_graph (name ∷ []))) }
     ensures counts { (begin : ℕ) → CountsFrom begin memory.old → CountsFrom begin memory.new }
+    ensures calls { CallsGoOn memory.old memory.new }
     ensures cause { HasCause memory.old.faults memory.new.faults result }
 {
     format_image(memory, lines)?;
@@ -60,9 +61,10 @@ pub fn fill_directory<I: Image>(
         → OnOk result (HasOnly memory.old.size (shown memory.new) (array_entries name)) }
     ensures any_moment { (name : List ℕ) → AreBytes name → spelling.now ≡ spelled_all (array_entries name)
         → IsAtRest memory.old → HasOnly memory.old.size (shown memory.old) []
-        → Goes memory.old.image memory.new.image
+        → StopsLeave memory.old memory.new
         (λ c. StandsFor memory.old.size c empty_graph ⊎ StandsFor memory.old.size c (null_graph (name ∷ []))) }
     ensures counts { (begin : ℕ) → CountsFrom begin memory.old → CountsFrom begin memory.new }
+    ensures calls { CallsGoOn memory.old memory.new }
     ensures cause { HasCause memory.old.faults memory.new.faults result }
 {
     append_entries(memory, 0, &spelling[..3])?;

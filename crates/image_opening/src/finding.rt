@@ -1,15 +1,13 @@
 // What an image is for a class set with a root.
-ghost use Rattle.std.specs.Prelude.{◌≡◌, ◌≢◌, ◌⊎◌, ◌<◌, ◌≤◌, ℕ, length, IfOk};
-ghost use Rattle.ap_base.specs.Causes.{HasCause};
-ghost use Rattle.line_memory.specs.Memory.{shown, IsTelling};
+ghost use Rattle.std.specs.Prelude.{◌≡◌, ◌≢◌, ◌≤◌, ℕ, length};
+ghost use Rattle.line_memory.specs.Memory.{shown};
 ghost use Rattle.image_layout.specs.Places.{min_lines, directory_words};
-ghost use Rattle.image_opening.specs.Rest.{LooksOn};
 ghost use Rattle.image_opening.specs.Prepared.{Says, IsFoundBy};
 
 use crate::form::read_front;
 use crate::words::{read_word, root_spot};
 use ap_base::Spot;
-use line_image::{Image, ImageFailed};
+use line_image::Image;
 use line_memory::LineMemory;
 
 /// What an image is found to be.
@@ -29,29 +27,20 @@ pub enum Found {
     Refers(u64),
 }
 
-/// Looks at an image of so many lines for a class set whose entries these words spell. Fails where the image does.
-pub fn look_at_image<I: Image>(
-    memory: &mut LineMemory<I>,
-    lines: u64,
-    spelling: &[u64],
-) -> Result<Found, ImageFailed>
-    requires enough { min_lines ≤ memory.old.size }
+/// Looks at an image of so many lines for a class set whose entries these words spell.
+pub fn look_at_image<I: Image>(memory: &LineMemory<I>, lines: u64, spelling: &[u64]) -> Found
+    requires enough { min_lines ≤ memory.now.size }
     requires some { 3 ≤ length spelling.now }
     requires room { length spelling.now ≤ directory_words }
-    ensures says { IsTelling memory.old.image.history
-        → IfOk result (λ found. Says lines (shown memory.old) spelling.now found) }
-    ensures looks { LooksOn memory.old memory.new }
-    ensures cause { HasCause memory.old.faults memory.new.faults result }
+    ensures { Says lines (shown memory.now) spelling.now result }
 {
-    if read_word(memory, Spot { line: 0, word: 0 })? == 0 {
-        return Ok(Found::Blank);
+    if read_word(memory, Spot { line: 0, word: 0 }) == 0 {
+        return Found::Blank;
     }
-    let used = match read_front(memory, lines, spelling)? {
-        Some(used) => used,
-        None => return Ok(Found::NotOfForm),
-    };
-    let root = read_word(memory, root_spot(0))?;
-    Ok(found_by(used, spelling.len() as u64, root))
+    match read_front(memory, lines, spelling) {
+        None => Found::NotOfForm,
+        Some(used) => found_by(used, spelling.len() as u64, read_word(memory, root_spot(0))),
+    }
 }
 
 /// What an image is whose front is right, by how many of all the words are in use and the root's word.

@@ -2,11 +2,11 @@
 ghost use Rattle.std.specs.Prelude.{◌≡◌, ◌<◌, ◌≤◌, ℕ, [], OnOk};
 ghost use Rattle.ap_base.specs.Causes.{HasCause};
 ghost use Rattle.line_memory.specs.Memory.{shown};
-ghost use Rattle.line_memory.specs.Moments.{Goes, CountsFrom};
+ghost use Rattle.line_memory.specs.Moments.{CountsFrom};
 ghost use Rattle.image_layout.specs.Places.{min_lines, max_lines, root_slots};
 ghost use Rattle.image_meaning.specs.Logs.{NoneLogged};
 ghost use Rattle.image_meaning.specs.Meaning.{root_word, empty_graph, StandsFor};
-ghost use Rattle.image_opening.specs.Rest.{IsAtRest, ChangesOthers};
+ghost use Rattle.image_opening.specs.Rest.{IsAtRest, CallsGoOn, StopsLeave, ChangesOthers};
 ghost use Rattle.image_opening.specs.Form.{HasOnly, IsNoSlot, IsBeforeLogs};
 
 use crate::words::{count_spot, put_word, root_spot};
@@ -25,8 +25,9 @@ pub fn format_image<I: Image>(memory: &mut LineMemory<I>, lines: u64) -> Result<
     ensures rest { IsAtRest memory.old → OnOk result (IsAtRest memory.new) }
     ensures formatted { IsAtRest memory.old → OnOk result (HasOnly lines (shown memory.new) []) }
     ensures any_moment { IsAtRest memory.old → shown memory.old 0 0 ≡ 0
-        → Goes memory.old.image memory.new.image (λ c. StandsFor lines c empty_graph) }
+        → StopsLeave memory.old memory.new (λ c. StandsFor lines c empty_graph) }
     ensures counts { (begin : ℕ) → CountsFrom begin memory.old → CountsFrom begin memory.new }
+    ensures calls { CallsGoOn memory.old memory.new }
     ensures cause { HasCause memory.old.faults memory.new.faults result }
 {
     clear_slots(memory)?;
@@ -42,6 +43,7 @@ fn clear_slots<I: Image>(memory: &mut LineMemory<I>) -> Result<(), ImageFailed>
     ensures others { IsAtRest memory.old → ChangesOthers IsNoSlot memory.old memory.new }
     ensures size { memory.new.size ≡ memory.old.size }
     ensures counts { (begin : ℕ) → CountsFrom begin memory.old → CountsFrom begin memory.new }
+    ensures calls { CallsGoOn memory.old memory.new }
     ensures cause { HasCause memory.old.faults memory.new.faults result }
 {
     for root in 0..ROOT_SLOTS {
@@ -58,6 +60,7 @@ fn clear_logs<I: Image>(memory: &mut LineMemory<I>) -> Result<(), ImageFailed>
     ensures others { IsAtRest memory.old → ChangesOthers IsBeforeLogs memory.old memory.new }
     ensures size { memory.new.size ≡ memory.old.size }
     ensures counts { (begin : ℕ) → CountsFrom begin memory.old → CountsFrom begin memory.new }
+    ensures calls { CallsGoOn memory.old memory.new }
     ensures cause { HasCause memory.old.faults memory.new.faults result }
 {
     for thread in 0..LOGS as u8 {
@@ -78,8 +81,9 @@ fn write_superblock<I: Image>(memory: &mut LineMemory<I>, lines: u64) -> Result<
         → OnOk result (HasOnly lines (shown memory.new) []) }
     ensures any_moment { IsAtRest memory.old → shown memory.old 0 0 ≡ 0
         → ((r : ℕ) → r < root_slots → root_word (shown memory.old) r ≡ 0) → NoneLogged (shown memory.old)
-        → Goes memory.old.image memory.new.image (λ c. StandsFor lines c empty_graph) }
+        → StopsLeave memory.old memory.new (λ c. StandsFor lines c empty_graph) }
     ensures counts { (begin : ℕ) → CountsFrom begin memory.old → CountsFrom begin memory.new }
+    ensures calls { CallsGoOn memory.old memory.new }
     ensures cause { HasCause memory.old.faults memory.new.faults result }
 {
     put_word(memory, Spot { line: 0, word: 1 }, VERSION)?;

@@ -1,16 +1,16 @@
 // Single words of an image, read and made durable.
-ghost use Rattle.std.specs.Prelude.{◌≡◌, ◌≢◌, ◌<◌, ℕ, OnOk, IfOk};
+ghost use Rattle.std.specs.Prelude.{◌≡◌, ◌≢◌, ◌<◌, ℕ, OnOk};
 ghost use Rattle.ap_base.specs.Causes.{HasCause};
-ghost use Rattle.line_memory.specs.Memory.{shown, IsResident, IsTelling};
-ghost use Rattle.line_memory.specs.Moments.{Goes, CountsFrom};
+ghost use Rattle.line_memory.specs.Memory.{shown};
+ghost use Rattle.line_memory.specs.Moments.{CountsFrom};
 ghost use Rattle.image_layout.specs.Places.{root_slots, directory_words, logs, slot_line, slot_word, directory_line, directory_word, log_head_line};
-ghost use Rattle.image_opening.specs.Rest.{IsAtRest, LooksOn, OldOrPut};
+ghost use Rattle.image_opening.specs.Rest.{IsAtRest, CallsGoOn, StopsLeave, OldOrPut};
 
 use ap_base::{Spot, ThreadNo};
 use durable_word::{Change, set_all_for_good};
 use image_layout::{directory_spot, log_head, slot_spot};
 use line_image::{Image, ImageFailed};
-use line_memory::{LineMemory, Touch};
+use line_memory::LineMemory;
 
 /// The word of a root slot.
 pub(crate) fn root_spot(root: u32) -> Spot
@@ -39,33 +39,12 @@ pub(crate) fn word_spot(word: u32) -> Spot
     directory_spot(word).unwrap()
 }
 
-/// Makes a line resident.
-fn make_resident<I: Image>(memory: &mut LineMemory<I>, line: u32) -> Result<(), ImageFailed>
-    requires { line < memory.old.size }
-    ensures resident { OnOk result (IsResident memory.new line) }
-    ensures looks { LooksOn memory.old memory.new }
-    ensures cause { HasCause memory.old.faults memory.new.faults result }
+/// What a word shows.
+pub(crate) fn read_word<I: Image>(memory: &LineMemory<I>, spot: Spot) -> u64
+    requires { spot.line < memory.now.size }
+    ensures { result ≡ shown memory.now spot.line spot.word }
 {
-    if memory.touch(line)? == Touch::Again {
-        let _ = memory.touch(line)?;
-    }
-    Ok(())
-}
-
-/// What a word shows. Its line is resident then.
-pub(crate) fn read_word<I: Image>(
-    memory: &mut LineMemory<I>,
-    spot: Spot,
-) -> Result<u64, ImageFailed>
-    requires { spot.line < memory.old.size }
-    ensures reads { IfOk result (λ word. IsTelling memory.old.image.history
-        → word ≡ shown memory.old spot.line spot.word) }
-    ensures resident { OnOk result (IsResident memory.new spot.line) }
-    ensures looks { LooksOn memory.old memory.new }
-    ensures cause { HasCause memory.old.faults memory.new.faults result }
-{
-    make_resident(memory, spot.line)?;
-    Ok(memory.load(spot))
+    memory.load(spot)
 }
 
 /// Sets a word and makes it durable, if it isn't so already.
@@ -77,15 +56,16 @@ pub(crate) fn put_word<I: Image>(
     requires { spot.line < memory.old.size }
     ensures size { memory.new.size ≡ memory.old.size }
     ensures rest { IsAtRest memory.old → OnOk result (IsAtRest memory.new) }
-    ensures here { IsAtRest memory.old → OnOk result (shown memory.new spot.line spot.word ≡ value) }
-    ensures others { IsAtRest memory.old → (l w : ℕ) → (l ≡ spot.line → w ≢ spot.word)
+    ensures here { OnOk result (shown memory.new spot.line spot.word ≡ value) }
+    ensures others { (l w : ℕ) → l < memory.old.size → (l ≡ spot.line → w ≢ spot.word)
         → shown memory.new l w ≡ shown memory.old l w }
     ensures any_moment { IsAtRest memory.old
-        → Goes memory.old.image memory.new.image (OldOrPut memory.old spot.line spot.word value) }
+        → StopsLeave memory.old memory.new (OldOrPut memory.old spot.line spot.word value) }
     ensures counts { (begin : ℕ) → CountsFrom begin memory.old → CountsFrom begin memory.new }
+    ensures calls { CallsGoOn memory.old memory.new }
     ensures cause { HasCause memory.old.faults memory.new.faults result }
 {
-    if read_word(memory, spot)? == value {
+    if read_word(memory, spot) == value {
         return Ok(());
     }
     set_all_for_good(memory, &[Change { spot, word: value }])?;

@@ -226,6 +226,13 @@ impl<I: Image> LineMemory<I> {
         self.write_back(line)
     }
 
+    /// How many lines the image has. Makes no image call.
+    pub fn lines(&self) -> u64
+        ensures { result ≡ self.now.size }
+    {
+        self.image.lines()
+    }
+
     /// How many image calls were made, those of the attach among them. The count stays at 2^64 - 1.
     pub fn calls(&self) -> u64
         ensures { result ≡ self.now.calls }

@@ -2,7 +2,7 @@ use Rattle.std.proofs.Common.{◌≡◌, ◌+◌, ◌∙◌, ⊎_elim, ℕ, ap, 
 use Rattle.image_layout.specs.Places.{directory_line, directory_word}
 use Rattle.line_memory.specs.Memory.{shown}
 use Rattle.image_opening.specs.Form.{IsOutsideFree}
-use Rattle.image_opening.proofs.Looking.{changes_more, put_changes}
+use Rattle.image_opening.proofs.Putting.{calls_on, changes_more, put_changes}
 use Rattle.image_opening.proofs.appending.write_entries.Goals as goal
 
 pub returns-in_err-put_word-clause-others : goal.returns-in_err-put_word-clause-others
@@ -16,7 +16,7 @@ returns-in_err-put_word-clause-others g c rest =
     changes_more (IsOutsideFree c.args.used) fn old new (before.others rest)
     (put_changes (IsOutsideFree c.args.used) old new spot.line spot.word _
     (λ no. ⊎_elim (λ h. omega (arith, h)) (λ h. omega (arith, h)) no)
-    put.size (put.others (before.rest rest)) (put.any_moment (before.rest rest)))
+    put.size (put.others) (put.any_moment (before.rest rest)))
 
 pub loop-i-preserved : goal.loop-i-preserved
 loop-i-preserved g c =
@@ -34,15 +34,16 @@ loop-i-preserved g c =
       rest = λ rest. done.rest (before.rest rest);
       written = λ rest. below_more
           (λ k. shown new (directory_line (used + k)) (directory_word (used + k)) ≡ slice_index_or c.args.spelling.now k 0) i
-          (λ k below. put.others (before.rest rest) (directory_line (used + k)) (directory_word (used + k)) (λ at same. omega (arith, at, same, below))
+          (λ k below. put.others (directory_line (used + k)) (directory_word (used + k)) (omega (arith, below, before.size)) (λ at same. omega (arith, at, same, below))
           ∙ before.written rest k below)
           (ap (λ (l : ℕ). shown new l (directory_word (used + i))) (sym c.word_spot.ensures.line)
           ∙ ap (λ (w : ℕ). shown new spot.line w) (sym c.word_spot.ensures.word)
-          ∙ done.here (before.rest rest));
+          ∙ done.here);
       others = λ rest. changes_more (IsOutsideFree used) fn old new (before.others rest)
           (put_changes (IsOutsideFree used) old new spot.line spot.word _
           (λ no. ⊎_elim (λ h. omega (arith, h)) (λ h. omega (arith, h)) no)
-          put.size (put.others (before.rest rest)) (put.any_moment (before.rest rest)));
+          put.size (put.others) (put.any_moment (before.rest rest)));
       counts = λ begin counts. put.counts begin (before.counts begin counts);
+      calls = calls_on fn old new before.calls put.calls;
       later = omega (arith, before.later, put.cause.later);
     }

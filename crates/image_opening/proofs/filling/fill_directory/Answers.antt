@@ -11,7 +11,7 @@ pub returns-in_err-append_entries-clause-any_moment : goal.returns-in_err-append
 returns-in_err-append_entries-clause-any_moment g c name bytes is rest has =
     let a = c.args.memory.now in
     let b = c.append_entries.new.memory in
-    shape_moments a.size name a.image b.image
+    shape_moments a.size name a b
     (c.append_entries.ensures.any_moment [] shape_alone rest has (shape_continued name c.args.spelling.now _ is refl))
 
 pub returns-in_err-append_entries-2-clause-any_moment : goal.returns-in_err-append_entries-2-clause-any_moment
@@ -28,7 +28,7 @@ returns-in_err-append_entries-2-clause-any_moment g c name bytes is rest has =
     let has_shape : HasOnly b.size (shown b) shape_alone =
     subst (λ n. HasOnly n (shown b) shape_alone) (sym c.append_entries.ensures.size)
     (c.in_ok-append_entries.ensures.appended [] shape_alone rest has shape_on) in
-    root_moments a.size b.size name a.image b.image d.image c.append_entries.ensures.size
+    root_moments a.size b.size name a b d c.append_entries.ensures.size
     (c.append_entries.ensures.any_moment [] shape_alone rest has shape_on)
     (c.append_entries-2.ensures.any_moment shape_alone (array_entries name) still has_shape root_on)
 
@@ -46,7 +46,7 @@ returns-clause-any_moment g c name bytes is rest has =
     let has_shape : HasOnly b.size (shown b) shape_alone =
     subst (λ n. HasOnly n (shown b) shape_alone) (sym c.append_entries.ensures.size)
     (c.in_ok-append_entries.ensures.appended [] shape_alone rest has shape_on) in
-    root_moments a.size b.size name a.image b.image d.image c.append_entries.ensures.size
+    root_moments a.size b.size name a b d c.append_entries.ensures.size
     (c.append_entries.ensures.any_moment [] shape_alone rest has shape_on)
     (c.append_entries-2.ensures.any_moment shape_alone (array_entries name) still has_shape root_on)
 

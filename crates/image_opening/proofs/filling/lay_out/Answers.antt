@@ -1,15 +1,15 @@
 use Rattle.std.proofs.Common.{◌≡◌, ◌∙◌, [], sym, subst}
 use Rattle.line_memory.specs.Memory.{shown}
-use Rattle.line_memory.specs.Moments.{Goes}
 use Rattle.image_meaning.specs.Arrays.{array_entries}
+use Rattle.image_opening.specs.Rest.{StopsLeave}
 use Rattle.image_opening.specs.Form.{HasOnly}
-use Rattle.image_opening.proofs.Layouts.{goes_then}
+use Rattle.image_opening.proofs.Putting.{stops_then}
 use Rattle.image_opening.proofs.Filled.{NoRootOrNull, empty_moments}
 use Rattle.image_opening.proofs.filling.lay_out.Goals as goal
 
 pub returns-in_err-format_image-clause-any_moment : goal.returns-in_err-format_image-clause-any_moment
 returns-in_err-format_image-clause-any_moment g c name bytes is rest zero =
-    empty_moments c.args.lines name c.args.memory.now.image c.format_image.new.memory.image (c.format_image.ensures.any_moment rest zero)
+    empty_moments c.args.lines name c.args.memory.now c.format_image.new.memory (c.format_image.ensures.any_moment rest zero)
 
 pub returns-in_err-fill_directory-clause-any_moment : goal.returns-in_err-fill_directory-clause-any_moment
 returns-in_err-fill_directory-clause-any_moment g c name bytes is rest zero =
@@ -21,9 +21,9 @@ returns-in_err-fill_directory-clause-any_moment g c name bytes is rest zero =
     let still = c.in_ok-format_image.ensures.rest rest in
     let has : HasOnly b.size (shown b) [] =
     subst (λ n. HasOnly n (shown b) []) (sym size) (c.in_ok-format_image.ensures.formatted rest) in
-    goes_then a.image b.image d.image (NoRootOrNull lines name)
-    (empty_moments lines name a.image b.image (c.format_image.ensures.any_moment rest zero))
-    (subst (λ n. Goes b.image d.image (NoRootOrNull n name)) size
+    stops_then a b d (NoRootOrNull lines name)
+    (empty_moments lines name a b (c.format_image.ensures.any_moment rest zero))
+    (subst (λ n. StopsLeave b d (NoRootOrNull n name)) size
     (c.fill_directory.ensures.any_moment name bytes is still has))
 
 pub returns-clause-any_moment : goal.returns-clause-any_moment
@@ -36,9 +36,9 @@ returns-clause-any_moment g c name bytes is rest zero =
     let still = c.in_ok-format_image.ensures.rest rest in
     let has : HasOnly b.size (shown b) [] =
     subst (λ n. HasOnly n (shown b) []) (sym size) (c.in_ok-format_image.ensures.formatted rest) in
-    goes_then a.image b.image d.image (NoRootOrNull lines name)
-    (empty_moments lines name a.image b.image (c.format_image.ensures.any_moment rest zero))
-    (subst (λ n. Goes b.image d.image (NoRootOrNull n name)) size
+    stops_then a b d (NoRootOrNull lines name)
+    (empty_moments lines name a b (c.format_image.ensures.any_moment rest zero))
+    (subst (λ n. StopsLeave b d (NoRootOrNull n name)) size
     (c.fill_directory.ensures.any_moment name bytes is still has))
 
 pub returns-clause-filled : goal.returns-clause-filled

@@ -3,7 +3,7 @@ use Rattle.std.proofs.Common.{◌≡◌, ◌<◌, ◌≤◌, ℕ}
 use Rattle.line_memory.specs.Memory.{shown}
 use Rattle.line_memory.specs.Moments.{CountsFrom}
 use Rattle.image_meaning.specs.Logs.{log_count}
-use Rattle.image_opening.specs.Rest.{IsAtRest, ChangesOthers}
+use Rattle.image_opening.specs.Rest.{IsAtRest, CallsGoOn, ChangesOthers}
 use Rattle.image_opening.specs.Form.{IsBeforeLogs}
 use Rattle.image_opening.proofs.formatting.clear_logs.Given as goal
 
@@ -14,5 +14,6 @@ invariant-loop-thread g l = record {
   cleared : IsAtRest l.fn.memory → (t : ℕ) → t < l.thread → log_count (shown l.memory) t ≡ 0;
   others : IsAtRest l.fn.memory → ChangesOthers IsBeforeLogs l.fn.memory l.memory;
   counts : (begin : ℕ) → CountsFrom begin l.fn.memory → CountsFrom begin l.memory;
+  calls : CallsGoOn l.fn.memory l.memory;
   later : l.fn.memory.faults ≤ l.memory.faults;
 }

@@ -3,7 +3,7 @@ use Rattle.std.proofs.Common.{◌≡◌, ◌<◌, ◌≤◌, ℕ}
 use Rattle.line_memory.specs.Memory.{shown}
 use Rattle.line_memory.specs.Moments.{CountsFrom}
 use Rattle.image_meaning.specs.Meaning.{root_word}
-use Rattle.image_opening.specs.Rest.{IsAtRest, ChangesOthers}
+use Rattle.image_opening.specs.Rest.{IsAtRest, CallsGoOn, ChangesOthers}
 use Rattle.image_opening.specs.Form.{IsNoSlot}
 use Rattle.image_opening.proofs.formatting.clear_slots.Given as goal
 
@@ -14,5 +14,6 @@ invariant-loop-root g l = record {
   cleared : IsAtRest l.fn.memory → (r : ℕ) → r < l.root → root_word (shown l.memory) r ≡ 0;
   others : IsAtRest l.fn.memory → ChangesOthers IsNoSlot l.fn.memory l.memory;
   counts : (begin : ℕ) → CountsFrom begin l.fn.memory → CountsFrom begin l.memory;
+  calls : CallsGoOn l.fn.memory l.memory;
   later : l.fn.memory.faults ≤ l.memory.faults;
 }

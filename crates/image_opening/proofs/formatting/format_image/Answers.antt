@@ -2,7 +2,8 @@ use Rattle.std.proofs.Common.{◌≡◌, ◌∙◌, inl, refl, sym, arith}
 use Rattle.line_memory.specs.Memory.{shown}
 use Rattle.image_meaning.specs.Meaning.{empty_graph, StandsFor}
 use Rattle.image_opening.specs.Form.{IsNoSlot, IsBeforeLogs}
-use Rattle.image_opening.proofs.Layouts.{MayBe, goes_then, kept_blank}
+use Rattle.image_opening.proofs.Layouts.{MayBe, kept_blank}
+use Rattle.image_opening.proofs.Putting.{stops_then}
 use Rattle.image_opening.proofs.formatting.format_image.Goals as goal
 
 pub returns-in_err-clear_slots-clause-any_moment : goal.returns-in_err-clear_slots-clause-any_moment
@@ -20,8 +21,8 @@ returns-in_err-clear_logs-clause-any_moment g c rest zero =
     let first = c.clear_slots.ensures.others rest in
     let rest2 = c.in_ok-clear_slots.ensures.rest rest in
     let second = c.clear_logs.ensures.others rest2 in
-    let zero2 : shown b 0 0 ≡ 0 = first.shows 0 0 (inl refl) ∙ zero in
-    let so_far = goes_then a.image b.image d.image (λ c'. StandsFor c.args.lines c' empty_graph)
+    let zero2 : shown b 0 0 ≡ 0 = first.shows 0 0 (omega arith) (inl refl) ∙ zero in
+    let so_far = stops_then a b d (λ c'. StandsFor c.args.lines c' empty_graph)
     (kept_blank IsNoSlot c.args.lines a b may (inl refl) zero first)
     (kept_blank IsBeforeLogs c.args.lines b d may2 (omega arith) zero2 second) in
     so_far
@@ -36,12 +37,12 @@ returns-clause-any_moment g c rest zero =
     let first = c.clear_slots.ensures.others rest in
     let rest2 = c.in_ok-clear_slots.ensures.rest rest in
     let second = c.clear_logs.ensures.others rest2 in
-    let zero2 : shown b 0 0 ≡ 0 = first.shows 0 0 (inl refl) ∙ zero in
-    let so_far = goes_then a.image b.image d.image (λ c'. StandsFor c.args.lines c' empty_graph)
+    let zero2 : shown b 0 0 ≡ 0 = first.shows 0 0 (omega arith) (inl refl) ∙ zero in
+    let so_far = stops_then a b d (λ c'. StandsFor c.args.lines c' empty_graph)
     (kept_blank IsNoSlot c.args.lines a b may (inl refl) zero first)
     (kept_blank IsBeforeLogs c.args.lines b d may2 (omega arith) zero2 second) in
     let rest3 = c.in_ok-clear_logs.ensures.rest rest2 in
-    goes_then a.image d.image c.write_superblock.new.memory.image (λ c'. StandsFor c.args.lines c' empty_graph) so_far
-    (c.write_superblock.ensures.any_moment rest3 (second.shows 0 0 (omega arith) ∙ zero2)
-    (λ r below. second.shows _ _ (omega (arith, below)) ∙ c.in_ok-clear_slots.ensures.cleared rest r below)
+    stops_then a d c.write_superblock.new.memory (λ c'. StandsFor c.args.lines c' empty_graph) so_far
+    (c.write_superblock.ensures.any_moment rest3 (second.shows 0 0 (omega arith) (omega arith) ∙ zero2)
+    (λ r below. second.shows _ _ (omega (arith, below)) (omega (arith, below)) ∙ c.in_ok-clear_slots.ensures.cleared rest r below)
     (c.in_ok-clear_logs.ensures.cleared rest2))

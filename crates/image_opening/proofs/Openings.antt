@@ -1,0 +1,177 @@
+-- What is found in an image that is opened.
+use Rattle.std.proofs.Common.{◌≡◌, ◌⊎◌, inl, inr, ⊎_elim, ◌≤◌, ℕ, ℤ, List, [], ◌∷◌, length, Option, Some, None, Result, Ok, Err, refl, subst, arith}
+use Rattle.std.specs.Prelude.{IfSome, IfOk, OnOk}
+use Rattle.std.proofs.lemmas.List.{take_all}
+use Rattle.graph_model.specs.declared.types.Graph.{Graph}
+use Rattle.line_memory.specs.Memory.{Memory, shown}
+use Rattle.image_layout.specs.Places.{min_lines, max_lines}
+use Rattle.image_meaning.specs.Checks.{Words}
+use Rattle.image_meaning.specs.Entries.{AreBytes}
+use Rattle.image_meaning.specs.Directories.{spelled_all, Spells}
+use Rattle.image_meaning.specs.Meaning.{empty_graph, StandsFor}
+use Rattle.image_meaning.specs.Arrays.{array_entries, null_graph, array_graph}
+use Rattle.image_meaning.proofs.Arrays.{shape-may_stand, root-may_stand, one_array-stands}
+use Rattle.image_meaning.proofs.Directories.{directory-again}
+use Rattle.image_opening.specs.declared.finding.Found.{Found}
+use Rattle.image_opening.specs.declared.finding.Found.TheVariants.{Blank, Empty, Shape, Null}
+use Rattle.image_opening.specs.declared.opening.FoundArray.{FoundArray}
+use Rattle.image_opening.specs.declared.opening.OpenFault.{OpenFault}
+use Rattle.image_opening.specs.declared.opening.Opened.{Opened}
+use Rattle.image_opening.specs.Form.{IsFront}
+use Rattle.image_opening.specs.Prepared.{IsUnfilled, IsFilled, Says}
+use Rattle.image_opening.specs.Wanted.{shape_alone, wanted, HasRoom}
+use Rattle.image_opening.specs.Opened.{opening_graph, HasArray, IsOfForm, WasFound, IsFound, IsReady, IsFrom}
+use Rattle.image_opening.proofs.Layouts.{first_zero-stands, only_stands}
+use Rattle.image_opening.proofs.Fronts.{front_entries, front_in_use, front_spells, front_empty, front_shape, front_all}
+use Rattle.image_opening.proofs.Unfilled.{named_directory}
+
+-- an image isn't both
+pub filled_only : (size : ℕ) (c : Words) (spelling : List ℕ) → IsFilled size c spelling → IsUnfilled size c spelling → ⊥
+filled_only size c spelling filled unfilled = ⊎_elim
+    (λ zero. omega (arith, zero, filled.0.super.0))
+    (λ null. filled.1 null.1.1)
+    unfilled
+
+-- ---- an image with an array
+
+module _ (size : ℕ) (c : Words) (name : List ℕ) (enough : min_lines ≤ size) (most : size ≤ max_lines) (bytes : AreBytes name)
+    (room : HasRoom (Some name)) (filled : IsFilled size c (spelled_all (wanted (Some name)))) where
+  front : IsFront size c (spelled_all (array_entries name)) (length (spelled_all (array_entries name)))
+  front = filled.0
+
+  spells : Spells c (array_entries name)
+  spells = front_spells size c (spelled_all (array_entries name)) (length (spelled_all (array_entries name))) (array_entries name) front
+      (take_all (length (spelled_all (array_entries name))) (spelled_all (array_entries name)) (omega arith)) refl
+
+  pub array_ready : (line : ℕ) (ints : List ℤ) → HasArray size c line ints → IsReady size c (Some name) (array_graph name ints)
+  array_ready line ints has = record {
+    in_use = λ zero. omega (arith, zero, front.super.0);
+    unlogged = front.logs;
+    directory = named_directory c name (directory-again c (array_entries name) (root-may_stand name bytes) spells);
+    stands = one_array-stands size c name line ints
+        (front_in_use size c (spelled_all (array_entries name)) (length (spelled_all (array_entries name))) enough most front room)
+        bytes spells has.refers front.others has.is_array;
+  }
+
+  -- and one without isn't of the form
+  pub no_array : ((line : ℕ) (ints : List ℤ) → HasArray size c line ints → ⊥) → IsOfForm size c (Some name) → ⊥
+  no_array none of_form = ⊎_elim
+      (λ unfilled. filled_only size c (spelled_all (wanted (Some name))) filled unfilled)
+      (λ one. none one.0 one.1 one.2.array)
+      of_form
+
+-- ---- the form
+
+pub found_form : (size : ℕ) (c : Words) (root : Option (List ℕ)) (array : Option FoundArray) (ints : Option (List ℤ))
+    → WasFound size c root array ints → IsOfForm size c root
+found_form size c None None None was = was
+found_form size c None None (Some ints) was = absurd was
+found_form size c None (Some array) None was = absurd was
+found_form size c None (Some array) (Some ints) was = absurd was
+found_form size c (Some name) None None was = inl was
+found_form size c (Some name) None (Some ints) was = absurd was
+found_form size c (Some name) (Some array) None was = absurd was
+found_form size c (Some name) (Some array) (Some ints) was = inr (array.line, ints, was.0)
+
+pub was_none : (root : Option (List ℕ)) (size : ℕ) (c : Words) → IsUnfilled size c (spelled_all (wanted root)) → WasFound size c root None None
+was_none None size c unfilled = unfilled
+was_none (Some name) size c unfilled = unfilled
+
+-- ---- what the image stood for
+
+-- an image that isn't filled stands for the empty graph or that of a null root
+pub unfilled_entry : (size : ℕ) (c : Words) (root : Option (List ℕ)) → min_lines ≤ size → size ≤ max_lines
+    → IfSome root (λ name. AreBytes name) → HasRoom root → IsUnfilled size c (spelled_all (wanted root))
+    → (graph : Graph) × StandsFor size c graph × IsFrom root graph (opening_graph root None)
+unfilled_entry size c None enough most bytes room unfilled = ⊎_elim
+    (λ zero. (empty_graph, first_zero-stands size size c record { is = refl; enough = enough; most = most } zero, inl refl))
+    (λ null.
+    let front = null.1.0 in
+    let root_null = null.1.1 in
+    let spelling = spelled_all shape_alone in
+    ⊎_elim
+    (λ none. (
+      empty_graph,
+      only_stands size c [] (front_entries size c spelling 0 [] enough most (subst (λ (k : ℕ). IsFront size c spelling k) none front) root_null (omega arith) refl refl) tt,
+      inl refl,
+    ))
+    (λ more.
+    let three : null.0 ≡ 3 = ⊎_elim (λ it. it) (λ all. all) more in (
+      empty_graph,
+      only_stands size c shape_alone (front_entries size c spelling 3 shape_alone enough most (subst (λ (k : ℕ). IsFront size c spelling k) three front) root_null (omega arith) refl refl) shape-may_stand,
+      inl refl,
+    ))
+    front.directory.part)
+    unfilled
+unfilled_entry size c (Some name) enough most bytes room unfilled = ⊎_elim
+    (λ zero. (empty_graph, first_zero-stands size size c record { is = refl; enough = enough; most = most } zero, inr (refl, refl)))
+    (λ null.
+    let front = null.1.0 in
+    let root_null = null.1.1 in
+    let spelling = spelled_all (array_entries name) in
+    ⊎_elim
+    (λ none. (
+      empty_graph,
+      only_stands size c [] (front_empty size c name spelling enough most refl root_null (subst (λ (k : ℕ). IsFront size c spelling k) none front)) tt,
+      inr (refl, refl),
+    ))
+    (λ more. ⊎_elim
+    (λ three. (
+      empty_graph,
+      only_stands size c shape_alone (front_shape size c name spelling enough most refl root_null (subst (λ (k : ℕ). IsFront size c spelling k) three front)) shape-may_stand,
+      inr (refl, refl),
+    ))
+    (λ all. (
+      null_graph (name ∷ []),
+      only_stands size c (array_entries name) (front_all size c name spelling enough most refl root_null room (subst (λ (k : ℕ). IsFront size c spelling k) all front)) (root-may_stand name bytes),
+      inl refl,
+    ))
+    more)
+    front.directory.part)
+    unfilled
+
+-- ---- what was looked at
+
+pub found_unfilled : (size : ℕ) (c : Words) (spelling : List ℕ) (found : Found)
+    → (found ≡ Blank) ⊎ ((found ≡ Empty) ⊎ ((found ≡ Shape) ⊎ (found ≡ Null))) → Says size c spelling found → IsUnfilled size c spelling
+found_unfilled size c spelling found one says =
+    let at : (other : Found) → found ≡ other → Says size c spelling other = λ other same. subst (λ (f : Found). Says size c spelling f) same says in
+    ⊎_elim
+    (λ blank. inl (at Blank blank))
+    (λ more. ⊎_elim
+    (λ empty. inr (0, at Empty empty))
+    (λ rest. ⊎_elim
+    (λ shape. inr (3, at Shape shape))
+    (λ null. inr (length spelling, at Null null))
+    rest)
+    more)
+    one
+
+-- what is said of an image's lines, and of the words that spell what its root wants
+module _ (lines size : ℕ) (named root : Option (List ℕ)) (spelling : List ℕ) (many : lines ≡ size) (same : named ≡ root)
+    (is : spelling ≡ spelled_all (wanted named)) where
+  pub along : (P : ℕ → Option (List ℕ) → List ℕ → Type 0) → P lines named spelling → P size root (spelled_all (wanted root))
+  along P p =
+      subst (λ n. P n root (spelled_all (wanted root))) many
+      (subst (λ r. P lines r (spelled_all (wanted r))) same
+      (subst (λ s. P lines named s) is p))
+
+-- an image that was left as it was stands for what it stood for
+pub refers_found : (old new : Memory) (named root : Option (List ℕ)) (result : Result Opened OpenFault) → new ≡ old → named ≡ root
+    → IfOk result (λ opened. (ints : Option (List ℤ)) × IsFound named new new opened ints)
+    → IfOk result (λ opened. (ints : Option (List ℤ)) × IsFound root old new opened ints)
+refers_found old new named root result kept same found =
+    subst (λ m. IfOk result (λ opened. (ints : Option (List ℤ)) × IsFound root m new opened ints)) kept
+    (subst (λ r. IfOk result (λ opened. (ints : Option (List ℤ)) × IsFound r new new opened ints)) same found)
+
+pub refers_entry : (old new : Memory) (named root : Option (List ℕ)) (result : Result Opened OpenFault) → new ≡ old
+    → IfOk result (λ opened. IsReady new.size (shown new) named opened.graph)
+    → IfOk result (λ opened. (graph : Graph) × StandsFor old.size (shown old) graph × IsFrom root graph opened.graph)
+refers_entry old new named root (Ok opened) kept ready =
+    (opened.graph, subst (λ (m : Memory). StandsFor m.size (shown m) opened.graph) kept ready.stands, inl refl)
+refers_entry old new named root (Err fault) kept ready = tt
+
+pub opened_form : (old new : Memory) (root : Option (List ℕ)) (result : Result Opened OpenFault)
+    → IfOk result (λ opened. (ints : Option (List ℤ)) × IsFound root old new opened ints) → OnOk result (IsOfForm old.size (shown old) root)
+opened_form old new root (Ok opened) found = found_form old.size (shown old) root opened.array found.0 found.1.was
+opened_form old new root (Err fault) found = tt
