@@ -1,0 +1,9 @@
+pub mod Pool
+pub mod Indices
+pub mod Labels
+pub mod Code
+pub mod Structure
+pub mod Roots
+pub mod Members
+pub mod Bodies
+pub mod Classes

@@ -1,0 +1,23 @@
+//! Class files from listings.
+//!
+//! A listing is a text with a line for each part of a class, and is assembled to class files of version 52.0. Its lines are those of
+//! `listing_lines`.
+#![tactic(auto)]
+
+mod bodies;
+mod classes;
+mod code;
+mod error;
+mod handlers;
+mod labels;
+mod marks;
+mod members;
+mod pool;
+mod roots;
+mod structure;
+
+pub use classes::assemble;
+pub use error::ListingError;
+
+#[cfg(test)]
+mod tests;
