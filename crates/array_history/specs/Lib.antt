@@ -1,0 +1,4 @@
+pub mod Standing
+pub mod Left
+pub mod Laws
+pub mod Rows
