@@ -1,0 +1,15 @@
+//! The run of a program with at most one durable array, over an image that was opened for it.
+#![tactic(auto)]
+
+mod making;
+mod objects;
+mod printing;
+mod reading;
+mod run;
+mod storing;
+mod telling;
+#[cfg(test)]
+mod tests;
+mod throwing;
+
+pub use run::{Run, RunEnd, run_program};
