@@ -1,11 +1,5 @@
-pub mod Extending
 pub mod SourceFiles
-pub mod Keeping
-pub mod Lines
-pub mod Printed
-pub mod Seven
-pub mod Steps
-pub mod SmallPools
-pub mod Named
-pub mod Groups
 pub mod Causes
+pub mod Kept
+pub mod Ran
+pub mod Chosen

@@ -1,5 +1,5 @@
 -- What the files of a source are: read and checked one by one, in order, up to the source's end.
-use Rattle.std.specs.Prelude.{◌≡◌, ℕ, zero, suc, nat_lt, List, [], ◌∷◌, length, Option, Some, None, Result, Ok, Err, if◌then◌else◌}
+use Rattle.std.specs.Prelude.{◌≡◌, ℕ, zero, suc, nat_lt, nat_le, Bool, ◌&&◌, List, [], ◌∷◌, length, Option, Some, None, Result, Ok, Err, if◌then◌else◌}
 use Rattle.std.specs.Str.{bytes_eq}
 use Rattle.ap_base.specs.declared.source.NamedBytes.{NamedBytes}
 use Rattle.ap_base.specs.declared.fault.Which.TheVariants.{Files, FileBytes}
@@ -11,9 +11,17 @@ use Rattle.autopersist.specs.declared.status.Status.{Status}
 use Rattle.autopersist.specs.declared.status.Status.TheVariants as status
 use Rattle.autopersist.specs.declared.files.Seen.{Seen}
 use Rattle.autopersist.specs.declared.files.Seen.TheVariants as seen
-use Rattle.autopersist.specs.Printing.{PrintingClass}
-use Rattle.autopersist.specs.PrintingForm.{printing_of}
+use Rattle.array_program.specs.declared.program.Program.{Program}
+use Rattle.array_program.specs.Form.{program_of}
+use Rattle.array_history.specs.Standing.{root_name}
+use Rattle.image_layout.specs.Places.{directory_words}
+use Rattle.image_meaning.specs.Directories.{spelled_all}
+use Rattle.image_opening.specs.Wanted.{wanted}
 use Rattle.autopersist.specs.Words.{slashed}
+
+-- the directory has room for the entries of a root of this name
+abbrev pub fits_directory : Option (List ℕ) → Bool
+fits_directory root = nat_le (length (spelled_all (wanted root))) directory_words
 
 -- a source has at most so many files, and a file at most so many bytes
 abbrev pub most_files : ℕ
@@ -44,22 +52,19 @@ seen_from room before [] = Ok before
 seen_from zero before (file ∷ files) = Err (status.Full (record { which = Files; need = 1; left = 0 }))
 seen_from (suc room) before (file ∷ files) = class_of file >>= λ class. seen_from room (with_class before class) files
 
-abbrev pub named : List ℕ → PrintingClass → Option PrintingClass
-named name class = if bytes_eq class.name name then Some class else None
+-- the program has this name, and the directory of an image has room for its root
+abbrev pub is_choice : List ℕ → Program → Bool
+is_choice name program = bytes_eq program.name name && fits_directory (root_name program)
 
-abbrev pub or_not_built : Option PrintingClass → Result PrintingClass Status
-or_not_built None = Err status.NotBuilt
-or_not_built (Some class) = Ok class
+abbrev pub chosen : List ℕ → Option Program → Result Program Status
+chosen name None = Err status.NotBuilt
+chosen name (Some program) = if is_choice name program then Ok program else Err status.NotBuilt
 
-abbrev pub if_named : List ℕ → Option PrintingClass → Option PrintingClass
-if_named name None = None
-if_named name (Some class) = named name class
-
--- the class of this name, where it is the only one and of a form that is built
-abbrev pub built : List ℕ → Seen → Result PrintingClass Status
-built name (seen.One class) = or_not_built (if_named (slashed name) (printing_of class))
+-- the program of this name, where its class is the only one and of a form that is built
+abbrev pub built : List ℕ → Seen → Result Program Status
+built name (seen.One class) = chosen (slashed name) (program_of class)
 built name other = Err status.NotBuilt
 
--- What is to run: the class of this name, or why there is none.
-unfoldable pub to_run : List ℕ → List NamedBytes → Result PrintingClass Status
+-- What is to run: the program of this name, or why there is none.
+unfoldable pub to_run : List ℕ → List NamedBytes → Result Program Status
 to_run name files = seen_from most_files seen.Nothing files >>= built name

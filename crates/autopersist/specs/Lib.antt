@@ -1,9 +1,7 @@
-pub mod Printing
-pub mod Rows
-pub mod PrintingForm
 pub mod Files
 pub mod Reading
-pub mod Standing
 pub mod Statuses
 pub mod TopCall
 pub mod Words
+pub mod Images
+pub mod Attached

@@ -10,15 +10,19 @@ use Rattle.code_form.specs.declared.refusal.CodeRefusal.{CodeRefusal}
 use Rattle.code_form.specs.declared.refusal.CodeRefusal.TheVariants as code
 use Rattle.class_file.specs.declared.refusal.ClassRefusal.{ClassRefusal}
 use Rattle.class_file.specs.declared.refusal.ClassRefusal.TheVariants as class
+use Rattle.plain_model.specs.declared.throws.Throws.{Throws}
+use Rattle.plain_model.specs.declared.throws.Throws.TheVariants as thrown
 use Rattle.autopersist.specs.declared.status.Status.{Status}
-use Rattle.autopersist.specs.declared.status.Status.TheVariants.{Ok, Usage, BadClass, Full as FullOf, SourceFault, SinkFault, OutOfMemory, NotBuilt}
+use Rattle.autopersist.specs.declared.status.Status.TheVariants.{Ok, Uncaught, Usage, BadClass, Full as FullOf, SourceFault, ImageFault, SinkFault, OutOfMemory, NotBuilt}
 
 abbrev pub number_of : Status → ℕ
 number_of Ok = 0
+number_of (Uncaught thread class) = 1
 number_of Usage = 2
 number_of (BadClass file refusal) = 3
 number_of (FullOf full) = 9
 number_of SourceFault = 10
+number_of ImageFault = 11
 number_of SinkFault = 12
 number_of OutOfMemory = 13
 number_of NotBuilt = 17
@@ -74,13 +78,28 @@ which_text which.Roots = codes "Roots"
 which_text which.Files = codes "Files"
 which_text which.FileBytes = codes "FileBytes"
 
+-- the classes of the throwables that requests throw, in internal form (JVMS 4.2.1)
+abbrev pub class_name : Throws → List ℕ
+class_name thrown.NegativeArraySize = codes "java/lang/NegativeArraySizeException"
+class_name thrown.NullPointer = codes "java/lang/NullPointerException"
+class_name thrown.ArrayIndexOutOfBounds = codes "java/lang/ArrayIndexOutOfBoundsException"
+class_name thrown.StringIndexOutOfBounds = codes "java/lang/StringIndexOutOfBoundsException"
+class_name thrown.ArrayStore = codes "java/lang/ArrayStoreException"
+class_name thrown.ClassCast = codes "java/lang/ClassCastException"
+class_name thrown.IllegalMonitorState = codes "java/lang/IllegalMonitorStateException"
+class_name thrown.IllegalThreadState = codes "java/lang/IllegalThreadStateException"
+class_name thrown.IllegalState = codes "java/lang/IllegalStateException"
+class_name thrown.Arithmetic = codes "java/lang/ArithmeticException"
+
 -- what is wrong
 abbrev pub what_of : Status → List ℕ
 what_of Ok = []
+what_of (Uncaught thread class) = codes "uncaught" ++ spaced thread ++ codes " " ++ class_name class
 what_of Usage = codes "usage"
 what_of (BadClass file refusal) = codes "class " ++ file ++ codes " " ++ class_text refusal
 what_of (FullOf full) = codes "full " ++ with_numbers (which_text full.which) (full.need ∷ full.left ∷ [])
 what_of SourceFault = codes "source fault"
+what_of ImageFault = codes "image fault"
 what_of SinkFault = codes "sink fault"
 what_of OutOfMemory = codes "no memory"
 what_of NotBuilt = codes "not built"

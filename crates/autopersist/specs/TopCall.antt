@@ -1,60 +1,63 @@
--- What the top call says of a run.
-use Rattle.std.specs.Prelude.{◌≡◌, ℕ, List, Option, Some, None, Result, Ok, Err}
+-- What the top call says of the words, the files and the run.
+use Rattle.std.specs.Prelude.{◌≡◌, ◌⊎◌, ℕ, List, Option, Some, None, Result, Ok, Err}
 use Rattle.ap_base.specs.declared.source.NamedBytes.{NamedBytes}
-use Rattle.ap_base.specs.declared.kind.Limits.{Limits}
+use Rattle.line_image.specs.History.{History}
+use Rattle.graph_model.specs.declared.types.Graph.{Graph}
 use Rattle.run_history.specs.Recorded.{Recorded}
-use Rattle.plain_model.specs.Ends.{EndsAs, Finished}
+use Rattle.array_program.specs.declared.program.Program.{Program}
 use Rattle.autopersist.specs.declared.status.Status.{Status}
 use Rattle.autopersist.specs.declared.status.Status.TheVariants as status
 use Rattle.autopersist.specs.Files.{to_run}
-use Rattle.autopersist.specs.Printing.{PrintingClass, printing_facts, printing_code, blank_graph}
+use Rattle.autopersist.specs.Images.{Entry, IsNotOfForm, HasRun, IsKept}
 use Rattle.autopersist.specs.Reading.{HadLeft}
-use Rattle.autopersist.specs.Standing.{IsRunOf}
 use Rattle.autopersist.specs.Words.{main_class}
 
--- The words and the files that a source had left come to this: a class to run, or why there is none.
-pub record ComesTo (words : List (List ℕ)) (left : Option (List NamedBytes)) (answer : Result PrintingClass Status) : Type 0 where
+-- The words and the files that a source had left come to this: a program to run, or why there is none.
+pub record ComesTo (words : List (List ℕ)) (left : Option (List NamedBytes)) (answer : Result Program Status) : Type 0 where
   pub name : List ℕ
   pub asked : main_class words ≡ Some name
   pub files : List NamedBytes
   pub told : HadLeft left files
   pub is : to_run name files ≡ answer
 
--- the class that the words ask for is to run
-abbrev pub IsAsked : List (List ℕ) → Option (List NamedBytes) → PrintingClass → Type 0
-IsAsked words left class = ComesTo words left (Ok class)
+-- the program that the words ask for is to run
+abbrev pub IsAsked : List (List ℕ) → Option (List NamedBytes) → Program → Type 0
+IsAsked words left program = ComesTo words left (Ok program)
 
--- What a status says of the words and the files. Want of memory says nothing, nor does a fault of the source, whose count has then
--- risen.
-abbrev pub IsCauseOf : List (List ℕ) → Option (List NamedBytes) → Status → Type 0
-IsCauseOf words left status.Usage = main_class words ≡ None
-IsCauseOf words left status.SourceFault = Unit {0}
-IsCauseOf words left status.OutOfMemory = Unit {0}
-IsCauseOf words left status.Ok = (class : PrintingClass) × IsAsked words left class
-IsCauseOf words left status.SinkFault = (class : PrintingClass) × IsAsked words left class
-IsCauseOf words left other = ComesTo words left (Err other)
+-- so it is with a program that is asked for
+pub record OfProgram (words : List (List ℕ)) (left : Option (List NamedBytes)) (P : Program → Type 0) : Type 0 where
+  pub program : Program
+  pub is_asked : IsAsked words left program
+  pub holds : P program
 
--- the answers of a run
+abbrev pub AnyProgram : Program → Type 0
+AnyProgram program = Unit {0}
+
+-- What a status says of the words, the files and the image. Want of memory says nothing; nor does a fault of the source or the image,
+-- whose count has then risen.
+abbrev pub IsCauseOf : List (List ℕ) → Option (List NamedBytes) → Entry → Status → Type 0
+IsCauseOf words left entry status.Usage = main_class words ≡ None
+IsCauseOf words left entry status.SourceFault = Unit {0}
+IsCauseOf words left entry status.OutOfMemory = Unit {0}
+IsCauseOf words left entry (status.BadClass file refusal) = ComesTo words left (Err (status.BadClass file refusal))
+IsCauseOf words left entry status.NotBuilt =
+    ComesTo words left (Err status.NotBuilt) ⊎ OfProgram words left (λ program. IsNotOfForm program entry)
+IsCauseOf words left entry (status.Full full) = ComesTo words left (Err (status.Full full)) ⊎ OfProgram words left AnyProgram
+IsCauseOf words left entry other = OfProgram words left AnyProgram
+
+-- the answers of a run, and of the opening of its image
 abbrev pub IsOfRun : Status → Type 0
-IsOfRun status.Ok = Unit {0}
-IsOfRun status.SinkFault = Unit {0}
-IsOfRun other = ⊥
+IsOfRun status.Usage = ⊥
+IsOfRun status.SourceFault = ⊥
+IsOfRun (status.BadClass file refusal) = ⊥
+IsOfRun other = Unit {0}
 
--- the answers that come before the first turn
-abbrev pub IsBeforeTheRun : Status → Type 0
-IsBeforeTheRun status.Ok = ⊥
-IsBeforeTheRun status.SinkFault = ⊥
-IsBeforeTheRun other = Unit {0}
-
--- These acts are a plain run of the class that was asked for.
-pub record HasRun (words : List (List ℕ)) (left : Option (List NamedBytes)) (acts : List Recorded) : Type 0 where
-  pub class : PrintingClass
-  pub is_asked : IsAsked words left class
-  pub is_run : IsRunOf class acts
-
--- And it has ended: all threads have, and none by a throwable.
-pub record HasFinished (words : List (List ℕ)) (left : Option (List NamedBytes)) (acts : List Recorded) : Type 0 where
-  pub class : PrintingClass
-  pub is_asked : IsAsked words left class
-  pub is_run : IsRunOf class acts
-  pub ends : (limits : Limits) (lines : ℕ) → EndsAs (printing_facts class) 0 blank_graph (printing_code class) limits lines acts Finished
+-- the answers that come before the image is opened
+abbrev pub IsOfWords : Status → Type 0
+IsOfWords status.Usage = Unit {0}
+IsOfWords status.SourceFault = Unit {0}
+IsOfWords status.OutOfMemory = Unit {0}
+IsOfWords (status.BadClass file refusal) = Unit {0}
+IsOfWords (status.Full full) = Unit {0}
+IsOfWords status.NotBuilt = Unit {0}
+IsOfWords other = ⊥

@@ -1,10 +1,9 @@
 //! The top call.
 #![tactic(auto)]
 
+mod choice;
 mod files;
-mod form;
-mod printing;
-mod rows;
+mod image_run;
 mod status;
 #[cfg(test)]
 mod tests;
@@ -12,7 +11,6 @@ mod texts;
 mod top_call;
 mod words;
 
-pub use rows::seven_is_printed;
 pub use status::Status;
 pub use texts::status_text;
 pub use top_call::{Ended, autopersist};

@@ -2,8 +2,9 @@
 ghost use Rattle.std.specs.Prelude.{◌≡◌, ◌++◌, OnOk, IfOk};
 ghost use Rattle.autopersist.specs.Statuses.{number_of, text_of};
 
-use ap_base::{Bytes, Full};
+use ap_base::{Bytes, Full, ThreadNo};
 use class_file::ClassRefusal;
+use plain_model::Throws;
 use std::alloc::{AllocError, Global};
 
 /// How the top call ended.
@@ -11,6 +12,8 @@ use std::alloc::{AllocError, Global};
 pub enum Status {
     /// All threads ended normally.
     Ok,
+    /// All threads ended, and this is the least one that a throwable ended, with its class.
+    Uncaught { thread: ThreadNo, class: Throws },
     /// The words are no command.
     Usage,
     /// This file is no class file of version 52.0, or uses what isn't in the profile.
@@ -19,11 +22,13 @@ pub enum Status {
     Full(Full),
     /// The source of class files failed.
     SourceFault,
+    /// The image failed.
+    ImageFault,
     /// The sink of printed bytes failed.
     SinkFault,
     /// There was no memory. Comes only before the first turn.
     OutOfMemory,
-    /// The classes are of no form that is built yet.
+    /// The classes, or the image, are of no form that is built yet.
     NotBuilt,
 }
 
@@ -34,10 +39,12 @@ impl Status {
     {
         match self {
             Status::Ok => 0,
+            Status::Uncaught { .. } => 1,
             Status::Usage => 2,
             Status::BadClass { .. } => 3,
             Status::Full(_) => 9,
             Status::SourceFault => 10,
+            Status::ImageFault => 11,
             Status::SinkFault => 12,
             Status::OutOfMemory => 13,
             Status::NotBuilt => 17,

@@ -109,7 +109,7 @@ fn no_fails(alloc: Global) -> Fails {
     Fails {
         calls: Vec::new(alloc),
         since: u64::MAX,
-        room: 0,
+        room: 200,
     }
 }
 
@@ -123,10 +123,10 @@ const RUN: [&str; 7] = [
     "classes",
 ];
 
-fn act(op: Op) -> Act {
+fn act(at: u64, op: Op) -> Act {
     Act {
         thread: ThreadNo::main(),
-        at: 0,
+        at,
         op,
     }
 }
@@ -136,27 +136,33 @@ fn printed(bytes: &[u8]) -> Result<Op, Fail> {
     Ok(Op::Print { bytes })
 }
 
-// The acts of the program that prints 7, in so many prints.
-fn seven_acts(alloc: Global, pieces: &[&[u8]]) -> Result<Vec<Act>, Fail> {
+// The acts of the program that prints 7, in so many prints, all after so many image calls.
+fn seven_acts(alloc: Global, at: u64, pieces: &[&[u8]]) -> Result<Vec<Act>, Fail> {
     let key = PlainKey::Object(0);
     let mut acts = Vec::new(alloc);
     for is in [Stage::Begun, Stage::Done] {
-        acts.push(act(Op::Init { class: 0, is }))?;
+        acts.push(act(at, Op::Init { class: 0, is }))?;
     }
-    acts.push(act(Op::Read {
-        place: Place::Static(0),
-        value: Value::Obj(0),
-    }))?;
-    acts.push(act(Op::Class {
-        object: Some(0),
-        shape: Some(2),
-    }))?;
-    acts.push(act(Op::Enter { key }))?;
+    acts.push(act(
+        at,
+        Op::Read {
+            place: Place::Static(0),
+            value: Value::Obj(0),
+        },
+    ))?;
+    acts.push(act(
+        at,
+        Op::Class {
+            object: Some(0),
+            shape: Some(2),
+        },
+    ))?;
+    acts.push(act(at, Op::Enter { key }))?;
     for piece in pieces {
-        acts.push(act(printed(piece)?))?;
+        acts.push(act(at, printed(piece)?))?;
     }
-    acts.push(act(Op::Exit { key }))?;
-    acts.push(act(Op::Ended { uncaught: None }))?;
+    acts.push(act(at, Op::Exit { key }))?;
+    acts.push(act(at, Op::Ended { uncaught: None }))?;
     Ok(acts)
 }
 
@@ -175,7 +181,8 @@ fn seven_is_printed(rt: HostRuntime) -> Result<(), Fail> {
     assert_eq!(rt; ended.sink.as_slice(), b"7\n".as_slice());
     assert_eq!(rt; ended.opening.roots.len(), 0);
     assert_eq!(rt; ended.opening.nodes.len(), 0);
-    let wanted = seven_acts(alloc, &[b"7\n"])?;
+    let first = ended.acts.get(0).copied().ok_or("an act")?;
+    let wanted = seven_acts(alloc, first.at, &[b"7\n"])?;
     assert_eq!(rt; ended.watcher.acts.len(), 8);
     assert_eq!(rt; ended.acts.len(), 8);
     for i in 0..8 {

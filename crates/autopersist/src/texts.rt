@@ -1,14 +1,15 @@
 // The texts of statuses.
 ghost use Rattle.std.specs.Prelude.{◌≡◌, ◌∷◌, [], ◌++◌, codes, OnOk, IfOk};
 ghost use Rattle.std.specs.List.{flat_map};
-ghost use Rattle.autopersist.specs.Statuses.{spaced, with_numbers, pool_text, code_text, class_text, which_text, what_of, text_of};
+ghost use Rattle.autopersist.specs.Statuses.{spaced, with_numbers, pool_text, code_text, class_text, class_name, which_text, what_of, text_of};
 
 use crate::Status;
-use ap_base::Which;
+use ap_base::{ThreadNo, Which};
 use class_file::ClassRefusal;
 use code_form::CodeRefusal;
 use const_pool::PoolRefusal;
 use itoa::Buffer;
+use plain_model::Throws;
 use std::alloc::{AllocError, Global};
 
 fn put(out: &mut Vec<u8>, text: &[u8]) -> Result<(), AllocError>
@@ -128,12 +129,38 @@ fn which_name(which: Which) -> &'static [u8]
     }
 }
 
+fn class_name(class: Throws) -> &'static [u8]
+    ensures { result.now ≡ class_name class }
+{
+    match class {
+        Throws::NegativeArraySize => b"java/lang/NegativeArraySizeException",
+        Throws::NullPointer => b"java/lang/NullPointerException",
+        Throws::ArrayIndexOutOfBounds => b"java/lang/ArrayIndexOutOfBoundsException",
+        Throws::StringIndexOutOfBounds => b"java/lang/StringIndexOutOfBoundsException",
+        Throws::ArrayStore => b"java/lang/ArrayStoreException",
+        Throws::ClassCast => b"java/lang/ClassCastException",
+        Throws::IllegalMonitorState => b"java/lang/IllegalMonitorStateException",
+        Throws::IllegalThreadState => b"java/lang/IllegalThreadStateException",
+        Throws::IllegalState => b"java/lang/IllegalStateException",
+        Throws::Arithmetic => b"java/lang/ArithmeticException",
+    }
+}
+
+fn put_uncaught(out: &mut Vec<u8>, thread: ThreadNo, class: Throws) -> Result<(), AllocError>
+    ensures { OnOk result (out.new.items ≡ out.old.items ++ (codes "uncaught" ++ spaced thread ++ codes " " ++ class_name class)) }
+{
+    put_with(out, b"uncaught", u64::from(thread.number()))?;
+    put(out, b" ")?;
+    put(out, class_name(class))
+}
+
 // What is wrong.
 fn put_what(out: &mut Vec<u8>, status: &Status) -> Result<(), AllocError>
     ensures { OnOk result (out.new.items ≡ out.old.items ++ what_of status.now) }
 {
     match status {
         Status::Ok => Ok(()),
+        Status::Uncaught { thread, class } => put_uncaught(out, *thread, *class),
         Status::Usage => put(out, b"usage"),
         Status::BadClass { file, refusal } => {
             put(out, b"class ")?;
@@ -146,6 +173,7 @@ fn put_what(out: &mut Vec<u8>, status: &Status) -> Result<(), AllocError>
             put_with_two(out, which_name(full.which), full.need, full.left)
         }
         Status::SourceFault => put(out, b"source fault"),
+        Status::ImageFault => put(out, b"image fault"),
         Status::SinkFault => put(out, b"sink fault"),
         Status::OutOfMemory => put(out, b"no memory"),
         Status::NotBuilt => put(out, b"not built"),

@@ -1,4 +1,4 @@
-use Rattle.std.proofs.Common.{◌≡◌, ◌⊎◌, ℕ, suc, ◌+◌, ◌-◌, Some, None, Ok, Err, inl, inr, subst, sym, ap, ◌∙◌, arith, refl}
+use Rattle.std.proofs.Common.{◌≡◌, ◌⊎◌, suc, ◌+◌, ◌-◌, Err, inl, inr, subst, sym, arith}
 use Rattle.std.proofs.lemmas.Result.{err_from_is_err_and}
 use Rattle.ap_base.specs.declared.source.NamedBytes.{NamedBytes}
 use Rattle.ap_base.specs.Sources as given
@@ -6,7 +6,7 @@ use Rattle.autopersist.specs.declared.status.Status.{Status}
 use Rattle.autopersist.specs.declared.status.Status.TheVariants as status
 use Rattle.autopersist.specs.Files.{class_of}
 use Rattle.autopersist.specs.Reading.{HasRead, ComesTo, IsFree}
-use Rattle.autopersist.proofs.SourceFiles.{begins, goes_on, ends, refuses, passes}
+use Rattle.autopersist.proofs.SourceFiles.{goes_on, ends, refuses, passes}
 use Rattle.autopersist.proofs.files.read_files.Goals as goal
 
 pub returns-in_default-clause-seen : goal.returns-in_default-clause-seen

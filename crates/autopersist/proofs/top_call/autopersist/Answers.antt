@@ -1,17 +1,30 @@
-use Rattle.std.proofs.Common.{List, ℕ, map, subst, sym, String, Global}
+use Rattle.std.proofs.Common.{◌≡◌, inr, map, List, String, ℕ, Global, subst}
 use Rattle.std.specs.String.{string_bytes}
-use Rattle.autopersist.specs.TopCall.{IsCauseOf}
-use Rattle.autopersist.proofs.Causes.{cause_of_run}
+use Rattle.autopersist.specs.Images.{Entry, IsKept}
+use Rattle.autopersist.specs.TopCall.{IsAsked, IsCauseOf, OfProgram}
+use Rattle.autopersist.proofs.Causes.{refused_by_words, runs_by_words}
 use Rattle.autopersist.proofs.top_call.autopersist.Goals as goal
-use Rattle.autopersist.proofs.top_call.autopersist.Goals.{in-Ok, in-Err}
 
-pub returns-clause-cause : goal.returns-clause-cause
-returns-clause-cause g c = elim c.match-find_lines.branch [
-  | in-Ok w ↦
-      let found = w.in-Ok.ensures.found in
-      subst (λ (words : List (String Global)). IsCauseOf (map string_bytes words) (g.C.ClassSource.left c.args.source) c.match-find_lines.status) c.as_slice.ensures.value
-      (rw w.status-is (cause_of_run (map string_bytes c.as_slice.result.now) (g.C.ClassSource.left c.args.source) w.run_lines-status.result (found.0, found.1) w.run_lines-status.ensures.answers))
-  | in-Err w ↦
-      subst (λ (words : List (String Global)). IsCauseOf (map string_bytes words) (g.C.ClassSource.left c.args.source) c.match-find_lines.status) c.as_slice.ensures.value
-      (rw w.status-is w.in-Err.ensures.cause)
-]
+pub returns-in-Ok-clause-stops : goal.returns-in-Ok-clause-stops
+returns-in-Ok-clause-stops g c = λ settled. inr (record {
+  program = c.in-Ok.chosen.program;
+  is_asked = subst (λ (words : List (String Global)). IsAsked (map string_bytes words) (g.C.ClassSource.left c.args.source) c.in-Ok.chosen.program) c.as_slice.ensures.value c.in-Ok.ensures.found;
+  holds = c.run_over_image-ran.ensures.kept settled;
+})
+
+pub returns-in-Err-clause-cause : goal.returns-in-Err-clause-cause
+returns-in-Err-clause-cause g c =
+    let entry : Entry = record { size = g.I.Image.size c.args.image; told = record { calls = g.I.Image.calls c.args.image; history = g.I.Image.history c.args.image } } in
+    subst (λ (words : List (String Global)). IsCauseOf (map string_bytes words) (g.C.ClassSource.left c.args.source) entry c.in-Err.status) c.as_slice.ensures.value (c.in-Err.ensures.cause entry)
+
+pub returns-in-Err-clause-refused : goal.returns-in-Err-clause-refused
+returns-in-Err-clause-refused g c = λ name files s asked told is.
+    let entry : Entry = record { size = g.I.Image.size c.args.image; told = record { calls = g.I.Image.calls c.args.image; history = g.I.Image.history c.args.image } } in
+    let cause = subst (λ (words : List (String Global)). IsCauseOf (map string_bytes words) (g.C.ClassSource.left c.args.source) entry c.in-Err.status) c.as_slice.ensures.value (c.in-Err.ensures.cause entry) in
+    refused_by_words (map string_bytes c.args.words.now.items) (g.C.ClassSource.left c.args.source) entry name files asked told c.in-Err.status s c.in-Err.ensures.of_words cause is
+
+pub returns-in-Err-clause-runs : goal.returns-in-Err-clause-runs
+returns-in-Err-clause-runs g c = λ name files program asked told is.
+    let entry : Entry = record { size = g.I.Image.size c.args.image; told = record { calls = g.I.Image.calls c.args.image; history = g.I.Image.history c.args.image } } in
+    let cause = subst (λ (words : List (String Global)). IsCauseOf (map string_bytes words) (g.C.ClassSource.left c.args.source) entry c.in-Err.status) c.as_slice.ensures.value (c.in-Err.ensures.cause entry) in
+    runs_by_words (map string_bytes c.args.words.now.items) (g.C.ClassSource.left c.args.source) entry name files asked told c.in-Err.status program c.in-Err.ensures.of_words cause is

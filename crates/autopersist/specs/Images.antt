@@ -1,0 +1,87 @@
+-- What the top call says of the image: what it was when the program was run on it, how the run ended, and what a stop leaves.
+use Rattle.std.specs.Prelude.{◌≡◌, ◌⊎◌, ℕ, ◌<◌, ◌≤◌, ◌+◌, ◌-◌, ◌^◌, ℤ, List, [], Option, Some, None, Result, Ok, Err}
+use Rattle.ap_base.specs.declared.fault.Full.{Full}
+use Rattle.line_image.specs.History.{History, Outcome, LeavesNow, LeftWithin}
+use Rattle.line_memory.specs.Memory.{Told, ReadsWord}
+use Rattle.graph_model.specs.declared.types.Graph.{Graph}
+use Rattle.image_layout.specs.Places.{min_lines, max_lines}
+use Rattle.image_meaning.specs.Checks.{Words}
+use Rattle.image_meaning.specs.Meaning.{StandsFor}
+use Rattle.image_opening.specs.declared.opening.FoundArray.{FoundArray}
+use Rattle.image_opening.specs.Opened.{IsOfForm, WasFound, IsFrom, IsKeptOrFilled, free_behind}
+use Rattle.run_history.specs.Recorded.{Recorded}
+use Rattle.run_history.specs.Kept.{acts_before}
+use Rattle.array_program.specs.declared.program.Program.{Program}
+use Rattle.array_history.specs.Standing.{root_name, graph_with, IsRunOf}
+use Rattle.array_history.specs.Left.{IsOneOf}
+use Rattle.array_run.specs.declared.run.RunEnd.{RunEnd}
+use Rattle.array_run.specs.declared.run.RunEnd.TheVariants as end
+use Rattle.array_run.specs.Opening.{EndsBy}
+use Rattle.autopersist.specs.declared.status.Status.{Status}
+use Rattle.autopersist.specs.declared.status.Status.TheVariants as status
+
+-- an image at the entry of the top call: how many lines it has, and its calls and what it tells of them
+pub record Entry : Type 0 where
+  pub size : ℕ
+  pub told : Told
+
+-- reads at the entry give these words
+abbrev pub AreRead : Entry → Words → Type 0
+AreRead entry words = (l w : ℕ) → l < entry.size → ReadsWord entry.told.history l w (words l w)
+
+-- The image has too few lines or too many, or its words aren't of the form that the program's root needs.
+abbrev pub IsNotOfForm : Program → Entry → Type 0
+IsNotOfForm program entry =
+    (entry.size < min_lines) ⊎ (max_lines < entry.size)
+    ⊎ ((words : Words) × AreRead entry words × (IsOfForm entry.size words (root_name program) → ⊥))
+
+-- ---- the run
+
+-- the status of a run that ended so
+abbrev pub status_of : Result (Unit {0}) RunEnd → Status
+status_of (Ok done) = status.Ok
+status_of (Err (end.Uncaught class)) = status.Uncaught 0 class
+status_of (Err (end.Full full)) = status.Full full
+status_of (Err end.SinkFailed) = status.SinkFault
+status_of (Err end.ImageFailed) = status.ImageFault
+status_of (Err end.OutOfMemory) = status.OutOfMemory
+
+-- The image had these words, among them the root's array with these ints, if it has one. It stood for a graph that is the opening one, or
+-- that has no roots and nodes while the opening one has the root as null. The acts are a plain run of the program from the opening graph,
+-- and end as the status says, where so many lines are left behind all objects.
+pub record HasRun (program : Program) (entry : Entry) (opening : Graph) (acts : List Recorded) (how : Status) : Type 0 where
+  pub words : Words
+  pub read : AreRead entry words
+  pub array : Option FoundArray
+  pub ints : Option (List ℤ)
+  pub found : WasFound entry.size words (root_name program) array ints
+  pub graph : opening ≡ graph_with program ints
+  pub stood : Graph
+  pub stands : StandsFor entry.size words stood
+  pub from : IsFrom (root_name program) stood opening
+  pub run : IsRunOf program opening acts
+  pub answer : Result (Unit {0}) RunEnd
+  pub is : how ≡ status_of answer
+  pub ends : EndsBy program opening (entry.size - free_behind array) acts answer
+
+-- ---- stops
+
+-- An image with these words stands for the graph of the entry image, or, where that has no roots and nodes, for the one with the
+-- program's root as null.
+abbrev pub StandsAsBefore : Program → (size : ℕ) → (before : Words) → Outcome → Type 0
+StandsAsBefore program size before words = (g : Graph) → StandsFor size before g → IsKeptOrFilled size (root_name program) g words
+
+-- It stands for a graph that the acts allow, or, where there are none yet, as before.
+abbrev pub StandsRightly : Program → (opening : Graph) → (acts : List Recorded) → (size : ℕ) → (before : Words) → Outcome → Type 0
+StandsRightly program opening acts size before words =
+    IsOneOf program opening acts size words ⊎ ((acts ≡ []) × StandsAsBefore program size before words)
+
+-- A stop within call n of the top call leaves only images that stand rightly for the acts before that call, and a stop after the last call
+-- those that do for all acts.
+pub record IsKept (program : Program) (entry : Entry) (opening : Graph) (acts : List Recorded) (after : Told) : Type 0 where
+  pub words : Words
+  pub read : AreRead entry words
+  pub within : (n : ℕ) → 0 < n → entry.told.calls + n ≤ after.calls → entry.told.calls + n < 2 ^ 64 - 1
+      → (c : Outcome) → LeftWithin after.history (entry.told.calls + n) c
+      → StandsRightly program opening (acts_before n acts) entry.size words c
+  pub now : (c : Outcome) → LeavesNow after.history c → StandsRightly program opening acts entry.size words c

@@ -1,0 +1,108 @@
+// The program that is to run.
+ghost use Rattle.std.specs.Prelude.{◌≡◌, ◌⊎◌, ◌≤◌, ◌↔◌, Some, None, Ok, Err, map, IfOk, IfErr, IfSome, IsErrOf, IsNone};
+ghost use Rattle.std.specs.String.{string_bytes};
+ghost use Rattle.ap_base.specs.Causes.{Rose};
+ghost use Rattle.array_program.specs.Form.{program_of};
+ghost use Rattle.array_history.specs.Standing.{IsRight, root_name};
+ghost use Rattle.image_opening.specs.Wanted.{HasRoom};
+ghost use Rattle.autopersist.specs.Files.{built, chosen, to_run};
+ghost use Rattle.autopersist.specs.TopCall.{IsAsked, IsCauseOf, IsOfWords};
+ghost use Rattle.autopersist.specs.Images.{Entry};
+ghost use Rattle.autopersist.specs.Words.{main_class, slashed};
+
+use crate::Status;
+use crate::files::{Seen, read_files};
+use crate::words::{class_asked, internal_name};
+use ap_base::{Bytes, ClassSource};
+use array_program::{Program, read_program};
+use class_file::ClassFile;
+use image_opening::has_room;
+use std::alloc::{AllocError, Global};
+
+/// A program, and the name that its durable root has in an image, if it has one: the class and the field.
+#[derive(Drop)]
+pub(crate) struct Chosen {
+    pub(crate) program: Program,
+    pub(crate) root: Option<Bytes>,
+}
+
+/// The program for which the words ask; or how the top call ends before it opens the image.
+#[tactic(auto, unfolding(crate::specs::Files::to_run))]
+pub(crate) fn find_program<C: ClassSource>(
+    alloc: Global,
+    words: &[String],
+    source: &mut C,
+) -> Result<Chosen, Status>
+    ensures found { IfOk result (λ chosen. IsAsked (map string_bytes words.now) (C.left source.old) chosen.program) }
+    ensures right { IfOk result (λ chosen. IsRight chosen.program) }
+    ensures root { IfOk result (λ chosen. chosen.root ≡ root_name chosen.program) }
+    ensures room { IfOk result (λ chosen. HasRoom chosen.root) }
+    ensures cause { IfErr result (λ s. (entry : Entry) → IsCauseOf (map string_bytes words.now) (C.left source.old) entry s) }
+    ensures usage { IsErrOf result Status.Usage ↔ (main_class (map string_bytes words.now) ≡ None) }
+    ensures of_words { IfErr result IsOfWords }
+    ensures later { C.faults source.old ≤ C.faults source.new }
+    ensures source_fault { IsErrOf result Status.SourceFault → Rose (C.faults source.old) (C.faults source.new) }
+{
+    let Some(class) = class_asked(words) else {
+        return Err(Status::Usage);
+    };
+    let seen = read_files(alloc, source)?;
+    choose(alloc, class, &seen)
+}
+
+// The program of this name, where its class is the only one that was read and of the form.
+fn choose(alloc: Global, class: &str, seen: &Seen) -> Result<Chosen, Status>
+    ensures found { IfOk result (λ found. built class.now seen.now ≡ Ok found.program) }
+    ensures root { IfOk result (λ found. found.root ≡ root_name found.program) }
+    ensures room { IfOk result (λ found. HasRoom found.root) }
+    ensures refused { IfErr result (λ s. (s ≡ Status.OutOfMemory) ⊎ ((s ≡ Status.NotBuilt) × (built class.now seen.now ≡ Err Status.NotBuilt))) }
+{
+    let Ok(name) = internal_name(alloc, class) else {
+        return Err(Status::OutOfMemory);
+    };
+    let Seen::One(class) = seen else {
+        return Err(Status::NotBuilt);
+    };
+    match program_named(alloc, class, name.as_slice()) {
+        Ok(Some(chosen)) => Ok(chosen),
+        Ok(None) => Err(Status::NotBuilt),
+        Err(_) => Err(Status::OutOfMemory),
+    }
+}
+
+// The program of a class file of the form, if it has this name and an image's directory has room for its root.
+fn program_named(
+    alloc: Global,
+    class: &ClassFile,
+    name: &[u8],
+) -> Result<Option<Chosen>, AllocError>
+    ensures found { IfOk result (λ found. IfSome found (λ found. chosen name.now (program_of class.now) ≡ Ok found.program)) }
+    ensures none { IfOk result (λ found. IsNone found → chosen name.now (program_of class.now) ≡ Err Status.NotBuilt) }
+    ensures root { IfOk result (λ found. IfSome found (λ found. found.root ≡ root_name found.program)) }
+    ensures room { IfOk result (λ found. IfSome found (λ found. HasRoom found.root)) }
+{
+    let Some(program) = read_program(alloc, class)? else {
+        return Ok(None);
+    };
+    if program.name.as_slice() != name {
+        return Ok(None);
+    }
+    let root = root_name(alloc, &program)?;
+    if !has_room(root.as_ref().map(|name| name.as_slice())) {
+        return Ok(None);
+    }
+    Ok(Some(Chosen { program, root }))
+}
+
+// The name of the program's durable root, if it has one.
+fn root_name(alloc: Global, program: &Program) -> Result<Option<Bytes>, AllocError>
+    ensures { IfOk result (λ root. root ≡ root_name program.now) }
+{
+    let Some(field) = &program.root else {
+        return Ok(None);
+    };
+    let mut name = program.name.as_slice().to_vec(alloc)?;
+    name.push(b'.')?;
+    name.extend_from_slice(field.as_slice())?;
+    Ok(Some(Bytes::copy(alloc, name.as_slice())?))
+}
