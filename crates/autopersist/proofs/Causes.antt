@@ -1,5 +1,9 @@
 -- The cause of each status.
-use Rattle.std.proofs.Common.{◌≡◌, ◌⊎◌, ℕ, List, Option, Some, None, Result, Ok, Err, refl, sym, ap, subst, ◌∙◌, inl, inr}
+use Rattle.std.proofs.Common.{◌≡◌, ◌⊎◌, ℕ, List, Option, Some, None, [], Result, Ok, Err, refl, sym, ap, subst, ◌∙◌, inl, inr}
+use Rattle.std.specs.Prelude.{◌≢◌}
+use Rattle.run_history.specs.Recorded.{Recorded}
+use Rattle.array_run.specs.declared.run.RunEnd.{RunEnd}
+use Rattle.array_run.specs.declared.run.RunEnd.TheVariants as end
 use Rattle.ap_base.specs.declared.source.NamedBytes.{NamedBytes}
 use Rattle.class_items.specs.Parsing.{◌>>=◌}
 use Rattle.autopersist.specs.declared.status.Status.{Status}
@@ -7,10 +11,10 @@ use Rattle.autopersist.specs.declared.status.Status.TheVariants as status
 use Rattle.autopersist.specs.declared.files.Seen.TheVariants as seen
 use Rattle.autopersist.specs.Files.{most_files, seen_from, built, to_run}
 use Rattle.array_program.specs.declared.program.Program.{Program}
-use Rattle.autopersist.specs.Images.{Entry, IsNotOfForm}
+use Rattle.autopersist.specs.Images.{Entry, IsNotOfForm, status_of}
 use Rattle.autopersist.specs.Reading as reading
 use Rattle.autopersist.specs.Reading.{IsFree, IsOfFiles}
-use Rattle.autopersist.specs.TopCall.{ComesTo, IsAsked, OfProgram, AnyProgram, IsCauseOf, IsOfRun, IsOfWords}
+use Rattle.autopersist.specs.TopCall.{ComesTo, IsAsked, OfProgram, AnyProgram, IsCauseOf, IsOfRun, IsOfWords, IsAfterTheFirstTurn}
 use Rattle.autopersist.specs.Words.{main_class}
 
 some_same : {A : Type 0} (a b : A) → Some a ≡ Some b → a ≡ b
@@ -22,6 +26,9 @@ err s = Err s
 err_same : (a b : Status) → err a ≡ err b → a ≡ b
 err_same a b is = cc
 
+abbrev no_memory : Result (Unit {0}) RunEnd
+no_memory = Err end.OutOfMemory
+
 refused_file : (name : List ℕ) (files : List NamedBytes) (e : Status) → seen_from most_files seen.Nothing files ≡ Err e → to_run name files ≡ Err e
 unfolding to_run
 refused_file name files e is = ap (λ r. r >>= built name) is
@@ -32,7 +39,7 @@ of_files words left name e asked comes = record { name = name; asked = asked; fi
 
 -- a file that is refused
 pub cause_of_files : (words : List (List ℕ)) (left : Option (List NamedBytes)) (entry : Entry) (name : List ℕ) (e : Status) → main_class words ≡ Some name
-    → IsOfFiles e → IsFree e ⊎ reading.ComesTo left (Err e) → IsCauseOf words left entry e
+    → IsOfFiles e → IsFree e ⊎ reading.ComesTo left (Err e) → IsCauseOf words left entry [] e
 cause_of_files words left entry name status.Ok asked of cause = absurd of
 cause_of_files words left entry name (status.Uncaught thread class) asked of cause = absurd of
 cause_of_files words left entry name status.Usage asked of cause = absurd of
@@ -71,18 +78,23 @@ no_usage (status.BadClass file refusal) of is = absurd cc
 no_usage (status.Full full) of is = absurd cc
 
 -- a program that ran
-pub cause_of_run : (words : List (List ℕ)) (left : Option (List NamedBytes)) (entry : Entry) (program : Program) (s : Status) → IsAsked words left program
-    → IsOfRun s → (s ≡ status.NotBuilt → IsNotOfForm program entry) → IsCauseOf words left entry s
-cause_of_run words left entry program status.Ok asked of form = record { program = program; is_asked = asked; holds = tt }
-cause_of_run words left entry program (status.Uncaught thread class) asked of form = record { program = program; is_asked = asked; holds = tt }
-cause_of_run words left entry program status.SinkFault asked of form = record { program = program; is_asked = asked; holds = tt }
-cause_of_run words left entry program status.ImageFault asked of form = record { program = program; is_asked = asked; holds = tt }
-cause_of_run words left entry program status.OutOfMemory asked of form = tt
-cause_of_run words left entry program status.SourceFault asked of form = absurd of
-cause_of_run words left entry program status.Usage asked of form = absurd of
-cause_of_run words left entry program (status.BadClass file refusal) asked of form = absurd of
-cause_of_run words left entry program status.NotBuilt asked of form = inr (record { program = program; is_asked = asked; holds = form refl })
-cause_of_run words left entry program (status.Full full) asked of form = inr (record { program = program; is_asked = asked; holds = tt })
+pub cause_of_run : (words : List (List ℕ)) (left : Option (List NamedBytes)) (entry : Entry) (program : Program) (acts : List Recorded) (s : Status)
+    → IsAsked words left program → IsOfRun s → (s ≡ status.NotBuilt → IsNotOfForm program entry) → (IsAfterTheFirstTurn s → acts ≢ [])
+    → IsCauseOf words left entry acts s
+cause_of_run words left entry program acts status.Ok asked of form begun = (begun tt, record { program = program; is_asked = asked; holds = tt })
+cause_of_run words left entry program acts (status.Uncaught thread class) asked of form begun = (begun tt, record { program = program; is_asked = asked; holds = tt })
+cause_of_run words left entry program acts status.SinkFault asked of form begun = (begun tt, record { program = program; is_asked = asked; holds = tt })
+cause_of_run words left entry program acts status.ImageFault asked of form begun = record { program = program; is_asked = asked; holds = tt }
+cause_of_run words left entry program acts status.OutOfMemory asked of form begun = tt
+cause_of_run words left entry program acts status.SourceFault asked of form begun = absurd of
+cause_of_run words left entry program acts status.Usage asked of form begun = absurd of
+cause_of_run words left entry program acts (status.BadClass file refusal) asked of form begun = absurd of
+cause_of_run words left entry program acts status.NotBuilt asked of form begun = inr (record { program = program; is_asked = asked; holds = form refl })
+cause_of_run words left entry program acts (status.Full full) asked of form begun = inr (begun tt, record { program = program; is_asked = asked; holds = tt })
+
+-- a run that has another answer than want of memory has begun
+pub after_first : (acts : List Recorded) (answer : Result (Unit {0}) RunEnd) → (acts ≡ [] → answer ≡ no_memory) → IsAfterTheFirstTurn (status_of answer) → acts ≢ []
+after_first acts answer only is none = subst (λ (a : Result (Unit {0}) RunEnd). IsAfterTheFirstTurn (status_of a)) (only none) is
 
 -- what the words and the files come to, where both are known
 same_answer : (words : List (List ℕ)) (left : Option (List NamedBytes)) (answer : Result Program Status) (name : List ℕ) (files : List NamedBytes)
@@ -102,7 +114,7 @@ module _ (words : List (List ℕ)) (left : Option (List NamedBytes)) (entry : En
   same_status : (e s : Status) → to_run name files ≡ Err s → ComesTo words left (Err e) → e ≡ s
   same_status e s is comes = err_same e s (sym (same_answer words left (Err e) name files comes asked told) ∙ is)
 
-  pub refused_by_words : (e s : Status) → IsOfWords e → IsCauseOf words left entry e → to_run name files ≡ Err s → IsFree e ⊎ (e ≡ s)
+  pub refused_by_words : (e s : Status) → IsOfWords e → IsCauseOf words left entry [] e → to_run name files ≡ Err s → IsFree e ⊎ (e ≡ s)
   refused_by_words status.Ok s of cause is = absurd of
   refused_by_words (status.Uncaught thread class) s of cause is = absurd of
   refused_by_words status.ImageFault s of cause is = absurd of
@@ -112,7 +124,7 @@ module _ (words : List (List ℕ)) (left : Option (List NamedBytes)) (entry : En
   refused_by_words status.OutOfMemory s of cause is = inl tt
   refused_by_words (status.BadClass file refusal) s of cause is = inr (same_status (status.BadClass file refusal) s is cause)
   refused_by_words (status.Full full) s of (inl comes) is = inr (same_status (status.Full full) s is comes)
-  refused_by_words (status.Full full) s of (inr program) is = absurd (not_asked s AnyProgram is program)
+  refused_by_words (status.Full full) s of (inr begun) is = absurd (begun.0 refl)
   refused_by_words status.NotBuilt s of (inl comes) is = inr (same_status status.NotBuilt s is comes)
   refused_by_words status.NotBuilt s of (inr program) is = absurd (not_asked s (λ p. IsNotOfForm p entry) is program)
 
@@ -121,7 +133,7 @@ module _ (words : List (List ℕ)) (left : Option (List NamedBytes)) (entry : En
       let other : Ok program ≡ Err e = sym is ∙ same_answer words left (Err e) name files comes asked told in
       cc
 
-  pub runs_by_words : (e : Status) (program : Program) → IsOfWords e → IsCauseOf words left entry e → to_run name files ≡ Ok program → IsFree e ⊎ IsOfRun e
+  pub runs_by_words : (e : Status) (program : Program) → IsOfWords e → IsCauseOf words left entry [] e → to_run name files ≡ Ok program → IsFree e ⊎ IsOfRun e
   runs_by_words status.Ok program of cause is = absurd of
   runs_by_words (status.Uncaught thread class) program of cause is = absurd of
   runs_by_words status.ImageFault program of cause is = absurd of

@@ -1,5 +1,5 @@
 -- What the top call says of the words, the files and the run.
-use Rattle.std.specs.Prelude.{◌≡◌, ◌⊎◌, ℕ, List, Option, Some, None, Result, Ok, Err}
+use Rattle.std.specs.Prelude.{◌≡◌, ◌≢◌, ◌⊎◌, ℕ, List, [], Option, Some, None, Result, Ok, Err}
 use Rattle.ap_base.specs.declared.source.NamedBytes.{NamedBytes}
 use Rattle.line_image.specs.History.{History}
 use Rattle.graph_model.specs.declared.types.Graph.{Graph}
@@ -33,17 +33,30 @@ pub record OfProgram (words : List (List ℕ)) (left : Option (List NamedBytes))
 abbrev pub AnyProgram : Program → Type 0
 AnyProgram program = Unit {0}
 
--- What a status says of the words, the files and the image. Want of memory says nothing; nor does a fault of the source or the image,
--- whose count has then risen.
-abbrev pub IsCauseOf : List (List ℕ) → Option (List NamedBytes) → Entry → Status → Type 0
-IsCauseOf words left entry status.Usage = main_class words ≡ None
-IsCauseOf words left entry status.SourceFault = Unit {0}
-IsCauseOf words left entry status.OutOfMemory = Unit {0}
-IsCauseOf words left entry (status.BadClass file refusal) = ComesTo words left (Err (status.BadClass file refusal))
-IsCauseOf words left entry status.NotBuilt =
+-- A program is asked for, and its run has begun.
+abbrev pub HasBegun : List (List ℕ) → Option (List NamedBytes) → List Recorded → Type 0
+HasBegun words left acts = (acts ≢ []) × OfProgram words left AnyProgram
+
+-- What a status says of the words, the files, the image and the acts. Want of memory says nothing; nor does a fault of the source or the
+-- image, whose count has then risen.
+abbrev pub IsCauseOf : List (List ℕ) → Option (List NamedBytes) → Entry → List Recorded → Status → Type 0
+IsCauseOf words left entry acts status.Usage = main_class words ≡ None
+IsCauseOf words left entry acts status.SourceFault = Unit {0}
+IsCauseOf words left entry acts status.OutOfMemory = Unit {0}
+IsCauseOf words left entry acts (status.BadClass file refusal) = ComesTo words left (Err (status.BadClass file refusal))
+IsCauseOf words left entry acts status.NotBuilt =
     ComesTo words left (Err status.NotBuilt) ⊎ OfProgram words left (λ program. IsNotOfForm program entry)
-IsCauseOf words left entry (status.Full full) = ComesTo words left (Err (status.Full full)) ⊎ OfProgram words left AnyProgram
-IsCauseOf words left entry other = OfProgram words left AnyProgram
+IsCauseOf words left entry acts (status.Full full) = ComesTo words left (Err (status.Full full)) ⊎ HasBegun words left acts
+IsCauseOf words left entry acts status.ImageFault = OfProgram words left AnyProgram
+IsCauseOf words left entry acts other = HasBegun words left acts
+
+-- of a run over an image these answers come after its first turn alone
+abbrev pub IsAfterTheFirstTurn : Status → Type 0
+IsAfterTheFirstTurn status.Ok = Unit {0}
+IsAfterTheFirstTurn (status.Uncaught thread class) = Unit {0}
+IsAfterTheFirstTurn (status.Full full) = Unit {0}
+IsAfterTheFirstTurn status.SinkFault = Unit {0}
+IsAfterTheFirstTurn other = ⊥
 
 -- the answers of a run, and of the opening of its image
 abbrev pub IsOfRun : Status → Type 0

@@ -1,5 +1,5 @@
 // The program that is to run.
-ghost use Rattle.std.specs.Prelude.{◌≡◌, ◌⊎◌, ◌≤◌, ◌↔◌, Some, None, Ok, Err, map, IfOk, IfErr, IfSome, IsErrOf, IsNone};
+ghost use Rattle.std.specs.Prelude.{◌≡◌, [], ◌⊎◌, ◌≤◌, ◌↔◌, Some, None, Ok, Err, map, IfOk, IfErr, IfSome, IsErrOf, IsNone};
 ghost use Rattle.std.specs.String.{string_bytes};
 ghost use Rattle.ap_base.specs.Causes.{Rose};
 ghost use Rattle.array_program.specs.Form.{program_of};
@@ -37,7 +37,7 @@ pub(crate) fn find_program<C: ClassSource>(
     ensures right { IfOk result (λ chosen. IsRight chosen.program) }
     ensures root { IfOk result (λ chosen. chosen.root ≡ root_name chosen.program) }
     ensures room { IfOk result (λ chosen. HasRoom chosen.root) }
-    ensures cause { IfErr result (λ s. (entry : Entry) → IsCauseOf (map string_bytes words.now) (C.left source.old) entry s) }
+    ensures cause { IfErr result (λ s. (entry : Entry) → IsCauseOf (map string_bytes words.now) (C.left source.old) entry [] s) }
     ensures usage { IsErrOf result Status.Usage ↔ (main_class (map string_bytes words.now) ≡ None) }
     ensures of_words { IfErr result IsOfWords }
     ensures later { C.faults source.old ≤ C.faults source.new }

@@ -10,7 +10,7 @@ ghost use Rattle.array_history.specs.Standing.{IsRight, root_name};
 ghost use Rattle.array_run.specs.Telling.{Keeps};
 ghost use Rattle.autopersist.specs.Attached.{IsAttached, IsOpenedOn};
 ghost use Rattle.autopersist.specs.Images.{Entry, IsNotOfForm, HasRun, IsKept, status_of};
-ghost use Rattle.autopersist.specs.TopCall.{IsOfRun};
+ghost use Rattle.autopersist.specs.TopCall.{IsOfRun, IsAfterTheFirstTurn};
 
 use crate::Status;
 use crate::choice::Chosen;
@@ -49,6 +49,7 @@ fn of_attach(fault: AttachFault) -> Status
     ensures failed { result ≡ Status.ImageFault → fault ≡ AttachFault.ImageFailed }
     ensures of_run { IsOfRun result }
     ensures no_sink { result ≢ Status.SinkFault }
+    ensures early { IsAfterTheFirstTurn result → ⊥ }
 {
     match fault {
         AttachFault::Size => Status::NotBuilt,
@@ -62,6 +63,7 @@ fn of_opening(fault: OpenFault) -> Status
     ensures failed { result ≡ Status.ImageFault → fault ≡ OpenFault.ImageFailed }
     ensures of_run { IsOfRun result }
     ensures no_sink { result ≢ Status.SinkFault }
+    ensures early { IsAfterTheFirstTurn result → ⊥ }
 {
     match fault {
         OpenFault::NotOfForm => Status::NotBuilt,
@@ -108,6 +110,7 @@ pub(crate) fn run_over_image<I: Image, S: Sink, G: Gate, W: Watcher>(
     ensures not_built { result.status ≡ Status.NotBuilt → IsNotOfForm chosen.now.program
         (record { size = I.size image; told = record { calls = I.calls image; history = I.history image } }) }
     ensures of_run { IsOfRun result.status }
+    ensures begun { IsAfterTheFirstTurn result.status → result.acts.acts ≢ [] }
     ensures size { I.size result.image ≡ I.size image }
     ensures sink_fault { result.status ≡ Status.SinkFault → Rose (S.faults sink) (S.faults result.sink) }
     ensures image_fault { result.status ≡ Status.ImageFault → Rose (I.faults image) (I.faults result.image) }
@@ -149,6 +152,7 @@ fn open_and_run<I: Image, S: Sink, G: Gate, W: Watcher>(
     ensures told { Keeps (W.seen watcher) (S.taken sink) result.acts.acts (W.seen result.watcher) (S.taken result.sink) }
     ensures not_built { (entry : Entry) → IsAttached entry memory → result.status ≡ Status.NotBuilt → IsNotOfForm chosen.now.program entry }
     ensures of_run { IsOfRun result.status }
+    ensures begun { IsAfterTheFirstTurn result.status → result.acts.acts ≢ [] }
     ensures size { I.size result.image ≡ memory.size }
     ensures sink_fault { result.status ≡ Status.SinkFault → Rose (S.faults sink) (S.faults result.sink) }
     ensures image_fault { result.status ≡ Status.ImageFault → Rose memory.faults (I.faults result.image) }
@@ -194,6 +198,7 @@ fn run_opened<I: Image, S: Sink, G: Gate, W: Watcher>(
     ensures told { Keeps (W.seen watcher) (S.taken sink) result.acts.acts (W.seen result.watcher) (S.taken result.sink) }
     ensures built { result.status ≢ Status.NotBuilt }
     ensures of_run { IsOfRun result.status }
+    ensures begun { IsAfterTheFirstTurn result.status → result.acts.acts ≢ [] }
     ensures size { I.size result.image ≡ memory.size }
     ensures sink_fault { result.status ≡ Status.SinkFault → Rose (S.faults sink) (S.faults result.sink) }
     ensures image_fault { result.status ≡ Status.ImageFault → Rose memory.faults (I.faults result.image) }

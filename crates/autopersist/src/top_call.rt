@@ -62,7 +62,7 @@ where
     // How it ends: each status but want of memory with its cause.
     ensures usage { (result.status ≡ Status.Usage) ↔ (main_class (map string_bytes words.now.items) ≡ None) }
     ensures cause { IsCauseOf (map string_bytes words.now.items) (C.left source)
-        (record { size = I.size image; told = record { calls = I.calls image; history = I.history image } }) result.status }
+        (record { size = I.size image; told = record { calls = I.calls image; history = I.history image } }) result.acts.acts result.status }
     ensures refused { (name : List ℕ) (files : List File) (s : HowItEnds) → main_class (map string_bytes words.now.items) ≡ Some name
         → C.left source ≡ Some files → to_run name files ≡ Err s → IsFree result.status ⊎ (result.status ≡ s) }
     ensures runs { (name : List ℕ) (files : List File) (program : Program) → main_class (map string_bytes words.now.items) ≡ Some name

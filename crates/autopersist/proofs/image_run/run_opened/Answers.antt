@@ -5,6 +5,8 @@ use Rattle.graph_model.specs.declared.types.Graph.{Graph}
 use Rattle.run_history.specs.Recorded.{Recorded}
 use Rattle.autopersist.specs.declared.status.Status.{Status}
 use Rattle.autopersist.specs.Images.{Entry, HasRun, IsKept, status_of}
+use Rattle.autopersist.specs.TopCall.{IsAfterTheFirstTurn}
+use Rattle.autopersist.proofs.Causes.{after_first}
 use Rattle.autopersist.proofs.Ran.{of_root, is_opened, has_run, kept_unbegun, kept_begun, told_same}
 use Rattle.autopersist.proofs.image_run.run_opened.Goals as goal
 
@@ -41,3 +43,9 @@ returns-clause-kept g c = λ entry before on settled.
     (kept_begun program entry before m c.args.opened there after acts settled c.run_program-answer.ensures.size
     (c.run_program-answer.ensures.safe entry.told.calls (is_opened program entry before m c.args.opened there c.requires.right settled) there.counts)))
     c.opening_of.ensures.run)
+
+pub returns-clause-begun : goal.returns-clause-begun
+returns-clause-begun g c = λ is.
+    let acts : List Recorded = c.run_program-answer.new.run.acts.acts in
+    after_first acts c.run_program-answer.result c.run_program-answer.ensures.no_memory.1
+    (subst (λ (s : Status). IsAfterTheFirstTurn s) c.of_run.ensures is)
