@@ -1,5 +1,5 @@
 -- What each call of an image does to what a stop may leave.
-use Rattle.std.proofs.Common.{◌≡◌, ◌⊎◌, inl, inr, ⊎_elim, ◌-◌, ℕ, List, [], Option, Some, None, Result, Ok, Err, OnOk, OnErr, true, false, nat_eq, get_or, slice_index, refl, sym, ◌∙◌, ap, subst, arith}
+use Rattle.std.proofs.Common.{◌≡◌, ◌⊎◌, inl, inr, ⊎_elim, ℕ, List, [], Option, Some, None, Result, Ok, Err, OnOk, OnErr, true, false, nat_eq, get_or, slice_index, refl, sym, ◌∙◌, ap, subst, arith}
 use Rattle.std.proofs.lemmas.Bool.{cases_eq}
 use Rattle.std.proofs.lemmas.Bool.Decides.{nat_tests}
 use Rattle.line_image.specs.History.{History, MayLeave, OneHas, newest, versions, versions_after, did, Reads, IsSettled}
@@ -43,6 +43,24 @@ reads-wrote None line at words l w v reads = inr tt
 reads-wrote (Some h) line at words l w v reads =
     ⊎_elim (λ here. inl (here.0, reads ∙ here.1)) (λ other. inr (reads ∙ other)) (wrote_reads line l w words (versions h l))
 
+kept_has : (line l w v : ℕ) (words : List ℕ) (rest : List (List ℕ)) → OneHas rest w v → OneHas (versions_after (Wrote line words) l rest) w v
+kept_has line l w v words rest has = elim (cases_eq line l) [
+  | inl same ↦ let test : nat_eq line l ≡ true = grind (arith, nat_tests) in rw test (inr has)
+  | inr other ↦ let test : nat_eq line l ≡ false = grind (arith, nat_tests) in rw test has
+]
+
+-- a write takes away nothing that a stop may leave
+pub may_leave-kept : (o : Option History) (line at : ℕ) (words : List ℕ) (l w v : ℕ) → MayLeave o l w v → MayLeave (did (Wrote line words) at o) l w v
+may_leave-kept None line at words l w v left = absurd left
+may_leave-kept (Some h) line at words l w v left = kept_has line l w v words (versions h l) left
+
+-- a value that a read gave and that was written again, if at all, is read
+pub reads-kept : (o : Option History) (line at : ℕ) (words : List ℕ) (l w v : ℕ) → (l ≡ line → v ≡ slice_index words w) → ReadsWord o l w v
+    → ReadsWord (did (Wrote line words) at o) l w v
+reads-kept None line at words l w v again reads = tt
+reads-kept (Some h) line at words l w v again reads =
+    ⊎_elim (λ here. again here.0 ∙ sym here.1) (λ other. reads ∙ sym other) (wrote_reads line l w words (versions h l))
+
 -- the word that was written is read
 pub reads-written : (o : Option History) (line at : ℕ) (words : List ℕ) (w : ℕ) → ReadsWord (did (Wrote line words) at o) line w (slice_index words w)
 reads-written None line at words w = tt
@@ -62,7 +80,7 @@ settled_leaves None l w v u settled reads left = absurd left
 settled_leaves (Some h) l w v u settled reads left = settled l w v left ∙ sym reads
 
 -- a word that a read gives in two ways is one
-reads_once : (o : Option History) (l w v u x : ℕ) → MayLeave o l w x → ReadsWord o l w v → ReadsWord o l w u → v ≡ u
+pub reads_once : (o : Option History) (l w v u x : ℕ) → MayLeave o l w x → ReadsWord o l w v → ReadsWord o l w u → v ≡ u
 reads_once None l w v u x left one two = absurd left
 reads_once (Some h) l w v u x left one two = one ∙ sym two
 

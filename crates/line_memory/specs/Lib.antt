@@ -1,3 +1,5 @@
+pub mod Laws
 pub mod Memory
 pub mod Moments
+pub mod Steps
 pub mod StopSet

@@ -1,4 +1,6 @@
--- The moments of a memory: stops within the calls of its image.
+-- The moments of a memory: stops within the calls of its image. As a crash condition, what is said of them holds
+-- at each point of a call, and not only at its end (Chen, Ziegler, Chajed, Chlipala, Kaashoek and Zeldovich, "Using
+-- Crash Hoare Logic for certifying the FSCQ file system", SOSP 2015).
 use Rattle.std.specs.Prelude.{◌≡◌, ◌<◌, ◌≤◌, ◌+◌, ◌-◌, ◌^◌, min, ℕ}
 use Rattle.line_image.specs.History.{Outcome, LeftWithin, history_within}
 use Rattle.line_memory.specs.Memory.{Memory, Told}

@@ -1,32 +1,23 @@
 -- The stop set of a word: what a stop may leave of it though lines are written back at any further moment.
+--
+-- A cached line reaches durable memory at any time after its store, and surely once a write-back (CLWB) that a
+-- fence (SFENCE) followed (Raad, Wickerson, Neiger and Vafeiadis, "Persistency semantics of the Intel-x86
+-- architecture", POPL 2020).
 use Rattle.std.specs.Prelude.{◌≡◌, ◌⊎◌, ℕ, List, [], ◌∷◌, Bool, true, false, ◌&&◌, ◌||◌, ◌==◌, IsTrue}
 use Rattle.line_image.specs.History.{MayLeave}
 use Rattle.line_memory.specs.Memory.{Memory, shown}
-
--- what a call did to the image: it wrote a line, or it fenced, or neither
-pub data Deed : Type 0 where
-  WroteBack : ℕ → Deed
-  Fenced : Deed
-  Neither : Deed
-
--- a call, and the memory after it
-pub record Step : Type 0 where
-  pub deed : Deed
-  pub after : Memory
-
--- the memory after all steps, the newest first
-abbrev pub last : Memory → List Step → Memory
-last first [] = first
-last first (step ∷ steps) = step.after
+use Rattle.line_memory.specs.Steps.{Deed, WroteBack, Fenced, Stored, Neither, Step, last}
 
 abbrev pub is_fence : Deed → Bool
 is_fence Fenced = true
 is_fence (WroteBack l) = false
+is_fence (Stored l w v) = false
 is_fence Neither = false
 
 abbrev pub writes : ℕ → Deed → Bool
 writes l (WroteBack line) = line == l
 writes l Fenced = false
+writes l (Stored line w v) = false
 writes l Neither = false
 
 -- The word showed this value since its line's last write that a fence followed, or since the first memory.

@@ -56,7 +56,7 @@ impl<I: Image> LineMemory<I> {
     /// than 32,768 or more than 4,194,304 lines.
     pub fn attach(alloc: Global, mut image: I) -> Result<LineMemory<I>, (AttachFault, I)>
         ensures size { IfOk result (λ m. m.size ≡ I.size image) }
-        ensures range { IfOk result (λ m. (MIN_LINES ≤ m.size) × (m.size ≤ MAX_LINES)) }
+        ensures range { IfOk result (λ m. (32768 ≤ m.size) × (m.size ≤ 4194304)) }
         ensures known { IfOk result (λ m. (l : ℕ) → l < m.size → IsKnown m l) }
         ensures shows { IfOk result (λ m. (l w : ℕ) → l < m.size
             → ReadsWord (I.history image) l w (shown m l w)) }
@@ -70,7 +70,7 @@ impl<I: Image> LineMemory<I> {
         ensures later { IfOk result (λ m. I.faults image ≤ m.faults) }
 
         ensures size_fault { IfErr result (λ e. e.0 ≡ AttachFault.Size
-            ↔ ((I.size image < MIN_LINES) ⊎ (MAX_LINES < I.size image))) }
+            ↔ ((I.size image < 32768) ⊎ (4194304 < I.size image))) }
         ensures cause { IfErr result (λ e. e.0 ≡ AttachFault.ImageFailed
             → Rose (I.faults image) (I.faults e.1)) }
         ensures same_size { IfErr result (λ e. I.size e.1 ≡ I.size image) }

@@ -1,7 +1,12 @@
 // Each public call once, over an image in memory.
-ghost use Rattle.std.specs.Prelude.{◌≡◌, ◌<◌};
+ghost use Rattle.std.specs.Prelude.{◌≡◌, ◌⊎◌, ◌<◌, OnOk, OnErr};
+ghost use Rattle.line_memory.specs.Memory.{IsResident};
+ghost use Rattle.line_memory.specs.Steps.{WroteBack, Fenced, Stored, Neither, Follows};
 
-use crate::{AttachFault, LineMemory, Touch, laws_of_stop_sets};
+use crate::{
+    AttachFault, LineMemory, Touch, a_fenced_word_stands_alone, a_stop_set_is_exact,
+    laws_of_stop_sets, stop_sets_gain_what_is_stored,
+};
 use ap_base::Spot;
 use line_image::{ClosedImage, Fails, Image, ImageFailed, MemoryImage};
 use std::alloc::{AllocError, Global};
@@ -20,6 +25,38 @@ fn fails(alloc: Global, calls: &[u64]) -> Result<Fails, AllocError> {
 
 fn blank(alloc: Global, lines: u64, calls: &[u64]) -> Result<MemoryImage, AllocError> {
     MemoryImage::new(alloc, lines, fails(alloc, calls)?)
+}
+
+/// A touch is a step that follows the memory before it, and so are the calls below.
+fn touch<I: Image>(memory: &mut LineMemory<I>, line: u32) -> Result<Touch, ImageFailed>
+    requires { line < memory.old.size }
+    ensures { Follows memory.old (record { deed = Neither; after = memory.new }) }
+{
+    memory.touch(line)
+}
+
+fn store<I: Image>(memory: &mut LineMemory<I>, spot: Spot, word: u64)
+    requires { IsResident memory.old spot.line }
+    ensures { Follows memory.old (record { deed = Stored spot.line spot.word word; after = memory.new }) }
+{
+    memory.store(spot, word);
+}
+
+fn write_back<I: Image>(memory: &mut LineMemory<I>, line: u32) -> Result<(), ImageFailed>
+    requires in_range { line < memory.old.size }
+    requires resident { IsResident memory.old line }
+    ensures wrote { OnOk result (Follows memory.old (record { deed = WroteBack line; after = memory.new })) }
+    ensures failed { OnErr result (Follows memory.old (record { deed = WroteBack line; after = memory.new })
+        ⊎ Follows memory.old (record { deed = Neither; after = memory.new })) }
+{
+    memory.write_back(line)
+}
+
+fn fence<I: Image>(memory: &mut LineMemory<I>) -> Result<(), ImageFailed>
+    ensures fenced { OnOk result (Follows memory.old (record { deed = Fenced; after = memory.new })) }
+    ensures failed { OnErr result (Follows memory.old (record { deed = Neither; after = memory.new })) }
+{
+    memory.fence()
 }
 
 /// What the third word of a line shows.
@@ -98,6 +135,28 @@ fn a_fenced_store_is_kept(rt: HostRuntime) -> Result<(), Fail> {
         );
     }
     laws_of_stop_sets();
+    stop_sets_gain_what_is_stored();
+    a_fenced_word_stands_alone();
+    a_stop_set_is_exact();
+    Ok(())
+}
+
+#[test]
+fn each_call_is_a_step(rt: HostRuntime) -> Result<(), Fail> {
+    let alloc = rt.alloc();
+    let Ok(mut memory) = LineMemory::attach(alloc, blank(alloc, LINES, &[])?) else {
+        return Err(Fail::from("attached"));
+    };
+    assert_eq!(rt; touch(&mut memory, 7), Ok(Touch::Ready));
+    if memory.resident(7) {
+        store(&mut memory, Spot { line: 7, word: 2 }, 5);
+    }
+    if memory.resident(7) {
+        assert_eq!(rt; write_back(&mut memory, 7), Ok(()));
+    }
+    assert_eq!(rt; fence(&mut memory), Ok(()));
+    assert_eq!(rt; memory.calls(), LINES + 2);
+    assert_eq!(rt; left(alloc, &memory.into_image(), 0, 7)?, 5);
     Ok(())
 }
 

@@ -1,0 +1,12 @@
+use Rattle.std.proofs.Common.{inl, ap}
+use Rattle.line_memory.specs.Memory.{Told, IsResident}
+use Rattle.line_memory.proofs.tests.touch.Goals as goal
+
+pub returns : goal.returns
+unfolding IsResident
+returns g c =
+    let quiet = c.touch.ensures.quiet c.requires in
+    record {
+      size = c.touch.ensures.size;
+      deed = record { nothing = ap (λ (told : Told). told.history) quiet.image; shows = c.touch.ensures.shows; count = inl quiet };
+    }
