@@ -1,4 +1,5 @@
--- One word of a line memory, changed for good.
+-- One word of a line memory, changed for good: stored, its line written back (CLWB), and then a fence (SFENCE, Intel 64 and IA-32
+-- Architectures Software Developer's Manual, volume 2).
 use Rattle.std.specs.Prelude.{◌≡◌, ◌⊎◌, ℕ}
 use Rattle.line_image.specs.History.{Outcome}
 use Rattle.line_memory.specs.Memory.{Memory, CanLeave}

@@ -1,4 +1,5 @@
--- Write-backs and fences, which store nothing.
+-- Write-backs and fences, which store nothing (CLWB and SFENCE, Intel 64 and IA-32 Architectures Software Developer's Manual,
+-- volume 2).
 use Rattle.std.specs.Prelude.{◌≡◌, ◌<◌, ◌≤◌, ◌^◌, ℕ}
 use Rattle.line_memory.specs.Memory.{Memory, IsResident, IsWritten, SameShown, SameResident, KeepsTelling, Narrows, CanLeaveAll}
 use Rattle.line_memory.specs.Moments.{Goes, CountsFrom}

@@ -1,4 +1,4 @@
--- The parts before the objects, and each part's word of the image.
+-- The parts before the objects, and each part's word of the image. Of this project's own format.
 use Rattle.std.specs.Prelude.{◌≡◌, ℕ, ◌+◌, ◌<◌, ◌≤◌}
 use Rattle.image_layout.specs.Places.{root_slots, directory_words, logs, log_entries, slot_line, slot_word, directory_line, directory_word, log_head_line, log_entry_line, log_entry_word, object_line, object_word}
 

@@ -1,4 +1,4 @@
--- Where each part of an image lies, version 1 of the layout. An image is lines of eight words of 64 bits:
+-- Where each part of an image lies, version 1 of the layout: this project's own format. An image is lines of eight words of 64 bits:
 --   line 0                the superblock
 --   lines 1 to 32         256 root slots, a word each
 --   lines 33 to 4,128     the directory, 32,768 words

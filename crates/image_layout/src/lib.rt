@@ -11,7 +11,7 @@
 //! | from 20,577 | objects, each at a line's start: the head word, a word per slot, zeros |
 //!
 //! A log entry is the place, 8 × line + word, and the old word. An object's head is its shape's number plus 2^32
-//! times its number of slots. An image whose word 0 is 0 is blank.
+//! times its number of slots. An image of a size in range whose word 0 is 0 is blank.
 #![tactic(auto)]
 
 mod laws;

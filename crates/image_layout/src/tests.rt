@@ -130,3 +130,18 @@ fn superblocks(rt: HostRuntime) -> Result<(), Fail> {
     assert_eq!(rt; check_super(&all_wrong, 40_000), Err(BadReason::Magic));
     Ok(())
 }
+
+#[test]
+fn reasons(rt: HostRuntime) -> Result<(), Fail> {
+    for (reason, text) in [
+        (BadReason::Size, "there are too few or too many lines"),
+        (
+            BadReason::Length,
+            "an object has another number of slots than its shape or passes the last line",
+        ),
+        (BadReason::Value, "a slot has a value that it can't have"),
+    ] {
+        assert_eq!(rt; format!(in rt.alloc(); "{reason}")?.as_str(), text);
+    }
+    Ok(())
+}

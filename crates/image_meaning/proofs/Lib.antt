@@ -13,6 +13,7 @@ pub mod Opening
 pub mod Order
 pub mod Pairs
 pub mod Places
+pub mod PuttingBack
 pub mod Ranges
 pub mod Recovering
 pub mod Spelling
@@ -21,4 +22,5 @@ pub mod Standings
 pub mod Stands
 pub mod Steps
 pub mod Stopped
+pub mod WellFormed
 pub mod Words

@@ -3,7 +3,7 @@ use Rattle.std.proofs.Common.{◌≡◌, ◌≢◌, ◌⊎◌, inl, inr, ℕ, ze
 use Rattle.std.specs.Prelude.{not}
 use Rattle.std.proofs.lemmas.Bool.{cases_lt, cases_eq, le-leb, and_parts, eqb-true, eq-eqb, ne_eqb, true≢false, cases_Bool}
 use Rattle.std.proofs.lemmas.List.Folds.{list_any-append, list_any_at}
-use Rattle.std.proofs.lemmas.List.FromFn.{map-range_with_len_more, length-map-range_with_len, get_or-map-range_with_len}
+use Rattle.std.proofs.lemmas.List.FromFn.{length-map-range_with_len, get_or-map-range_with_len}
 use Rattle.image_layout.specs.declared.superblock.BadReason.TheVariants as bad
 use Rattle.image_layout.specs.Places.{logs, log_entries, log_entry_line}
 use Rattle.image_meaning.specs.Checks.{Words, first_fault}
@@ -12,7 +12,7 @@ use Rattle.image_meaning.specs.Logging.{AddsLogged, IsFree, LoggingKeeps, SameBu
 use Rattle.image_meaning.proofs.Faults.{first_fault-none, passes_if}
 use Rattle.image_meaning.proofs.Ranges.{mapped_same}
 use Rattle.image_meaning.proofs.Logs.{logs_below-same}
-use Rattle.image_meaning.proofs.Places.{not_named, log_passes, entry_passes, once}
+use Rattle.image_meaning.proofs.Places.{first_more, not_named, log_passes, entry_passes, once}
 use Rattle.image_meaning.proofs.Recovering.{or_old, old_append, some_or, unchanged_log, emptied_log, logs_still, put_value, put_at}
 use Rattle.image_meaning.proofs.Stopped.{logs_pass}
 
@@ -145,9 +145,6 @@ unnamed_parts c p (suc n) h s below =
       | inl low ↦ unnamed_parts c p n x.1 s low
       | inr high ↦ (let e : s ≡ n = omega (arith, below, high) in rw e x)
     ]
-
-first_more : (c : Words) (t n : ℕ) → first_logged c t (n + 1) ≡ first_logged c t n ++ logged_at c t n ∷ []
-first_more c t n = map-range_with_len_more (logged_at c t) 0 n n (omega arith)
 
 module _ (size : ℕ) (c d : Words) (t place : ℕ) (pass : (s : ℕ) → s < logs → log_fault size c s ≡ None) (there : t < logs)
     (free : IsFree size c place) (adds : AddsLogged c d t place) where

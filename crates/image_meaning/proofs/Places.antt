@@ -1,8 +1,8 @@
 -- The places of logs that pass: each is once, and none lies in front of the objects but a root slot's.
-use Rattle.std.proofs.Common.{◌≡◌, ℕ, suc, ◌/◌, ◌%◌, ◌<◌, ◌≤◌, ◌==◌, ◌&&◌, ◌||◌, Bool, true, false, List, [], ◌∷◌, ◌++◌, length, nat_le, Some, None, refl, sym, ◌∙◌, subst, arith, slice_index_or, if◌then◌else◌}
+use Rattle.std.proofs.Common.{◌≡◌, ℕ, suc, ◌+◌, ◌/◌, ◌%◌, ◌<◌, ◌≤◌, ◌==◌, ◌&&◌, ◌||◌, Bool, true, false, List, [], ◌∷◌, ◌++◌, length, nat_le, Some, None, refl, sym, ◌∙◌, subst, arith, slice_index_or, if◌then◌else◌}
 use Rattle.std.specs.Prelude.{not}
 use Rattle.std.proofs.lemmas.Bool.{and_parts, eq-eqb, eqb-true, leb-true, not-true, true≢false}
-use Rattle.std.proofs.lemmas.List.FromFn.{length-map-range_with_len, get_or-map-range_with_len}
+use Rattle.std.proofs.lemmas.List.FromFn.{map-range_with_len_more, length-map-range_with_len, get_or-map-range_with_len}
 use Rattle.std.proofs.lemmas.List.Folds.{list_any-append}
 use Rattle.image_layout.specs.declared.superblock.BadReason.TheVariants as bad
 use Rattle.image_layout.specs.Places.{log_entries, log_head_line, log_entry_line}
@@ -12,6 +12,9 @@ use Rattle.image_meaning.proofs.Faults.{first_fault-passes, both_none}
 
 abbrev no_entry : Logged
 no_entry = record { place = 0; old = 0 }
+
+pub first_more : (c : Words) (t n : ℕ) → first_logged c t (n + 1) ≡ first_logged c t n ++ logged_at c t n ∷ []
+first_more c t n = map-range_with_len_more (logged_at c t) 0 n n (omega arith)
 
 -- an old word that is found is that of an entry
 found_in : (entries : List Logged) (line word old : ℕ) → old_word entries line word ≡ Some old
@@ -81,7 +84,7 @@ entry_passes size c t n h =
     (parts.0, split.0, split.1)
 
 -- which entry of log t an old word is that of
-in_log : (c : Words) (t line word old : ℕ) → old_word (log_of c t) line word ≡ Some old
+pub in_log : (c : Words) (t line word old : ℕ) → old_word (log_of c t) line word ≡ Some old
     → (n : ℕ) × (n < log_count c t) × (is_place (logged_at c t n).place line word ≡ true)
 in_log c t line word old h =
     let found = found_in (log_of c t) line word old h in

@@ -1,6 +1,6 @@
 -- An image that stands for a graph, and isn't blank, opens.
 use Rattle.std.proofs.Common.{◌≡◌, ◌≢◌, ℕ, ◌≤◌, ◌==◌, Bool, true, false, nat_le, Option, Some, None, Result, Ok, Err, refl, if◌then◌else◌}
-use Rattle.std.proofs.lemmas.Bool.{ne_eqb, leb-true, le-leb}
+use Rattle.std.proofs.lemmas.Bool.{ne_eqb, eqb-true, leb-true, le-leb}
 use Rattle.graph_model.specs.declared.types.Graph.{Graph}
 use Rattle.image_layout.specs.declared.superblock.BadReason.{BadReason}
 use Rattle.image_layout.specs.declared.superblock.BadReason.TheVariants.{Size, Magic, Version, LineCount, DirectoryUse}
@@ -44,24 +44,38 @@ held : (b : Bool) (reason : BadReason) (later : Option BadReason) → checked b 
 held true reason later h = (refl, h)
 held false reason later h = absurd (let bad : Option BadReason = Some reason in let e : bad ≡ None = h in cc)
 
--- no more words are in use than there are
-pub use-within : (size : ℕ) (line : ℕ → ℕ) → line 0 ≢ 0 → super_check line size ≡ None → line 3 ≤ directory_words
-use-within size line used h =
+-- the tests of a superblock in use hold
+used_parts : (size : ℕ) (line : ℕ → ℕ) → line 0 ≢ 0 → super_check line size ≡ None
+    → (has_size size ≡ true) × ((line 0 == magic) ≡ true) × ((line 1 == version) ≡ true) × ((line 2 == size) ≡ true)
+    × (nat_le (line 3) directory_words ≡ true)
+used_parts size line used h =
     let isnt : (line 0 == 0) ≡ false = ne_eqb (line 0) 0 used in
     let a = held (has_size size) Size (if line 0 == 0 then None else used_check line size) h in
     let b = held (line 0 == magic) Magic _ (rw isnt at a.1) in
     let c = held (line 1 == version) Version _ b.1 in
     let d = held (line 2 == size) LineCount _ c.1 in
     let e = held (nat_le (line 3) directory_words) DirectoryUse _ d.1 in
-    leb-true (line 3) directory_words e.0
+    (a.0, b.0, c.0, d.0, e.0)
+
+-- it begins with the magic word
+pub used-magic : (size : ℕ) (line : ℕ → ℕ) → line 0 ≢ 0 → super_check line size ≡ None → line 0 ≡ magic
+used-magic size line used h = eqb-true (line 0) magic (used_parts size line used h).1
+
+-- no more words are in use than there are
+pub use-within : (size : ℕ) (line : ℕ → ℕ) → line 0 ≢ 0 → super_check line size ≡ None → line 3 ≤ directory_words
+use-within size line used h = leb-true (line 3) directory_words (used_parts size line used h).4
 
 -- with any number of words in use that there are
 pub used-still : (size : ℕ) (line other : ℕ → ℕ) → line 0 ≢ 0 → super_check line size ≡ None → other 0 ≡ line 0 → other 1 ≡ line 1
     → other 2 ≡ line 2 → other 3 ≤ directory_words → super_check other size ≡ None
 used-still size line other used h zeroth first second room =
     let isnt : (line 0 == 0) ≡ false = ne_eqb (line 0) 0 used in
-    let a = held (has_size size) Size (if line 0 == 0 then None else used_check line size) h in
-    let b = held (line 0 == magic) Magic _ (rw isnt at a.1) in
-    let c = held (line 1 == version) Version _ b.1 in
-    let d = held (line 2 == size) LineCount _ c.1 in
-    rw (zeroth, first, second, a.0, isnt, b.0, c.0, d.0, le-leb (other 3) directory_words room) refl
+    let parts = used_parts size line used h in
+    rw (zeroth, first, second, parts.0, isnt, parts.1, parts.2, parts.3, le-leb (other 3) directory_words room) refl
+
+-- an image that stands for a graph has a size in range
+pub standing-sized : (size : ℕ) (words : Words) (graph : Graph) → StandsFor size words graph → has_size size ≡ true
+unfolding meaning
+standing-sized size words graph stands =
+    let a = after_ok (at_super (super_check (words 0) size)) (graph_after_super size words) graph stands in
+    (held (has_size size) Size (if words 0 0 == 0 then None else used_check (words 0) size) (super_ok (super_check (words 0) size) a.0)).0

@@ -12,7 +12,8 @@ use Rattle.graph_model.specs.declared.types.Node.{Node}
 use Rattle.graph_model.specs.declared.types.Heap.{Heap}
 use Rattle.graph_model.specs.declared.types.Graph.{Graph}
 use Rattle.graph_model.specs.Heaps.{no_shape, no_object}
-use Rattle.graph_model.specs.Canon.{canon_of}
+use Rattle.graph_model.specs.Canon.{found_from, canon_of}
+use Rattle.graph_model.proofs.FoundAfter.{found_after-past}
 use Rattle.image_layout.specs.Places.{min_lines, max_lines, directory_words, log_entries, slot_line, slot_word, directory_line, directory_word, log_head_line, log_entry_line, log_entry_word, object_line, object_word}
 use Rattle.image_meaning.specs.Checks.{Words, Bad, ◌>>=◌}
 use Rattle.image_meaning.specs.Entries.{Entry, ShapeEntry, RootEntry, IsEntry}
@@ -26,7 +27,7 @@ use Rattle.image_meaning.specs.Appending.{AddsEntry, with_root, with_null_root, 
 use Rattle.image_meaning.proofs.Ranges.{get_or_any, mapped_alike}
 use Rattle.image_meaning.proofs.Changes.{corresponds-same}
 use Rattle.image_meaning.proofs.Opened.{stands, stands-same, put_back-agrees}
-use Rattle.image_meaning.proofs.Standing.{after_ok, bind_ok, opens-standing, use-within}
+use Rattle.image_meaning.proofs.Standing.{after_ok, bind_ok, opens-standing, standing-sized, use-within}
 use Rattle.image_meaning.proofs.Order.{blank-stands}
 use Rattle.image_meaning.proofs.Places.{log_passes}
 use Rattle.image_meaning.proofs.Stopped.{logs_pass}
@@ -67,6 +68,36 @@ unfolding meaning graph_from
 found-stands size words directory lines finds =
     let opens = finds.opens in
     rw (opens.super, ne_eqb (words 0 0) 0 opens.used, opens.entries, opens.logs, finds.roots, finds.walk) refl
+
+ok_same : {A : Type 0} (r : Result A Bad) (x y : A) → r ≡ Ok x → r ≡ Ok y → x ≡ y
+ok_same {A} r x y a b = let left : Result A Bad = Ok x in let e : left ≡ Ok y = sym a ∙ b in cc
+
+-- ---- the graph is canonical
+
+nothing_found : (heap : Heap) → found_from heap [] ≡ []
+unfolding found_from
+nothing_found heap = found_after-past heap [] 0 (omega arith) (length heap.objects) (omega arith)
+
+no_roots : (roots : List Root) → map (λ (root : Root). root.name) roots ≡ [] → roots ≡ []
+no_roots [] h = refl
+no_roots (root ∷ roots) h = absurd (cc)
+
+canon-empty : (heap : Heap) → HoldsGraph heap empty_graph → canon_of heap ≡ empty_graph
+unfolding canon_of
+canon-empty heap holds = rw (holds.values, nothing_found heap, no_roots heap.roots holds.names) refl
+
+-- the graph for which an image stands is that of each heap that holds it
+pub canon-standing : (size : ℕ) (words : Words) (graph : Graph) (heap : Heap) → StandsFor size words graph → HoldsGraph heap graph
+    → canon_of heap ≡ graph
+canon-standing size words graph heap stand holds = elim (cases_eq (words 0 0) 0) [
+  | inl zero ↦ (
+      let empty : empty_graph ≡ graph = ok_same (meaning size words) empty_graph graph (blank-stands size words (standing-sized size words graph stand, zero)) stand in
+      subst (λ g. canon_of heap ≡ g) empty (canon-empty heap (subst (λ g. HoldsGraph heap g) (sym empty) holds)))
+  | inr used ↦ (
+      let f = standing-found size words graph used stand in
+      ok_same (meaning size words) (canon_of heap) graph
+      (stands (found_at f.lines) size words f.directory heap f.finds.opens (f.corresponds heap holds)) stand)
+]
 
 -- ---- a heap that holds a graph
 
@@ -125,9 +156,6 @@ no_static graph =
 
 -- ---- one more entry
 
-ok_same : {A : Type 0} (r : Result A Bad) (x y : A) → r ≡ Ok x → r ≡ Ok y → x ≡ y
-ok_same {A} r x y a b = let left : Result A Bad = Ok x in let e : left ≡ Ok y = sym a ∙ b in cc
-
 -- an image corresponds to a heap of its graph
 heap_found : (size : ℕ) (c : Words) (directory : Directory) (graph : Graph) → Opens size c directory → StandsFor size c graph
     → (lines : List ℕ) × Corresponds (found_at lines) directory size (put_back c) (heap_of graph) × (canon_of (heap_of graph) ≡ graph)
@@ -136,11 +164,8 @@ heap_found size c directory graph opens stand =
     let here : f.directory ≡ directory = ok_same (directory_of c) f.directory directory f.finds.opens.entries opens.entries in
     let k = f.corresponds (heap_of graph) (heap_holds graph) in
     let there : Corresponds (found_at f.lines) directory size (put_back c) (heap_of graph) =
-    subst (λ d. Corresponds (found_at f.lines) d size (put_back c) (heap_of graph)) here k in (
-      f.lines,
-      there,
-      ok_same (meaning size c) (canon_of (heap_of graph)) graph (stands (found_at f.lines) size c directory (heap_of graph) opens there) stand,
-    )
+    subst (λ d. Corresponds (found_at f.lines) d size (put_back c) (heap_of graph)) here k in
+    (f.lines, there, canon-standing size c graph (heap_of graph) stand (heap_holds graph))
 
 -- the same of words that agree behind the directory
 heap_kept : (size : ℕ) (c d : Words) (directory : Directory) (graph : Graph) (lines : List ℕ)

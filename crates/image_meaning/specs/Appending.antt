@@ -1,4 +1,4 @@
--- A directory with one more entry: what the image then stands for.
+-- A directory with one more entry: what the image then stands for. Of this project's own format.
 use Rattle.std.specs.Prelude.{◌≡◌, ℕ, ◌+◌, ◌<◌, ◌≤◌, Bool, false, List, [], ◌∷◌, ◌++◌, length, slice_index_or}
 use Rattle.graph_model.specs.declared.types.Value.TheVariants.{Null}
 use Rattle.graph_model.specs.declared.types.Shape.{Shape}

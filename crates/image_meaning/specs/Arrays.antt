@@ -1,4 +1,5 @@
--- Images without objects, and images of one array of ints that one durable root refers to.
+-- Images without objects, and images of one array of ints (JVMS 2.3.1, 2.4) that one durable root refers to (Shull, Huang and Torrellas,
+-- "AutoPersist", PLDI 2019). Of this project's own format.
 use Rattle.std.specs.Prelude.{◌≡◌, ℕ, ◌+◌, ◌*◌, ◌^◌, ◌<◌, ◌≤◌, ℤ, pos, List, [], ◌∷◌, length, map, slice_index_or, Some}
 use Rattle.std.specs.Int.{w32, cast_signed}
 use Rattle.ap_base.specs.declared.kind.Kind.TheVariants.{I}

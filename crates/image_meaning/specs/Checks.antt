@@ -1,4 +1,4 @@
--- The words of an image, and checks of them. A check fails at a line, for a reason; the first that fails counts.
+-- The words of an image, and checks of them. A check fails at a line, for a reason; the first that fails counts. Of this project's own format.
 use Rattle.std.specs.Prelude.{ℕ, zero, suc, Bool, true, false, Option, Some, None, Result, Ok, Err}
 use Rattle.image_layout.specs.declared.superblock.BadReason.{BadReason}
 

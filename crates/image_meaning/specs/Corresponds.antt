@@ -1,4 +1,5 @@
--- When the words of an image correspond to a plain heap: a relation tells which object lies at which line.
+-- When the words of an image correspond to a plain heap (JVMS 2.4, 2.5.3): a relation tells which object lies at which line. The words are of
+-- this project's own format.
 use Rattle.std.specs.Prelude.{◌≡◌, ◌≢◌, ◌⊎◌, ℕ, ◌+◌, ◌*◌, ◌<◌, ◌≤◌, true, List, length, map, slice_index_or}
 use Rattle.ap_base.specs.declared.kind.Kind.{Kind}
 use Rattle.ap_base.specs.declared.kind.Kind.TheVariants.{L}

@@ -1,5 +1,6 @@
--- The directory of an image: shapes and durable roots, numbered separately, in the order of their entries.
-use Rattle.std.specs.Prelude.{◌≡◌, ◌<◌, false, slice_index_or, ℕ, zero, suc, ◌+◌, ◌||◌, nat_le, Bool, List, [], ◌∷◌, ◌++◌, length, map, if◌then◌else◌, Option, Some, None, Result, Ok, Err}
+-- The directory of an image: shapes and durable roots (Shull, Huang and Torrellas, "AutoPersist", PLDI 2019), numbered separately, in the order
+-- of their entries. Of this project's own format.
+use Rattle.std.specs.Prelude.{◌≡◌, ◌<◌, true, false, slice_index_or, ℕ, zero, suc, ◌+◌, ◌||◌, nat_le, Bool, List, [], ◌∷◌, ◌++◌, length, map, if◌then◌else◌, Option, Some, None, Result, Ok, Err}
 use Rattle.std.specs.List.{list_any, range_with_len}
 use Rattle.std.specs.Str.{bytes_eq}
 use Rattle.graph_model.specs.declared.types.Shape.{Shape}
@@ -69,6 +70,18 @@ abbrev pub AreEntries : Directory → List Entry → Type 0
 AreEntries directory [] = Unit {0}
 AreEntries directory (entry ∷ entries) =
     IsEntry entry × (is_refused directory entry ≡ false) × AreEntries (with_entry directory entry) entries
+
+-- no entry that may stand there begins these words
+abbrev pub NoEntryBegins : Directory → List ℕ → Type 0
+NoEntryBegins directory words = (entry : Entry) (rest : List ℕ) → IsEntry entry → words ≡ spelled entry ++ rest
+    → is_refused directory entry ≡ true
+
+-- The words spell these entries, and behind them stand words that no further entry begins.
+pub record BreaksOff (directory : Directory) (words : List ℕ) (entries : List Entry) (rest : List ℕ) : Type 0 where
+  pub spelled : words ≡ spelled_all entries ++ rest
+  pub before : AreEntries directory entries
+  pub more : 0 < length rest
+  pub none : NoEntryBegins (with_all directory entries) rest
 
 -- The words of the image's directory spell these entries, and no more are in use.
 pub record Spells (words : Words) (entries : List Entry) : Type 0 where

@@ -1,5 +1,7 @@
--- The entries of an image's directory, as words: a shape, or a durable root's name. A name is spelled eight bytes a word, the first byte
--- the lowest, and filled with zeros. Class names and descriptors are those of JVMS 4.2.1 and 4.3.2.
+-- The entries of an image's directory, as words: a shape, or a durable root's name. Of this project's own format. A name is spelled eight bytes
+-- a word, the first byte the lowest, and filled with zeros. The name of an array's shape is its descriptor (JVMS 4.3.2, in the modified UTF-8 of
+-- 4.4.7, without float and double). Any other name may be any bytes: java/lang/String alone has a meaning, and whether a class can have the name
+-- (JVMS 4.2.1) isn't asked.
 use Rattle.std.specs.Prelude.{◌≡◌, ◌≢◌, ◌<◌, ℕ, zero, suc, ◌+◌, ◌-◌, ◌*◌, ◌/◌, ◌%◌, ◌^◌, ◌==◌, ◌&&◌, nat_eq, min, Bool, true, false, List, [], ◌∷◌, ◌++◌, length, take, drop, is_some, is_none, if◌then◌else◌, Option, Some, None}
 use Rattle.std.specs.List.{starts_with, AllByRecursion}
 use Rattle.std.specs.Str.{bytes_eq}

@@ -1,5 +1,6 @@
--- The laws of what an image stands for. In a law a test tells which object lies at a line.
-use Rattle.std.specs.Prelude.{◌≡◌, ◌≢◌, ℕ, ◌<◌, ◌≤◌, Bool, true, false, List, length, Some, None, Ok, Err}
+-- The laws of what an image stands for. In a law a test tells which object lies at a line. Of this project's own format; heaps and values are
+-- those of JVMS 2.3, 2.4 and 2.5.3.
+use Rattle.std.specs.Prelude.{◌≡◌, ◌≢◌, ℕ, ◌/◌, ◌%◌, ◌<◌, ◌≤◌, Bool, true, false, List, length, Some, None, Ok, Err}
 use Rattle.ap_base.specs.declared.place.Place.TheVariants.{Static, Slot}
 use Rattle.graph_model.specs.declared.types.Value.{Value}
 use Rattle.graph_model.specs.declared.types.Heap.{Heap}
@@ -9,8 +10,8 @@ use Rattle.image_layout.specs.declared.superblock.BadReason.{BadReason}
 use Rattle.image_layout.specs.Places.{logs, directory_line, directory_word, IsBlank, super_check}
 use Rattle.image_meaning.specs.Checks.{Words, Bad}
 use Rattle.image_meaning.specs.Entries.{Entry}
-use Rattle.image_meaning.specs.Directories.{Directory, directory_of, with_entries, spelled_all, with_all, AreEntries}
-use Rattle.image_meaning.specs.Logs.{logs_below, logs_fault, is_log_line, put_back, put_each, SameLogs}
+use Rattle.image_meaning.specs.Directories.{Directory, no_entries, bad_entry, directory_words_of, directory_of, with_entries, spelled_all, with_all, AreEntries, BreaksOff}
+use Rattle.image_meaning.specs.Logs.{log_count, logged_at, logs_below, logs_fault, is_place, is_log_line, put_back, put_each, SameLogs}
 use Rattle.image_meaning.specs.Objects.{shape_of, kind_of, object_slot}
 use Rattle.image_meaning.specs.Meaning.{root_word, roots_fault, root_values_of, walk, empty_graph, meaning, StandsFor}
 use Rattle.image_meaning.specs.Corresponds.{LiesAt, Holds, HoldsReference, Corresponds, SameWords, SameButSlot, SameButRoot, SameObjects, Either, CanJoin, root_static}
@@ -54,6 +55,15 @@ abbrev pub PutBackOneByOne : Type 0
 PutBackOneByOne = (words : Words) (line word : ℕ) → is_log_line line ≡ false
     → put_back words line word ≡ put_each (logs_below words logs) words line word
 
+-- The counted entries of the logs 0 to 63 are put back, and nothing else is: where the logs pass, the place of each gets its old word, and a
+-- word outside the logs that none of them names stays as it is.
+pub record CountedEntriesArePutBack : Type 0 where
+  pub each : (size : ℕ) (words : Words) (t n : ℕ) → logs_fault size words ≡ None → t < 64 → n < log_count words t
+      → put_back words ((logged_at words t n).place / 8) ((logged_at words t n).place % 8) ≡ (logged_at words t n).old
+  pub others : (words : Words) (line word : ℕ) → is_log_line line ≡ false
+      → ((t n : ℕ) → t < 64 → n < log_count words t → is_place (logged_at words t n).place line word ≡ false)
+      → put_back words line word ≡ words line word
+
 -- A directory is read exactly where its words spell entries that may stand there, in their order.
 pub record DirectoriesAreRead : Type 0 where
   pub again : (entries : List Entry) (most at : ℕ) (directory : Directory) → AreEntries directory entries → length entries ≤ most
@@ -61,6 +71,16 @@ pub record DirectoriesAreRead : Type 0 where
   pub taken : (most at : ℕ) (directory given : Directory) (words : List ℕ) → with_entries most at directory words ≡ Ok given
       → (entries : List Entry) × (words ≡ spelled_all entries) × AreEntries directory entries
       × (given ≡ with_all directory entries)
+
+-- A directory is bad exactly where entries that may stand there are followed by words that no further one begins. The line is that of the
+-- first of these words.
+pub record BadDirectoriesAreTold : Type 0 where
+  pub told : (words : Words) (entries : List Entry) (rest : List ℕ)
+      → BreaksOff no_entries (directory_words_of words (words 0 3)) entries rest
+      → directory_of words ≡ Err (bad_entry (length (spelled_all entries)))
+  pub only : (words : Words) (bad : Bad) → directory_of words ≡ Err bad
+      → (entries : List Entry) × (rest : List ℕ) × BreaksOff no_entries (directory_words_of words (words 0 3)) entries rest
+      × (bad ≡ bad_entry (length (spelled_all entries)))
 
 -- ---- words that correspond to a heap
 

@@ -1,4 +1,5 @@
--- What entries of logs do to the words that are put back: an entry is added, a logged word is stored to, and a log is emptied.
+-- What entries of logs do to the words that are put back: an entry is added, a logged word is stored to, and a log is emptied. These are the undo
+-- logs of failure-atomic regions (Shull, Huang and Torrellas, "AutoPersist", PLDI 2019), of this project's own format.
 use Rattle.std.specs.Prelude.{◌≡◌, ◌≢◌, ℕ, suc, ◌/◌, ◌%◌, ◌<◌, true, false, None, Some}
 use Rattle.image_layout.specs.Places.{logs, log_entries}
 use Rattle.image_meaning.specs.Checks.{Words}

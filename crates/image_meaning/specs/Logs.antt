@@ -1,4 +1,5 @@
--- The logs of an image, and the words once their entries are put back.
+-- The logs of an image, and the words once their entries are put back. These are the undo logs of failure-atomic regions (Shull, Huang and
+-- Torrellas, "AutoPersist", PLDI 2019), of this project's own format.
 use Rattle.std.specs.Prelude.{◌≡◌, ◌<◌, ℕ, zero, suc, ◌+◌, ◌/◌, ◌%◌, ◌==◌, ◌&&◌, ◌||◌, not, nat_le, nat_lt, Bool, List, [], ◌∷◌, ◌++◌, map, if◌then◌else◌, Option, Some, None}
 use Rattle.std.specs.List.{list_any, range_with_len}
 use Rattle.image_layout.specs.declared.superblock.BadReason.TheVariants as bad

@@ -1,5 +1,6 @@
--- The graph that an image stands for, or the first check that fails.
-use Rattle.std.specs.Prelude.{◌≡◌, ℕ, zero, suc, ◌==◌, nat_lt, List, [], length, map, take, slice_index_or, if◌then◌else◌, Option, Some, None, Result, Ok}
+-- The graph that an image stands for, or the first check that fails. What the durable roots reach is kept (Shull, Huang and Torrellas,
+-- "AutoPersist", PLDI 2019); the words are of this project's own format.
+use Rattle.std.specs.Prelude.{◌≡◌, ◌≢◌, ℕ, zero, suc, ◌==◌, nat_lt, List, [], length, map, take, slice_index_or, if◌then◌else◌, Option, Some, None, Result, Ok}
 use Rattle.std.specs.List.{range_with_len}
 use Rattle.ap_base.specs.declared.kind.Kind.TheVariants.{L}
 use Rattle.graph_model.specs.declared.types.Value.{Value}
@@ -105,6 +106,6 @@ meaning size words = after_check (at_super (super_check (words 0) size)) (graph_
 abbrev pub StandsFor : ℕ → Words → Graph → Type 0
 StandsFor size words graph = meaning size words ≡ Ok graph
 
--- No check fails. A blank image is one of these.
+-- No check fails. That of the magic word does where an image is blank: it stands for a graph, and yet isn't well formed.
 abbrev pub IsWellFormed : ℕ → Words → Type 0
-IsWellFormed size words = (graph : Graph) × StandsFor size words graph
+IsWellFormed size words = (words 0 0 ≢ 0) × (graph : Graph) × StandsFor size words graph

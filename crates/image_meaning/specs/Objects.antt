@@ -1,4 +1,4 @@
--- The objects of an image, and the checks of one. Values are those of JVMS 2.3 and 2.4.
+-- The objects of an image, and the checks of one. Values are those of JVMS 2.3 and 2.4, their words of this project's own format.
 use Rattle.std.specs.Prelude.{ℕ, ◌+◌, ◌/◌, ◌%◌, ◌^◌, ◌==◌, ◌&&◌, ◌||◌, not, nat_le, nat_lt, Bool, true, false, List, length, map, pos, slice_index_or, if◌then◌else◌, Option, Some, None}
 use Rattle.std.specs.Int.{w32, w64, cast_signed}
 use Rattle.std.specs.List.{list_any, range_with_len}

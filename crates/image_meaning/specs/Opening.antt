@@ -1,17 +1,18 @@
--- An image that stands for a graph corresponds to each heap that holds the graph.
-use Rattle.std.specs.Prelude.{◌∷◌, ◌+◌, max, ◌≡◌, ◌≢◌, ℕ, ◌<◌, ◌≤◌, List, [], length, map, slice_index_or, None, Ok}
+-- An image that stands for a graph corresponds to each heap that holds the graph, and the graph is canonical. Of this project's own format.
+use Rattle.std.specs.Prelude.{◌∷◌, ◌+◌, max, ◌≡◌, ◌≢◌, ◌↔◌, ℕ, ◌<◌, ◌≤◌, List, [], length, map, slice_index_or, None, Ok}
 use Rattle.graph_model.specs.declared.types.Root.{Root}
 use Rattle.graph_model.specs.declared.types.NamedValue.{NamedValue}
 use Rattle.graph_model.specs.declared.types.Node.{Node}
 use Rattle.graph_model.specs.declared.types.Graph.{Graph}
 use Rattle.graph_model.specs.declared.types.Heap.{Heap}
 use Rattle.graph_model.specs.Heaps.{no_shape, object_at, shape_at, values_of, root_values}
-use Rattle.image_layout.specs.Places.{first_object_line, lines_of}
+use Rattle.graph_model.specs.Canon.{canon_of}
+use Rattle.image_layout.specs.Places.{magic, first_object_line, lines_of}
 use Rattle.image_meaning.specs.Checks.{Words}
 use Rattle.image_meaning.specs.Directories.{Directory}
 use Rattle.image_meaning.specs.Logs.{put_back}
 use Rattle.image_meaning.specs.Objects.{length_at}
-use Rattle.image_meaning.specs.Meaning.{root_values_of, roots_fault, walk, graph_found, StandsFor}
+use Rattle.image_meaning.specs.Meaning.{root_values_of, roots_fault, walk, graph_found, StandsFor, IsWellFormed}
 use Rattle.image_meaning.specs.Corresponds.{LiesAt, Corresponds}
 use Rattle.image_meaning.specs.Laws.{Opens}
 
@@ -38,6 +39,14 @@ pub record Finds (size : ℕ) (words : Words) (directory : Directory) (lines : L
   pub opens : Opens size words directory
   pub roots : roots_fault size (put_back words) (length directory.roots) ≡ None
   pub walk : walk directory.shapes size (put_back words) (root_values_of (put_back words) (length directory.roots)) size ≡ Ok lines
+
+-- None of the checks fails: those of the superblock, the magic word's among them, of the directory, of the logs, of the root slots and of
+-- the objects.
+abbrev pub PassesAll : ℕ → Words → Type 0
+PassesAll size words = (words 0 0 ≡ magic) × (directory : Directory) × (lines : List ℕ) × Finds size words directory lines
+
+abbrev pub WellFormedImagesPass : Type 0
+WellFormedImagesPass = (size : ℕ) (words : Words) → IsWellFormed size words ↔ PassesAll size words
 
 -- Lines are found that give the graph, and their objects correspond to each heap that holds it.
 pub record FoundImage (size : ℕ) (words : Words) (graph : Graph) : Type 0 where
@@ -66,3 +75,8 @@ free_line words (line ∷ lines) = max (line + lines_of (length_at words line)) 
 abbrev pub FoundObjectsLieBefore : Type 0
 FoundObjectsLieBefore = (words : Words) (lines : List ℕ) (line n : ℕ) → found_at lines line n
     → line + lines_of (length_at words line) ≤ free_line words lines
+
+-- The graph for which an image stands is canonical: each heap that holds it has it as its own.
+abbrev pub StandingGraphsAreCanonical : Type 0
+StandingGraphsAreCanonical = (size : ℕ) (words : Words) (graph : Graph) (heap : Heap) → StandsFor size words graph
+    → HoldsGraph heap graph → canon_of heap ≡ graph

@@ -1,4 +1,4 @@
--- What a stop within a recovery leaves: some words put back, and some logs emptied after all of theirs were.
+-- What a stop within a recovery leaves: some words put back, and some logs emptied after all of theirs were. Of this project's own format.
 use Rattle.std.specs.Prelude.{◌≡◌, ◌≢◌, ◌⊎◌, ℕ, ◌<◌, false, Some}
 use Rattle.graph_model.specs.declared.types.Graph.{Graph}
 use Rattle.image_layout.specs.Places.{logs}

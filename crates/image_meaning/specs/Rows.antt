@@ -1,5 +1,5 @@
--- Rows worked out by hand: superblocks, entries, logs, and the checks of small objects.
-use Rattle.std.specs.Prelude.{◌<◌, ◌≤◌, ◌++◌, false, map, ◌≡◌, ℕ, ◌+◌, ◌*◌, ◌^◌, ◌==◌, true, negsuc, List, [], ◌∷◌, slice_index, if◌then◌else◌, Option, Some, None, Ok, Err}
+-- Rows worked out by hand: superblocks, entries, logs, and the checks of small objects. Of this project's own format.
+use Rattle.std.specs.Prelude.{◌<◌, ◌≤◌, ◌++◌, false, map, ◌≡◌, ℕ, ◌+◌, ◌*◌, ◌^◌, ◌==◌, true, negsuc, List, [], ◌∷◌, slice_index, codes, if◌then◌else◌, Option, Some, None, Ok, Err}
 use Rattle.std.specs.List.{range_with_len}
 use Rattle.ap_base.specs.declared.kind.Kind.TheVariants.{Z, B, C, I, J, L}
 use Rattle.graph_model.specs.declared.types.Value.TheVariants.{Int, Long, Obj as Object}
@@ -7,7 +7,7 @@ use Rattle.graph_model.specs.declared.types.Shape.{Shape}
 use Rattle.image_layout.specs.declared.superblock.BadReason.TheVariants as bad
 use Rattle.image_layout.specs.Places.{magic, log_head_line}
 use Rattle.image_meaning.specs.Checks.{Words, Bad, first_fault}
-use Rattle.image_meaning.specs.Entries.{ShapeEntry, RootEntry, spelled, read_entry}
+use Rattle.image_meaning.specs.Entries.{ShapeEntry, RootEntry, spelled, string_name, read_entry}
 use Rattle.image_meaning.specs.Directories.{Directory, no_entries, is_refused, with_entries}
 use Rattle.image_meaning.specs.Logs.{log_count, logged_at, entry_fault, log_fault, put_each}
 use Rattle.image_meaning.specs.Objects.{value_of, word_fault, values_at, object_fault}
@@ -60,9 +60,20 @@ pair_words = (1 + 2 ^ 32 * 7) ∷ (1 + 2 ^ 32 * 2) ∷ 78 ∷ (73 + 2 ^ 32 * 1) 
 abbrev pub array_words : List ℕ
 array_words = (1 + 2 ^ 32 * 3) ∷ 2 ∷ 0x495B ∷ []
 
+abbrev pub string_shape : Shape
+string_shape = record { name = codes "java/lang/String"; fields = []; element = Some C }
+
+-- java/lang/String: an entry of so many words, with so many fields
+abbrev pub string_words : ℕ → ℕ → List ℕ
+string_words words fields = (1 + 2 ^ 32 * words) ∷ (16 + 2 ^ 32 * fields) ∷ 0x6E616C2F6176616A ∷ 0x676E697274532F67 ∷ []
+
 -- the root Main.list: two words of name
 abbrev pub root_words : List ℕ
 root_words = (2 + 2 ^ 32 * 4) ∷ 9 ∷ 0x73696C2E6E69614D ∷ 0x74 ∷ []
+
+-- the field `int v`
+abbrev pub one_field : List ℕ
+one_field = (73 + 2 ^ 32 * 1) ∷ 118 ∷ []
 
 pub record EntryRows : Type 0 where
   pub pair : spelled (ShapeEntry pair_shape) ≡ pair_words
@@ -76,7 +87,12 @@ pub record EntryRows : Type 0 where
   pub not_filled_with_zeros : read_entry ((2 + 2 ^ 32 * 3) ∷ 1 ∷ 0x141 ∷ []) ≡ None
   pub letter_of_float : read_entry ((1 + 2 ^ 32 * 5) ∷ (1 + 2 ^ 32 * 1) ∷ 78 ∷ (70 + 2 ^ 32 * 1) ∷ 118 ∷ []) ≡ None
   pub array_of_floats : read_entry ((1 + 2 ^ 32 * 3) ∷ 2 ∷ 0x465B ∷ []) ≡ None
-  pub array_with_a_field : read_entry ((1 + 2 ^ 32 * 5) ∷ (2 + 2 ^ 32 * 1) ∷ 0x495B ∷ (73 + 2 ^ 32 * 1) ∷ 118 ∷ []) ≡ None
+  pub string_s_name : string_name ≡ codes "java/lang/String"
+  pub string_read : read_entry (string_words 4 0) ≡ Some (ShapeEntry string_shape, [])
+  pub string_with_a_field : read_entry (string_words 6 1 ++ one_field) ≡ None
+  pub name_of_any_bytes : read_entry ((1 + 2 ^ 32 * 3) ∷ 1 ∷ 0xFF ∷ [])
+      ≡ Some (ShapeEntry (record { name = 255 ∷ []; fields = []; element = None }), [])
+  pub array_with_a_field : read_entry ((1 + 2 ^ 32 * 5) ∷ (2 + 2 ^ 32 * 1) ∷ 0x495B ∷ one_field) ≡ None
 
 -- ---- directories
 
@@ -102,6 +118,7 @@ pub record DirectoryRows : Type 0 where
   pub a_shape_twice : with_entries 9 6 no_entries (short_shape ++ short_root 66 ++ short_shape) ≡ Err (34, bad.Entry)
   pub one_of_each : with_entries 9 6 no_entries (short_root 65 ++ short_shape)
       ≡ Ok (record { shapes = empty_shape ∷ []; roots = (65 ∷ []) ∷ [] })
+  pub a_string_with_a_field : with_entries 9 6 no_entries (short_root 65 ++ string_words 6 1 ++ one_field) ≡ Err (34, bad.Entry)
   pub root_256 : is_refused (some_roots 255) (RootEntry (255 ∷ [])) ≡ false
   pub root_257 : is_refused (some_roots 256) (RootEntry (0 ∷ 0 ∷ [])) ≡ true
 
@@ -162,6 +179,10 @@ both_shapes = pair_shape ∷ int_array ∷ []
 abbrev pub check_one : List ℕ → Option Bad
 check_one words = object_fault both_shapes 20600 (line_words 20590 words two_pairs) [] 20590
 
+-- a String of one char, with this word
+abbrev pub check_string : ℕ → Option Bad
+check_string word = object_fault (string_shape ∷ []) 20600 (line_words 20590 ((2 ^ 32 * 1) ∷ word ∷ []) nothing_there) [] 20590
+
 pub record ObjectRows : Type 0 where
   pub pair : check_one ((2 ^ 32 * 2) ∷ 5 ∷ 0 ∷ []) ≡ None
   pub other_shape : check_one ((2 + 2 ^ 32 * 2) ∷ []) ≡ Some (20590, bad.Shape)
@@ -174,6 +195,14 @@ pub record ObjectRows : Type 0 where
   pub reaches_into_another :
       object_fault both_shapes 20600 (line_words 20579 ((1 + 2 ^ 32 * 8) ∷ []) two_pairs) (20577 ∷ 20580 ∷ []) 20579
       ≡ Some (20580, bad.Overlap)
+  pub length_before_overlap :
+      object_fault both_shapes 20600 (line_words 20581 ((2 ^ 32 * 3) ∷ []) two_pairs) (20577 ∷ 20580 ∷ []) 20581
+      ≡ Some (20581, bad.Length)
+  pub overlap_before_value :
+      object_fault both_shapes 20600 (line_words 20579 ((1 + 2 ^ 32 * 8) ∷ (2 ^ 32) ∷ []) two_pairs) (20577 ∷ 20580 ∷ []) 20579
+      ≡ Some (20580, bad.Overlap)
+  pub a_string_s_char : check_string 0xFFFF ≡ None
+  pub past_a_string_s_char : check_string 0x10000 ≡ Some (20590, bad.Value)
   pub past_an_int : check_one ((1 + 2 ^ 32 * 1) ∷ (2 ^ 32) ∷ []) ≡ Some (20590, bad.Value)
   pub on_the_second_line : object_fault both_shapes 20600 (line_words 20592 ((2 ^ 32) ∷ []) (line_words 20591 ((1 + 2 ^ 32 * 8) ∷ []) two_pairs)) [] 20591
       ≡ Some (20592, bad.Value)

@@ -1,4 +1,4 @@
--- The word that an image has for a value.
+-- The word that an image has for a value of JVMS 2.3 and 2.4. Of this project's own format.
 use Rattle.std.specs.Prelude.{◌≡◌, ℕ, ◌*◌, ◌^◌, ◌<◌, ℤ, pos, FitsSigned}
 use Rattle.std.specs.Int.{w32, w64, cast_unsigned}
 use Rattle.ap_base.specs.declared.kind.Kind.{Kind}

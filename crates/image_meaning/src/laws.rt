@@ -1,9 +1,9 @@
 // Laws of what an image stands for. Each function states one in its contract, and does nothing.
 ghost use Rattle.std.specs.Prelude.{ℕ};
 ghost use Rattle.image_meaning.specs.Checks.{Words};
-ghost use Rattle.image_meaning.specs.Laws.{ChecksComeInOrder, PutBackOneByOne, DirectoriesAreRead, CorrespondingWordsStand, SameWordsStand, SameWordsCorrespond, SlotStoreCorresponds, RootStoreCorresponds, OtherObjectsCorrespond, ChangesElsewhereCorrespond, FurtherObjectsCorrespond};
+ghost use Rattle.image_meaning.specs.Laws.{ChecksComeInOrder, PutBackOneByOne, CountedEntriesArePutBack, DirectoriesAreRead, BadDirectoriesAreTold, CorrespondingWordsStand, SameWordsStand, SameWordsCorrespond, SlotStoreCorresponds, RootStoreCorresponds, OtherObjectsCorrespond, ChangesElsewhereCorrespond, FurtherObjectsCorrespond};
 ghost use Rattle.image_meaning.specs.Appending.{AddedEntryOpens, AddedShapeCorresponds, AddedRootCorresponds, NullRootIsAdded, AddedEntryStands};
-ghost use Rattle.image_meaning.specs.Opening.{StandingImageIsFound, FoundImageStands, FoundObjectsLieBefore};
+ghost use Rattle.image_meaning.specs.Opening.{WellFormedImagesPass, StandingImageIsFound, FoundImageStands, FoundObjectsLieBefore, StandingGraphsAreCanonical};
 ghost use Rattle.image_meaning.specs.Logging.{FreePlacesAreLogged, LoggedStoresAreUndone, EmptiedLogsCommit};
 ghost use Rattle.image_meaning.specs.Recovering.{StoppedRecoveryStands, StoppedRecoveriesAreOne};
 ghost use Rattle.image_meaning.specs.Spelling.{NumbersAreSpelled};
@@ -20,9 +20,19 @@ pub fn entries_are_put_back_one_by_one()
     ensures { PutBackOneByOne }
 {}
 
+/// The counted entries of the 64 logs are put back, and nothing else is.
+pub fn counted_entries_are_put_back()
+    ensures { CountedEntriesArePutBack }
+{}
+
 /// A directory is read exactly where its words spell entries.
 pub fn directories_are_read()
     ensures { DirectoriesAreRead }
+{}
+
+/// A bad directory is told at the line where the first entry that may not stand there would begin.
+pub fn bad_directories_are_told()
+    ensures { BadDirectoriesAreTold }
 {}
 
 /// Words that correspond to a heap stand for its graph.
@@ -69,6 +79,16 @@ pub fn found_objects_correspond()
     ensures found { StandingImageIsFound }
     ensures stands { FoundImageStands }
     ensures before { FoundObjectsLieBefore }
+{}
+
+/// An image is well formed exactly where none of the checks fails.
+pub fn well_formed_images_pass()
+    ensures { WellFormedImagesPass }
+{}
+
+/// The graph for which an image stands is that of each heap that holds it.
+pub fn standing_graphs_are_canonical()
+    ensures { StandingGraphsAreCanonical }
 {}
 
 /// What is put back stays the same where a free place is logged and where logged words are stored to; where a log is

@@ -19,6 +19,10 @@ returns-clause-entries c = record {
   not_filled_with_zeros = refl;
   letter_of_float = refl;
   array_of_floats = refl;
+  string_s_name = refl;
+  string_read = refl;
+  string_with_a_field = refl;
+  name_of_any_bytes = refl;
   array_with_a_field = refl;
 }
 
@@ -29,6 +33,7 @@ returns-clause-directories c = record {
   a_root_twice = refl;
   a_shape_twice = refl;
   one_of_each = refl;
+  a_string_with_a_field = refl;
   root_256 = refl;
   root_257 = refl;
 }
