@@ -3,7 +3,7 @@ use Rattle.std.proofs.Common.{◌≢◌, ℕ, ◌<◌, ◌&&◌, ◌==◌, Bool,
 use Rattle.std.proofs.lemmas.Bool.{eq-eqb, eqb-true, lt-ltb, ltb-true}
 use Rattle.graph_model.specs.declared.types.Graph.{Graph}
 use Rattle.graph_model.specs.declared.types.Heap.{Heap}
-use Rattle.line_memory.specs.Memory.{Memory, shown, IsKnown, IsDurable}
+use Rattle.line_memory.specs.Memory.{Memory, shown, IsKnown}
 use Rattle.image_layout.specs.Places.{slot_line, slot_word, object_line, object_word}
 use Rattle.image_meaning.specs.Checks.{Words}
 use Rattle.image_meaning.specs.Directories.{Directory}
@@ -11,7 +11,7 @@ use Rattle.image_meaning.specs.Logs.{NoneLogged, put_back}
 use Rattle.image_meaning.specs.Meaning.{StandsFor}
 use Rattle.image_meaning.specs.Corresponds.{LiesAt, Corresponds, SameWords}
 use Rattle.image_meaning.specs.Laws.{told_by}
-use Rattle.image_meaning.specs.Opening.{found_at}
+use Rattle.image_meaning.specs.Opening.{found_at, FoundImage, HoldsGraph}
 use Rattle.image_meaning.proofs.Changes.{corresponds-same}
 use Rattle.image_meaning.proofs.Logs.{put_back-none, not_log_before, not_log_after}
 use Rattle.image_meaning.proofs.Standings.{standing-found}
@@ -42,28 +42,32 @@ words_put_back R directory size words heap none k = record {
   at_roots = λ r h. sym (put_back-none words none (slot_line r) (slot_word r) (not_log_before (slot_line r) (omega (arith, h))));
 }
 
+-- where an image is found, each heap of its graph is shown
+found-shows : (m : Memory) (graph : Graph) → ((line : ℕ) → line < m.size → IsKnown m line) → NoneLogged (shown m)
+    → (f : FoundImage m.size (shown m) graph) → (heap : Heap) → HoldsGraph heap graph
+    → ShowsHeap (told_by (found_test f.lines)) f.directory heap m
+found-shows m graph known none f heap holds =
+    let back = f.corresponds heap holds in
+    record {
+      known = known;
+      opens = f.finds.opens;
+      unlogged = none;
+      corresponds =
+          corresponds-along (found_at f.lines) (told_by (found_test f.lines)) f.directory m.size (shown m) heap
+          (to_test f.lines) (from_test f.lines)
+          (corresponds-same (found_at f.lines) f.directory m.size (put_back (shown m)) (shown m) heap back
+          (words_put_back (found_at f.lines) f.directory m.size (shown m) heap none back));
+    }
+
 pub attached-held : (m : Memory) (graph : Graph) → ((line : ℕ) → line < m.size → IsKnown m line)
-    → ((line word : ℕ) → line < m.size → IsDurable m line word) → shown m 0 0 ≢ 0 → NoneLogged (shown m)
-    → StandsFor m.size (shown m) graph → HoldsFound m graph
-attached-held m graph known durable used none stand =
+    → shown m 0 0 ≢ 0 → NoneLogged (shown m) → StandsFor m.size (shown m) graph → HoldsFound m graph
+attached-held m graph known used none stand =
     let f = standing-found m.size (shown m) graph used stand in
     record {
       lies = found_test f.lines;
       directory = f.directory;
-      holds = λ heap holds.
-          let back = f.corresponds heap holds in
-          let shows : ShowsHeap (told_by (found_test f.lines)) f.directory heap m = record {
-            known = known;
-            opens = f.finds.opens;
-            unlogged = none;
-            corresponds =
-                corresponds-along (found_at f.lines) (told_by (found_test f.lines)) f.directory m.size (shown m) heap
-                (to_test f.lines) (from_test f.lines)
-                (corresponds-same (found_at f.lines) f.directory m.size (put_back (shown m)) (shown m) heap back
-                (words_put_back (found_at f.lines) f.directory m.size (shown m) heap none back));
-          } in
-          record {
-            shows = shows;
-            settled = λ l w counts. durable l w (counted-inside (told_by (found_test f.lines)) f.directory heap m l w shows counts);
-          };
+      shows = found-shows m graph known none f;
+      settled = λ durable heap holds l w counts.
+          durable l w
+          (counted-inside (told_by (found_test f.lines)) f.directory heap m l w (found-shows m graph known none f heap holds) counts);
     }

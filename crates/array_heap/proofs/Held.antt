@@ -1,5 +1,5 @@
 -- What a memory leaves that holds a heap, and what keeps it.
-use Rattle.std.proofs.Common.{◌≡◌, ℕ, ◌<◌, ◌≤◌, ◌&&◌, Bool, true, false, nat_le, Option, Some, None, refl, sym, ◌∙◌, subst, arith}
+use Rattle.std.proofs.Common.{◌≡◌, inl, inr, ⊎_elim, ℕ, ◌<◌, ◌≤◌, ◌&&◌, Bool, true, false, nat_le, Option, Some, None, refl, sym, ◌∙◌, subst, arith}
 use Rattle.std.proofs.lemmas.Bool.{leb-true}
 use Rattle.graph_model.specs.declared.types.Heap.{Heap}
 use Rattle.line_image.specs.History.{Outcome}
@@ -17,7 +17,7 @@ use Rattle.image_meaning.proofs.Opened.{stands, opens-same, put_back-same_words}
 use Rattle.image_meaning.proofs.Standing.{use-within}
 use Rattle.durable_word.specs.Writes.{WritesOn}
 use Rattle.durable_word.proofs.Writing.{still_known}
-use Rattle.array_heap.specs.Holding.{Counts, InSuperblock, InDirectory, CountOfLog, RootSlot, ObjectHead, ObjectSlot, ShowsHeap, HoldsHeap, StandsForHeap}
+use Rattle.array_heap.specs.Holding.{Counts, InSuperblock, InDirectory, CountOfLog, RootSlot, ObjectHead, ObjectSlot, ShowsHeap, HoldsHeap, IsImageOf, IsImageOfOne}
 
 -- d has the words of c that count
 abbrev pub Agrees : LiesAt → Heap → Words → Words → Type 0
@@ -43,23 +43,59 @@ agrees-words R heap c d same = record {
   at_roots = λ r h. same (slot_line r) (slot_word r) (RootSlot r h refl refl);
 }
 
--- an image with the words that count stands for the heap's graph
-pub agrees-stands : (R : LiesAt) (directory : Directory) (heap : Heap) (m : Memory) (c : Outcome) → ShowsHeap R directory heap m
-    → Agrees R heap (shown m) c → StandsForHeap m.size heap c
-agrees-stands R directory heap m c shows same =
+-- an image with the words that count is one of the heap
+pub agrees-image : (R : LiesAt) (directory : Directory) (heap : Heap) (m : Memory) (c : Outcome) → ShowsHeap R directory heap m
+    → Agrees R heap (shown m) c → IsImageOf R directory m.size (shown m) heap c
+agrees-image R directory heap m c shows same =
     let front = agrees-front R heap (shown m) c same in
     let logs = agrees-logs R heap (shown m) c same shows.unlogged in
     let none : NoneLogged c = λ t h. logs.counts t h ∙ shows.unlogged t h in
-    stands R m.size c directory heap
-    (opens-same m.size (shown m) c directory shows.opens front logs)
-    (put_back-same_words R directory m.size c heap none
-    (corresponds-same R directory m.size (shown m) c heap shows.corresponds (agrees-words R heap (shown m) c same)))
+    let matches = corresponds-same R directory m.size (shown m) c heap shows.corresponds (agrees-words R heap (shown m) c same) in
+    record {
+      stands =
+          stands R m.size c directory heap (opens-same m.size (shown m) c directory shows.opens front logs)
+          (put_back-same_words R directory m.size c heap none matches);
+      front = front;
+      unlogged = none;
+      corresponds = matches;
+    }
 
 -- what is held is what each stop from now on leaves
 pub held-stands : (R : LiesAt) (directory : Directory) (heap : Heap) (m : Memory) (c : Outcome) → HoldsHeap R directory heap m
-    → CanLeaveAll m c → StandsForHeap m.size heap c
+    → CanLeaveAll m c → IsImageOf R directory m.size (shown m) heap c
 held-stands R directory heap m c held left =
-    agrees-stands R directory heap m c held.shows (λ l w counts. held.settled l w counts (c l w) (left l w))
+    agrees-image R directory heap m c held.shows (λ l w counts. held.settled l w counts (c l w) (left l w))
+
+-- ---- the same front
+
+pub front-back : (c d : Words) → SameFront c d → SameFront d c
+front-back c d same = record {
+  super = λ word h. sym (same.super word h);
+  directory = λ i h. sym (same.directory i (rw (same.super 3 (omega arith)) at h));
+}
+
+pub front-along : (c d e : Words) → SameFront c d → SameFront d e → SameFront c e
+front-along c d e first second = record {
+  super = λ word h. second.super word h ∙ first.super word h;
+  directory = λ i h. second.directory i (rw (first.super 3 (omega arith)) h) ∙ first.directory i h;
+}
+
+-- an image is one to any words with this front
+pub image-before : (R : LiesAt) (directory : Directory) (size : ℕ) (before now : Words) (heap : Heap) (c : Outcome) → SameFront now before
+    → IsImageOf R directory size before heap c → IsImageOf R directory size now heap c
+image-before R directory size before now heap c front image = record {
+  stands = image.stands;
+  front = front-along now before c front image.front;
+  unlogged = image.unlogged;
+  corresponds = image.corresponds;
+}
+
+pub image_of_one-before : (R : LiesAt) (directory : Directory) (size : ℕ) (before now : Words) (heap after : Heap) (c : Outcome)
+    → SameFront now before → IsImageOfOne R directory size before heap after c → IsImageOfOne R directory size now heap after c
+image_of_one-before R directory size before now heap after c front image = ⊎_elim
+    (λ (old : IsImageOf R directory size before heap c). inl (image-before R directory size before now heap c front old))
+    (λ (new : IsImageOf R directory size before after c). inr (image-before R directory size before now after c front new))
+    image
 
 -- ---- the lines of the words that count
 
@@ -128,6 +164,10 @@ same-on R directory heap a b shows on l w counts =
     let known = shows.known l (counted-inside R directory heap a l w shows counts) in
     on.shows l w known (still_known a b on.resident on.telling l known)
 
+pub front-on : (R : LiesAt) (directory : Directory) (heap : Heap) (a b : Memory) → ShowsHeap R directory heap a → WritesOn a b
+    → SameFront (shown a) (shown b)
+front-on R directory heap a b shows on = agrees-front R heap (shown a) (shown b) (same-on R directory heap a b shows on)
+
 pub shows-on : (R : LiesAt) (directory : Directory) (heap : Heap) (a b : Memory) → ShowsHeap R directory heap a → WritesOn a b
     → ShowsHeap R directory heap b
 shows-on R directory heap a b shows on =
@@ -143,12 +183,3 @@ pub counts-on : (R : LiesAt) (directory : Directory) (heap : Heap) (a b : Memory
     → (l w : ℕ) → Counts R heap (shown b) l w → Counts R heap (shown a) l w
 counts-on R directory heap a b shows on =
     counts-again R heap (shown a) (shown b) (same-on R directory heap a b shows on 0 3 (InSuperblock refl (omega arith)))
-
-pub held-on : (R : LiesAt) (directory : Directory) (heap : Heap) (a b : Memory) → HoldsHeap R directory heap a → WritesOn a b
-    → HoldsHeap R directory heap b
-held-on R directory heap a b held on = record {
-  shows = shows-on R directory heap a b held.shows on;
-  settled = λ l w counts.
-      let before = counts-on R directory heap a b held.shows on l w counts in
-      durable-on R directory heap a b held.shows on l w before (held.settled l w before);
-}

@@ -29,9 +29,9 @@ use Rattle.image_meaning.proofs.Spelling.{spelled_number}
 use Rattle.image_meaning.proofs.Standing.{use-within}
 use Rattle.durable_word.specs.Writes.{WritesOn}
 use Rattle.durable_word.proofs.Writing.{still_known}
-use Rattle.array_heap.specs.Holding.{Counts, InSuperblock, InDirectory, CountOfLog, RootSlot, ObjectHead, ObjectSlot, ShowsHeap, HoldsHeap, StandsForHeap}
+use Rattle.array_heap.specs.Holding.{Counts, InSuperblock, InDirectory, CountOfLog, RootSlot, ObjectHead, ObjectSlot, IsSettledFor, ShowsHeap, IsImageOf}
 use Rattle.array_heap.specs.Calls.{with_ints, lies_too, IsRoom, IsIn, StoresIn}
-use Rattle.array_heap.proofs.Held.{Agrees, held-stands, shows-again, counts-again, shows-on, durable-on, counts-on, held-on}
+use Rattle.array_heap.proofs.Held.{Agrees, agrees-image, shows-again, counts-again, shows-on, durable-on, counts-on}
 use Rattle.array_heap.proofs.Storing.{int_kind}
 
 -- ---- a relation that says the same
@@ -146,7 +146,7 @@ head_length w shape n e h = omega (arith, e, h)
 -- ---- the placed array
 
 module _ (lies : ℕ → ℕ → Bool) (directory : Directory) (heap : Heap) (old stored : Memory) (line shape heap_shape : ℕ) (ints : List ℤ)
-    (held : HoldsHeap (told_by lies) directory heap old)
+    (shows : ShowsHeap (told_by lies) directory heap old)
     (room : IsRoom (told_by lies) directory heap old.size line shape (length ints) heap_shape) (small : shape < 2 ^ 32)
     (head : shown stored line 0 ≡ head_of shape (length ints))
     (elements : (i : ℕ) → i < length ints → shown stored (object_line line i) (object_word i) ≡ cast_unsigned w32 (slice_index_or ints i (pos 0)))
@@ -164,7 +164,7 @@ module _ (lies : ℕ → ℕ → Bool) (directory : Directory) (heap : Heap) (ol
   -- what counted lies outside
   outside : (l w : ℕ) → Counts R heap (shown old) l w → IsIn line (lines_of (length ints)) l → ⊥
   outside l w counts inside =
-      let used = use-within old.size (shown old 0) held.shows.opens.used held.shows.opens.super in
+      let used = use-within old.size (shown old 0) shows.opens.used shows.opens.super in
       let low = room.low in
       elim counts [
         | InSuperblock at which ↦ omega (arith, low, inside, at)
@@ -184,19 +184,14 @@ module _ (lies : ℕ → ℕ → Bool) (directory : Directory) (heap : Heap) (ol
   known : (l : ℕ) → l < stored.size → IsKnown stored l
   known l h =
       still_known old stored stores.resident (λ tell. subst (λ (told : Told). IsTelling told.history) (sym stores.same.image) tell) l
-      (held.shows.known l (rw stores.size at h))
+      (shows.known l (rw stores.size at h))
 
   counted : (l w : ℕ) → Counts R heap (shown stored) l w → Counts R heap (shown old) l w
   counted = counts-again R heap (shown old) (shown stored) (agrees 0 3 (InSuperblock refl (omega arith)))
 
-  -- the heap is held as before
-  pub still-held : HoldsHeap R directory heap stored
-  still-held = record {
-    shows = shows-again R directory heap old stored held.shows stores.size known agrees;
-    settled = λ l w counts v left.
-        let before = counted l w counts in
-        held.settled l w before v (stores.leaves l w v (outside l w before) left) ∙ sym (agrees l w before);
-  }
+  -- the heap is shown as before
+  still-shows : ShowsHeap R directory heap stored
+  still-shows = shows-again R directory heap old stored shows stores.size known agrees
 
   -- ---- the new object
 
@@ -240,11 +235,11 @@ module _ (lies : ℕ → ℕ → Bool) (directory : Directory) (heap : Heap) (ol
   not_here m r = elim (room.free line m r) [ inl before ↦ omega (arith, before) | inr behind ↦ omega (arith, behind) ]
 
   not_numbered : (l : ℕ) → R l n → ⊥
-  not_numbered l r = let h = (held.shows.corresponds.objects l n r).there in omega (arith, h)
+  not_numbered l r = let h = (shows.corresponds.objects l n r).there in omega (arith, h)
 
   -- the heads of the old objects are as they were
   sized : (l m : ℕ) → R l m → length_at (shown stored) l ≡ length (values_of heap m)
-  sized l m r = (still-held.shows.corresponds.objects l m r).count
+  sized l m r = (still-shows.corresponds.objects l m r).count
 
   sized_new : length_at (shown stored) line ≡ length ints
   sized_new = head_length (shown stored line 0) shape (length ints) head small
@@ -272,7 +267,7 @@ module _ (lies : ℕ → ℕ → Bool) (directory : Directory) (heap : Heap) (ol
   corresponds_new : Corresponds Q directory old.size (shown stored) after
   corresponds_new =
       let k : Corresponds R directory old.size (shown stored) heap =
-      (let P : ℕ → Type 0 = λ s. Corresponds R directory s (shown stored) heap in subst P stores.size still-held.shows.corresponds) in
+      (let P : ℕ → Type 0 = λ s. Corresponds R directory s (shown stored) heap in subst P stores.size still-shows.corresponds) in
       corresponds-along (Either R (only line n)) Q directory old.size (shown stored) after (from_either lies line n) (to_either lies line n)
       (corresponds-grow R (only line n) directory old.size (shown stored) after
       (corresponds-more R directory old.size (shown stored) heap heap_shape ints k) joins)
@@ -280,8 +275,8 @@ module _ (lies : ℕ → ℕ → Bool) (directory : Directory) (heap : Heap) (ol
   pub shows-placed : ShowsHeap Q directory after stored
   shows-placed = record {
     known = known;
-    opens = still-held.shows.opens;
-    unlogged = still-held.shows.unlogged;
+    opens = still-shows.opens;
+    unlogged = still-shows.unlogged;
     corresponds = (let P : ℕ → Type 0 = λ s. Corresponds Q directory s (shown stored) after in subst P (sym stores.size) corresponds_new);
   }
 
@@ -298,7 +293,7 @@ module _ (lies : ℕ → ℕ → Bool) (directory : Directory) (heap : Heap) (ol
         (to_either lies line n l m q)
     | ObjectSlot a m i q h at which ↦ ⊎_elim
         (λ before. inl (ObjectSlot a m i before
-        (rw (ap (λ (o : Obj). o.values) (old_object heap heap_shape m ints (held.shows.corresponds.objects a m before).there)) at h) at which))
+        (rw (ap (λ (o : Obj). o.values) (old_object heap heap_shape m ints (shows.corresponds.objects a m before).there)) at h) at which))
         (λ new. inr (
         let e = new.0 in
         let below : i < length ints = rw (ap (λ k. length (values_of after k)) new.1, length_new) at h in
@@ -309,29 +304,37 @@ module _ (lies : ℕ → ℕ → Bool) (directory : Directory) (heap : Heap) (ol
 
   -- ---- write-backs after the stores
 
-  module _ (new : Memory) (on : WritesOn stored new) where
-    pub placed-shows : ShowsHeap Q directory after new
-    placed-shows = shows-on Q directory after stored new shows-placed on
+  pub placed-shows : (new : Memory) → WritesOn stored new → ShowsHeap Q directory after new
+  placed-shows new on = shows-on Q directory after stored new shows-placed on
 
-    pub placed-durable : ((l w : ℕ) → line ≤ l → l < line + lines_of (length ints) → IsDurable new l w) → HoldsHeap Q directory after new
-    placed-durable durable = record {
-      shows = placed-shows;
-      settled = λ l w counts. ⊎_elim
-          (λ before. durable-on R directory heap stored new still-held.shows on l w before (still-held.settled l w before))
+  -- ---- where the heap was durable
+
+  module _ (settled : IsSettledFor R heap old) where
+    -- the words that counted are left as they were
+    left_agrees : (c : Outcome) → CanLeaveAll stored c → Agrees R heap (shown old) c
+    left_agrees c left l w counts = settled l w counts (c l w) (stores.leaves l w (c l w) (outside l w counts) (left l w))
+
+    left_image : (c : Outcome) → CanLeaveAll stored c → IsImageOf R directory old.size (shown old) heap c
+    left_image c left = agrees-image R directory heap old c shows (left_agrees c left)
+
+    still-settled : IsSettledFor R heap stored
+    still-settled l w counts v left =
+        let before = counted l w counts in
+        settled l w before v (stores.leaves l w v (outside l w before) left) ∙ sym (agrees l w before)
+
+    module _ (new : Memory) (on : WritesOn stored new) where
+      pub placed-durable : ((l w : ℕ) → line ≤ l → l < line + lines_of (length ints) → IsDurable new l w) → IsSettledFor Q after new
+      placed-durable durable l w counts = ⊎_elim
+          (λ before. durable-on R directory heap stored new still-shows on l w before (still-settled l w before))
           (λ inside. durable l w inside.0 inside.1)
-          (old_or_new l w (counts-on Q directory after stored new shows-placed on l w counts));
-    }
+          (old_or_new l w (counts-on Q directory after stored new shows-placed on l w counts))
 
-    pub placed-leaves : (c : Outcome) → CanLeaveAll new c → StandsForHeap old.size heap c
-    placed-leaves c left =
-        let P : ℕ → Type 0 = λ s. StandsForHeap s heap c in
-        subst P (on.size ∙ stores.size) (held-stands R directory heap new c (held-on R directory heap stored new still-held on) left)
+      pub placed-leaves : (c : Outcome) → CanLeaveAll new c → IsImageOf R directory old.size (shown old) heap c
+      placed-leaves c left = left_image c (λ l w. on.leaves l w (c l w) (left l w))
 
-    pub placed-moments : Goes old.image new.image (StandsForHeap old.size heap)
-    placed-moments =
-        let P : Outcome → Type 0 = StandsForHeap old.size heap in
-        subst (λ (told : Told). Goes told new.image P) stores.same.image
-        (goes_on stored.image stored.image new.image P (CanLeaveAll stored) P (goes_nowhere stored.image P) on.any_moment
-        (λ c one. one)
-        (λ c left. let Q : ℕ → Type 0 = λ s. StandsForHeap s heap c in
-        subst Q stores.size (held-stands R directory heap stored c still-held left)))
+      pub placed-moments : Goes old.image new.image (IsImageOf R directory old.size (shown old) heap)
+      placed-moments =
+          let P : Outcome → Type 0 = IsImageOf R directory old.size (shown old) heap in
+          subst (λ (told : Told). Goes told new.image P) stores.same.image
+          (goes_on stored.image stored.image new.image P (CanLeaveAll stored) P (goes_nowhere stored.image P) on.any_moment
+          (λ c one. one) left_image)

@@ -13,12 +13,13 @@ use Rattle.line_memory.specs.Memory.{Memory, shown, CanLeave, SameResident, Same
 use Rattle.image_layout.specs.Places.{first_object_line, lines_of, slot_line, slot_word, object_line, object_word}
 use Rattle.image_meaning.specs.Directories.{Directory}
 use Rattle.image_meaning.specs.Objects.{length_at, shape_of, object_slot, kind_of}
-use Rattle.image_meaning.specs.Corresponds.{LiesAt, Holds, HoldsNumber, SameButSlot}
+use Rattle.image_meaning.specs.Corresponds.{LiesAt, Corresponds, Holds, HoldsNumber, SameButSlot}
+use Rattle.image_meaning.specs.Laws.{SameFront}
 use Rattle.image_meaning.proofs.Changes.{corresponds-put}
 use Rattle.image_meaning.proofs.Spelling.{spelled_number}
-use Rattle.array_heap.specs.Holding.{HoldsHeap, TurnedInto}
+use Rattle.array_heap.specs.Holding.{IsSettledFor, ShowsHeap, TurnedInto}
 use Rattle.array_heap.specs.Calls.{IsElement}
-use Rattle.array_heap.proofs.Turning.{IsData, turned}
+use Rattle.array_heap.proofs.Turning.{IsData, front-stored, turned, turned-shows}
 
 -- words of objects that lie apart are in different lines
 pub lines_apart : (a b x y i j : ℕ) → (a + lines_of x ≤ b) ⊎ (b + lines_of y ≤ a) → i < x → j < y → object_line a i ≢ object_line b j
@@ -34,19 +35,31 @@ pub int_kind : (R : LiesAt) (shape : Shape) (i w : ℕ) (value : ℤ) → shape.
     → Holds R (kind_of shape i) w (Int value)
 int_kind R shape i w value e holds = rw e holds
 
+element_place : (R : LiesAt) (directory : Directory) (heap : Heap) (m : Memory) (line n i : ℕ) → ShowsHeap R directory heap m
+    → IsElement R heap line n i → IsData (object_line line i)
+element_place R directory heap m line n i shows is =
+    let first = (shows.corresponds.objects line n is.lies).low in
+    (omega (arith, first), inr (omega (arith, first)))
+
+-- an element is no word of the front
+pub element-front : (R : LiesAt) (directory : Directory) (heap : Heap) (old new : Memory) (line n i : ℕ)
+    → ShowsHeap R directory heap old → IsElement R heap line n i
+    → ((l w : ℕ) → (l ≡ object_line line i → w ≢ object_word i) → shown new l w ≡ shown old l w) → SameFront (shown old) (shown new)
+element-front R directory heap old new line n i shows is others =
+    front-stored directory old new (object_line line i) (object_word i) shows.opens
+    (element_place R directory heap old line n i shows is) others
+
 module _ (R : LiesAt) (directory : Directory) (heap : Heap) (old new : Memory) (line n i : ℕ) (value : ℤ)
-    (held : HoldsHeap R directory heap old) (is : IsElement R heap line n i) (fits : FitsSigned w32 value)
+    (shows : ShowsHeap R directory heap old) (is : IsElement R heap line n i) (fits : FitsSigned w32 value)
     (here : shown new (object_line line i) (object_word i) ≡ cast_unsigned w32 value)
     (others : (l w : ℕ) → (l ≡ object_line line i → w ≢ object_word i) → shown new l w ≡ shown old l w)
-    (size : new.size ≡ old.size) (resident : SameResident old new) (same : SameImage old new)
-    (leaves : (l w v : ℕ) → CanLeave new l w v
-    → CanLeave old l w v ⊎ ((l ≡ object_line line i) × (w ≡ object_word i) × (v ≡ cast_unsigned w32 value))) where
+    (size : new.size ≡ old.size) (resident : SameResident old new) (same : SameImage old new) where
   sized : (l m : ℕ) → R l m → length_at (shown old) l ≡ length (values_of heap m)
-  sized l m r = (held.shows.corresponds.objects l m r).count
+  sized l m r = (shows.corresponds.objects l m r).count
 
   apart : (l m : ℕ) → R l m → l ≢ line
       → (l + lines_of (length (values_of heap m)) ≤ line) ⊎ (line + lines_of (length (values_of heap n)) ≤ l)
-  apart l m r ne = rw (sized l m r, sized line n is.lies) at (held.shows.corresponds.apart l line m n r is.lies ne)
+  apart l m r ne = rw (sized l m r, sized line n is.lies) at (shows.corresponds.apart l line m n r is.lies ne)
 
   heads : (l m : ℕ) → R l m → shown new l 0 ≡ shown old l 0
   heads l m r = others l 0 (λ e z. elim (cases_eq l line) [
@@ -62,7 +75,7 @@ module _ (R : LiesAt) (directory : Directory) (heap : Heap) (old new : Memory) (
   ])
 
   low : first_object_line ≤ line
-  low = (held.shows.corresponds.objects line n is.lies).low
+  low = (shows.corresponds.objects line n is.lies).low
 
   same_words : SameButSlot R heap (shown old) (shown new) line i
   same_words = record {
@@ -73,15 +86,29 @@ module _ (R : LiesAt) (directory : Directory) (heap : Heap) (old new : Memory) (
 
   holds : Holds R (kind_of (shape_of directory.shapes (shown new) line) i) (object_slot (shown new) line i) (Int value)
   holds =
-      let o = held.shows.corresponds.objects line n is.lies in
+      let o = shows.corresponds.objects line n is.lies in
       let element : (shape_of directory.shapes (shown new) line).element ≡ Some I = rw (heads line n is.lies, o.shape) is.ints in
       int_kind R (shape_of directory.shapes (shown new) line) i (object_slot (shown new) line i) value element
       (rw here (spelled_number I (Int value) fits))
 
-  pub element-turned : TurnedInto R directory heap (stored heap (Slot n i) (Int value)) (object_line line i) (object_word i) new
-  element-turned =
-      let first = low in
-      let place : IsData (object_line line i) = (omega (arith, first), inr (omega (arith, first))) in
-      turned R directory heap (stored heap (Slot n i) (Int value)) old new (object_line line i) (object_word i) (cast_unsigned w32 value)
-      held place here others size resident same leaves heads
-      (corresponds-put R directory old.size (shown old) (shown new) heap line n i (Int value) held.shows.corresponds is.lies is.there same_words holds)
+  abbrev after : Heap
+  after = stored heap (Slot n i) (Int value)
+
+  place : IsData (object_line line i)
+  place = element_place R directory heap old line n i shows is
+
+  corresponds : Corresponds R directory old.size (shown new) after
+  corresponds =
+      corresponds-put R directory old.size (shown old) (shown new) heap line n i (Int value) shows.corresponds is.lies is.there same_words holds
+
+  pub element-shows : ShowsHeap R directory after new
+  element-shows =
+      turned-shows R directory heap after old new (object_line line i) (object_word i) shows place others size resident same heads corresponds
+
+  pub element-turned : IsSettledFor R heap old
+      → ((l w v : ℕ) → CanLeave new l w v
+      → CanLeave old l w v ⊎ ((l ≡ object_line line i) × (w ≡ object_word i) × (v ≡ cast_unsigned w32 value)))
+      → TurnedInto R directory heap after (object_line line i) (object_word i) new
+  element-turned settled leaves =
+      turned R directory heap after old new (object_line line i) (object_word i) shows place others size resident same heads corresponds
+      (cast_unsigned w32 value) settled here leaves

@@ -8,6 +8,7 @@ use Rattle.line_memory.specs.Memory.{Memory, Told, shown, IsTelling, CanLeave, C
 use Rattle.line_memory.specs.Moments.{Goes}
 use Rattle.line_memory.proofs.Chain.{goes_on, goes_nowhere}
 use Rattle.image_layout.specs.Places.{first_object_line, logs, directory_words, directory_line, directory_word, log_head_line}
+use Rattle.image_meaning.specs.Checks.{Words}
 use Rattle.image_meaning.specs.Directories.{Directory}
 use Rattle.image_meaning.specs.Logs.{NoneLogged, SameLogs}
 use Rattle.image_meaning.specs.Objects.{length_at}
@@ -17,8 +18,8 @@ use Rattle.image_meaning.proofs.Opened.{opens-same}
 use Rattle.image_meaning.proofs.Standing.{use-within}
 use Rattle.durable_word.specs.Writes.{WritesOn}
 use Rattle.durable_word.proofs.Writing.{still_known}
-use Rattle.array_heap.specs.Holding.{Counts, InSuperblock, InDirectory, CountOfLog, RootSlot, ObjectHead, ObjectSlot, ShowsHeap, HoldsHeap, StandsForHeap, StandsForOne, TurnedInto}
-use Rattle.array_heap.proofs.Held.{Agrees, agrees-stands, held-stands, shows-on, durable-on, counts-on}
+use Rattle.array_heap.specs.Holding.{Counts, InSuperblock, InDirectory, CountOfLog, RootSlot, ObjectHead, ObjectSlot, IsSettledFor, ShowsHeap, HoldsHeap, IsImageOf, IsImageOfOne, TurnedInto}
+use Rattle.array_heap.proofs.Held.{Agrees, agrees-image, held-stands, front-back, image-before, image_of_one-before, front-on, shows-on, durable-on, counts-on}
 
 -- a line of root slots or of objects
 abbrev pub IsData : ℕ → Type 0
@@ -49,12 +50,16 @@ logs-same old new none others = record {
   entries = λ t n h few. absurd (let e = none t h in omega (arith, few, e));
 }
 
-module _ (R : LiesAt) (directory : Directory) (heap after : Heap) (old new : Memory) (line word value : ℕ)
-    (held : HoldsHeap R directory heap old) (is_data : IsData line)
-    (here : shown new line word ≡ value)
+-- a store into one word of data keeps the front
+pub front-stored : (directory : Directory) (old new : Memory) (line word : ℕ) → Opens old.size (shown old) directory → IsData line
+    → ((l w : ℕ) → (l ≡ line → w ≢ word) → shown new l w ≡ shown old l w) → SameFront (shown old) (shown new)
+front-stored directory old new line word opens is_data others =
+    front-same directory old new opens (λ l w none. others l w (λ e. absurd (none (subst IsData (sym e) is_data))))
+
+module _ (R : LiesAt) (directory : Directory) (heap after : Heap) (old new : Memory) (line word : ℕ)
+    (shows : ShowsHeap R directory heap old) (is_data : IsData line)
     (others : (l w : ℕ) → (l ≡ line → w ≢ word) → shown new l w ≡ shown old l w)
     (size : new.size ≡ old.size) (resident : SameResident old new) (same : SameImage old new)
-    (leaves : (l w v : ℕ) → CanLeave new l w v → CanLeave old l w v ⊎ ((l ≡ line) × (w ≡ word) × (v ≡ value)))
     (heads : (l n : ℕ) → R l n → shown new l 0 ≡ shown old l 0)
     (corresponds : Corresponds R directory old.size (shown new) after) where
   no_data : (l w : ℕ) → (IsData l → ⊥) → shown new l w ≡ shown old l w
@@ -63,22 +68,22 @@ module _ (R : LiesAt) (directory : Directory) (heap after : Heap) (old new : Mem
   telling : KeepsTelling old new
   telling tell = subst (λ (told : Told). IsTelling told.history) (sym same.image) tell
 
-  shows : ShowsHeap R directory after new
-  shows =
-      let logs = logs-same old new held.shows.unlogged no_data in
-      let front = front-same directory old new held.shows.opens no_data in
+  pub turned-shows : ShowsHeap R directory after new
+  turned-shows =
+      let logs = logs-same old new shows.unlogged no_data in
+      let front = front-same directory old new shows.opens no_data in
       record {
-        known = λ l h. still_known old new resident telling l (held.shows.known l (rw size at h));
+        known = λ l h. still_known old new resident telling l (shows.known l (rw size at h));
         opens = (let P : ℕ → Type 0 = λ s. Opens s (shown new) directory in
-            subst P (sym size) (opens-same old.size (shown old) (shown new) directory held.shows.opens front logs));
-        unlogged = λ t h. logs.counts t h ∙ held.shows.unlogged t h;
+            subst P (sym size) (opens-same old.size (shown old) (shown new) directory shows.opens front logs));
+        unlogged = λ t h. logs.counts t h ∙ shows.unlogged t h;
         corresponds = (let P : ℕ → Type 0 = λ s. Corresponds R directory s (shown new) after in subst P (sym size) corresponds);
       }
 
   slots_same : (l n : ℕ) → R l n → length (values_of after n) ≡ length (values_of heap n)
   slots_same l n r =
       sym (corresponds.objects l n r).count ∙ ap (λ head. length_at (λ a b. head) l) (heads l n r)
-      ∙ (held.shows.corresponds.objects l n r).count
+      ∙ (shows.corresponds.objects l n r).count
 
   counted : (l w : ℕ) → Counts R after (shown new) l w → Counts R heap (shown old) l w
   counted l w counts = elim counts [
@@ -90,41 +95,53 @@ module _ (R : LiesAt) (directory : Directory) (heap after : Heap) (old new : Mem
     | ObjectSlot a n i r h at which ↦ ObjectSlot a n i r (rw (slots_same a n r) at h) at which
   ]
 
-  -- a word that counts and isn't the stored one
-  elsewhere : (l w v : ℕ) → Counts R after (shown new) l w → (l ≡ line → w ≢ word) → CanLeave new l w v → v ≡ shown new l w
-  elsewhere l w v counts apart left = ⊎_elim
-      (λ before. held.settled l w (counted l w counts) v before ∙ sym (others l w apart))
-      (λ stored. absurd (apart stored.0 stored.1))
-      (leaves l w v left)
-
   pick : (l w : ℕ) → ((l ≡ line) × (w ≡ word)) ⊎ (l ≡ line → w ≢ word)
   pick l w = elim (cases_eq l line) [
     | inl a ↦ elim (cases_eq w word) [ inl b ↦ inl (a, b) | inr ne ↦ inr (λ e. ne) ]
     | inr ne ↦ inr (λ e. absurd (ne e))
   ]
 
-  stored_agrees : (c : Outcome) → CanLeaveAll new c → c line word ≡ value → Agrees R after (shown new) c
-  stored_agrees c left is l w counts = ⊎_elim
-      (λ stored. rw (stored.0, stored.1) (is ∙ sym here))
-      (λ apart. elsewhere l w (c l w) counts apart (left l w))
-      (pick l w)
+  -- ---- where the heap was durable
 
-  old_left : (c : Outcome) → CanLeaveAll new c → c line word ≢ value → CanLeaveAll old c
-  old_left c left isnt l w = ⊎_elim
-      (λ before. before)
-      (λ stored. absurd (isnt (ap (λ k. c k word) (sym stored.0) ∙ ap (λ k. c l k) (sym stored.1) ∙ stored.2)))
-      (leaves l w (c l w) (left l w))
+  module _ (value : ℕ) (settled : IsSettledFor R heap old) (here : shown new line word ≡ value)
+      (leaves : (l w v : ℕ) → CanLeave new l w v → CanLeave old l w v ⊎ ((l ≡ line) × (w ≡ word) × (v ≡ value))) where
+    -- a word that counts and isn't the stored one
+    elsewhere : (l w v : ℕ) → Counts R after (shown new) l w → (l ≡ line → w ≢ word) → CanLeave new l w v → v ≡ shown new l w
+    elsewhere l w v counts apart left = ⊎_elim
+        (λ before. settled l w (counted l w counts) v before ∙ sym (others l w apart))
+        (λ stored. absurd (apart stored.0 stored.1))
+        (leaves l w v left)
 
-  pub turned : TurnedInto R directory heap after line word new
-  turned = record {
-    shows = shows;
-    leaves = λ c left. elim (cases_eq (c line word) value) [
-      | inl is ↦ inr (agrees-stands R directory after new c shows (stored_agrees c left is))
-      | inr isnt ↦ inl (let P : ℕ → Type 0 = λ s. StandsForHeap s heap c in
-          subst P (sym size) (held-stands R directory heap old c held (old_left c left isnt)))
-    ];
-    others = λ l w counts apart v left. elsewhere l w v counts apart left;
-  }
+    stored_agrees : (c : Outcome) → CanLeaveAll new c → c line word ≡ value → Agrees R after (shown new) c
+    stored_agrees c left is l w counts = ⊎_elim
+        (λ stored. rw (stored.0, stored.1) (is ∙ sym here))
+        (λ apart. elsewhere l w (c l w) counts apart (left l w))
+        (pick l w)
+
+    old_left : (c : Outcome) → CanLeaveAll new c → c line word ≢ value → CanLeaveAll old c
+    old_left c left isnt l w = ⊎_elim
+        (λ before. before)
+        (λ stored. absurd (isnt (ap (λ k. c k word) (sym stored.0) ∙ ap (λ k. c l k) (sym stored.1) ∙ stored.2)))
+        (leaves l w (c l w) (left l w))
+
+    -- the stored word is none of the front
+    old_image : (c : Outcome) → CanLeaveAll old c → IsImageOf R directory new.size (shown new) heap c
+    old_image c left =
+        let P : ℕ → Type 0 = λ s. IsImageOf R directory s (shown new) heap c in
+        let held : HoldsHeap R directory heap old = record { shows = shows; settled = settled } in
+        let front = front-back (shown old) (shown new) (front-same directory old new shows.opens no_data) in
+        subst P (sym size)
+        (image-before R directory old.size (shown old) (shown new) heap c front (held-stands R directory heap old c held left))
+
+    pub turned : TurnedInto R directory heap after line word new
+    turned = record {
+      shows = turned-shows;
+      leaves = λ c left. elim (cases_eq (c line word) value) [
+        | inl is ↦ inr (agrees-image R directory after new c turned-shows (stored_agrees c left is))
+        | inr isnt ↦ inl (old_image c (old_left c left isnt))
+      ];
+      others = λ l w counts apart v left. elsewhere l w v counts apart left;
+    }
 
 -- ---- write-backs after the store
 
@@ -133,29 +150,33 @@ module _ (R : LiesAt) (directory : Directory) (heap after : Heap) (line word : �
   pub turned-on : TurnedInto R directory heap after line word new
   turned-on = record {
     shows = shows-on R directory after stored new turned.shows on;
-    leaves = λ c left. let P : ℕ → Type 0 = λ s. StandsForOne s heap after c in
-        subst P (sym on.size) (turned.leaves c (λ l w. on.leaves l w (c l w) (left l w)));
+    leaves = λ c left.
+        let P : ℕ → Type 0 = λ s. IsImageOfOne R directory s (shown new) heap after c in
+        let front = front-back (shown stored) (shown new) (front-on R directory after stored new turned.shows on) in
+        subst P (sym on.size)
+        (image_of_one-before R directory stored.size (shown stored) (shown new) heap after c front
+        (turned.leaves c (λ l w. on.leaves l w (c l w) (left l w))));
     others = λ l w counts apart.
         let before = counts-on R directory after stored new turned.shows on l w counts in
         durable-on R directory after stored new turned.shows on l w before (turned.others l w before apart);
   }
 
-  pub turned-durable : IsDurable new line word → HoldsHeap R directory after new
-  turned-durable durable = record {
-    shows = turned-on.shows;
-    settled = λ l w counts. elim (cases_eq l line) [
-      | inl a ↦ elim (cases_eq w word) [
-        | inl b ↦ rw (a, b) durable
-        | inr ne ↦ turned-on.others l w counts (λ e. ne)
-      ]
-      | inr ne ↦ turned-on.others l w counts (λ e. absurd (ne e))
-    ];
-  }
+  pub turned-durable : IsDurable new line word → IsSettledFor R after new
+  turned-durable durable l w counts = elim (cases_eq l line) [
+    | inl a ↦ elim (cases_eq w word) [
+      | inl b ↦ rw (a, b) durable
+      | inr ne ↦ turned-on.others l w counts (λ e. ne)
+    ]
+    | inr ne ↦ turned-on.others l w counts (λ e. absurd (ne e))
+  ]
 
-  pub turned-moments : (size : ℕ) → stored.size ≡ size → Goes old.image new.image (StandsForOne size heap after)
-  turned-moments size is =
-      let P : Outcome → Type 0 = StandsForOne size heap after in
+  pub turned-moments : (size : ℕ) (before : Words) → stored.size ≡ size → SameFront before (shown stored)
+      → Goes old.image new.image (IsImageOfOne R directory size before heap after)
+  turned-moments size before is front =
+      let P : Outcome → Type 0 = IsImageOfOne R directory size before heap after in
       subst (λ (told : Told). Goes told new.image P) same.image
       (goes_on stored.image stored.image new.image P (CanLeaveAll stored) P (goes_nowhere stored.image P) on.any_moment
       (λ c one. one)
-      (λ c left. let Q : ℕ → Type 0 = λ s. StandsForOne s heap after c in subst Q is (turned.leaves c left)))
+      (λ c left.
+      let Q : ℕ → Type 0 = λ s. IsImageOfOne R directory s before heap after c in
+      subst Q is (image_of_one-before R directory stored.size (shown stored) before heap after c front (turned.leaves c left))))

@@ -1,4 +1,4 @@
--- What the calls do to each heap that a memory holds: a store into an array of ints (iastore, JVMS 6.5), one into the root's static field
+-- What the calls do to each heap that a memory shows: a store into an array of ints (iastore, JVMS 6.5), one into the root's static field
 -- (putstatic), and a new array (newarray), whose lines are written back and fenced (CLWB and SFENCE, Intel 64 and IA-32 Architectures
 -- Software Developer's Manual, volume 2).
 use Rattle.std.specs.Prelude.{◌≡◌, ◌≢◌, ◌⊎◌, ℕ, ◌+◌, ◌*◌, ◌<◌, ◌≤◌, ℤ, Bool, ◌||◌, ◌&&◌, ◌==◌, List, [], ◌∷◌, ◌++◌, length, map, slice_index_or, Option, Some, None}
@@ -14,7 +14,7 @@ use Rattle.image_meaning.specs.Directories.{Directory}
 use Rattle.image_meaning.specs.Arrays.{int_value}
 use Rattle.image_meaning.specs.Corresponds.{LiesAt, HoldsReference, root_static}
 use Rattle.image_meaning.specs.Laws.{told_by}
-use Rattle.array_heap.specs.Holding.{HoldsHeap}
+use Rattle.array_heap.specs.Holding.{ShowsHeap}
 
 -- ---- elements
 
@@ -28,10 +28,10 @@ pub record IsElement (R : LiesAt) (heap : Heap) (line n index : ℕ) : Type 0 wh
 abbrev pub IsInt : List Value → ℕ → ℤ → Type 0
 IsInt values index i = slice_index_or values index Null ≡ Int i
 
--- so it is with each heap that the memory holds with such an element, and with the heap after the store
+-- so it is with each heap that the memory shows with such an element, and with the heap after the store
 abbrev pub OnElement : Memory → ℕ → ℕ → ℤ → (LiesAt → Directory → Heap → Heap → Type 0) → Type 0
 OnElement m line index value P = (lies : ℕ → ℕ → Bool) (directory : Directory) (heap : Heap) (n : ℕ)
-    → HoldsHeap (told_by lies) directory heap m → IsElement (told_by lies) heap line n index
+    → ShowsHeap (told_by lies) directory heap m → IsElement (told_by lies) heap line n index
     → P (told_by lies) directory heap (stored heap (Slot n index) (Int value))
 
 -- ---- the root
@@ -48,10 +48,10 @@ pub record IsForRoot (R : LiesAt) (heap : Heap) (word : ℕ) (value : Value) : T
   pub own : (r : ℕ) → r < length heap.roots → r ≢ 0 → root_static heap r ≢ root_static heap 0
   pub refers : HoldsReference R word value
 
--- so it is with each heap that the memory holds with such a root, and with the heap after the store
+-- so it is with each heap that the memory shows with such a root, and with the heap after the store
 abbrev pub OnRoot : Memory → Option ℕ → (LiesAt → Directory → Heap → Heap → Type 0) → Type 0
 OnRoot m line P = (lies : ℕ → ℕ → Bool) (directory : Directory) (heap : Heap) (value : Value)
-    → HoldsHeap (told_by lies) directory heap m → IsForRoot (told_by lies) heap (line_word line) value
+    → ShowsHeap (told_by lies) directory heap m → IsForRoot (told_by lies) heap (line_word line) value
     → P (told_by lies) directory heap (stored heap (Static (root_static heap 0)) value)
 
 -- ---- a new array
@@ -74,12 +74,12 @@ pub record IsRoom (R : LiesAt) (directory : Directory) (heap : Heap) (size line 
   pub same : slice_index_or directory.shapes shape no_shape ≡ shape_at heap heap_shape
   pub ints : (shape_at heap heap_shape).element ≡ Some I
 
--- so it is with each heap that the memory holds with such room, and with the relation and the heap of one array more
-abbrev pub OnRoom : Memory → ℕ → ℕ → List ℤ → (LiesAt → Directory → Heap → Heap → Type 0) → Type 0
+-- so it is with each heap that the memory shows with such room, and with the relation and the heap of one array more
+abbrev pub OnRoom : Memory → ℕ → ℕ → List ℤ → (LiesAt → LiesAt → Directory → Heap → Heap → Type 0) → Type 0
 OnRoom m line shape ints P = (lies : ℕ → ℕ → Bool) (directory : Directory) (heap : Heap) (heap_shape : ℕ)
-    → HoldsHeap (told_by lies) directory heap m
+    → ShowsHeap (told_by lies) directory heap m
     → IsRoom (told_by lies) directory heap m.size line shape (length ints) heap_shape
-    → P (told_by (lies_too lies line (length heap.objects))) directory heap (with_ints heap heap_shape ints)
+    → P (told_by lies) (told_by (lies_too lies line (length heap.objects))) directory heap (with_ints heap heap_shape ints)
 
 -- it is one of so many lines from this one on
 abbrev pub IsIn : ℕ → ℕ → ℕ → Type 0

@@ -13,7 +13,7 @@ use Rattle.image_meaning.specs.Directories.{Directory}
 use Rattle.image_meaning.specs.Logs.{NoneLogged}
 use Rattle.image_meaning.specs.Meaning.{StandsFor}
 use Rattle.image_meaning.specs.Corresponds.{LiesAt, Corresponds}
-use Rattle.image_meaning.specs.Laws.{told_by, Opens}
+use Rattle.image_meaning.specs.Laws.{told_by, Opens, SameFront}
 use Rattle.image_meaning.specs.Opening.{HoldsGraph}
 
 -- The word counts: it is one of the superblock, of the directory as far as it is in use, the count of a log, a root slot, or the head or a
@@ -47,32 +47,41 @@ pub record HoldsHeap (R : LiesAt) (directory : Directory) (heap : Heap) (m : Mem
 abbrev pub StandsForHeap : ℕ → Heap → Outcome → Type 0
 StandsForHeap size heap c = StandsFor size c (canon_of heap)
 
--- for that of the one heap or of the other
-abbrev pub StandsForOne : ℕ → Heap → Heap → Outcome → Type 0
-StandsForOne size heap after c = StandsForHeap size heap c ⊎ StandsForHeap size after c
+-- An image of the heap: it stands for its graph and corresponds to it, and has the superblock and the directory of the words before, as far
+-- as that is in use, and no counted entry in a log.
+pub record IsImageOf (R : LiesAt) (directory : Directory) (size : ℕ) (before : Words) (heap : Heap) (c : Outcome) : Type 0 where
+  pub stands : StandsForHeap size heap c
+  pub front : SameFront before c
+  pub unlogged : NoneLogged c
+  pub corresponds : Corresponds R directory size c heap
+
+-- of the one heap or of the other
+abbrev pub IsImageOfOne : LiesAt → Directory → ℕ → Words → Heap → Heap → Outcome → Type 0
+IsImageOfOne R directory size before heap after c = IsImageOf R directory size before heap c ⊎ IsImageOf R directory size before after c
 
 -- The heap became another by the store of one word, which is all that may not be durable yet: a stop leaves an image of the one or of the
 -- other heap.
 pub record TurnedInto (R : LiesAt) (directory : Directory) (heap after : Heap) (line word : ℕ) (m : Memory) : Type 0 where
   pub shows : ShowsHeap R directory after m
-  pub leaves : (c : Outcome) → CanLeaveAll m c → StandsForOne m.size heap after c
+  pub leaves : (c : Outcome) → CanLeaveAll m c → IsImageOfOne R directory m.size (shown m) heap after c
   pub others : (l w : ℕ) → Counts R after (shown m) l w → (l ≡ line → w ≢ word) → IsDurable m l w
 
 -- ---- laws
 
--- What a stop leaves of a memory that holds a heap stands for the heap's graph.
+-- What a stop leaves of a memory that holds a heap is an image of the heap.
 abbrev pub HeldHeapStands : Type 0
 HeldHeapStands = (lies : ℕ → ℕ → Bool) (directory : Directory) (heap : Heap) (m : Memory) (c : Outcome)
-    → HoldsHeap (told_by lies) directory heap m → CanLeaveAll m c → StandsForHeap m.size heap c
+    → HoldsHeap (told_by lies) directory heap m → CanLeaveAll m c → IsImageOf (told_by lies) directory m.size (shown m) heap c
 
--- the memory holds each heap that has this graph
+-- The memory shows each heap that has this graph, and holds it where each word of the image is durable.
 pub record HoldsFound (m : Memory) (graph : Graph) : Type 0 where
   pub lies : ℕ → ℕ → Bool
   pub directory : Directory
-  pub holds : (heap : Heap) → HoldsGraph heap graph → HoldsHeap (told_by lies) directory heap m
+  pub shows : (heap : Heap) → HoldsGraph heap graph → ShowsHeap (told_by lies) directory heap m
+  pub settled : ((line word : ℕ) → line < m.size → IsDurable m line word)
+      → (heap : Heap) → HoldsGraph heap graph → IsSettledFor (told_by lies) heap m
 
 -- So it is with a memory that was just attached to an image that stands for a graph, isn't blank, and has no counted entry in a log.
 abbrev pub AttachedImageIsHeld : Type 0
 AttachedImageIsHeld = (m : Memory) (graph : Graph) → ((line : ℕ) → line < m.size → IsKnown m line)
-    → ((line word : ℕ) → line < m.size → IsDurable m line word) → shown m 0 0 ≢ 0 → NoneLogged (shown m)
-    → StandsFor m.size (shown m) graph → HoldsFound m graph
+    → shown m 0 0 ≢ 0 → NoneLogged (shown m) → StandsFor m.size (shown m) graph → HoldsFound m graph

@@ -11,7 +11,7 @@ ghost use Rattle.image_layout.specs.Places.{max_lines, object_line, object_word}
 ghost use Rattle.image_meaning.specs.Directories.{Directory};
 ghost use Rattle.image_meaning.specs.Corresponds.{Corresponds};
 ghost use Rattle.image_meaning.specs.Laws.{told_by};
-ghost use Rattle.array_heap.specs.Holding.{HoldsHeap, StandsForOne, TurnedInto};
+ghost use Rattle.array_heap.specs.Holding.{IsSettledFor, ShowsHeap, IsImageOfOne, TurnedInto};
 ghost use Rattle.array_heap.specs.Calls.{IsElement, OnElement, IsInt};
 
 use crate::durable::make_durable;
@@ -30,13 +30,14 @@ pub(crate) fn element_spot(line: u32, index: u32) -> Spot
 }
 
 /// Stores an element of the array that begins at a line, of an image of at most 4,194,304 lines. No image call is made:
-/// the heap is the one after the store, and a stop leaves it or the one before.
+/// the heap is the one after the store, and where the one before was durable, a stop leaves it or that.
 pub fn store_element<I: Image>(memory: &mut LineMemory<I>, line: u32, index: u32, value: i32)
     requires size { memory.old.size ≤ max_lines }
     requires in_range { object_line line index < memory.old.size }
     requires resident { IsResident memory.old (object_line line index) }
-    ensures turned { OnElement memory.old line index value (λ R directory heap after.
-        TurnedInto R directory heap after (object_line line index) (object_word index) memory.new) }
+    ensures shows { OnElement memory.old line index value (λ R directory heap after. ShowsHeap R directory after memory.new) }
+    ensures turned { OnElement memory.old line index value (λ R directory heap after. IsSettledFor R heap memory.old
+        → TurnedInto R directory heap after (object_line line index) (object_word index) memory.new) }
     ensures value { shown memory.new (object_line line index) (object_word index) ≡ cast_unsigned w32 value }
     ensures others { (l w : ℕ) → (l ≡ object_line line index → w ≢ object_word index)
         → shown memory.new l w ≡ shown memory.old l w }
@@ -49,8 +50,8 @@ pub fn store_element<I: Image>(memory: &mut LineMemory<I>, line: u32, index: u32
     memory.store(element_spot(line, index), u64::from(value.cast_unsigned()));
 }
 
-/// Stores an element of the array that begins at a line, and makes it durable. A stop at any moment leaves the heap as
-/// it was, or the one after the store; once this has succeeded, the latter.
+/// Stores an element of the array that begins at a line, and makes it durable. Where the heap was durable, a stop at any
+/// moment leaves it as it was, or the one after the store; once this has succeeded, the latter.
 pub fn set_element<I: Image>(
     memory: &mut LineMemory<I>,
     line: u32,
@@ -60,12 +61,13 @@ pub fn set_element<I: Image>(
     requires size { memory.old.size ≤ max_lines }
     requires in_range { object_line line index < memory.old.size }
     requires resident { IsResident memory.old (object_line line index) }
-    ensures durable { OnOk result (OnElement memory.old line index value (λ R directory heap after.
-        HoldsHeap R directory after memory.new)) }
-    ensures turned { OnElement memory.old line index value (λ R directory heap after.
-        TurnedInto R directory heap after (object_line line index) (object_word index) memory.new) }
-    ensures any_moment { OnElement memory.old line index value (λ R directory heap after.
-        Goes memory.old.image memory.new.image (StandsForOne memory.old.size heap after)) }
+    ensures shows { OnElement memory.old line index value (λ R directory heap after. ShowsHeap R directory after memory.new) }
+    ensures durable { OnOk result (OnElement memory.old line index value (λ R directory heap after. IsSettledFor R heap memory.old
+        → IsSettledFor R after memory.new)) }
+    ensures turned { OnElement memory.old line index value (λ R directory heap after. IsSettledFor R heap memory.old
+        → TurnedInto R directory heap after (object_line line index) (object_word index) memory.new) }
+    ensures any_moment { OnElement memory.old line index value (λ R directory heap after. IsSettledFor R heap memory.old
+        → Goes memory.old.image memory.new.image (IsImageOfOne R directory memory.old.size (shown memory.old) heap after)) }
     ensures others { (l w : ℕ) → IsKnown memory.old l
         → (l ≡ object_line line index → w ≢ object_word index) → shown memory.new l w ≡ shown memory.old l w }
     ensures size_after { memory.new.size ≡ memory.old.size }

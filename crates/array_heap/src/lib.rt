@@ -1,4 +1,5 @@
 //! A durable root of ints in an image: the calls that place, read and change its array, each with what a stop leaves.
+//! The words behind the last slot of a placed array are 0.
 #![tactic(auto)]
 
 mod durable;

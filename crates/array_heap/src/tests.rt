@@ -1,10 +1,11 @@
 // A durable array over an image in memory, and what a stop leaves of it.
-ghost use Rattle.std.specs.Prelude.{◌≡◌, ◌<◌, ◌≤◌, IfOk};
-ghost use Rattle.image_layout.specs.Places.{max_lines};
+ghost use Rattle.std.specs.Prelude.{◌≡◌, ◌<◌, ◌≤◌, ◌+◌, IfOk};
+ghost use Rattle.image_layout.specs.Places.{max_lines, lines_of};
 
-use crate::{element, length, place_array, set_element, set_root};
+use crate::{element, length, place_array, place_zeros, set_element, set_root};
+use ap_base::Spot;
 use line_image::{Fails, Image, ImageFailed, MemoryImage};
-use line_memory::LineMemory;
+use line_memory::{LineMemory, every_line_is_resident};
 use std::alloc::{AllocError, Global};
 use std::test::Fail;
 
@@ -23,10 +24,31 @@ fn fails(alloc: Global, calls: &[u64]) -> Result<Fails, AllocError> {
 /// A memory over an image of zeros. Of its calls after the attach the one of this number fails.
 fn attached(alloc: Global, failing: u64) -> Result<LineMemory<MemoryImage>, Fail>
     requires { failing < 100 }
-    ensures enough { IfOk result (λ memory. LINE < memory.size) }
+    ensures enough { IfOk result (λ memory. LINE + 3 < memory.size) }
     ensures most { IfOk result (λ memory. memory.size ≤ max_lines) }
 {
-    let image = MemoryImage::new(alloc, LINES, fails(alloc, &[LINES + failing])?)?;
+    attach(
+        alloc,
+        MemoryImage::new(alloc, LINES, fails(alloc, &[LINES + failing])?)?,
+    )
+}
+
+/// A memory over an image each word of which is 9.
+fn attached_to_nines(alloc: Global) -> Result<LineMemory<MemoryImage>, Fail>
+    ensures enough { IfOk result (λ memory. LINE + 3 < memory.size) }
+    ensures most { IfOk result (λ memory. memory.size ≤ max_lines) }
+{
+    let words = vec![in alloc; 9; LINES as usize * 8]?;
+    attach(
+        alloc,
+        MemoryImage::of_words(alloc, &words, fails(alloc, &[])?)?,
+    )
+}
+
+fn attach(alloc: Global, image: MemoryImage) -> Result<LineMemory<MemoryImage>, Fail>
+    ensures enough { IfOk result (λ memory. LINE + 3 < memory.size) }
+    ensures most { IfOk result (λ memory. memory.size ≤ max_lines) }
+{
     match LineMemory::attach(alloc, image) {
         Ok(memory) => Ok(memory),
         Err(_) => Err(Fail::from("attached")),
@@ -101,6 +123,33 @@ fn read<I: Image>(memory: &LineMemory<I>) -> (u32, [i32; 3])
     )
 }
 
+/// Places so many zeros at a line.
+fn place_zeros_at<I: Image>(
+    memory: &mut LineMemory<I>,
+    line: u32,
+    count: u32,
+) -> Result<(), ImageFailed>
+    requires room { line + lines_of count ≤ memory.old.size }
+    requires most { memory.old.size ≤ max_lines }
+    ensures { memory.new.size ≡ memory.old.size }
+{
+    every_line_is_resident();
+    place_zeros(memory, line, 0, count)
+}
+
+/// The words of a line.
+fn words<I: Image>(memory: &LineMemory<I>, line: u32) -> [u64; 8]
+    requires { line < memory.now.size }
+{
+    let mut words = [0; 8];
+    if memory.resident(line) {
+        for word in 0..8 {
+            words[word as usize] = memory.load(Spot { line, word });
+        }
+    }
+    words
+}
+
 /// What a stop leaves in a word, if call `failing` of the run of 0 0 0 and then 7 failed.
 fn left(alloc: Global, failing: u64, pick: u64, line: u64, word: u8) -> Result<u64, Fail>
     requires { failing < 100 }
@@ -165,5 +214,22 @@ fn a_stop_leaves_each_call_or_nothing_of_it(rt: HostRuntime) -> Result<(), Fail>
             "root, call {failing}, pick {pick}"
         );
     }
+    Ok(())
+}
+
+#[test]
+fn words_behind_the_last_slot_are_zero(rt: HostRuntime) -> Result<(), Fail> {
+    let alloc = rt.alloc();
+    let mut memory = attached_to_nines(alloc)?;
+    assert_eq!(rt; place(&mut memory, &[5, 6, 7]), Ok(()));
+    assert_eq!(rt; words(&memory, LINE), [0x3_0000_0000, 5, 6, 7, 0, 0, 0, 0]);
+    assert_eq!(rt; words(&memory, LINE + 1), [9; 8]);
+    assert_eq!(rt; place_zeros_at(&mut memory, LINE + 1, 8), Ok(()));
+    assert_eq!(rt;
+        words(&memory, LINE + 1),
+        [0x8_0000_0000, 0, 0, 0, 0, 0, 0, 0]
+    );
+    assert_eq!(rt; words(&memory, LINE + 2), [0; 8]);
+    assert_eq!(rt; words(&memory, LINE + 3), [9; 8]);
     Ok(())
 }

@@ -13,8 +13,8 @@ use Rattle.graph_model.specs.Heaps.{has_number, values_of}
 use Rattle.std.proofs.lemmas.List.Quantifiers.{all_pairs_push}
 use Rattle.std.proofs.lemmas.Bool.{cases_lt, or_right, false≢true, lt-ltb, le-ltb}
 use Rattle.plain_model.specs.Requests.{PlainRequest}
-use Rattle.std.proofs.Common.{◌≡◌, ℕ, ◌+◌, ◌-◌, ◌<◌, ◌≤◌, pos, true, false, List, [], ◌∷◌, ◌++◌, length, Option, Some, None, refl, sym, ◌∙◌, ap, subst, arith, inl, inr, sum_by, ⊎_elim, nat_eq, get_or, ℤ, negsuc, nat_lt, is_some}
-use Rattle.std.specs.Prelude.{All, IsSome, ◌≢◌, AllPairs}
+use Rattle.std.proofs.Common.{◌≡◌, ℕ, ◌+◌, ◌-◌, ◌<◌, ◌≤◌, pos, true, false, List, [], ◌∷◌, ◌++◌, length, Option, Some, None, refl, sym, ◌∙◌, ap, subst, arith, inl, inr, sum_by, ⊎_elim, nat_eq, get_or, ℤ, negsuc, nat_lt, nat_le, is_some}
+use Rattle.std.specs.Prelude.{All, IsSome, ◌≢◌, AllPairs, Contains, filter}
 use Rattle.std.proofs.lemmas.List.Elements.{All-nil, All-cons, All-push, All-contains_itself}
 use Rattle.ap_base.specs.declared.kind.Limits.{Limits}
 use Rattle.ap_base.specs.declared.fault.RunFault.{RunFault}
@@ -30,23 +30,15 @@ use Rattle.plain_model.specs.First.{numbers_to}
 use Rattle.plain_model.specs.Steps.{step, Step, Does, op_of}
 use Rattle.plain_model.specs.Codes.{taken_by, request_of}
 use Rattle.plain_model.specs.Runs.{op_given, known_of, frames_of, wants_of}
-use Rattle.plain_model.specs.Ends.{EndsAs, Fault, Uncaught, Finished, FillsHeap, words_taken, words_made, first_uncaught, FillsImage, IsTaken, lines_of}
+use Rattle.plain_model.specs.Ends.{EndsAs, Fault, Uncaught, Finished, FillsHeap, words_taken, words_made, first_uncaught, FillsImage, IsTaken, lines_of, Prints}
 use Rattle.array_program.specs.declared.program.Group.{Group}
 use Rattle.array_program.specs.declared.program.Group.TheVariants as group
 use Rattle.array_program.specs.declared.program.Program.{Program}
 use Rattle.array_program.specs.Facts.{program_facts, int_array_number, class_facts}
-use Rattle.array_program.specs.Running.{Frame, Before, Left, program_code, Storing, Loading, frame_request}
+use Rattle.array_program.specs.Running.{Frame, Before, Left, Printing, program_code, Storing, Loading, frame_request}
 use Rattle.array_history.specs.Standing.{IsAt, State, known_at, world_at, Store, durable_of, has_left, IsHeapOf, IsIntsObject, HasRoot, IsOutside}
 use Rattle.array_history.proofs.Words.{slots_of_ints, slots_of_throwable}
-
--- ---- faults of the image and of the sink, at any event
-
-module _ (program : Program) (opening : Graph) (acts : List Recorded) (limits : Limits) (lines : ℕ) where
-  pub ends_image : EndsAs (program_facts program) 0 opening (program_code program opening) limits lines acts (Fault fault.ImageFault)
-  ends_image = (0, tt)
-
-  pub ends_sink : EndsAs (program_facts program) 0 opening (program_code program opening) limits lines acts (Fault fault.SinkFault)
-  ends_sink = (0, tt)
+use Rattle.array_history.proofs.Taking.{joined_are}
 
 module _ {program : Program} {opening : Graph} {acts : List Recorded} {frame : Frame} {uncaught : Option ℕ} {state : State} {at : ℕ} (stands : IsAt program opening acts frame uncaught state at) where
   -- what holds of all that is known at the frame holds of what is known after the acts
@@ -60,6 +52,14 @@ module _ {program : Program} {opening : Graph} {acts : List Recorded} {frame : F
   -- what thread 0 asks at the frame
   abbrev asked_there : Option PlainRequest
   asked_there = request_of (program_facts program) 0 opening (program_code program opening) (world_at program opening frame uncaught state.heap) (frame ∷ []) 0
+
+  -- the image fails where thread 0 hasn't ended
+  pub ends_image : (limits : Limits) (lines : ℕ) → has_left frame ≡ false
+      → EndsAs (program_facts program) 0 opening (program_code program opening) limits lines acts (Fault fault.ImageFault)
+  ends_image limits lines lives =
+      let set = program_facts program in
+      let code = program_code program opening in
+      (0, at_frame (λ k fs. IsSome (request_of set 0 opening code k.world fs 0)) (λ marks stores before. rw lives refl))
 
   -- More words are needed than are left, of what the request makes.
   pub full_heap : (limits : Limits) (lines : ℕ) (o : Op) (need : ℕ) → IsSome asked_there
@@ -75,6 +75,16 @@ module _ {program : Program} {opening : Graph} {acts : List Recorded} {frame : F
       IsSome (request_of set 0 opening code k.world fs 0) × FillsHeap set opening limits k (request_of set 0 opening code k.world fs 0) 0 f in
       let (asked, fills) = at_frame Fills (λ marks stores before. (asks, (o, need, about, made, record { more = more; names = refl }))) in
       (0, (asked, inr (inr (inr (inr (inr (inl fills)))))))
+
+-- the sink fails where thread 0 prints
+pub ends_sink : {program : Program} {opening : Graph} {acts : List Recorded} {stream : Value} {text : List ℕ} {gs : List Group} {uncaught : Option ℕ} {state : State} {at : ℕ}
+    → IsAt program opening acts (Printing stream text gs) uncaught state at → (limits : Limits) (lines : ℕ)
+    → EndsAs (program_facts program) 0 opening (program_code program opening) limits lines acts (Fault fault.SinkFault)
+unfolding program_code
+ends_sink {program = program} {opening = opening} stands limits lines =
+    let set = program_facts program in
+    let code = program_code program opening in
+    (0, at_frame stands (λ k fs. Prints (request_of set 0 opening code k.world fs 0)) (λ marks stores before. (_, _, refl)))
 
 -- ---- the end
 
@@ -136,13 +146,16 @@ module _ {program : Program} {opening : Graph} {acts : List Recorded} {frame : F
       (λ i d within. (let new = stands.heap.new i d within in omega (arith, new), inl (joined_has i d within)))
       (let late = behind_nodes k volatile in omega (arith, late), inr (0, stands.wanted k owes))
 
-  -- More lines are needed than the image has, of the arrays that became durable and the one that is to.
+  joined_in : All (Contains state.joined) (filter (λ n. nat_le (length opening.nodes) n) (durable_of opening state))
+  joined_in = subst (λ (joined : List ℕ). All (Contains state.joined) joined) (sym (joined_are stands.heap)) (All-contains_itself state.joined)
+
+  -- More lines are needed by the array that is to become durable than the arrays that did leave.
   pub full_image : {k : ℕ} → has_left frame ≡ false → state.owes ≡ Store k → has_number (durable_of opening state) k ≡ false
-      → (limits : Limits) (lines need left : ℕ) → lines < sum_by (lines_of state.heap) (state.joined ++ k ∷ []) → left < need
+      → (limits : Limits) (lines need left : ℕ) → need ≡ lines_of state.heap k → left ≡ lines - sum_by (lines_of state.heap) state.joined → left < need
       → EndsAs (program_facts program) 0 opening (program_code program opening) limits lines acts
       (Fault (fault.Full (record { which = which.ImageLines; need = need; left = left })))
   unfolding program_code
-  full_image {k = k} lives owes volatile limits lines need left many more =
+  full_image {k = k} lives owes volatile limits lines need left needs leaves more =
       let set = program_facts program in
       let code = program_code program opening in
       let f : RunFault = fault.Full (record { which = which.ImageLines; need = need; left = left }) in
@@ -150,11 +163,12 @@ module _ {program : Program} {opening : Graph} {acts : List Recorded} {frame : F
       let (asked, fills) = at_frame stands Fills (λ marks stores before. (
         rw lives refl,
         record {
-          objects = state.joined ++ k ∷ [];
+          claimed = state.joined;
+          refused = k;
           once = once_with k volatile;
           taken = taken_with k owes volatile marks stores before;
-          too_many = many;
-          names = (need, left, record { more = more; names = refl });
+          joined = joined_in;
+          used_up = record { more = omega (arith, needs, leaves, more); names = rw (needs, leaves) refl };
         },
       )) in
       (0, (asked, inr (inr (inr (inr (inr (inr (inr (inr fills)))))))))

@@ -8,6 +8,7 @@ use Rattle.graph_model.specs.declared.types.Graph.{Graph}
 use Rattle.graph_model.specs.Canon.{canon_of}
 use Rattle.line_image.specs.History.{Outcome}
 use Rattle.image_meaning.specs.Meaning.{StandsFor}
+use Rattle.image_opening.specs.Opened.{IsOfForm}
 use Rattle.run_history.specs.declared.act.Op.{Op}
 use Rattle.run_history.specs.declared.act.Op.TheVariants as op
 use Rattle.run_history.specs.Recorded.{Recorded}
@@ -21,7 +22,7 @@ use Rattle.plain_model.specs.Runs.{IsAllowed, known_of}
 use Rattle.array_program.specs.declared.program.Program.{Program}
 use Rattle.array_program.specs.Facts.{program_facts}
 use Rattle.array_program.specs.Running.{Frame, program_code}
-use Rattle.array_history.specs.Standing.{IsAt, State, durable_of, unfenced_of, recorded, with_op}
+use Rattle.array_history.specs.Standing.{IsAt, State, root_name, durable_of, unfenced_of, recorded, with_op}
 use Rattle.array_history.specs.Left.{IsOneOf}
 
 -- ---- the acts before a call
@@ -50,8 +51,9 @@ module _ {program : Program} {opening : Graph} {acts : List Recorded} {frame : F
   allowed_whole = (kept (λ t. true) (λ t. true) marks, ((λ t. true), (λ t. true), refl), ap canon_of (sym stands.whole))
 
   -- where a stop loses none of the stores
-  pub left_whole : (size : ℕ) (c : Outcome) → StandsFor size c (canon_of state.heap) → IsOneOf program opening acts size c
-  left_whole size c is = record { graph = canon_of state.heap; stands = is; allowed = allowed_whole }
+  pub left_whole : (size : ℕ) (c : Outcome) → IsOfForm size c (root_name program) → StandsFor size c (canon_of state.heap)
+      → IsOneOf program opening acts size c
+  left_whole size c form is = record { form = form; graph = canon_of state.heap; stands = is; allowed = allowed_whole }
 
   abbrev past : Past
   past = record { world = first_world (program_facts program) opening; durable = numbers_to (length opening.nodes); acts = acts }
@@ -63,8 +65,10 @@ module _ {program : Program} {opening : Graph} {acts : List Recorded} {frame : F
 
   -- where it loses the last one, which isn't fenced
   pub left_without_store : unfenced_of state.owes ≡ [] → (now : ℕ) (place : Place) (value : Value) → is_durable state.heap (durable_of opening state) place ≡ true
-      → (size : ℕ) (c : Outcome) → StandsFor size c (canon_of state.heap) → IsOneOf program opening (with_op acts now (op.Stored place value)) size c
-  left_without_store owes now place value durable size c is = record {
+      → (size : ℕ) (c : Outcome) → IsOfForm size c (root_name program) → StandsFor size c (canon_of state.heap)
+      → IsOneOf program opening (with_op acts now (op.Stored place value)) size c
+  left_without_store owes now place value durable size c form is = record {
+    form = form;
     graph = canon_of state.heap;
     stands = is;
     allowed = (store_allows past 0 now place value (canon_of state.heap) (single_store owes place durable)).1 (inl allowed_whole);

@@ -15,6 +15,7 @@ pub mod StepsPrint
 pub mod StepsPut
 pub mod StepsStore
 pub mod StepsThrow
+pub mod Taking
 pub mod Visible
 pub mod Fitting
 pub mod Duties

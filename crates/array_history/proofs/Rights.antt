@@ -19,29 +19,22 @@ use Rattle.class_file.specs.Classes.{is_misnamed, head_at, this_at, behind_at, c
 use Rattle.class_file.specs.Members.{number, index, fields_at, methods_at}
 use Rattle.class_items.specs.Parsing.{told, ◌>>=◌ as ◌↠◌}
 use Rattle.const_pool.specs.Reading.{Place, pool_in}
+use Rattle.const_pool.proofs.Grammar.{bind_some}
 use Rattle.const_pool.specs.declared.entry.Tag.TheVariants.{Class}
 use Rattle.class_file.specs.declared.refusal.ClassRefusal.TheVariants as refusal
 use Rattle.class_items.specs.Items.{attributes_at}
 use Rattle.array_program.specs.declared.program.Group.{Group}
 use Rattle.array_program.specs.declared.program.Program.{Program}
 use Rattle.array_program.specs.Form.{◌>>=◌, only_if, or_else, gets_root, puts_root, makes_ints, pushed_by, prints_number_at, makes_array_at, stores_element_at, prints_element_at, array_group_at, group_at, ends_well, groups_from, main_groups, main_among, program_of, gets_out, calls_println, numbered, main_code, more_of, is_plain_init, root_among, is_bare, program_made}
+use Rattle.array_program.proofs.Steps.{mapped}
 use Rattle.array_history.specs.Standing.{NeedsNone, names_root, IsRight}
 
 -- ---- what is given by a chain of steps
-
--- each step gave something
-bound : {A B : Type 0} (o : Option A) (f : A → Option B) (y : B) → (o >>= f) ≡ Some y → (x : A) × (o ≡ Some x) × (f x ≡ Some y)
-bound None f y is = absurd (none-some y is)
-bound (Some x) f y is = (x, refl, is)
 
 -- a later step gives nothing
 nothing : {A B : Type 0} (o : Option A) (f : A → Option B) → ((x : A) → f x ≡ None) → (o >>= f) ≡ None
 nothing None f none = refl
 nothing (Some x) f none = none x
-
-mapped : {A B : Type 0} (f : A → B) (o : Option A) (y : B) → option_map f o ≡ Some y → (x : A) × (o ≡ Some x) × (f x ≡ y)
-mapped f None y is = absurd (none-some y is)
-mapped f (Some x) y is = (x, refl, same_Some (f x) y is)
 
 only_first : {A : Type 0} (o : Option A) → or_else o None ≡ o
 only_first None = refl
@@ -75,9 +68,9 @@ module _ (pool : Slots) (class : List ℕ) where
 
   no_root_named : (code : List Placed) (g : Group) → prints_number_at pool code ≡ Some g → NamesNone g
   no_root_named (p ∷ q ∷ r ∷ code) g is =
-      let (gets, got, rest) = bound (only_if (gets_out pool p.ins)) _ g is in
-      let (number, pushed, end) = bound (pushed_by pool q.ins) _ g rest in
-      let (calls, called, this) = bound (only_if (calls_println pool r.ins)) _ g end in
+      let (gets, got, rest) = bind_some (only_if (gets_out pool p.ins)) _ g is in
+      let (number, pushed, end) = bind_some (pushed_by pool q.ins) _ g rest in
+      let (calls, called, this) = bind_some (only_if (calls_println pool r.ins)) _ g end in
       ap names_root (sym (same_Some _ g this))
   no_root_named [] g is = absurd (none-some g is)
   no_root_named (p ∷ []) g is = absurd (none-some g is)
@@ -96,7 +89,7 @@ module _ (pool : Slots) (class : List ℕ) where
       (if b then Some [] else (group_at pool class None (p ∷ code) >>= λ first. option_map (λ others. first ∷ others) (groups_from pool class None (more_of first) code))) ≡ Some gs → All NamesNone gs) [
         | true ↦ λ none. subst (All NamesNone) (same_Some [] gs none) (All-nil NamesNone)
         | false ↦ λ some.
-            let (first, first_is, rest) = bound (group_at pool class None (p ∷ code)) _ gs some in
+            let (first, first_is, rest) = bind_some (group_at pool class None (p ∷ code)) _ gs some in
             let (others, others_are, whole) = mapped (λ others. first ∷ others) (groups_from pool class None (more_of first) code) gs rest in
             subst (All NamesNone) whole (All-cons NamesNone first others (group_names_none (p ∷ code) first first_is) (groups_name_none (more_of first) code others others_are))
       ] is
@@ -104,7 +97,7 @@ module _ (pool : Slots) (class : List ℕ) where
   main_names_none : (m : Method) (gs : List Group) → main_groups pool class None m ≡ Some gs → All NamesNone gs
   unfolding main_groups
   main_names_none m gs is =
-      let (code, found, groups) = bound (main_code pool None m) _ gs is in
+      let (code, found, groups) = bind_some (main_code pool None m) _ gs is in
       groups_name_none 0 code.instructions gs groups
 
   numbered_names_none : (n : ℕ) (m : Method) (main : ℕ × List Group) → numbered n (main_groups pool class None m) ≡ Some main → All NamesNone main.1
@@ -140,10 +133,10 @@ record IsOf (file : ClassFile) (program : Program) : Type 0 where
 of_file : (file : ClassFile) (program : Program) → program_of file ≡ Some program → IsOf file program
 unfolding program_of
 of_file file program is =
-    let (bare, is_bare, rest) = bound (only_if (is_bare file)) _ program is in
-    let (root, root_is, named) = bound (root_among file.pool file.fields) _ program rest in
-    let (name, name_is, mains) = bound (class_name_at file.pool file.this_class) _ program named in
-    let (main, main_is, made) = bound (main_among file.pool name root file.methods) _ program mains in
+    let (bare, is_bare, rest) = bind_some (only_if (is_bare file)) _ program is in
+    let (root, root_is, named) = bind_some (root_among file.pool file.fields) _ program rest in
+    let (name, name_is, mains) = bind_some (class_name_at file.pool file.this_class) _ program named in
+    let (main, main_is, made) = bind_some (main_among file.pool name root file.methods) _ program mains in
     record { root = root; name = name; main = main; named = name_is; mains = main_is; whole = same_Some _ program made }
 
 needs_none : (pool : Slots) (class : List ℕ) (root : Option (List ℕ)) (methods : List Method) (main : ℕ × List Group)

@@ -1,6 +1,6 @@
 -- The laws of runs of programs with at most one durable array. Each is said of every program, opening graph and history.
 use Rattle.plain_model.specs.Duties.{KeepsDuties}
-use Rattle.std.specs.Prelude.{◌≡◌, ◌<◌, ◌+◌, ◌-◌, ℕ, ℤ, pos, List, [], ◌∷◌, ◌++◌, Option, Some, None, Ok, sum_by, true, false}
+use Rattle.std.specs.Prelude.{◌≡◌, ◌<◌, ◌≤◌, ◌+◌, ◌-◌, max, ℕ, ℤ, pos, List, [], ◌∷◌, ◌++◌, Option, Some, None, Ok, sum_by, true, false}
 use Rattle.ap_base.specs.declared.kind.Limits.{Limits}
 use Rattle.ap_base.specs.declared.place.Place.{Place}
 use Rattle.ap_base.specs.declared.fault.RunFault.TheVariants as fault
@@ -13,6 +13,7 @@ use Rattle.line_image.specs.History.{Outcome}
 use Rattle.line_memory.specs.Memory.{Memory, CanLeaveAll, SameImage}
 use Rattle.image_meaning.specs.Meaning.{StandsFor}
 use Rattle.image_meaning.specs.Opening.{HoldsGraph}
+use Rattle.image_opening.specs.Opened.{IsOfForm}
 use Rattle.class_file.specs.declared.class.ClassFile.{ClassFile}
 use Rattle.class_file.specs.Classes.{class_in}
 use Rattle.run_history.specs.declared.act.Op.{Op}
@@ -20,14 +21,15 @@ use Rattle.run_history.specs.declared.act.Op.TheVariants as op
 use Rattle.run_history.specs.Recorded.{Recorded}
 use Rattle.run_history.specs.Knowing.{is_durable}
 use Rattle.plain_model.specs.First.{first_heap}
-use Rattle.plain_model.specs.Ends.{EndsAs, Fault, Uncaught, Finished, words_taken, lines_of}
+use Rattle.plain_model.specs.Runs.{known_of}
+use Rattle.plain_model.specs.Ends.{EndsAs, Fault, Uncaught, Finished, KeepsMemory, words_taken, lines_of}
 use Rattle.array_program.specs.declared.program.Group.{Group}
 use Rattle.array_program.specs.declared.program.Group.TheVariants as group
 use Rattle.array_program.specs.declared.program.Program.{Program}
 use Rattle.array_program.specs.Form.{program_of}
 use Rattle.array_program.specs.Facts.{program_facts}
 use Rattle.array_program.specs.Running.{Frame, Beginning, Before, Left, program_code}
-use Rattle.array_history.specs.Standing.{IsRight, IsAt, AllFit, State, Store, graph_with, first_state, durable_of, unfenced_of, has_left, recorded, with_op}
+use Rattle.array_history.specs.Standing.{IsRight, IsAt, AllFit, State, Store, root_name, graph_with, first_state, durable_of, unfenced_of, has_left, recorded, with_op}
 use Rattle.array_history.specs.Left.{IsOneOf, IsSafe}
 
 -- A program that was read from bytes names its root only where it has one, and its class has another name than arrays of ints.
@@ -49,18 +51,18 @@ abbrev pub RequestsAreFit : Type 0
 RequestsAreFit = (program : Program) (ints : Option (List ℤ)) → IsRight program
     → KeepsDuties (program_facts program) 0 (graph_with program ints) (program_code program (graph_with program ints))
 
--- Where a run stands at a heap, an image of that heap's graph is one that its acts allow.
+-- Where a run stands at a heap, an image of the form that stands for that heap's graph is one that its acts allow.
 abbrev pub WholeHeapIsAllowed : Type 0
 WholeHeapIsAllowed = (program : Program) (opening : Graph) (acts : List Recorded) (frame : Frame) (uncaught : Option ℕ) (state : State) (at : ℕ)
     → IsAt program opening acts frame uncaught state at
-    → (size : ℕ) (c : Outcome) → StandsFor size c (canon_of state.heap) → IsOneOf program opening acts size c
+    → (size : ℕ) (c : Outcome) → IsOfForm size c (root_name program) → StandsFor size c (canon_of state.heap) → IsOneOf program opening acts size c
 
 -- And so it is after a store at a durable place, where no fence is owed: the store may be lost.
 abbrev pub LastStoreMayBeLost : Type 0
 LastStoreMayBeLost = (program : Program) (opening : Graph) (acts : List Recorded) (frame : Frame) (uncaught : Option ℕ) (state : State) (at : ℕ)
     → IsAt program opening acts frame uncaught state at → unfenced_of state.owes ≡ []
     → (now : ℕ) (place : Place) (value : Value) → is_durable state.heap (durable_of opening state) place ≡ true
-    → (size : ℕ) (c : Outcome) → StandsFor size c (canon_of state.heap)
+    → (size : ℕ) (c : Outcome) → IsOfForm size c (root_name program) → StandsFor size c (canon_of state.heap)
     → IsOneOf program opening (with_op acts now (op.Stored place value)) size c
 
 -- What a stop leaves stays allowed by one more act, and by a store and its act, where what a stop leaves then is allowed by all acts.
@@ -98,9 +100,22 @@ ArrayFillsHeap = (program : Program) (opening : Graph) (acts : List Recorded) (u
 
 abbrev pub ArrayFillsImage : Type 0
 ArrayFillsImage = (program : Program) (opening : Graph) (acts : List Recorded) (frame : Frame) (uncaught : Option ℕ) (state : State) (at k : ℕ)
-    (limits : Limits) (lines need left : ℕ)
+    (limits : Limits) (lines : ℕ)
     → IsAt program opening acts frame uncaught state at → has_left frame ≡ false
     → state.owes ≡ Store k → has_number (durable_of opening state) k ≡ false
-    → lines < sum_by (lines_of state.heap) (state.joined ++ k ∷ []) → left < need
+    → lines - sum_by (lines_of state.heap) state.joined < lines_of state.heap k
     → EndsAs (program_facts program) 0 opening (program_code program opening) limits lines acts
-    (Fault (fault.Full (record { which = which.ImageLines; need = need; left = left })))
+    (Fault (fault.Full (record {
+      which = which.ImageLines;
+      need = lines_of state.heap k;
+      left = lines - sum_by (lines_of state.heap) state.joined;
+    })))
+
+-- A run whose numbers keep within what there is takes no more: of volatile memory, and of the image's lines.
+abbrev pub NumbersKeepMemory : Type 0
+NumbersKeepMemory = (program : Program) (opening : Graph) (acts : List Recorded) (frame : Frame) (uncaught : Option ℕ) (state : State) (at : ℕ)
+    (limits : Limits) (lines : ℕ)
+    → IsAt program opening acts frame uncaught state at
+    → words_taken opening state.heap ≤ max limits.heap_words (words_taken opening (first_heap (program_facts program) opening))
+    → sum_by (lines_of state.heap) state.joined ≤ lines
+    → KeepsMemory (program_facts program) opening limits lines (known_of (program_facts program) 0 opening (program_code program opening) acts)

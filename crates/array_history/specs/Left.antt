@@ -1,18 +1,21 @@
--- What a stop may leave of a run: an image that stands for a graph which the acts before it allow.
+-- What a stop may leave of a run: an image that can be opened again, and stands for a graph which the acts before it allow.
 use Rattle.std.specs.Prelude.{◌≡◌, ◌<◌, ◌≤◌, ◌-◌, ◌^◌, ℕ, List, All}
 use Rattle.graph_model.specs.declared.types.Graph.{Graph}
 use Rattle.line_image.specs.History.{Outcome, history_within}
 use Rattle.line_memory.specs.Memory.{Memory, CanLeaveAll}
 use Rattle.line_memory.specs.Moments.{CountsFrom, EachMoment}
 use Rattle.image_meaning.specs.Meaning.{StandsFor}
+use Rattle.image_opening.specs.Opened.{IsOfForm}
 use Rattle.run_history.specs.Recorded.{Recorded}
 use Rattle.run_history.specs.Kept.{acts_before}
 use Rattle.plain_model.specs.Runs.{IsAllowed}
 use Rattle.array_program.specs.declared.program.Program.{Program}
 use Rattle.array_program.specs.Facts.{program_facts}
+use Rattle.array_history.specs.Standing.{root_name}
 
--- an image of so many lines with these words stands for a graph that the acts allow
+-- an image of so many lines with these words is of the form that the program's root needs, and stands for a graph that the acts allow
 pub record IsOneOf (program : Program) (opening : Graph) (acts : List Recorded) (size : ℕ) (words : Outcome) : Type 0 where
+  pub form : IsOfForm size words (root_name program)
   pub graph : Graph
   pub stands : StandsFor size words graph
   pub allowed : IsAllowed (program_facts program) opening acts graph

@@ -1,5 +1,5 @@
 //! Laws of runs of programs with at most one durable array. Each function states some in its contract, and does nothing.
-ghost use Rattle.array_history.specs.Laws.{ReadProgramIsRight, FirstHeapHolds, RunBegins, RequestsAreFit, WholeHeapIsAllowed, LastStoreMayBeLost, ActKeepsSafe, StoreKeepsSafe, RunEnds, ThrowableEnds, ArrayFillsHeap, ArrayFillsImage};
+ghost use Rattle.array_history.specs.Laws.{ReadProgramIsRight, FirstHeapHolds, RunBegins, RequestsAreFit, WholeHeapIsAllowed, LastStoreMayBeLost, ActKeepsSafe, StoreKeepsSafe, RunEnds, ThrowableEnds, ArrayFillsHeap, ArrayFillsImage, NumbersKeepMemory};
 
 /// A program that was read is right, the first heap holds the graph from which it runs, and its run begins there.
 pub fn a_run_begins()
@@ -31,4 +31,9 @@ pub fn a_run_ends()
     ensures uncaught { ThrowableEnds }
     ensures heap { ArrayFillsHeap }
     ensures image { ArrayFillsImage }
+{}
+
+/// A run takes no more than there is.
+pub fn a_run_keeps_within_memory()
+    ensures { NumbersKeepMemory }
 {}

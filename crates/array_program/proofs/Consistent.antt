@@ -1,6 +1,5 @@
 -- The class set of a program has the classes of which the runtime makes objects.
-use Rattle.std.proofs.Common.{ℕ, ◌<◌, Bool, true, List, [], ◌∷◌, ◌++◌, codes, lit<, length, Option, Some, None}
-use Rattle.std.specs.Prelude.{All}
+use Rattle.std.proofs.Common.{ℕ, ◌<◌, Bool, true, List, [], ◌++◌, codes, lit<, length, Option, Some, None}
 use Rattle.std.proofs.lemmas.List.Elements.{All-nil, All-cons}
 use Rattle.ap_base.specs.declared.kind.Kind.TheVariants.{L}
 use Rattle.plain_model.specs.declared.throws.Throws.{Throws}
@@ -8,7 +7,7 @@ use Rattle.plain_model.specs.declared.throws.Throws.TheVariants.{NegativeArraySi
 use Rattle.plain_model.specs.Facts.{SetFacts, StaticFacts, IsConsistent, IsConstantBelow, thrown_class}
 use Rattle.array_program.specs.declared.program.Group.{Group}
 use Rattle.array_program.specs.declared.program.Program.{Program}
-use Rattle.array_program.specs.Facts.{program_facts, statics_of}
+use Rattle.array_program.specs.Facts.{program_facts}
 
 abbrev program_with : List ℕ → Bool → List (List ℕ) → ℕ → Option (List ℕ) → List Group → Program
 program_with name is_made literals main root groups =

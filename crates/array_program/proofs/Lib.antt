@@ -2,3 +2,6 @@ pub mod Seven
 pub mod Refused
 pub mod GroupChains
 pub mod Consistent
+pub mod Steps
+pub mod GroupKinds
+pub mod ExactGroups

@@ -1,29 +1,25 @@
 -- A new array is asked, joined, stored to the root and fenced, and one of its elements is stored, fenced, read and printed.
-use Rattle.std.proofs.Common.{◌≡◌, ◌⊎◌, ℕ, true, false, [], ◌∷◌, ◌++◌, refl, ap, ◌∙◌, inl, inr, lit≤, lit<, arith, List, nat_eq, if◌then◌else◌, subst, sym, pos, codes}
-use Rattle.std.specs.Prelude.{All, AllPairs, Contains, ◌≢◌, Some, None}
+use Rattle.std.proofs.Common.{◌≡◌, ◌⊎◌, ℕ, false, [], ◌∷◌, ◌++◌, refl, ap, inl, lit≤, lit<, arith, List, subst, sym, pos, codes}
+use Rattle.std.specs.Prelude.{All, AllPairs, ◌≢◌, Some, None}
 use Rattle.std.specs.Fmt.{decimal}
 use Rattle.std.proofs.lemmas.Fmt.{decimal_digit}
-use Rattle.std.proofs.lemmas.List.Elements.{All-nil, All-cons, All-contains}
-use Rattle.ap_base.specs.declared.place.Place.TheVariants.{Static}
-use Rattle.graph_model.specs.declared.types.Value.{Value}
-use Rattle.graph_model.specs.declared.types.Value.TheVariants.{Int, Null, Obj as Object}
+use Rattle.std.proofs.lemmas.List.Elements.{All-nil, All-cons}
+use Rattle.graph_model.specs.declared.types.Value.TheVariants.{Obj as Object}
 use Rattle.graph_model.specs.declared.types.Heap.{Heap}
-use Rattle.graph_model.specs.Heaps.{has_number, values_of, with_fresh}
-use Rattle.graph_model.specs.Reach.{Reaches, here, along}
+use Rattle.graph_model.specs.Heaps.{has_number, with_fresh}
+use Rattle.graph_model.specs.Reach.{Reaches, here}
 use Rattle.run_history.specs.declared.act.Op.TheVariants as op
 use Rattle.run_history.specs.declared.act.PlainKey.TheVariants.{Object as ObjectKey}
 use Rattle.run_history.specs.Recorded.{Recorded}
-use Rattle.run_history.specs.Knowing.{Known, Pending, pending_of, known_after_op, known_after}
-use Rattle.run_history.specs.Wanted.{Wishes, NoWish, WantsNow, WantsAfter}
-use Rattle.plain_model.specs.First.{first_world, first_heap, first_known}
+use Rattle.run_history.specs.Knowing.{known_after_op}
+use Rattle.plain_model.specs.First.{first_world, first_heap}
 use Rattle.plain_model.specs.Steps.{step}
 use Rattle.plain_model.specs.Codes.{frames_after_op}
 use Rattle.plain_model.specs.Runs.{GoesOn, known_of, wants_of}
 use Rattle.plain_model.proofs.ClosedTest.{closed_by_test}
-use Rattle.array_program.specs.declared.program.Group.{Group}
 use Rattle.array_program.specs.Facts.{program_facts, int_array_number}
-use Rattle.array_program.specs.Running.{Frame, Entering, line_of, program_code}
-use Rattle.array_program.specs.Rows.{stores_seven, makes_negative, stores_past_end, past_end_acts, prints_of_null, null_acts, null_root, IsRunOf, StoresSeven, seven_acts, negative_acts, initialised, made, asked, joined, root_stored, fenced, root_read, element_stored, element_read, printed, by_main, stored_and_printed}
+use Rattle.array_program.specs.Running.{Entering, line_of, program_code}
+use Rattle.array_program.specs.Rows.{stores_seven, makes_negative, stores_past_end, past_end_acts, prints_of_null, null_acts, null_root, IsRunOf, StoresSeven, seven_acts, negative_acts, initialised, made, asked, joined, root_stored, fenced, root_read, element_stored, element_read, by_main}
 
 alone_once : (n : ℕ) → AllPairs (λ i j. i ≢ j) (n ∷ [])
 alone_once n i j d before within = absurd (omega (arith, before, within))

@@ -3,3 +3,4 @@ pub mod Running
 pub mod Rows
 pub mod Pools
 pub mod Form
+pub mod Groups

@@ -4,6 +4,7 @@
 mod fields;
 mod groups;
 mod instructions;
+mod laws;
 mod literals;
 mod methods;
 mod names;
@@ -13,6 +14,7 @@ mod rows;
 #[cfg(test)]
 mod tests;
 
+pub use laws::a_code_is_its_groups;
 pub use program::{Group, Program};
 pub use reading::read_program;
 pub use rows::{seven_is_stored_and_printed, the_set_is_consistent, what_throws_ends_the_program};

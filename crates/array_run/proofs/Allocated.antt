@@ -1,5 +1,5 @@
 -- A new array in volatile memory.
-use Rattle.std.proofs.Common.{◌≡◌, ◌+◌, ◌-◌, ◌<◌, ℕ, pos, List, [], ◌∷◌, length, refl, sym, subst, ap, ◌∙◌, arith, None}
+use Rattle.std.proofs.Common.{◌≡◌, ◌+◌, ◌-◌, ◌<◌, ◌≤◌, ℕ, pos, List, [], ◌∷◌, length, refl, sym, subst, ap, ◌∙◌, arith, None}
 use Rattle.std.proofs.lemmas.List.Elements.{All-weaker}
 use Rattle.ap_base.specs.declared.fault.Which.TheVariants as which_full
 use Rattle.graph_model.specs.declared.types.Heap.{Heap}
@@ -22,9 +22,9 @@ use Rattle.array_run.specs.declared.run.RunEnd.TheVariants as end
 use Rattle.array_run.specs.declared.objects.Objects.{Objects}
 use Rattle.array_run.specs.Opening.{default_limits}
 use Rattle.array_run.specs.Going.{Setting, Ties, Stands, Stopped, HasAllocated, FillsWords}
-use Rattle.array_run.proofs.Fresh.{held-fresh, objects-fresh, values-fresh}
-use Rattle.array_run.proofs.Numbers.{same_sum, root_array}
-use Rattle.array_run.proofs.Goings.{safe_on, stopped}
+use Rattle.array_run.proofs.Fresh.{shows-fresh, settled-fresh, objects-fresh, values-fresh, sum-fresh}
+use Rattle.array_run.proofs.Numbers.{root_array}
+use Rattle.array_run.proofs.Goings.{safe_tied, timed_act, stopped}
 
 -- too few words are left
 pub no_words : (s : Setting) (count make put need : ℕ) (gs : List Group) (acts : List Recorded) (objects : Objects) (m : Memory)
@@ -47,18 +47,21 @@ with_next objects need = record objects { next = objects.next + 1; words = objec
 -- what lies somewhere is as it was
 still : (s : Setting) (state : State) (objects : Objects) (m : Memory) (ties : Ties s state objects m) (shape count : ℕ) (line n : ℕ) → told_by ties.lies line n
     → length (values_of (with_fresh state.heap shape count) n) ≡ length (values_of state.heap n)
-still s state objects m ties shape count line n r = ap length (values-fresh state.heap shape count n (ties.holds.shows.corresponds.objects line n r).there)
+still s state objects m ties shape count line n r = ap length (values-fresh state.heap shape count n (ties.shows.corresponds.objects line n r).there)
 
 zeros-ties : (s : Setting) (state : State) (objects : Objects) (count : ℕ) (m : Memory) → IsHeapOf s.program s.opening state
-    → (ties : Ties s state objects m) → Ties s (with_zeros state count) (with_next objects (3 + count)) m
-zeros-ties s state objects count m is ties =
+    → 3 + count ≤ objects.words → (ties : Ties s state objects m) → Ties s (with_zeros state count) (with_next objects (3 + count)) m
+zeros-ties s state objects count m is enough ties =
     let heap : Heap = with_fresh state.heap int_array_number count in
     let many : length heap.objects ≡ length state.heap.objects + 1 = objects-fresh state.heap int_array_number count in
     let same = still s state objects m ties int_array_number count in
     record {
       lies = ties.lies;
       directory = ties.directory;
-      holds = held-fresh (told_by ties.lies) ties.directory state.heap m int_array_number count ties.holds;
+      shows = shows-fresh (told_by ties.lies) ties.directory state.heap m int_array_number count ties.shows;
+      settled = λ rest. settled-fresh (told_by ties.lies) ties.directory state.heap m int_array_number count ties.shows (ties.settled rest);
+      laid = ties.laid;
+      front = ties.front;
       shape = ties.shape;
       roots = ties.roots;
       size = ties.size;
@@ -66,30 +69,33 @@ zeros-ties s state objects count m is ties =
       nodes = omega (arith, ties.nodes, many);
       next = omega (arith, ties.next, many);
       words = omega (arith, ties.words, words_with_ints s.program s.opening state count is);
+      few = omega (arith, ties.words, enough, words_with_ints s.program s.opening state count is);
       free = λ line n r. let old = ties.free line n r in let count = same line n r in rw count old;
       made = All-weaker (λ n. n < length state.heap.objects) (λ n. n < length heap.objects) (λ n h. omega (arith, h, many)) state.joined ties.made;
-      used = ap (λ sum. sum + s.free) (same_sum state.heap heap state.joined
-          (λ i d h. ap length (values-fresh state.heap int_array_number count _ (ties.made i d h)))) ∙ ties.used;
+      used = ap (λ sum. sum + s.free) (sum-fresh state.heap int_array_number count state.joined ties.made) ∙ ties.used;
+      within = ties.within;
       array = root_array ties.lies ties.lies state.heap heap state.array objects.array (λ line n r. r) same ties.array;
     }
 
 pub allocated : (s : Setting) (count make put need : ℕ) (gs : List Group) (acts new : List Recorded) (objects : Objects) (m n : Memory)
-    → HasRoot s.program s.opening → need ≡ 3 + count
+    → HasRoot s.program s.opening → need ≡ 3 + count → need ≤ objects.words
     → Stands s (Before (group.MakesArray (pos count) make put ∷ gs)) Nothing acts objects m
     → new ≡ with_op acts m.calls (op.Alloc objects.next int_array_number count) → n ≡ m
     → HasAllocated s (Putting (Object objects.next) put gs) (record { object = objects.next; line = objects.free; length = count }) new (with_next objects need) n
 unfolding zeros-ties
-allocated s count make put need gs acts new objects m n root needs stands is same =
+allocated s count make put need gs acts new objects m n root needs enough stands is same =
     let state = stands.state in
     let k : ℕ = length state.heap.objects in
     let o = op.Alloc k int_array_number count in
     let at = made s.program s.opening count make put gs acts state m.calls stands.owed stands.at in
-    let ties : Ties s (with_zeros state count) (with_next objects (3 + count)) m = zeros-ties s state objects count m stands.at.heap stands.ties in
+    let ties : Ties s (with_zeros state count) (with_next objects (3 + count)) m = zeros-ties s state objects count m stands.at.heap (omega (arith, needs, enough)) stands.ties in
     let after : Stands s (Putting (Object k) put gs) Nothing (with_op acts m.calls o) (with_next objects (3 + count)) m = record {
       state = with_zeros state count;
       owed = stands.owed;
       at = at;
-      safe = λ begin counts. safe_on s acts (Putting (Object k) put gs) None begin (with_zeros state count) m o [] (stands.safe begin counts) at ties.lies ties.directory ties.holds;
+      safe = λ rest begin counts.
+          safe_tied s acts (Putting (Object k) put gs) None begin (with_zeros state count) (with_next objects (3 + count)) m o [] (stands.safe rest begin counts) at ties rest;
+      timed = timed_act s acts m o [] stands.timed;
       ties = ties;
     } in
     let acts1 : List Recorded = with_op acts m.calls o in
@@ -97,7 +103,8 @@ allocated s count make put need gs acts new objects m n root needs stands is sam
     let given : HasAllocated s (Putting (Object k) put gs) (record { object = k; line = objects.free; length = count }) acts1 (with_next objects (3 + count)) m = record {
       stands = after;
       before = state.heap;
-      holds = stands.ties.holds;
+      shows = stands.ties.shows;
+      settled = stands.ties.settled;
       heap = refl;
       object = refl;
       line = refl;

@@ -1,17 +1,20 @@
 -- A number is stored in an element of the root's array.
-use Rattle.std.proofs.Common.{◌≡◌, ◌-◌, ◌^◌, ℕ, ℤ, pos, ◌+◌, ◌<◌, List, length, slice_index_or, refl, sym, subst, ap, ◌∙◌, arith, Bool, None, Some, Option}
+use Rattle.std.proofs.Common.{◌≡◌, ◌≢◌, ◌-◌, ◌^◌, ℕ, ℤ, pos, ◌+◌, ◌<◌, List, length, refl, sym, subst, ap, ◌∙◌, arith, Bool, None, Some, Option}
 use Rattle.std.specs.Prelude.{FitsSigned}
 use Rattle.std.specs.Int.{w32}
 use Rattle.ap_base.specs.declared.place.Place.TheVariants.{Slot}
 use Rattle.graph_model.specs.declared.types.Heap.{Heap}
 use Rattle.graph_model.specs.declared.types.Value.TheVariants.{Int, Obj as Object}
 use Rattle.graph_model.specs.Heaps.{shape_at, values_of, stored}
-use Rattle.line_memory.specs.Memory.{Memory, IsDurable, SameImage}
+use Rattle.line_memory.specs.Memory.{Memory, shown, IsDurable, SameImage}
 use Rattle.durable_word.specs.Writes.{WritesOn}
 use Rattle.image_layout.specs.Places.{object_line, object_word}
-use Rattle.image_meaning.specs.Laws.{told_by}
+use Rattle.image_meaning.specs.Laws.{told_by, SameFront}
+use Rattle.image_opening.specs.Rest.{IsAtRest}
 use Rattle.array_heap.specs.Calls.{IsElement, OnElement}
-use Rattle.array_heap.specs.Holding.{HoldsHeap, TurnedInto}
+use Rattle.array_heap.specs.Holding.{ShowsHeap, IsSettledFor, TurnedInto}
+use Rattle.array_heap.proofs.Held.{shows-on, front-along, front-on}
+use Rattle.array_heap.proofs.Storing.{element-front}
 use Rattle.array_heap.proofs.Turning.{turned-durable}
 use Rattle.run_history.specs.declared.act.Op.TheVariants as op
 use Rattle.run_history.specs.Recorded.{Recorded}
@@ -25,8 +28,9 @@ use Rattle.array_run.specs.declared.objects.DurableArray.{DurableArray}
 use Rattle.array_run.specs.declared.run.RunEnd.TheVariants as end
 use Rattle.array_run.specs.Going.{Setting, Ties, Stands, Stopped, IsRootArray}
 use Rattle.std.proofs.lemmas.List.Elements.{All-weaker}
-use Rattle.array_run.proofs.Numbers.{objects-slot, length-slot, same_sum, root_array, ints_element}
-use Rattle.array_run.proofs.Stored.{safe-stored, HasStored, fenced_stands, unfenced_ends}
+use Rattle.array_run.proofs.Numbers.{objects-slot, length-slot, sum-slot, root_array, ints_element}
+use Rattle.array_run.proofs.Goings.{reopened, keeps_tied}
+use Rattle.array_run.proofs.Stored.{safe-stored, timed_stored, HasStored, fenced_stands, unfenced_ends}
 
 -- the root refers to the object of this array
 pub record Refers (lies : ℕ → ℕ → Bool) (heap : Heap) (from : Option ℕ) (array : DurableArray) : Type 0 where
@@ -61,42 +65,23 @@ has_element s state lies array i root is refers within =
       ints = ap (λ n. (shape_at state.heap n).element) ints.shape ∙ ints_element s.program state.heap root.named is.shapes;
     }
 
-pub element-stored : (s : Setting) (acts : List Recorded) (objects : Objects) (array : DurableArray) (i : ℕ) (number : ℤ) (store : ℕ) (gs : List Group) (m n : Memory)
-    → HasRoot s.program s.opening → objects.array ≡ Some array → i < array.length → FitsSigned w32 number
-    → (stands : Stands s (Storing (Object array.object) (pos i) number store gs) Nothing acts objects m)
-    → TurnedInto (told_by stands.ties.lies) stands.ties.directory stands.state.heap (stored stands.state.heap (Slot array.object i) (Int number))
-    (object_line array.line i) (object_word i) n
-    → SameImage m n → n.size ≡ m.size
-    → HasStored s (Before gs) (with_op acts m.calls (op.Stored (Slot array.object i) (Int number))) (with_number stands.state array.object i number) n
-element-stored s acts objects array i number store gs m n root is within fits stands turned same size =
-    let state = stands.state in
-    let refers = root_refers stands.ties.lies state.heap state.array objects.array array is stands.ties.array in
-    let durable = stands.at.heap.refers array.object refers.is in
-    let after : State = with_number state array.object i number in
-    let acts1 : List Recorded = with_op acts m.calls (op.Stored (Slot array.object i) (Int number)) in
-    let at = element_stored s.program s.opening array.object i number store gs acts state m.calls root refers.is
-    (omega (arith, within, refers.count)) fits stands.owed stands.at in
-    record {
-      at = subst (λ (k : ℕ). IsAt s.program s.opening acts1 (Before gs) None after k) (sym same.calls) at;
-      owed = refl;
-      safe = λ begin counts.
-          safe-stored s (Storing (Object array.object) (pos i) number store gs) (Before gs) acts state after m n (Slot array.object i) (Int number)
-          (object_line array.line i) (object_word i) stands.ties.lies stands.ties.directory begin (stands.safe begin counts) stands.at (ap unfenced_of stands.owed)
-          durable at same size turned;
-    }
-
 -- the run's numbers are the same
 pub element-ties : (s : Setting) (state : State) (objects : Objects) (k i : ℕ) (number : ℤ) (m n : Memory)
-    → (ties : Ties s state objects m) → HoldsHeap (told_by ties.lies) ties.directory (stored state.heap (Slot k i) (Int number)) n → n.size ≡ m.size
+    → (ties : Ties s state objects m) → ShowsHeap (told_by ties.lies) ties.directory (stored state.heap (Slot k i) (Int number)) n
+    → (IsAtRest s.start → IsSettledFor (told_by ties.lies) (stored state.heap (Slot k i) (Int number)) n)
+    → SameFront (shown s.start) (shown n) → n.size ≡ m.size
     → Ties s (record (with_number state k i number) { owes = Nothing }) objects n
-element-ties s state objects k i number m n ties holds size =
+element-ties s state objects k i number m n ties shows settled front size =
     let after : Heap = stored state.heap (Slot k i) (Int number) in
     let many : length after.objects ≡ length state.heap.objects = objects-slot state.heap k i (Int number) in
     let same : (j : ℕ) → length (values_of after j) ≡ length (values_of state.heap j) = λ j. length-slot state.heap k i j (Int number) in
     record {
       lies = ties.lies;
       directory = ties.directory;
-      holds = holds;
+      shows = shows;
+      settled = settled;
+      laid = ties.laid;
+      front = front;
       shape = ties.shape;
       roots = ties.roots;
       size = size ∙ ties.size;
@@ -104,9 +89,11 @@ element-ties s state objects k i number m n ties holds size =
       nodes = omega (arith, ties.nodes, many);
       next = ties.next ∙ sym many;
       words = ties.words ∙ ap (λ w. 8388608 - w) (sym (words_stored s.opening state.heap (Slot k i) (Int number)));
+      few = omega (arith, ties.few, words_stored s.opening state.heap (Slot k i) (Int number));
       free = λ line j lies. let old = ties.free line j lies in let count = same j in rw count old;
       made = All-weaker (λ j. j < length state.heap.objects) (λ j. j < length after.objects) (λ j h. omega (arith, h, many)) state.joined ties.made;
-      used = ap (λ sum. sum + s.free) (same_sum state.heap after state.joined (λ j d h. same (slice_index_or state.joined j d))) ∙ ties.used;
+      used = ap (λ sum. sum + s.free) (sum-slot state.heap k i number state.joined) ∙ ties.used;
+      within = ties.within;
       array = root_array ties.lies ties.lies state.heap after state.array objects.array (λ line j lies. lies) (λ line j lies. same j) ties.array;
     }
 
@@ -116,15 +103,36 @@ module _ (s : Setting) (acts a1 : List Recorded) (objects : Objects) (array : Du
     (stands : Stands s (Storing (Object array.object) (pos i) number store gs) Nothing acts objects m)
     (calls : m.calls < 2 ^ 64)
     (first : a1 ≡ with_op acts m.calls (op.Stored (Slot array.object i) (Int number))) (still : m1 ≡ m)
-    (store_turns : OnElement m1 array.line i number (λ R directory heap after. TurnedInto R directory heap after (object_line array.line i) (object_word i) n))
+    (store_shows : OnElement m1 array.line i number (λ R directory heap after. ShowsHeap R directory after n))
+    (store_turns : OnElement m1 array.line i number (λ R directory heap after. IsSettledFor R heap m1
+    → TurnedInto R directory heap after (object_line array.line i) (object_word i) n))
+    (store_others : (l w : ℕ) → (l ≡ object_line array.line i → w ≢ object_word i) → shown n l w ≡ shown m1 l w)
     (store_same : SameImage m1 n) (store_size : n.size ≡ m1.size) where
-  turned : TurnedInto (told_by stands.ties.lies) stands.ties.directory stands.state.heap (stored stands.state.heap (Slot array.object i) (Int number))
-      (object_line array.line i) (object_word i) n
-  turned =
-      let refers = root_refers stands.ties.lies stands.state.heap stands.state.array objects.array array is stands.ties.array in
-      let element = has_element s stands.state stands.ties.lies array i root stands.at.heap refers within in
-      let turns = subst (λ (k : Memory). OnElement k array.line i number (λ R directory heap after. TurnedInto R directory heap after (object_line array.line i) (object_word i) n)) still store_turns in
-      turns stands.ties.lies stands.ties.directory stands.state.heap array.object stands.ties.holds element
+  abbrev state : State
+  state = stands.state
+
+  abbrev ties : Ties s state objects m
+  ties = stands.ties
+
+  abbrev after : State
+  after = with_number state array.object i number
+
+  refers : Refers ties.lies state.heap state.array array
+  refers = root_refers ties.lies state.heap state.array objects.array array is ties.array
+
+  element : IsElement (told_by ties.lies) state.heap array.line array.object i
+  element = has_element s state ties.lies array i root stands.at.heap refers within
+
+  shows : ShowsHeap (told_by ties.lies) ties.directory after.heap n
+  shows =
+      let stores = subst (λ (k : Memory). OnElement k array.line i number (λ R directory heap after. ShowsHeap R directory after n)) still store_shows in
+      stores ties.lies ties.directory state.heap array.object ties.shows element
+
+  turned : IsAtRest s.start → TurnedInto (told_by ties.lies) ties.directory state.heap after.heap (object_line array.line i) (object_word i) n
+  turned rest =
+      let turns = subst (λ (k : Memory). OnElement k array.line i number (λ R directory heap after. IsSettledFor R heap k
+      → TurnedInto R directory heap after (object_line array.line i) (object_word i) n)) still store_turns in
+      turns ties.lies ties.directory state.heap array.object ties.shows element (ties.settled rest)
 
   same : SameImage m n
   same = subst (λ (k : Memory). SameImage k n) still store_same
@@ -135,17 +143,41 @@ module _ (s : Setting) (acts a1 : List Recorded) (objects : Objects) (array : Du
   few : n.calls < 2 ^ 64
   few = omega (arith, same.calls, calls)
 
-  has : HasStored s (Before gs) a1 (with_number stands.state array.object i number) n
-  has = subst (λ (all : List Recorded). HasStored s (Before gs) all (with_number stands.state array.object i number) n) (sym first)
-      (element-stored s acts objects array i number store gs m n root is within fits stands turned same size)
+  front : SameFront (shown s.start) (shown n)
+  front = front-along (shown s.start) (shown m) (shown n) ties.front (element-front (told_by ties.lies) ties.directory state.heap m n array.line array.object i ties.shows element
+      (subst (λ (k : Memory). (l w : ℕ) → (l ≡ object_line array.line i → w ≢ object_word i) → shown n l w ≡ shown k l w) still store_others))
+
+  abbrev acts1 : List Recorded
+  acts1 = with_op acts m.calls (op.Stored (Slot array.object i) (Int number))
+
+  at_stored : IsAt s.program s.opening acts1 (Before gs) None after m.calls
+  at_stored = element_stored s.program s.opening array.object i number store gs acts state m.calls root refers.is
+      (omega (arith, within, refers.count)) fits stands.owed stands.at
+
+  has : HasStored s (Before gs) a1 after n
+  has = subst (λ (all : List Recorded). HasStored s (Before gs) all after n) (sym first) (record {
+    at = subst (λ (k : ℕ). IsAt s.program s.opening acts1 (Before gs) None after k) (sym same.calls) at_stored;
+    owed = refl;
+    within = keeps_tied s acts1 (Before gs) None state after m.calls objects m at_stored ties
+        (words_stored s.opening state.heap (Slot array.object i) (Int number)) (sum-slot state.heap array.object i number state.joined);
+    timed = timed_stored s acts m n (op.Stored (Slot array.object i) (Int number)) stands.timed same;
+    safe = λ rest begin counts.
+        safe-stored s (Storing (Object array.object) (pos i) number store gs) (Before gs) acts state after m n (Slot array.object i) (Int number)
+        (object_line array.line i) (object_word i) ties.lies ties.directory begin (stands.safe rest begin counts) stands.at (ap unfenced_of stands.owed)
+        (stands.at.heap.refers array.object refers.is) at_stored same size
+        (reopened s state state objects m n ties stands.at.heap refl front size ties.lies)
+        (reopened s state after objects m n ties at_stored.heap refl front size ties.lies) (turned rest);
+  })
 
   pub number_stopped : (k : Memory) → WritesOn n k → Stopped s a1 k end.ImageFailed
-  number_stopped k on = unfenced_ends s (Before gs) a1 (with_number stands.state array.object i number) n k has few on
+  number_stopped k on = unfenced_ends s (Before gs) a1 after n k has refl few on
 
   pub number_fenced : (a2 : List Recorded) (k k2 : Memory) → WritesOn n k → IsDurable k (object_line array.line i) (object_word i)
       → a2 ≡ with_op a1 k.calls op.Fenced → k2 ≡ k → Stands s (Before gs) Nothing a2 objects k2
   number_fenced a2 k k2 on durable second last =
-      let holds = turned-durable (told_by stands.ties.lies) stands.ties.directory stands.state.heap (stored stands.state.heap (Slot array.object i) (Int number))
-      (object_line array.line i) (object_word i) m n k turned same on durable in
-      fenced_stands s (Before gs) a1 a2 (with_number stands.state array.object i number) objects n k k2 has few on
-      (element-ties s stands.state objects array.object i number m k stands.ties holds (on.size ∙ size)) second last
+      fenced_stands s (Before gs) a1 a2 after objects n k k2 has few on
+      (element-ties s state objects array.object i number m k ties
+      (shows-on (told_by ties.lies) ties.directory after.heap n k shows on)
+      (λ rest. turned-durable (told_by ties.lies) ties.directory state.heap after.heap (object_line array.line i) (object_word i) m n k (turned rest) same on durable)
+      (front-along (shown s.start) (shown n) (shown k) front (front-on (told_by ties.lies) ties.directory after.heap n k shows on))
+      (on.size ∙ size)) second last

@@ -1,5 +1,6 @@
--- A new object in volatile memory concerns nothing that the memory holds.
-use Rattle.std.proofs.Common.{◌≡◌, ℕ, ◌+◌, ◌<◌, [], ◌∷◌, length, ap, length-append}
+-- A new object in volatile memory concerns nothing that the memory shows.
+use Rattle.std.proofs.Common.{◌≡◌, ℕ, ◌+◌, ◌<◌, List, [], ◌∷◌, length, ap, length-append}
+use Rattle.std.specs.Prelude.{All, sum_by}
 use Rattle.std.proofs.lemmas.List.{get_or_append_left}
 use Rattle.graph_model.specs.declared.types.Obj.{Obj}
 use Rattle.graph_model.specs.declared.types.Heap.{Heap}
@@ -9,7 +10,9 @@ use Rattle.image_meaning.specs.Checks.{Words}
 use Rattle.image_meaning.specs.Directories.{Directory}
 use Rattle.image_meaning.specs.Corresponds.{LiesAt}
 use Rattle.image_meaning.proofs.Elsewhere.{corresponds-fresh}
-use Rattle.array_heap.specs.Holding.{Counts, InSuperblock, InDirectory, CountOfLog, RootSlot, ObjectHead, ObjectSlot, HoldsHeap}
+use Rattle.plain_model.specs.Ends.{lines_of}
+use Rattle.array_run.proofs.Numbers.{same_sum}
+use Rattle.array_heap.specs.Holding.{Counts, InSuperblock, InDirectory, CountOfLog, RootSlot, ObjectHead, ObjectSlot, ShowsHeap, IsSettledFor}
 
 pub objects-fresh : (heap : Heap) (shape count : ℕ) → length (with_fresh heap shape count).objects ≡ length heap.objects + 1
 objects-fresh heap shape count = length-append heap.objects (record { shape = shape; values = fresh_values (shape_at heap shape) count } ∷ [])
@@ -32,15 +35,21 @@ counts-fresh R heap shape count words l w there counts = elim counts [
       ObjectSlot at n i r (let same = values-fresh heap shape count n (there at n r) in rw same at h) line word
 ]
 
-pub held-fresh : (R : LiesAt) (directory : Directory) (heap : Heap) (m : Memory) (shape count : ℕ) → HoldsHeap R directory heap m
-    → HoldsHeap R directory (with_fresh heap shape count) m
-held-fresh R directory heap m shape count held = record {
-  shows = record {
-    known = held.shows.known;
-    opens = held.shows.opens;
-    unlogged = held.shows.unlogged;
-    corresponds = corresponds-fresh R directory m.size (shown m) heap shape count held.shows.corresponds;
-  };
-  settled = λ l w counts.
-      held.settled l w (counts-fresh R heap shape count (shown m) l w (λ line n r. (held.shows.corresponds.objects line n r).there) counts);
+pub shows-fresh : (R : LiesAt) (directory : Directory) (heap : Heap) (m : Memory) (shape count : ℕ) → ShowsHeap R directory heap m
+    → ShowsHeap R directory (with_fresh heap shape count) m
+shows-fresh R directory heap m shape count shows = record {
+  known = shows.known;
+  opens = shows.opens;
+  unlogged = shows.unlogged;
+  corresponds = corresponds-fresh R directory m.size (shown m) heap shape count shows.corresponds;
 }
+
+pub settled-fresh : (R : LiesAt) (directory : Directory) (heap : Heap) (m : Memory) (shape count : ℕ) → ShowsHeap R directory heap m
+    → IsSettledFor R heap m → IsSettledFor R (with_fresh heap shape count) m
+settled-fresh R directory heap m shape count shows settled l w counts =
+    settled l w (counts-fresh R heap shape count (shown m) l w (λ line n r. (shows.corresponds.objects line n r).there) counts)
+
+-- the lines of the objects that were there
+pub sum-fresh : (heap : Heap) (shape count : ℕ) (ns : List ℕ) → All (λ n. n < length heap.objects) ns
+    → sum_by (lines_of (with_fresh heap shape count)) ns ≡ sum_by (lines_of heap) ns
+sum-fresh heap shape count ns there = same_sum heap (with_fresh heap shape count) ns (λ i d h. ap length (values-fresh heap shape count _ (there i d h)))

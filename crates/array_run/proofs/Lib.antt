@@ -3,8 +3,11 @@ pub mod Begun
 pub mod Causing
 pub mod ElementStored
 pub mod Fresh
+pub mod Fronts
+pub mod Reopened
 pub mod Goings
 pub mod Indices
+pub mod LaidOut
 pub mod Lines
 pub mod Numbers
 pub mod PlacedNew

@@ -1,11 +1,12 @@
 -- What the numbers of a run say of the heap, after its changes.
-use Rattle.std.proofs.Common.{◌≡◌, ℕ, zero, suc, ◌+◌, ◌/◌, ◌≤◌, List, [], ◌∷◌, length, refl, sym, ap, ◌∙◌, subst, arith, Bool, inl, inr, slice_index_or, slice_set, Option, Some, None, true, false}
+use Rattle.std.proofs.Common.{◌≡◌, ℕ, ℤ, zero, suc, ◌+◌, ◌/◌, ◌≤◌, List, [], ◌∷◌, length, refl, sym, ap, ◌∙◌, subst, arith, Bool, inl, inr, slice_index_or, slice_set, Option, Some, None, true, false}
 use Rattle.std.specs.Prelude.{sum_by, All, IsSome}
 use Rattle.std.proofs.lemmas.Bool.{cases_eq, cases_lt}
 use Rattle.std.proofs.lemmas.List.Sums.{sum_by-cons}
 use Rattle.std.proofs.lemmas.List.{get_or-set_same, get_or-set_other, length-set}
 use Rattle.ap_base.specs.declared.place.Place.TheVariants.{Slot}
 use Rattle.graph_model.specs.declared.types.Value.{Value}
+use Rattle.graph_model.specs.declared.types.Value.TheVariants.{Int}
 use Rattle.graph_model.specs.declared.types.Obj.{Obj}
 use Rattle.graph_model.specs.declared.types.Heap.{Heap}
 use Rattle.graph_model.specs.Heaps.{no_object, object_at, values_of, stored, with_slot}
@@ -51,6 +52,9 @@ length-slot heap m i n value = elim (cases_eq n m) [
     set_past [] k o past = refl
     set_past (x ∷ os) zero o past = absurd (omega (arith, past))
     set_past (x ∷ os) (suc k) o past = ap (λ (rest : List Obj). x ∷ rest) (set_past os k o (omega (arith, past)))
+
+pub sum-slot : (heap : Heap) (k i : ℕ) (number : ℤ) (ns : List ℕ) → sum_by (lines_of (stored heap (Slot k i) (Int number))) ns ≡ sum_by (lines_of heap) ns
+sum-slot heap k i number ns = same_sum heap (stored heap (Slot k i) (Int number)) ns (λ j d h. length-slot heap k i (slice_index_or ns j d) (Int number))
 
 -- ---- the root's array
 

@@ -12,14 +12,17 @@ use Rattle.graph_model.specs.declared.types.Value.{Value}
 use Rattle.graph_model.specs.declared.types.Value.TheVariants.{Int, Obj as Object}
 use Rattle.graph_model.specs.Heaps.{no_shape, values_of, shape_at, fresh_values, with_fresh}
 use Rattle.line_image.specs.History.{Outcome}
-use Rattle.line_memory.specs.Memory.{Memory, CanLeaveAll}
+use Rattle.line_memory.specs.Memory.{Memory, shown, IsKnown, CanLeaveAll}
+use Rattle.line_memory.proofs.Whole.{all_resident}
 use Rattle.line_memory.specs.Moments.{Goes, CountsFrom}
 use Rattle.image_layout.specs.Places.{first_object_line, lines_of}
 use Rattle.image_meaning.specs.Arrays.{int_array, int_value}
 use Rattle.image_meaning.specs.Directories.{Directory}
-use Rattle.image_meaning.specs.Laws.{told_by}
-use Rattle.array_heap.specs.Calls.{IsRoom, OnRoom, lies_too, with_ints}
-use Rattle.array_heap.specs.Holding.{HoldsHeap, StandsForHeap}
+use Rattle.image_meaning.specs.Laws.{told_by, SameFront}
+use Rattle.image_opening.specs.Rest.{IsAtRest}
+use Rattle.array_heap.specs.Calls.{IsIn, IsRoom, OnRoom, lies_too, with_ints}
+use Rattle.array_heap.specs.Holding.{ShowsHeap, IsSettledFor, IsImageOf}
+use Rattle.array_heap.proofs.Held.{front-along}
 use Rattle.array_heap.proofs.Placing.{to_either, from_either}
 use Rattle.run_history.specs.declared.act.Op.TheVariants as op
 use Rattle.run_history.specs.Recorded.{Recorded}
@@ -34,21 +37,24 @@ use Rattle.array_history.proofs.StepsPut.{asked, joined, joined_durable}
 use Rattle.array_history.proofs.Lefts.{left_whole}
 use Rattle.array_history.proofs.Safes.{safe_call}
 use Rattle.array_history.proofs.Words.{lines_same}
-use Rattle.array_history.proofs.Endings.{full_image}
+use Rattle.array_history.proofs.Endings.{full_image, ends_image}
 use Rattle.array_run.specs.declared.run.RunEnd.TheVariants as end
 use Rattle.array_run.specs.declared.objects.Objects.{Objects}
 use Rattle.array_run.specs.declared.objects.DurableArray.{DurableArray}
 use Rattle.array_run.specs.Opening.{default_limits}
-use Rattle.array_run.specs.Going.{Setting, Ties, Stopped, HasAllocated, HasPlaced, HasArrayShape}
+use Rattle.array_run.specs.Going.{Setting, Ties, Stopped, HasAllocated, HasPlaced, HasArrayShape, IsTimed, KeepsWithin}
 use Rattle.array_run.proofs.Fresh.{values-fresh}
 use Rattle.array_run.proofs.Numbers.{array_shape, root_array}
-use Rattle.array_run.proofs.Goings.{safe_on}
+use Rattle.array_run.proofs.Fronts.{front-kept}
+use Rattle.array_run.proofs.Goings.{IsReopened, reopened, holds_at, safe_on, safe_tied, timed_act, timed_calls, keeps_tied}
 
 -- where the program has a root, the directory's shape 0 is that of its arrays
 shape_there : (root : Option (List ℕ)) (directory : Directory) → IsSome root → HasArrayShape root directory
     → (0 < length directory.shapes) × (slice_index_or directory.shapes 0 no_shape ≡ int_array)
 shape_there None directory some has = absurd (let e : false ≡ true = some in cc)
-shape_there (Some field) directory some has = has
+shape_there (Some field) directory some has =
+    let many : length directory.shapes ≡ 1 = ap (length {A = Shape}) has in
+    (omega (arith, many), ap (λ (shapes : List Shape). slice_index_or shapes 0 no_shape) has)
 
 zeros_are : (count : ℕ) → map int_value (replicate count (pos 0)) ≡ replicate count (Int (pos 0))
 zeros_are zero = refl
@@ -88,10 +94,21 @@ module _ (s : Setting) (array : DurableArray) (put : ℕ) (gs : List Group) (act
   at_asked = subst (λ (all : List Recorded). IsAt s.program s.opening all (Putting (Object k) put gs) None wants m.calls) (sym first)
       (asked s.program s.opening k put gs acts state m.calls root has.volatile has.stands.owed has.stands.at)
 
-  safe_asked : (begin : ℕ) → CountsFrom begin s.start → IsSafe s.program s.opening begin s.start a1 m
-  safe_asked begin counts = subst (λ (all : List Recorded). IsSafe s.program s.opening begin s.start all m) (sym first)
-      (safe_on s acts (Putting (Object k) put gs) None begin wants m (op.Asked root_place (Object k)) [] (has.stands.safe begin counts)
-      (asked s.program s.opening k put gs acts state m.calls root has.volatile has.stands.owed has.stands.at) ties.lies ties.directory ties.holds)
+  -- the images of the heap are of the form
+  again : (n : Memory) → SameFront (shown s.start) (shown n) → n.size ≡ m.size → IsReopened s ties.lies ties.directory state.heap n
+  again n front size = reopened s state wants objects m n ties at_asked.heap refl front size ties.lies
+
+  safe_asked : IsAtRest s.start → (begin : ℕ) → CountsFrom begin s.start → IsSafe s.program s.opening begin s.start a1 m
+  safe_asked rest begin counts = subst (λ (all : List Recorded). IsSafe s.program s.opening begin s.start all m) (sym first)
+      (safe_on s acts (Putting (Object k) put gs) None begin wants m (op.Asked root_place (Object k)) [] (has.stands.safe rest begin counts)
+      (asked s.program s.opening k put gs acts state m.calls root has.volatile has.stands.owed has.stands.at) ties.lies ties.directory
+      (holds_at s state objects m ties rest) (again m ties.front refl))
+
+  timed_asked : IsTimed s a1 m
+  timed_asked = subst (λ (all : List Recorded). IsTimed s all m) (sym first) (timed_act s acts m (op.Asked root_place (Object k)) [] has.stands.timed)
+
+  keeps_asked : KeepsWithin s a1
+  keeps_asked = keeps_tied s a1 (Putting (Object k) put gs) None state wants m.calls objects m at_asked ties refl refl
 
   count_is : length (values_of state.heap k) ≡ array.length
   count_is = ap length has.ints.values ∙ length-map zeros int_value ∙ length-replicate array.length (pos 0)
@@ -107,11 +124,12 @@ module _ (s : Setting) (array : DurableArray) (put : ℕ) (gs : List Group) (act
       → Stopped s a1 m1 (end.Full (record { which = which_full.ImageLines; need = need; left = left }))
   no_lines need left left_is need_is less =
       let size = ap (λ (n : Memory). n.size) still in
-      let some : 0 < lines_of array.length = omega arith in
       subst (λ (n : Memory). Stopped s a1 n (end.Full (record { which = which_full.ImageLines; need = need; left = left }))) (sym still) (record {
         run = at_asked.run;
-        ends = full_image at_asked refl refl has.volatile default_limits (s.start.size - s.free) need left
-            (omega (arith, sum_is, ties.used, ties.size, size, left_is, need_is, less, some)) less;
+        ends = full_image at_asked refl refl has.volatile default_limits (s.start.size - s.free) need left (need_is ∙ sym lines_are)
+            (omega (arith, ties.used, ties.size, size, left_is)) less;
+        within = keeps_asked;
+        timed = timed_asked;
         safe = safe_asked;
       })
 
@@ -140,20 +158,25 @@ module _ (s : Setting) (array : DurableArray) (put : ℕ) (gs : List Group) (act
   -- the lengths of what lies somewhere, before the array was made
   length-before : (line n : ℕ) → told_by ties.lies line n → length (values_of has.before n) ≡ length (values_of state.heap n)
   length-before line n r =
-      let there = (has.holds.shows.corresponds.objects line n r).there in
+      let there = (has.shows.corresponds.objects line n r).there in
       ap length (sym (values-fresh has.before int_array_number array.length n there) ∙ ap (λ (heap : Heap). values_of heap n) (sym has.heap))
 
   free-before : (line n : ℕ) → told_by ties.lies line n → line + lines_of (length (values_of has.before n)) ≤ objects.free
   free-before line n r = let behind = ties.free line n r in let same = length-before line n r in rw same behind
 
   abbrev PlacesAny : Memory → Memory → Type 0
-  PlacesAny old new = OnRoom old array.line 0 zeros (λ R directory heap after. Goes old.image new.image (StandsForHeap old.size heap))
+  PlacesAny old new = OnRoom old array.line 0 zeros (λ before R directory heap after. IsSettledFor before heap old
+      → Goes old.image new.image (IsImageOf before directory old.size (shown old) heap))
 
   abbrev PlacesLeft : Memory → Memory → Type 0
-  PlacesLeft old new = OnRoom old array.line 0 zeros (λ R directory heap after. (c : Outcome) → CanLeaveAll new c → StandsForHeap old.size heap c)
+  PlacesLeft old new = OnRoom old array.line 0 zeros (λ before R directory heap after. IsSettledFor before heap old
+      → (c : Outcome) → CanLeaveAll new c → IsImageOf before directory old.size (shown old) heap c)
+
+  abbrev PlacesShown : Memory → Memory → Type 0
+  PlacesShown old new = OnRoom old array.line 0 zeros (λ before R directory heap after. ShowsHeap R directory after new)
 
   abbrev PlacesIt : Memory → Memory → Type 0
-  PlacesIt old new = OnRoom old array.line 0 zeros (λ R directory heap after. HoldsHeap R directory after new)
+  PlacesIt old new = OnRoom old array.line 0 zeros (λ before R directory heap after. IsSettledFor before heap old → IsSettledFor R after new)
 
   module _ (n : Memory) (low : first_object_line ≤ array.line) (high : array.line + lines_of array.length ≤ m1.size)
       (size : n.size ≡ m1.size) (counted : (begin : ℕ) → CountsFrom begin m1 → CountsFrom begin n) (more : m1.calls ≤ n.calls)
@@ -167,37 +190,66 @@ module _ (s : Setting) (array : DurableArray) (put : ℕ) (gs : List Group) (act
     on : m.calls ≤ n.calls
     on = subst (λ (j : Memory). j.calls ≤ n.calls) still more
 
-    safe_placed : (begin : ℕ) → CountsFrom begin s.start → IsSafe s.program s.opening begin s.start a1 n
-    safe_placed begin counts =
+    counted_m : (begin : ℕ) → CountsFrom begin m → CountsFrom begin n
+    counted_m begin = subst (λ (j : Memory). CountsFrom begin j → CountsFrom begin n) still (counted begin)
+
+    safe_placed : IsAtRest s.start → (begin : ℕ) → CountsFrom begin s.start → IsSafe s.program s.opening begin s.start a1 n
+    safe_placed rest begin counts =
         let any_m : PlacesAny m n = subst (λ (j : Memory). PlacesAny j n) still any in
         let left_m : PlacesLeft m n = subst (λ (j : Memory). PlacesLeft j n) still leaves in
-        let safe = safe_asked begin counts in
+        let safe = safe_asked rest begin counts in
         let size_m : n.size ≡ m.size = size ∙ size_was in
-        safe_call safe at_asked.later (StandsForHeap m.size state.heap) (any_m ties.lies ties.directory state.heap int_array_number ties.holds room_now)
-        (counted begin (subst (λ (j : Memory). CountsFrom begin j) (sym still) safe.counts)) on size_m
-        (λ c st. left_whole at_asked m.size c st)
+        let settled = ties.settled rest in
+        let right : (c : Outcome) → IsImageOf (told_by ties.lies) ties.directory m.size (shown m) state.heap c → IsOneOf s.program s.opening a1 m.size c =
+        λ c image. left_whole at_asked m.size c (again m ties.front refl c image) image.stands in
+        safe_call safe at_asked.later (IsImageOf (told_by ties.lies) ties.directory m.size (shown m) state.heap)
+        (any_m ties.lies ties.directory state.heap int_array_number ties.shows room_now settled) (counted_m begin safe.counts) on size_m right
         (λ c left. subst (λ j. IsOneOf s.program s.opening a1 j c) (sym size_m)
-        (left_whole at_asked m.size c (left_m ties.lies ties.directory state.heap int_array_number ties.holds room_now c left)))
+        (right c (left_m ties.lies ties.directory state.heap int_array_number ties.shows room_now settled c left)))
+
+    timed_placed : IsTimed s a1 n
+    timed_placed = timed_calls s a1 m n timed_asked on counted_m
 
     at_placed : IsAt s.program s.opening a1 (Putting (Object k) put gs) None wants n.calls
     at_placed = later s.program s.opening a1 (Putting (Object k) put gs) None wants m.calls n.calls on at_asked
 
     pub place_failed : Stopped s a1 n end.ImageFailed
-    place_failed = record { run = at_asked.run; ends = (0, tt); safe = safe_placed }
+    place_failed = record { run = at_asked.run; ends = ends_image at_asked default_limits (s.start.size - s.free) refl; within = keeps_asked; timed = timed_placed; safe = safe_placed }
 
     -- ---- it becomes durable
 
-    module _ (a2 : List Recorded) (n2 : Memory) (lines : ℕ) (it : PlacesIt m1 n) (second : a2 ≡ a1 ++ recorded n.calls op.Joined (k ∷ []) ∷ []) (same : n2 ≡ n)
+    module _ (a2 : List Recorded) (n2 : Memory) (lines : ℕ) (shows_it : PlacesShown m1 n) (it : PlacesIt m1 n)
+        (others : (l w : ℕ) → IsKnown m1 l → ¬ IsIn array.line (lines_of array.length) l → shown n l w ≡ shown m1 l w)
+        (second : a2 ≡ a1 ++ recorded n.calls op.Joined (k ∷ []) ∷ []) (same : n2 ≡ n)
         (lines_is : lines ≡ lines_of array.length) where
       abbrev lies : ℕ → ℕ → Bool
       lies = lies_too ties.lies array.line (length has.before.objects)
 
-      holds : HoldsHeap (told_by lies) ties.directory state.heap n
-      holds =
-          let it_m : PlacesIt m n = subst (λ (j : Memory). PlacesIt j n) still it in
-          let found = it_m ties.lies ties.directory has.before int_array_number has.holds (room has.before same_shapes free-before low (omega (arith, high, size_was))) in
+      before_room : IsRoom (told_by ties.lies) ties.directory has.before m.size array.line 0 (length zeros) int_array_number
+      before_room = room has.before same_shapes free-before low (omega (arith, high, size_was))
+
+      made_now : with_ints has.before int_array_number zeros ≡ state.heap
+      made_now =
           let element = ap (λ (shape : Shape). shape.element) (array_shape s.program has.before root.named (same_shapes ∙ has.stands.at.heap.shapes)) in
-          subst (λ (heap : Heap). HoldsHeap (told_by lies) ties.directory heap n) (zeros-fresh has.before array.length element ∙ sym has.heap) found
+          zeros-fresh has.before array.length element ∙ sym has.heap
+
+      shows : ShowsHeap (told_by lies) ties.directory state.heap n
+      shows =
+          let it_m : PlacesShown m n = subst (λ (j : Memory). PlacesShown j n) still shows_it in
+          subst (λ (heap : Heap). ShowsHeap (told_by lies) ties.directory heap n) made_now
+          (it_m ties.lies ties.directory has.before int_array_number has.shows before_room)
+
+      settled : IsAtRest s.start → IsSettledFor (told_by lies) state.heap n
+      settled rest =
+          let it_m : PlacesIt m n = subst (λ (j : Memory). PlacesIt j n) still it in
+          subst (λ (heap : Heap). IsSettledFor (told_by lies) heap n) made_now
+          (it_m ties.lies ties.directory has.before int_array_number has.shows before_room (has.settled rest))
+
+      front : SameFront (shown s.start) (shown n)
+      front =
+          let others_m = subst (λ (j : Memory). (l w : ℕ) → IsKnown j l → ¬ IsIn array.line (lines_of array.length) l → shown n l w ≡ shown j l w) still others in
+          front-along (shown s.start) (shown m) (shown n) ties.front (front-kept (told_by ties.lies) ties.directory state.heap m n ties.shows
+          (λ l w below before. others_m l w (inl (all_resident m l below)) (λ inside. omega (arith, before, inside, low))))
 
       abbrev durable_now : State
       durable_now = record wants { joined = wants.joined ++ k ∷ [] }
@@ -220,7 +272,10 @@ module _ (s : Setting) (array : DurableArray) (put : ℕ) (gs : List Group) (act
       ties_now = record {
         lies = lies;
         directory = ties.directory;
-        holds = holds;
+        shows = shows;
+        settled = settled;
+        laid = ties.laid;
+        front = front;
         shape = ties.shape;
         roots = ties.roots;
         size = size ∙ size_was ∙ ties.size;
@@ -228,9 +283,11 @@ module _ (s : Setting) (array : DurableArray) (put : ℕ) (gs : List Group) (act
         nodes = ties.nodes;
         next = ties.next;
         words = ties.words;
+        few = ties.few;
         free = free_now;
         made = All-push (λ j. j < length state.heap.objects) state.joined k ties.made has.ints.there;
         used = omega (arith, sum_is, ties.used);
+        within = omega (arith, high, size_was, ties.size, has.line);
         array = root_array ties.lies lies state.heap state.heap state.array objects.array
             (λ line j r. from_either ties.lies array.line (length has.before.objects) line j (inl r)) (λ line j r. refl) ties.array;
       }
@@ -243,7 +300,10 @@ module _ (s : Setting) (array : DurableArray) (put : ℕ) (gs : List Group) (act
               state = durable_now;
               owed = refl;
               at = at_joined;
-              safe = λ begin counts. safe_on s a1 (Putting (Object k) put gs) None begin durable_now n op.Joined (k ∷ []) (safe_placed begin counts) at_joined lies ties.directory holds;
+              safe = λ rest begin counts.
+                  safe_tied s a1 (Putting (Object k) put gs) None begin durable_now (with_lines objects (lines_of array.length)) n op.Joined (k ∷ [])
+                  (safe_placed rest begin counts) at_joined ties_now rest;
+              timed = timed_act s a1 n op.Joined (k ∷ []) timed_placed;
               ties = ties_now;
             };
             placed = record {

@@ -1,5 +1,5 @@
 -- A line is printed, some bytes after others.
-use Rattle.std.proofs.Common.{◌≡◌, ℕ, ℤ, ◌<◌, ◌≤◌, ◌-◌, List, [], ◌∷◌, length, take, drop, sym, subst, ap, ◌∙◌, arith, length-drop, Option, Some, None, inl, inr, true, false}
+use Rattle.std.proofs.Common.{◌≡◌, ℕ, ℤ, ◌<◌, ◌≤◌, ◌-◌, List, [], ◌∷◌, length, take, drop, sym, subst, ap, ◌∙◌, arith, length-drop, Option, Some, None, inl, inr, true, false, refl}
 use Rattle.std.proofs.lemmas.Bool.{cases_lt}
 use Rattle.std.proofs.lemmas.List.{drop_all}
 use Rattle.std.specs.Prelude.{IsSome, IfSome, ◌↔◌}
@@ -15,8 +15,11 @@ use Rattle.array_program.specs.Running.{Before, Calling, Fetching, Entering, Pri
 use Rattle.array_history.specs.Standing.{Nothing, stream_of, with_op}
 use Rattle.array_history.proofs.StepsPrint.{number_out_read, element_out_read, called, entered, printed, left}
 use Rattle.array_run.specs.declared.objects.Objects.{Objects}
-use Rattle.array_run.specs.Going.{Setting, Stands}
-use Rattle.array_run.proofs.Goings.{stands_on}
+use Rattle.array_run.specs.Going.{Setting, Stands, Stopped}
+use Rattle.array_run.proofs.Goings.{stands_on, stopped}
+use Rattle.array_run.specs.Opening.{default_limits}
+use Rattle.array_run.specs.declared.run.RunEnd.TheVariants as end
+use Rattle.array_history.proofs.Endings.{ends_sink}
 
 -- the bytes that are left to print
 abbrev pub text_left : Option (List ℕ) → List ℕ
@@ -29,6 +32,14 @@ pub all_left : (s : Setting) (text : List ℕ) (gs : List Group) (acts : List Re
     → Stands s (print_rest (Object (stream_of s.opening)) text gs) Nothing acts objects m
 all_left s [] gs acts objects m some stands = absurd (omega (arith, some))
 all_left s (b ∷ bs) gs acts objects m some stands = stands
+
+-- a fault of the sink ends the run where some of the text is left
+pub sink_ends : (s : Setting) (text : List ℕ) (gs : List Group) (acts : List Recorded) (objects : Objects) (m : Memory) → 0 < length text
+    → Stands s (print_rest (Object (stream_of s.opening)) text gs) Nothing acts objects m → Stopped s acts m end.SinkFailed
+sink_ends s [] gs acts objects m some stands = absurd (omega (arith, some))
+sink_ends s (b ∷ bs) gs acts objects m some stands =
+    stopped s (Printing (Object (stream_of s.opening)) (b ∷ bs) gs) Nothing acts objects m end.SinkFailed stands
+    (ends_sink stands.at default_limits (s.start.size - s.free))
 
 -- after one more print
 pub prints_more : (s : Setting) (text : List ℕ) (n : ℕ) (gs : List Group) (acts new : List Recorded) (objects : Objects) (m k : Memory)
@@ -49,6 +60,13 @@ left_after (Some r) text n some is = is
 
 pub length_after : (rest : Option (List ℕ)) (text : List ℕ) (n : ℕ) → text_left rest ≡ drop n text → length (text_left rest) ≡ length text - n
 length_after rest text n is = ap length is ∙ length-drop n text
+
+pub some_after : (rest : Option (List ℕ)) (text : List ℕ) (n : ℕ) → IsSome rest ↔ (n < length text) → IfSome rest (λ r. r ≡ drop n text)
+    → IfSome rest (λ r. 0 < length r)
+some_after None text n some is = tt
+some_after (Some r) text n some is =
+    let more = some.0 refl in
+    omega (arith, more, length_after (Some r) text n is)
 
 -- ---- what comes before and after
 

@@ -1,6 +1,7 @@
 -- A run over an image that was opened: one group after another, and the end of the thread.
 use Rattle.std.proofs.Common.{◌≡◌, ℕ, ◌+◌, ◌-◌, ◌<◌, ◌≤◌, suc, true, List, [], ◌∷◌, length, drop, sym, ap, ◌∙◌, subst, arith, slice_index_or, length-append, Option, Some, None, Result, Ok, Err}
-use Rattle.std.specs.Prelude.{IfSome, IsErrOf}
+use Rattle.std.specs.Prelude.{All, IfSome, IsErrOf}
+use Rattle.std.proofs.lemmas.List.Elements.{All-nil}
 use Rattle.std.proofs.lemmas.List.{drop_all}
 use Rattle.std.proofs.Math.Seq.{drop-cons}
 use Rattle.ap_base.specs.Causes.{Rose}
@@ -8,6 +9,7 @@ use Rattle.graph_model.specs.declared.types.Graph.{Graph}
 use Rattle.line_memory.specs.Memory.{Memory}
 use Rattle.line_memory.specs.Moments.{CountsFrom}
 use Rattle.image_layout.specs.Places.{min_lines, max_lines, first_object_line, lines_of}
+use Rattle.image_opening.specs.Rest.{IsAtRest}
 use Rattle.image_opening.specs.declared.opening.FoundArray.{FoundArray}
 use Rattle.image_opening.specs.declared.opening.Opened.{Opened}
 use Rattle.run_history.specs.declared.act.Op.TheVariants as op
@@ -26,9 +28,9 @@ use Rattle.array_run.specs.declared.objects.Objects.{Objects}
 use Rattle.array_run.specs.Firsts.{first_array}
 use Rattle.array_run.specs.Telling.{Tells}
 use Rattle.array_run.specs.Opening.{IsOpened, EndsBy, default_limits}
-use Rattle.array_run.specs.Going.{Setting, Stands, Stopped, AreInRange}
+use Rattle.array_run.specs.Going.{Setting, Stands, Stopped, AreInRange, KeepsWithin}
 use Rattle.array_run.proofs.Goings.{stands_on}
-use Rattle.array_run.proofs.Starting.{safe_opened}
+use Rattle.array_run.proofs.Starting.{setting, safe_opened, keeps_opened}
 
 -- ---- the first objects
 
@@ -104,10 +106,20 @@ rose_from before then now le rose = omega (arith, le, rose)
 
 -- ---- no acts yet
 
-pub safe_without_acts : (program : Program) (opened : Opened) (m : Memory) (acts : List Recorded) → acts ≡ [] → IsOpened program opened m
+pub safe_without_acts : (program : Program) (opened : Opened) (m : Memory) (acts : List Recorded) → acts ≡ [] → IsOpened program opened m → IsAtRest m
     → (begin : ℕ) → CountsFrom begin m → IsSafe program opened.graph begin m acts m
-safe_without_acts program opened m acts none is begin counts =
-    subst (λ (all : List Recorded). IsSafe program opened.graph begin m all m) (sym none) (safe_opened program opened m is begin counts)
+safe_without_acts program opened m acts none is rest begin counts =
+    subst (λ (all : List Recorded). IsSafe program opened.graph begin m all m) (sym none) (safe_opened program opened m is rest begin counts)
+
+pub keeps_without_acts : (program : Program) (opened : Opened) (m : Memory) (acts : List Recorded) → acts ≡ [] → IsOpened program opened m
+    → KeepsWithin (setting program opened.graph m opened.free) acts
+keeps_without_acts program opened m acts none is =
+    subst (λ (all : List Recorded). KeepsWithin (setting program opened.graph m opened.free) all) (sym none) (keeps_opened program opened m is)
+
+pub made_without_acts : (acts : List Recorded) (first last : ℕ) → acts ≡ [] → All (λ (a : Recorded). (first ≤ a.act.at) × (a.act.at ≤ last)) acts
+made_without_acts acts first last none =
+    subst (λ (all : List Recorded). All (λ (a : Recorded). (first ≤ a.act.at) × (a.act.at ≤ last)) all) (sym none)
+    (All-nil (λ (a : Recorded). (first ≤ a.act.at) × (a.act.at ≤ last)))
 
 pub tells_from_none : {old new : List Recorded} {sees sees' : Option (List Recorded)} {takes takes' : Option (List ℕ)} → old ≡ []
     → Tells old new sees sees' takes takes' → Tells [] new sees sees' takes takes'

@@ -83,7 +83,7 @@ element_read_on s stream index z load call i gs acts new objects array m m1 n ro
     let element = has_element s at.state at.ties.lies array i root at.at.heap refers found.within in
     let told = subst (λ (k : Memory). (lies : ℕ → ℕ → Bool) (directory : Directory) (heap : Heap) (j : ℕ) → Corresponds (told_by lies) directory k.size (shown k) heap
     → IsElement (told_by lies) heap array.line j i → IsInt (values_of heap j) i z) still tells in
-    let value = told at.ties.lies at.ties.directory at.state.heap array.object at.ties.holds.shows.corresponds element in
+    let value = told at.ties.lies at.ties.directory at.state.heap array.object at.ties.shows.corresponds element in
     stands_on s (Loading stream (Object array.object) (pos i) load call gs) (Calling stream z call gs) acts new objects m n (op.Read (Slot array.object i) (Int z)) at
     (element_read s.program s.opening stream array.object i z load call gs acts at.state m.calls root (at.at.heap.refers array.object refers.is) element.there value at.owed at.at)
     is same

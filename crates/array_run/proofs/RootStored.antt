@@ -1,5 +1,5 @@
 -- The root is let refer to a new array.
-use Rattle.std.proofs.Common.{◌≡◌, ◌^◌, ℕ, ◌<◌, List, [], ◌∷◌, length, refl, sym, subst, ap, ◌∙◌, arith, true, false, None, Some, Option, slice_index_or, map}
+use Rattle.std.proofs.Common.{◌≡◌, ◌≢◌, ◌^◌, ℕ, ◌<◌, List, [], ◌∷◌, length, refl, sym, subst, ap, ◌∙◌, arith, true, false, None, Some, Option, slice_index_or, map}
 use Rattle.std.specs.Prelude.{IsSome}
 use Rattle.ap_base.specs.declared.place.Place.TheVariants.{Static}
 use Rattle.graph_model.specs.declared.types.Root.{Root}
@@ -7,13 +7,16 @@ use Rattle.graph_model.specs.declared.types.Heap.{Heap}
 use Rattle.graph_model.specs.declared.types.Value.{Value}
 use Rattle.graph_model.specs.declared.types.Value.TheVariants.{Obj as Object}
 use Rattle.graph_model.specs.Heaps.{stored}
-use Rattle.line_memory.specs.Memory.{Memory, IsDurable, SameImage}
+use Rattle.line_memory.specs.Memory.{Memory, shown, IsDurable, SameImage}
 use Rattle.durable_word.specs.Writes.{WritesOn}
 use Rattle.image_layout.specs.Places.{slot_line, slot_word}
 use Rattle.image_meaning.specs.Corresponds.{root_static}
-use Rattle.image_meaning.specs.Laws.{told_by}
+use Rattle.image_meaning.specs.Laws.{told_by, SameFront}
+use Rattle.image_opening.specs.Rest.{IsAtRest}
 use Rattle.array_heap.specs.Calls.{IsForRoot, OnRoot, line_word}
-use Rattle.array_heap.specs.Holding.{HoldsHeap, TurnedInto}
+use Rattle.array_heap.specs.Holding.{ShowsHeap, IsSettledFor, TurnedInto}
+use Rattle.array_heap.proofs.Held.{shows-on, front-along, front-on}
+use Rattle.array_heap.proofs.Roots.{root-front}
 use Rattle.array_heap.proofs.Turning.{turned-durable}
 use Rattle.run_history.specs.declared.act.Op.TheVariants as op
 use Rattle.run_history.specs.Recorded.{Recorded}
@@ -26,7 +29,8 @@ use Rattle.array_run.specs.declared.run.RunEnd.TheVariants as end
 use Rattle.array_run.specs.declared.objects.Objects.{Objects}
 use Rattle.array_run.specs.declared.objects.DurableArray.{DurableArray}
 use Rattle.array_run.specs.Going.{Setting, Ties, Stands, Stopped, HasPlaced, HasOneRoot, IsArrayAt}
-use Rattle.array_run.proofs.Stored.{safe-stored, HasStored, fenced_stands, unfenced_ends}
+use Rattle.array_run.proofs.Goings.{reopened, keeps_tied}
+use Rattle.array_run.proofs.Stored.{safe-stored, timed_stored, HasStored, fenced_stands, unfenced_ends}
 
 -- the heap's only root is static 1
 one_root : (root : Option (List ℕ)) (roots : List Root) → IsSome root → HasOneRoot root roots → (name : List ℕ) × (roots ≡ record { name = name; at = 1 } ∷ [])
@@ -65,12 +69,17 @@ with_array objects array = record objects { array = Some array }
 
 root-ties : (s : Setting) (state : State) (objects : Objects) (array : DurableArray) (m n : Memory)
     → (ties : Ties s state objects m) → IsArrayAt ties.lies state.heap array.object array
-    → HoldsHeap (told_by ties.lies) ties.directory (stored state.heap root_place (Object array.object)) n → n.size ≡ m.size
+    → ShowsHeap (told_by ties.lies) ties.directory (stored state.heap root_place (Object array.object)) n
+    → (IsAtRest s.start → IsSettledFor (told_by ties.lies) (stored state.heap root_place (Object array.object)) n)
+    → SameFront (shown s.start) (shown n) → n.size ≡ m.size
     → Ties s (record (with_root state array.object) { owes = Nothing }) (with_array objects array) n
-root-ties s state objects array m n ties placed holds size = record {
+root-ties s state objects array m n ties placed shows settled front size = record {
   lies = ties.lies;
   directory = ties.directory;
-  holds = holds;
+  shows = shows;
+  settled = settled;
+  laid = ties.laid;
+  front = front;
   shape = ties.shape;
   roots = ties.roots;
   size = size ∙ ties.size;
@@ -78,9 +87,11 @@ root-ties s state objects array m n ties placed holds size = record {
   nodes = ties.nodes;
   next = ties.next;
   words = ties.words;
+  few = ties.few;
   free = ties.free;
   made = ties.made;
   used = ties.used;
+  within = ties.within;
   array = record { object = placed.object; place = placed.place; count = placed.count };
 }
 
@@ -90,20 +101,44 @@ module _ (s : Setting) (acts a1 : List Recorded) (objects : Objects) (array : Du
     (has_placed : HasPlaced s (Putting (Object array.object) put gs) (Store array.object) array acts objects m)
     (calls : m.calls < 2 ^ 64)
     (first : a1 ≡ with_op acts m.calls (op.Stored root_place (Object array.object))) (still : m1 ≡ m)
-    (store_turns : OnRoot m1 (Some array.line) (λ R directory heap after. TurnedInto R directory heap after (slot_line 0) (slot_word 0) n))
+    (store_shows : OnRoot m1 (Some array.line) (λ R directory heap after. ShowsHeap R directory after n))
+    (store_turns : OnRoot m1 (Some array.line) (λ R directory heap after. IsSettledFor R heap m1
+    → TurnedInto R directory heap after (slot_line 0) (slot_word 0) n))
+    (store_others : (l w : ℕ) → (l ≡ slot_line 0 → w ≢ slot_word 0) → shown n l w ≡ shown m1 l w)
     (store_same : SameImage m1 n) (store_size : n.size ≡ m1.size) where
   abbrev stands : Stands s (Putting (Object array.object) put gs) (Store array.object) acts objects m
   stands = has_placed.stands
 
-  turned : TurnedInto (told_by stands.ties.lies) stands.ties.directory stands.state.heap (stored stands.state.heap root_place (Object array.object))
-      (slot_line 0) (slot_word 0) n
-  turned =
-      let one = one_root s.program.root stands.state.heap.roots root.named stands.ties.roots in
-      let turns = subst (λ (k : Memory). OnRoot k (Some array.line) (λ R directory heap after. TurnedInto R directory heap after (slot_line 0) (slot_word 0) n)) still store_turns in
-      let found = turns stands.ties.lies stands.ties.directory stands.state.heap (Object array.object) stands.ties.holds
-      (for_root s stands.state objects m stands.ties array root stands.at.heap has_placed.placed) in
-      subst (λ k. TurnedInto (told_by stands.ties.lies) stands.ties.directory stands.state.heap (stored stands.state.heap (Static k) (Object array.object)) (slot_line 0) (slot_word 0) n)
-      (static_is stands.state.heap one.0 one.1) found
+  abbrev state : State
+  state = stands.state
+
+  abbrev ties : Ties s state objects m
+  ties = stands.ties
+
+  abbrev after : State
+  after = with_root state array.object
+
+  abbrev one : (name : List ℕ) × (state.heap.roots ≡ record { name = name; at = 1 } ∷ [])
+  one = one_root s.program.root state.heap.roots root.named ties.roots
+
+  root_is : root_static state.heap 0 ≡ 1
+  root_is = static_is state.heap one.0 one.1
+
+  is_for_root : IsForRoot (told_by ties.lies) state.heap (line_word (Some array.line)) (Object array.object)
+  is_for_root = for_root s state objects m ties array root stands.at.heap has_placed.placed
+
+  shows : ShowsHeap (told_by ties.lies) ties.directory after.heap n
+  shows =
+      let stores = subst (λ (k : Memory). OnRoot k (Some array.line) (λ R directory heap after. ShowsHeap R directory after n)) still store_shows in
+      subst (λ k. ShowsHeap (told_by ties.lies) ties.directory (stored state.heap (Static k) (Object array.object)) n) root_is
+      (stores ties.lies ties.directory state.heap (Object array.object) ties.shows is_for_root)
+
+  turned : IsAtRest s.start → TurnedInto (told_by ties.lies) ties.directory state.heap after.heap (slot_line 0) (slot_word 0) n
+  turned rest =
+      let turns = subst (λ (k : Memory). OnRoot k (Some array.line) (λ R directory heap after. IsSettledFor R heap k
+      → TurnedInto R directory heap after (slot_line 0) (slot_word 0) n)) still store_turns in
+      subst (λ k. TurnedInto (told_by ties.lies) ties.directory state.heap (stored state.heap (Static k) (Object array.object)) (slot_line 0) (slot_word 0) n)
+      root_is (turns ties.lies ties.directory state.heap (Object array.object) ties.shows is_for_root (ties.settled rest))
 
   same : SameImage m n
   same = subst (λ (k : Memory). SameImage k n) still store_same
@@ -114,29 +149,41 @@ module _ (s : Setting) (acts a1 : List Recorded) (objects : Objects) (array : Du
   few : n.calls < 2 ^ 64
   few = omega (arith, same.calls, calls)
 
-  has : HasStored s (Before gs) a1 (with_root stands.state array.object) n
+  front : SameFront (shown s.start) (shown n)
+  front = front-along (shown s.start) (shown m) (shown n) ties.front (root-front (told_by ties.lies) ties.directory state.heap m n ties.shows
+      (subst (λ (k : Memory). (l w : ℕ) → (l ≡ slot_line 0 → w ≢ slot_word 0) → shown n l w ≡ shown k l w) still store_others))
+
+  abbrev acts1 : List Recorded
+  acts1 = with_op acts m.calls (op.Stored root_place (Object array.object))
+
+  at_stored : IsAt s.program s.opening acts1 (Before gs) None after m.calls
+  at_stored = root_stored s.program s.opening array.object put gs acts state m.calls root has_placed.durable stands.owed stands.at
+
+  has : HasStored s (Before gs) a1 after n
   has =
-      let state = stands.state in
-      let after : State = with_root state array.object in
-      let acts1 : List Recorded = with_op acts m.calls (op.Stored root_place (Object array.object)) in
-      let at = root_stored s.program s.opening array.object put gs acts state m.calls root has_placed.durable stands.owed stands.at in
       let durable : is_root state.heap.roots 1 ≡ true = ap (λ (rs : List Root). is_root rs 1) stands.at.heap.roots ∙ root.durable in
       subst (λ (all : List Recorded). HasStored s (Before gs) all after n) (sym first) (record {
-        at = subst (λ (k : ℕ). IsAt s.program s.opening acts1 (Before gs) None after k) (sym same.calls) at;
+        at = subst (λ (k : ℕ). IsAt s.program s.opening acts1 (Before gs) None after k) (sym same.calls) at_stored;
         owed = refl;
-        safe = λ begin counts.
+        within = keeps_tied s acts1 (Before gs) None state after m.calls objects m at_stored ties refl refl;
+        timed = timed_stored s acts m n (op.Stored root_place (Object array.object)) stands.timed same;
+        safe = λ rest begin counts.
             safe-stored s (Putting (Object array.object) put gs) (Before gs) acts state after m n root_place (Object array.object)
-            (slot_line 0) (slot_word 0) stands.ties.lies stands.ties.directory begin (stands.safe begin counts) stands.at (ap unfenced_of stands.owed)
-            durable at same size turned;
+            (slot_line 0) (slot_word 0) ties.lies ties.directory begin (stands.safe rest begin counts) stands.at (ap unfenced_of stands.owed)
+            durable at_stored same size
+            (reopened s state state objects m n ties stands.at.heap refl front size ties.lies)
+            (reopened s state after objects m n ties at_stored.heap refl front size ties.lies) (turned rest);
       })
 
   pub root_stopped : (k : Memory) → WritesOn n k → Stopped s a1 k end.ImageFailed
-  root_stopped k on = unfenced_ends s (Before gs) a1 (with_root stands.state array.object) n k has few on
+  root_stopped k on = unfenced_ends s (Before gs) a1 after n k has refl few on
 
   pub root_fenced : (a2 : List Recorded) (k k2 : Memory) → WritesOn n k → IsDurable k (slot_line 0) (slot_word 0)
       → a2 ≡ with_op a1 k.calls op.Fenced → k2 ≡ k → Stands s (Before gs) Nothing a2 (with_array objects array) k2
   root_fenced a2 k k2 on durable second last =
-      let holds = turned-durable (told_by stands.ties.lies) stands.ties.directory stands.state.heap (stored stands.state.heap root_place (Object array.object))
-      (slot_line 0) (slot_word 0) m n k turned same on durable in
-      fenced_stands s (Before gs) a1 a2 (with_root stands.state array.object) (with_array objects array) n k k2 has few on
-      (root-ties s stands.state objects array m k stands.ties has_placed.placed holds (on.size ∙ size)) second last
+      fenced_stands s (Before gs) a1 a2 after (with_array objects array) n k k2 has few on
+      (root-ties s state objects array m k ties has_placed.placed
+      (shows-on (told_by ties.lies) ties.directory after.heap n k shows on)
+      (λ rest. turned-durable (told_by ties.lies) ties.directory state.heap after.heap (slot_line 0) (slot_word 0) m n k (turned rest) same on durable)
+      (front-along (shown s.start) (shown n) (shown k) front (front-on (told_by ties.lies) ties.directory after.heap n k shows on))
+      (on.size ∙ size)) second last

@@ -1,29 +1,36 @@
 -- Where a run stands between two of its events, and what its numbers say of the heap.
-use Rattle.std.specs.Prelude.{◌≡◌, ℕ, ◌+◌, ◌-◌, ◌<◌, ◌≤◌, pos, Bool, true, false, List, [], ◌∷◌, length, replicate, sum_by, slice_index_or, Option, Some, None, Result, Ok, Err, IfSome, All}
+use Rattle.std.specs.Prelude.{◌≡◌, ℕ, ◌+◌, ◌-◌, ◌<◌, ◌≤◌, max, pos, Bool, true, false, List, [], ◌∷◌, length, replicate, sum_by, Option, Some, None, Result, Ok, Err, IfSome, All}
 use Rattle.ap_base.specs.declared.fault.RunFault.TheVariants as fault
 use Rattle.ap_base.specs.declared.fault.Which.TheVariants as which_full
 use Rattle.graph_model.specs.declared.types.Root.{Root}
 use Rattle.graph_model.specs.declared.types.Heap.{Heap}
 use Rattle.graph_model.specs.declared.types.Value.TheVariants.{Obj as Object}
 use Rattle.graph_model.specs.declared.types.Graph.{Graph}
-use Rattle.graph_model.specs.Heaps.{no_shape, values_of, has_number, with_fresh}
-use Rattle.line_memory.specs.Memory.{Memory}
+use Rattle.graph_model.specs.Heaps.{values_of, has_number, with_fresh}
+use Rattle.line_memory.specs.Memory.{Memory, shown}
 use Rattle.line_memory.specs.Moments.{CountsFrom}
 use Rattle.image_layout.specs.Places.{min_lines, max_lines, first_object_line, lines_of}
 use Rattle.image_meaning.specs.Arrays.{int_array}
-use Rattle.image_meaning.specs.Directories.{Directory}
-use Rattle.image_meaning.specs.Laws.{told_by}
-use Rattle.array_heap.specs.Holding.{HoldsHeap}
+use Rattle.image_meaning.specs.Checks.{Words}
+use Rattle.image_meaning.specs.Directories.{Directory, spelled_all}
+use Rattle.image_meaning.specs.Laws.{told_by, SameFront}
+use Rattle.image_opening.specs.Rest.{IsAtRest}
+use Rattle.image_opening.specs.Form.{IsFront}
+use Rattle.image_opening.specs.Prepared.{IsUnfilled}
+use Rattle.image_opening.specs.Wanted.{wanted}
+use Rattle.array_heap.specs.Holding.{ShowsHeap, IsSettledFor}
 use Rattle.run_history.specs.declared.act.Op.TheVariants as op
 use Rattle.run_history.specs.Recorded.{Recorded}
 use Rattle.plain_model.specs.Facts.{thrown_class}
 use Rattle.plain_model.specs.declared.throws.Throws.{Throws}
-use Rattle.plain_model.specs.Ends.{Fault, EndsAs, words_taken, lines_of as lines_of_object}
+use Rattle.plain_model.specs.First.{first_heap}
+use Rattle.plain_model.specs.Runs.{known_of}
+use Rattle.plain_model.specs.Ends.{Fault, EndsAs, KeepsMemory, words_taken, lines_of as lines_of_object}
 use Rattle.array_program.specs.declared.program.Group.{Group}
 use Rattle.array_program.specs.declared.program.Program.{Program}
 use Rattle.array_program.specs.Facts.{program_facts, int_array_number}
 use Rattle.array_program.specs.Running.{Frame, Putting, Threw, program_code}
-use Rattle.array_history.specs.Standing.{State, Owes, Nothing, Store, IsAt, IsRunOf, IsIntsObject, stream_of, durable_of, with_op}
+use Rattle.array_history.specs.Standing.{State, Owes, Nothing, Store, IsAt, IsRunOf, IsIntsObject, stream_of, durable_of, root_name, with_op}
 use Rattle.array_history.specs.Left.{IsSafe}
 use Rattle.array_run.specs.declared.run.RunEnd.{RunEnd}
 use Rattle.array_run.specs.declared.objects.Objects.{Objects}
@@ -52,22 +59,31 @@ IsRootArray lies heap (Some n) (Some array) = IsArrayAt lies heap n array
 IsRootArray lies heap None (Some array) = ⊥
 IsRootArray lies heap (Some n) None = ⊥
 
--- where the program has a root, shape 0 of the directory is that of its arrays
+-- where the program has a root, the shape of its arrays is the directory's only one
 abbrev pub HasArrayShape : Option (List ℕ) → Directory → Type 0
 HasArrayShape None directory = Unit {0}
-HasArrayShape (Some field) directory = (0 < length directory.shapes) × (slice_index_or directory.shapes 0 no_shape ≡ int_array)
+HasArrayShape (Some field) directory = directory.shapes ≡ int_array ∷ []
 
 -- where the program has a root, it is the only one, and static 1
 abbrev pub HasOneRoot : Option (List ℕ) → List Root → Type 0
-HasOneRoot None roots = Unit {0}
+HasOneRoot None roots = roots ≡ []
 HasOneRoot (Some field) roots = (name : List ℕ) × (roots ≡ record { name = name; at = 1 } ∷ [])
 
--- The memory holds the heap, and the run's numbers are those of the heap: the next object, the words that are left, and the first line
--- behind all objects that lie in the image.
+-- the image is laid out for a root of this name, with all entries that it wants, or for none
+abbrev pub IsLaidOut : ℕ → Words → Option (List ℕ) → Type 0
+IsLaidOut size words None = IsUnfilled size words (spelled_all (wanted None))
+IsLaidOut size words (Some name) = IsFront size words (spelled_all (wanted (Some name))) (length (spelled_all (wanted (Some name))))
+
+-- The memory shows the heap, and holds it where the run began at rest. The image was laid out for the program's root, and its superblock and
+-- directory are as they were. The run's numbers are those of the heap: the next object, the words that are left, and the first line behind
+-- all objects that lie in the image.
 pub record Ties (s : Setting) (state : State) (objects : Objects) (m : Memory) : Type 0 where
   pub lies : ℕ → ℕ → Bool
   pub directory : Directory
-  pub holds : HoldsHeap (told_by lies) directory state.heap m
+  pub shows : ShowsHeap (told_by lies) directory state.heap m
+  pub settled : IsAtRest s.start → IsSettledFor (told_by lies) state.heap m
+  pub laid : IsLaidOut s.start.size (shown s.start) (root_name s.program)
+  pub front : SameFront (shown s.start) (shown m)
   pub shape : HasArrayShape s.program.root directory
   pub roots : HasOneRoot s.program.root state.heap.roots
   pub size : m.size ≡ s.start.size
@@ -75,9 +91,11 @@ pub record Ties (s : Setting) (state : State) (objects : Objects) (m : Memory) :
   pub nodes : length s.opening.nodes < length state.heap.objects
   pub next : objects.next ≡ length state.heap.objects
   pub words : objects.words ≡ default_limits.heap_words - words_taken s.opening state.heap
+  pub few : words_taken s.opening state.heap ≤ max default_limits.heap_words (words_taken s.opening (first_heap (program_facts s.program) s.opening))
   pub free : (line n : ℕ) → told_by lies line n → line + lines_of (length (values_of state.heap n)) ≤ objects.free
   pub made : All (λ n. n < length state.heap.objects) state.joined
   pub used : sum_by (lines_of_object state.heap) state.joined + s.free ≡ objects.free
+  pub within : objects.free ≤ s.start.size
   pub array : IsRootArray lies state.heap state.array objects.array
 
 -- the lines of the run's numbers are those of an image of so many
@@ -90,19 +108,34 @@ pub record AreInRange (objects : Objects) (size : ℕ) : Type 0 where
 
 -- ---- the run
 
--- Thread 0 stands at the frame, with what it owes; a stop within a call or now leaves what the acts of that moment allow.
+-- The acts were made after the start, and within the calls so far, which are all of the image's.
+pub record IsTimed (s : Setting) (acts : List Recorded) (m : Memory) : Type 0 where
+  pub more : s.start.calls ≤ m.calls
+  pub counts : (begin : ℕ) → CountsFrom begin s.start → CountsFrom begin m
+  pub made : All (λ (a : Recorded). (s.start.calls ≤ a.act.at) × (a.act.at ≤ m.calls)) acts
+
+-- what the acts took is there
+abbrev pub KeepsWithin : Setting → List Recorded → Type 0
+KeepsWithin s acts = KeepsMemory (program_facts s.program) s.opening default_limits (s.start.size - s.free)
+    (known_of (program_facts s.program) 0 s.opening (program_code s.program s.opening) acts)
+
+-- Thread 0 stands at the frame, with what it owes; where the run began at rest, a stop within a call or now leaves what the acts of that
+-- moment allow.
 pub record Stands (s : Setting) (frame : Frame) (owes : Owes) (acts : List Recorded) (objects : Objects) (m : Memory) : Type 0 where
   pub state : State
   pub owed : state.owes ≡ owes
   pub at : IsAt s.program s.opening acts frame None state m.calls
-  pub safe : (begin : ℕ) → CountsFrom begin s.start → IsSafe s.program s.opening begin s.start acts m
+  pub safe : IsAtRest s.start → (begin : ℕ) → CountsFrom begin s.start → IsSafe s.program s.opening begin s.start acts m
+  pub timed : IsTimed s acts m
   pub ties : Ties s state objects m
 
 -- The run has ended with this answer.
 pub record Stopped (s : Setting) (acts : List Recorded) (m : Memory) (answer : RunEnd) : Type 0 where
   pub run : IsRunOf s.program s.opening acts
   pub ends : EndsIf s.program s.opening (s.start.size - s.free) acts (ending_of s.program (Err answer))
-  pub safe : (begin : ℕ) → CountsFrom begin s.start → IsSafe s.program s.opening begin s.start acts m
+  pub within : KeepsWithin s acts
+  pub timed : IsTimed s acts m
+  pub safe : IsAtRest s.start → (begin : ℕ) → CountsFrom begin s.start → IsSafe s.program s.opening begin s.start acts m
 
 -- by its answer, the run stands at the frame or has ended
 abbrev pub GoesTo : Setting → Frame → Owes → List Recorded → Objects → Memory → Result (Unit {0}) RunEnd → Type 0
@@ -147,11 +180,13 @@ abbrev pub PlacesOn : Setting → (put : ℕ) → List Group → List Recorded �
 PlacesOn s put gs acts objects m (Ok array) = HasPlaced s (Putting (Object array.object) put gs) (Store array.object) array acts objects m
 PlacesOn s put gs acts objects m (Err answer) = Stopped s acts m answer
 
--- The newest object is an array of so many zeros that lies nowhere: the memory holds the heap without it too.
+-- The newest object is an array of so many zeros that lies nowhere: the memory shows the heap without it too, and holds it where the run
+-- began at rest.
 pub record HasAllocated (s : Setting) (frame : Frame) (array : DurableArray) (acts : List Recorded) (objects : Objects) (m : Memory) : Type 0 where
   pub stands : Stands s frame Nothing acts objects m
   pub before : Heap
-  pub holds : HoldsHeap (told_by stands.ties.lies) stands.ties.directory before m
+  pub shows : ShowsHeap (told_by stands.ties.lies) stands.ties.directory before m
+  pub settled : IsAtRest s.start → IsSettledFor (told_by stands.ties.lies) before m
   pub heap : stands.state.heap ≡ with_fresh before int_array_number array.length
   pub object : array.object ≡ length before.objects
   pub line : array.line ≡ objects.free

@@ -1,15 +1,15 @@
 -- The memory of an image that was opened for a program.
-use Rattle.std.specs.Prelude.{◌≡◌, ◌≢◌, ℕ, ◌<◌, ℤ, List, [], Option, Some, None, Result, Ok, Err}
+use Rattle.std.specs.Prelude.{◌≡◌, ◌≢◌, ℕ, ℤ, List, [], Option, Some, None, Result, Ok, Err}
 use Rattle.ap_base.specs.declared.kind.Limits.{Limits}
 use Rattle.ap_base.specs.declared.fault.RunFault.TheVariants as fault
 use Rattle.graph_model.specs.declared.types.Graph.{Graph}
-use Rattle.line_memory.specs.Memory.{Memory, shown, IsDurable}
+use Rattle.line_memory.specs.Memory.{Memory, shown}
 use Rattle.image_meaning.specs.Arrays.{array_entries}
 use Rattle.image_meaning.specs.Directories.{no_entries, with_all, directory_of}
 use Rattle.image_meaning.specs.Logs.{NoneLogged}
 use Rattle.image_meaning.specs.Meaning.{StandsFor}
 use Rattle.image_opening.specs.declared.opening.Opened.{Opened}
-use Rattle.image_opening.specs.Opened.{FoundIs, free_behind}
+use Rattle.image_opening.specs.Opened.{IsOfForm, FoundIs, free_behind}
 use Rattle.run_history.specs.Recorded.{Recorded}
 use Rattle.plain_model.specs.Facts.{thrown_class}
 use Rattle.plain_model.specs.Ends.{Ending, Fault, Uncaught, Finished, EndsAs}
@@ -20,10 +20,11 @@ use Rattle.array_history.specs.Standing.{IsRight, graph_with, root_name}
 use Rattle.array_run.specs.declared.run.RunEnd.{RunEnd}
 use Rattle.array_run.specs.declared.run.RunEnd.TheVariants as end
 
--- The image stands for the program's graph, with the elements that were found, and its directory is that of the root, if the program
--- has one; each of its words is durable.
+-- The image is of the form that the program's root needs. It stands for the program's graph, with the elements that were found, and its directory is that of the root, if the program
+-- has one.
 pub record IsOpened (program : Program) (opened : Opened) (m : Memory) : Type 0 where
   pub right : IsRight program
+  pub form : IsOfForm m.size (shown m) (root_name program)
   pub ints : Option (List ℤ)
   pub graph : opened.graph ≡ graph_with program ints
   pub found : FoundIs m.size (shown m) opened.array ints
@@ -32,7 +33,6 @@ pub record IsOpened (program : Program) (opened : Opened) (m : Memory) : Type 0 
   pub stands : StandsFor m.size (shown m) opened.graph
   pub in_use : shown m 0 0 ≢ 0
   pub unlogged : NoneLogged (shown m)
-  pub durable : (l w : ℕ) → l < m.size → IsDurable m l w
 
 -- the words of volatile memory and the number of acts of a run for which the words ask no others
 abbrev pub default_limits : Limits

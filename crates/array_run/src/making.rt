@@ -121,7 +121,7 @@ fn place_new<I: Image, S: Sink, G: Gate, W: Watcher>(
         }));
     }
     place_zeros(&mut run.memory, array.line, INT_ARRAY_SHAPE, count)?;
-    joins(run, gate, array.object);
+    joins(run, array.object);
     objects.free += lines;
     Ok(array)
 }
@@ -151,5 +151,5 @@ pub(crate) fn make_array<I: Image, S: Sink, G: Gate, W: Watcher>(
         return Err(throw(run, gate, objects, Throws::NegativeArraySize));
     };
     let array = place_new(run, gate, objects, count)?;
-    set_root_to(run, gate, objects, array)
+    set_root_to(run, objects, array)
 }

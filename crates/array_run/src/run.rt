@@ -1,13 +1,18 @@
 //! The run.
-ghost use Rattle.std.specs.Prelude.{◌≡◌, ◌<◌, ◌≤◌, ◌+◌, ◌*◌, ◌-◌, ◌^◌, ◌↔◌, ℕ, List, true, [], ◌∷◌, length, OnOk, OnErr, IsErrOf, IfSome};
+ghost use Rattle.std.specs.Prelude.{◌≡◌, ◌<◌, ◌≤◌, ◌+◌, ◌*◌, ◌-◌, ◌^◌, ◌↔◌, ℕ, List, true, [], ◌∷◌, length, All, OnOk, OnErr, IsErrOf, IfSome};
 ghost use Rattle.ap_base.specs.Causes.{Rose};
 ghost use Rattle.image_layout.specs.Places.{min_lines, max_lines, first_object_line, lines_of};
 ghost use Rattle.line_memory.specs.Moments.{CountsFrom};
+ghost use Rattle.image_opening.specs.Rest.{IsAtRest};
 ghost use Rattle.array_program.specs.declared.program.Group.{Group as ProgramGroup};
-ghost use Rattle.array_program.specs.Running.{Before, Beginning};
+ghost use Rattle.run_history.specs.Recorded.{Recorded};
+ghost use Rattle.plain_model.specs.Ends.{KeepsMemory};
+ghost use Rattle.plain_model.specs.Runs.{known_of};
+ghost use Rattle.array_program.specs.Facts.{program_facts};
+ghost use Rattle.array_program.specs.Running.{Before, Beginning, program_code};
 ghost use Rattle.array_history.specs.Standing.{IsRunOf, Nothing, names_root, HasRoot};
 ghost use Rattle.array_history.specs.Left.{IsSafe};
-ghost use Rattle.array_run.specs.Opening.{IsOpened, EndsBy};
+ghost use Rattle.array_run.specs.Opening.{IsOpened, EndsBy, default_limits};
 ghost use Rattle.array_run.specs.Telling.{Keeps, HasRoom, HasSpent, Tells, HasCauses};
 ghost use Rattle.array_run.specs.Going.{Setting, Stands, GoesTo, AreInRange};
 ghost use Rattle.array_run.specs.declared.run.RunEnd.TheVariants.{ImageFailed as NoImage, SinkFailed as NoSink, OutOfMemory as NoMemory};
@@ -27,13 +32,14 @@ use plain_model::Throws;
 use run_history::{Acts, Op, Stage, Watcher};
 use std::alloc::AllocError;
 
-/// What a run changes: its history, the memory over its image, and the outside.
+/// What a run changes: its history, the memory over its image, the outside, and how many turns its thread has had.
 #[derive(Drop)]
 pub struct Run<I: Image, S, W> {
     pub acts: Acts,
     pub memory: LineMemory<I>,
     pub sink: S,
     pub watcher: W,
+    pub turns: u64,
 }
 
 /// Why a run ended otherwise than by the return of `main`.
@@ -85,8 +91,8 @@ const OTHER_ACTS: u32 = 4;
 // So many groups have less than 2^31 acts.
 const MOST_GROUPS: usize = 50_000_000;
 
-/// Runs a program from its first turn, over the image that was opened for it, until its thread has ended. The gate is called before each
-/// act's event, and the watcher is told each act.
+/// Runs a program from its first turn, over the image that was opened for it, until its thread has ended. The gate is called in each turn,
+/// before its first event, and the watcher is told each act.
 pub fn run_program<I: Image, S: Sink, G: Gate, W: Watcher>(
     run: &mut Run<I, S, W>,
     gate: &G,
@@ -103,8 +109,16 @@ pub fn run_program<I: Image, S: Sink, G: Gate, W: Watcher>(
     ensures run { IsOpened program.now opened.now run.old.memory → IsRunOf program.now opened.now.graph run.new.acts.acts }
     ensures ends { IsOpened program.now opened.now run.old.memory
         → EndsBy program.now opened.now.graph (run.old.memory.size - opened.now.free) run.new.acts.acts result }
-    // A stop within any call of the image, or after the last one, leaves what the acts of that moment allow.
-    ensures safe { (begin : ℕ) → IsOpened program.now opened.now run.old.memory → CountsFrom begin run.old.memory
+    // What it took is there, and each act was made after the start and within the calls so far.
+    ensures within { IsOpened program.now opened.now run.old.memory
+        → KeepsMemory (program_facts program.now) opened.now.graph default_limits (run.old.memory.size - opened.now.free)
+        (known_of (program_facts program.now) 0 opened.now.graph (program_code program.now opened.now.graph) run.new.acts.acts) }
+    ensures made { IsOpened program.now opened.now run.old.memory
+        → All (λ (a : Recorded). (run.old.memory.calls ≤ a.act.at) × (a.act.at ≤ run.new.memory.calls)) run.new.acts.acts }
+    ensures counts { (begin : ℕ) → IsOpened program.now opened.now run.old.memory → CountsFrom begin run.old.memory
+        → CountsFrom begin run.new.memory }
+    // Where nothing was unfenced, a stop within any call of the image, or after the last one, leaves what the acts of that moment allow.
+    ensures safe { (begin : ℕ) → IsOpened program.now opened.now run.old.memory → IsAtRest run.old.memory → CountsFrom begin run.old.memory
         → IsSafe program.now opened.now.graph begin run.old.memory run.new.acts.acts run.new.memory }
     // The outside was told the acts.
     ensures kept { Keeps (W.seen run.old.watcher) (S.taken run.old.sink) run.new.acts.acts (W.seen run.new.watcher) (S.taken run.new.sink) }

@@ -12,7 +12,7 @@ ghost use Rattle.array_run.specs.Going.{Setting, Stands, GoesTo, HasPlaced, AreI
 use crate::objects::{DurableArray, Objects};
 use crate::reading::{ROOT, find_element, read_root};
 use crate::run::{Run, RunEnd};
-use crate::telling::visible;
+use crate::telling::{further, visible};
 use crate::throwing::throw;
 use ap_base::{Gate, Place, Sink};
 use array_heap::{make_durable, store_element, store_root};
@@ -21,10 +21,9 @@ use image_layout::{FIRST_SLOT_LINE, object_slot};
 use line_image::Image;
 use run_history::{Op, Watcher};
 
-/// Lets the root refer to a new array that lies in the image.
-pub(crate) fn set_root_to<I: Image, S: Sink, G: Gate, W: Watcher>(
+/// Lets the root refer to a new array that lies in the image, in the turn that has asked for it.
+pub(crate) fn set_root_to<I: Image, S: Sink, W: Watcher>(
     run: &mut Run<I, S, W>,
-    gate: &G,
     objects: &mut Objects,
     array: DurableArray,
 ) -> Result<(), RunEnd>
@@ -42,9 +41,8 @@ pub(crate) fn set_root_to<I: Image, S: Sink, G: Gate, W: Watcher>(
     ensures range_after { AreInRange objects.new run.new.memory.size }
     ensures next { objects.new.next ≡ objects.old.next }
 {
-    visible(
+    further(
         run,
-        gate,
         Op::Stored {
             place: Place::Static(ROOT),
             value: Value::Obj(array.object),
@@ -52,7 +50,7 @@ pub(crate) fn set_root_to<I: Image, S: Sink, G: Gate, W: Watcher>(
     );
     store_root(&mut run.memory, Some(array.line));
     make_durable(&mut run.memory, FIRST_SLOT_LINE)?;
-    visible(run, gate, Op::Fenced);
+    further(run, Op::Fenced);
     objects.array = Some(array);
     Ok(())
 }
@@ -92,7 +90,7 @@ fn set_number<I: Image, S: Sink, G: Gate, W: Watcher>(
     store_element(&mut run.memory, array.line, index, number);
     let spot = object_slot(array.line, index).unwrap();
     make_durable(&mut run.memory, spot.line)?;
-    visible(run, gate, Op::Fenced);
+    further(run, Op::Fenced);
     Ok(())
 }
 

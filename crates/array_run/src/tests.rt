@@ -4,7 +4,7 @@ ghost use Rattle.image_layout.specs.Places.{min_lines, max_lines};
 ghost use Rattle.image_opening.specs.Wanted.{HasRoom};
 
 use crate::{Run, RunEnd, run_program};
-use ap_base::{Bytes, Full, ListOf, MemorySink, NoGate, Piece, Place, Which};
+use ap_base::{Bytes, Full, Gate, ListOf, MemorySink, NoGate, Piece, Place, ThreadNo, Which};
 use array_program::{Group, Program};
 use graph_model::Value;
 use image_opening::{FoundArray, Opened, open_image};
@@ -13,6 +13,7 @@ use line_memory::LineMemory;
 use plain_model::Throws;
 use run_history::{Acts, NoWatch, Op, PlainKey, Stage};
 use std::alloc::{AllocError, Global};
+use std::cell::Cell;
 use std::test::Fail;
 
 const LINES: u64 = 32_768;
@@ -89,8 +90,33 @@ struct Ran {
     before: u64,
 }
 
+/// Counts the turns.
+#[derive(Drop)]
+struct Turns {
+    calls: Cell<u64>,
+    last: Cell<u64>,
+}
+
+impl Gate for Turns {
+    fn before(&self, _thread: ThreadNo, turn: u64) {
+        self.calls.set(self.calls.get().saturating_add(1));
+        self.last.set(turn);
+    }
+}
+
 /// Runs these groups over a blank image that fails so, with room for so many bytes of output.
 fn run_within(alloc: Global, groups: &[Group], fails: Fails, room: u64) -> Result<Ran, Fail> {
+    run_behind(alloc, groups, fails, room, &NoGate)
+}
+
+/// The same behind a gate.
+fn run_behind<G: Gate>(
+    alloc: Global,
+    groups: &[Group],
+    fails: Fails,
+    room: u64,
+    gate: &G,
+) -> Result<Ran, Fail> {
     let image = MemoryImage::new(alloc, LINES, fails)?;
     let mut memory = attached(alloc, image)?;
     let root = main_data(alloc)?;
@@ -101,9 +127,10 @@ fn run_within(alloc: Global, groups: &[Group], fails: Fails, room: u64) -> Resul
         memory,
         sink: MemorySink::new(alloc, room, 1, Vec::new(alloc))?,
         watcher: NoWatch,
+        turns: 0,
     };
     let program = program(alloc, groups)?;
-    let answer = run_program(&mut run, &NoGate, &program, &opened);
+    let answer = run_program(&mut run, gate, &program, &opened);
     Ok(Ran {
         answer,
         run,
@@ -269,6 +296,22 @@ fn what_a_run_stores_stays_in_the_image(rt: HostRuntime) -> Result<(), Fail> {
     };
     assert_eq!(rt; opened.array, Some(array));
     assert!(rt; has_array(&opened, &[Value::Int(0), Value::Int(7), Value::Int(0)]));
+    Ok(())
+}
+
+#[test]
+fn the_gate_is_called_once_in_each_turn(rt: HostRuntime) -> Result<(), Fail> {
+    let alloc = rt.alloc();
+    let turns = Turns {
+        calls: Cell::new(0),
+        last: Cell::new(0),
+    };
+    let groups = [MAKES_THREE, STORES_SEVEN, PRINTS_IT];
+    let Ran { answer, .. } = run_behind(alloc, &groups, no_fails(alloc), 100, &turns)?;
+    assert_eq!(rt; answer, Ok(()));
+    // Two of the class's initialisation, two of the new array, two of the store, eight of the line of two bytes, and the end.
+    assert_eq!(rt; turns.calls.get(), 15);
+    assert_eq!(rt; turns.last.get(), 15);
     Ok(())
 }
 

@@ -8,13 +8,12 @@ use Rattle.ap_base.specs.declared.source.NamedBytes.{NamedBytes}
 use Rattle.class_items.specs.Parsing.{◌>>=◌}
 use Rattle.autopersist.specs.declared.status.Status.{Status}
 use Rattle.autopersist.specs.declared.status.Status.TheVariants as status
-use Rattle.autopersist.specs.declared.files.Seen.TheVariants as seen
-use Rattle.autopersist.specs.Files.{most_files, seen_from, built, to_run}
+use Rattle.autopersist.specs.Files.{class_among, built, to_run}
 use Rattle.array_program.specs.declared.program.Program.{Program}
 use Rattle.autopersist.specs.Images.{Entry, IsNotOfForm, status_of}
 use Rattle.autopersist.specs.Reading as reading
 use Rattle.autopersist.specs.Reading.{IsFree, IsOfFiles}
-use Rattle.autopersist.specs.TopCall.{ComesTo, IsAsked, OfProgram, AnyProgram, IsCauseOf, IsOfRun, IsOfWords, IsAfterTheFirstTurn}
+use Rattle.autopersist.specs.TopCall.{ComesTo, IsAsked, OfProgram, IsCauseOf, IsOfRun, IsOfWords, IsAfterTheFirstTurn}
 use Rattle.autopersist.specs.Words.{main_class}
 
 some_same : {A : Type 0} (a b : A) → Some a ≡ Some b → a ≡ b
@@ -29,17 +28,17 @@ err_same a b is = cc
 abbrev no_memory : Result (Unit {0}) RunEnd
 no_memory = Err end.OutOfMemory
 
-refused_file : (name : List ℕ) (files : List NamedBytes) (e : Status) → seen_from most_files seen.Nothing files ≡ Err e → to_run name files ≡ Err e
+refused_file : (name : List ℕ) (files : List NamedBytes) (e : Status) → class_among files ≡ Err e → to_run name files ≡ Err e
 unfolding to_run
 refused_file name files e is = ap (λ r. r >>= built name) is
 
 of_files : (words : List (List ℕ)) (left : Option (List NamedBytes)) (name : List ℕ) (e : Status) → main_class words ≡ Some name
-    → reading.ComesTo left (Err e) → ComesTo words left (Err e)
+    → reading.FilesComeTo left (Err e) → ComesTo words left (Err e)
 of_files words left name e asked comes = record { name = name; asked = asked; files = comes.files; told = comes.told; is = refused_file name comes.files e comes.is }
 
 -- a file that is refused
 pub cause_of_files : (words : List (List ℕ)) (left : Option (List NamedBytes)) (entry : Entry) (name : List ℕ) (e : Status) → main_class words ≡ Some name
-    → IsOfFiles e → IsFree e ⊎ reading.ComesTo left (Err e) → IsCauseOf words left entry [] e
+    → IsOfFiles e → IsFree e ⊎ reading.FilesComeTo left (Err e) → IsCauseOf words left entry [] e
 cause_of_files words left entry name status.Ok asked of cause = absurd of
 cause_of_files words left entry name (status.Uncaught thread class) asked of cause = absurd of
 cause_of_files words left entry name status.Usage asked of cause = absurd of

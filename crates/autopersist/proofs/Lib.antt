@@ -3,3 +3,4 @@ pub mod Causes
 pub mod Kept
 pub mod Ran
 pub mod Chosen
+pub mod Rooms

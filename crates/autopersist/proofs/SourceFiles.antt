@@ -1,24 +1,50 @@
 -- The files of a source, one by one.
-use Rattle.std.proofs.Common.{◌≡◌, ℕ, zero, suc, ◌+◌, ◌-◌, ◌<◌, List, [], ◌∷◌, ◌++◌, drop, Option, Some, None, Result, Ok, Err, refl, sym, ap, subst, ◌∙◌, append_assoc, arith}
-use Rattle.std.proofs.lemmas.List.{append-nil}
+use Rattle.std.proofs.Common.{◌≡◌, ℕ, zero, suc, ◌+◌, ◌<◌, ◌≤◌, List, [], ◌∷◌, ◌++◌, length, take, drop, nat_lt, true, false, Option, Some, None, Ok, Err, refl, sym, ap, ◌∙◌, append_assoc, arith}
+use Rattle.std.specs.Option.{option_or}
+use Rattle.std.specs.Result.{result_err}
+use Rattle.std.proofs.Math.Seq.{take-append-add}
+use Rattle.std.proofs.lemmas.Bool.{le-ltb, lt-ltb}
+use Rattle.std.proofs.lemmas.List.{append-nil, length-append, take_all, take_at, length_push}
 use Rattle.ap_base.specs.declared.source.NamedBytes.{NamedBytes}
 use Rattle.ap_base.specs.declared.fault.Which.TheVariants.{Files}
 use Rattle.ap_base.specs.Sources as source
-use Rattle.ap_base.specs.Sources.{first_file}
 use Rattle.class_file.specs.declared.class.ClassFile.{ClassFile}
 use Rattle.autopersist.specs.declared.status.Status.{Status}
 use Rattle.autopersist.specs.declared.status.Status.TheVariants as status
 use Rattle.autopersist.specs.declared.files.Seen.{Seen}
 use Rattle.autopersist.specs.declared.files.Seen.TheVariants as seen
-use Rattle.autopersist.specs.Files.{most_files, class_of, with_class, seen_from}
-use Rattle.autopersist.specs.Reading.{HadLeft, behind, HasRead, ComesTo}
+use Rattle.autopersist.specs.Files.{most_files, class_of, first_refused, only_class, class_among}
+use Rattle.autopersist.specs.Reading.{HadLeft, IsSeenOf, class_seen, FilesComeTo}
 
-nothing_read : (left : Option (List NamedBytes)) → left ≡ behind [] left
-nothing_read None = refl
-nothing_read (Some files) = refl
+-- these files were read of a source, and this is left
+abbrev pub behind : List NamedBytes → Option (List NamedBytes) → Option (List NamedBytes)
+behind read None = None
+behind read (Some left) = Some (read ++ left)
 
-pub begins : (left : Option (List NamedBytes)) → HasRead left left most_files seen.Nothing
-begins left = record { read = []; told = nothing_read left; rest = λ files. refl }
+-- Some files were read of a source that had `first` left, none of them is refused, and `room` files may follow.
+pub record HasRead (first left : Option (List NamedBytes)) (room : ℕ) (before : Seen) : Type 0 where
+  pub read : List NamedBytes
+  pub told : first ≡ behind read left
+  pub room_left : length read + room ≡ most_files
+  pub good : first_refused read ≡ None
+  pub is_seen : IsSeenOf read before
+
+-- ---- what of several files is refused
+
+refused_behind : (read files : List NamedBytes) → first_refused read ≡ None → first_refused (read ++ files) ≡ first_refused files
+refused_behind [] files good = refl
+refused_behind (file ∷ read) files good = by_first (result_err (class_of file)) good (λ good. refused_behind read files good)
+  where
+    by_first : (first : Option Status) → option_or first (first_refused read) ≡ None
+        → (first_refused read ≡ None → first_refused (read ++ files) ≡ first_refused files) → option_or first (first_refused (read ++ files)) ≡ first_refused files
+    by_first None good others = others good
+    by_first (Some s) good others = absurd cc
+
+good_push : (read : List NamedBytes) (file : NamedBytes) (class : ClassFile) → first_refused read ≡ None → class_of file ≡ Ok class
+    → first_refused (read ++ file ∷ []) ≡ None
+good_push read file class good is = refused_behind read (file ∷ []) good ∙ rw is refl
+
+-- ---- the file that was read last
 
 abbrev some : List NamedBytes → Option (List NamedBytes)
 some l = Some l
@@ -32,20 +58,18 @@ read_one read file (Some (f ∷ files)) after gives =
     let same : file ≡ f = cc in
     rw (gives.1, same) (ap (λ (l : List NamedBytes). some l) (sym (append_assoc read (f ∷ []) files)))
 
-one_class : (room : ℕ) (before : Seen) (file : NamedBytes) (class : ClassFile) (files : List NamedBytes) → class_of file ≡ Ok class
-    → seen_from (suc room) before (file ∷ files) ≡ seen_from room (with_class before class) files
-unfolding seen_from
-one_class room before file class files is = rw is refl
-
-pub goes_on : (first left after : Option (List NamedBytes)) (room : ℕ) (before : Seen) (file : NamedBytes) (class : ClassFile)
-    → HasRead first left (suc room) before → source.Gives left (Some file) after → class_of file ≡ Ok class → HasRead first after room (with_class before class)
-goes_on first left after room before file class has gives is = record {
+pub goes_on : (first left after : Option (List NamedBytes)) (room : ℕ) (before later : Seen) (file : NamedBytes) (class : ClassFile)
+    → HasRead first left (suc room) before → source.Gives left (Some file) after → class_of file ≡ Ok class
+    → ((files : List NamedBytes) → IsSeenOf files before → IsSeenOf (files ++ file ∷ []) later) → HasRead first after room later
+goes_on first left after room before later file class has gives is also = record {
   read = has.read ++ file ∷ [];
   told = has.told ∙ read_one has.read file left after gives;
-  rest = λ files. ap (seen_from most_files seen.Nothing) (append_assoc has.read (file ∷ []) files) ∙ has.rest (file ∷ files) ∙ one_class room before file class files is;
+  room_left = omega (arith, length_push has.read file, has.room_left);
+  good = good_push has.read file class has.good is;
+  is_seen = also has.read has.is_seen;
 }
 
--- the files that a source had from this one on, where it tells them
+-- the files that a source had behind this one, where it tells them
 abbrev rest_of : Option (List NamedBytes) → List NamedBytes
 rest_of None = []
 rest_of (Some files) = drop 1 files
@@ -58,43 +82,78 @@ told_from first (Some (f ∷ files)) after read file told gives =
     let same : file ≡ f = cc in
     rw (told, same) refl
 
-told_whole : (first left after : Option (List NamedBytes)) (read : List NamedBytes) → first ≡ behind read left → source.Gives left None after → HadLeft first (read ++ [])
+told_whole : (first left after : Option (List NamedBytes)) (read : List NamedBytes) → first ≡ behind read left → source.Gives left None after → HadLeft first read
 told_whole first None after read told gives = rw told tt
-told_whole first (Some []) after read told gives = rw told refl
+told_whole first (Some []) after read told gives = rw told (append-nil read)
 told_whole first (Some (f ∷ files)) after read told gives = absurd cc
 
-nothing_left : (room : ℕ) (before : Seen) → seen_from room before [] ≡ Ok before
-unfolding seen_from
-nothing_left zero before = refl
-nothing_left (suc room) before = refl
+-- nothing is left behind the last file
+pub whole : (first left after : Option (List NamedBytes)) (room : ℕ) (before : Seen) → HasRead first left room before → source.Gives left None after
+    → (files : List NamedBytes) → first ≡ Some files → after ≡ Some []
+whole first None after room before has gives files some = absurd (let e : None ≡ Some files = sym has.told ∙ some in cc)
+whole first (Some []) after room before has gives files some = gives.1
+whole first (Some (f ∷ left)) after room before has gives files some = absurd cc
 
-pub ends : (first left after : Option (List NamedBytes)) (room : ℕ) (before : Seen) → HasRead first left room before → source.Gives left None after → ComesTo first (Ok before)
+-- ---- what all files come to
+
+-- the only class is the one that was seen
+only_seen : (files : List NamedBytes) (before : Seen) → IsSeenOf files before → only_class files ≡ class_seen before
+only_seen files seen.Nothing is = rw is refl
+only_seen files (seen.One class) is = rw (is.1, is.2) refl
+only_seen (a ∷ b ∷ files) seen.More is = refl
+only_seen (a ∷ []) seen.More is = absurd (omega (arith, is))
+only_seen [] seen.More is = absurd (omega (arith, is))
+
+all_good : (files : List NamedBytes) → length files ≤ most_files → first_refused files ≡ None → class_among files ≡ Ok (only_class files)
+unfolding class_among
+all_good files few good =
+    let no_more : nat_lt most_files (length files) ≡ false = le-ltb most_files (length files) few in
+    rw (take_all most_files files few, good, no_more) refl
+
+pub ends : (first left after : Option (List NamedBytes)) (room : ℕ) (before : Seen) → HasRead first left room before → source.Gives left None after
+    → FilesComeTo first (Ok (class_seen before))
 ends first left after room before has gives = record {
-  files = has.read ++ [];
+  files = has.read;
   told = told_whole first left after has.read has.told gives;
-  is = has.rest [] ∙ nothing_left room before;
+  is = rw (← only_seen has.read before has.is_seen) (all_good has.read (omega (arith, has.room_left)) has.good);
 }
 
-one_refused : (room : ℕ) (before : Seen) (file : NamedBytes) (s : Status) (files : List NamedBytes) → class_of file ≡ Err s → seen_from (suc room) before (file ∷ files) ≡ Err s
-unfolding seen_from
-one_refused room before file s files is = rw is refl
+one_refused : (files : List NamedBytes) (s : Status) → first_refused (take most_files files) ≡ Some s → class_among files ≡ Err s
+unfolding class_among
+one_refused files s is = rw is refl
+
+-- a file behind those that were read
+first_behind : (read : List NamedBytes) (room : ℕ) (file : NamedBytes) (s : Status) (files : List NamedBytes) → length read + suc room ≡ most_files
+    → first_refused read ≡ None → class_of file ≡ Err s → first_refused (take most_files (read ++ file ∷ files)) ≡ Some s
+first_behind read room file s files room_left good is =
+    ap (λ (n : ℕ). first_refused (take n (read ++ file ∷ files))) (sym room_left)
+    ∙ ap first_refused (take-append-add read (file ∷ files) (suc room))
+    ∙ refused_behind read (file ∷ take room files) good
+    ∙ rw is refl
 
 pub refuses : (first left after : Option (List NamedBytes)) (room : ℕ) (before : Seen) (file : NamedBytes) (s : Status)
-    → HasRead first left (suc room) before → source.Gives left (Some file) after → class_of file ≡ Err s → ComesTo first (Err s)
+    → HasRead first left (suc room) before → source.Gives left (Some file) after → class_of file ≡ Err s → FilesComeTo first (Err s)
 refuses first left after room before file s has gives is = record {
   files = has.read ++ file ∷ rest_of left;
   told = told_from first left after has.read file has.told gives;
-  is = has.rest (file ∷ rest_of left) ∙ one_refused room before file s (rest_of left) is;
+  is = one_refused (has.read ++ file ∷ rest_of left) s (first_behind has.read room file s (rest_of left) has.room_left has.good is);
 }
 
-past_last : (before : Seen) (file : NamedBytes) (files : List NamedBytes) → seen_from zero before (file ∷ files) ≡ Err (status.Full (record { which = Files; need = 1; left = 0 }))
-unfolding seen_from
-past_last before file files = refl
+abbrev one_more : Status
+one_more = status.Full (record { which = Files; need = 1; left = 0 })
+
+one_too_many : (files : List NamedBytes) → first_refused (take most_files files) ≡ None → most_files < length files → class_among files ≡ Err one_more
+unfolding class_among
+one_too_many files good more =
+    let larger : nat_lt most_files (length files) ≡ true = lt-ltb most_files (length files) more in
+    rw (good, larger) refl
 
 pub passes : (first left after : Option (List NamedBytes)) (before : Seen) (file : NamedBytes)
-    → HasRead first left zero before → source.Gives left (Some file) after → ComesTo first (Err (status.Full (record { which = Files; need = 1; left = 0 })))
+    → HasRead first left zero before → source.Gives left (Some file) after → FilesComeTo first (Err one_more)
 passes first left after before file has gives = record {
   files = has.read ++ file ∷ rest_of left;
   told = told_from first left after has.read file has.told gives;
-  is = has.rest (file ∷ rest_of left) ∙ past_last before file (rest_of left);
+  is = one_too_many (has.read ++ file ∷ rest_of left)
+      (ap first_refused (take_at has.read (file ∷ rest_of left) most_files (omega (arith, has.room_left))) ∙ has.good)
+      (omega (arith, has.room_left, length-append has.read (file ∷ rest_of left)));
 }

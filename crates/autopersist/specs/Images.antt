@@ -1,7 +1,6 @@
 -- What the top call says of the image: what it was when the program was run on it, how the run ended, and what a stop leaves.
-use Rattle.std.specs.Prelude.{◌≡◌, ◌⊎◌, ℕ, ◌<◌, ◌≤◌, ◌+◌, ◌-◌, ◌^◌, ℤ, List, [], Option, Some, None, Result, Ok, Err}
-use Rattle.ap_base.specs.declared.fault.Full.{Full}
-use Rattle.line_image.specs.History.{History, Outcome, LeavesNow, LeftWithin}
+use Rattle.std.specs.Prelude.{◌≡◌, ◌≢◌, ◌⊎◌, ℕ, ◌<◌, ◌≤◌, ◌+◌, ◌-◌, ◌^◌, min, All, ℤ, List, [], Option, Result, Ok, Err}
+use Rattle.line_image.specs.History.{Outcome, LeavesNow, LeftWithin}
 use Rattle.line_memory.specs.Memory.{Told, ReadsWord}
 use Rattle.graph_model.specs.declared.types.Graph.{Graph}
 use Rattle.image_layout.specs.Places.{min_lines, max_lines}
@@ -11,12 +10,16 @@ use Rattle.image_opening.specs.declared.opening.FoundArray.{FoundArray}
 use Rattle.image_opening.specs.Opened.{IsOfForm, WasFound, IsFrom, IsKeptOrFilled, free_behind}
 use Rattle.run_history.specs.Recorded.{Recorded}
 use Rattle.run_history.specs.Kept.{acts_before}
+use Rattle.plain_model.specs.Runs.{known_of}
+use Rattle.plain_model.specs.Ends.{KeepsMemory}
 use Rattle.array_program.specs.declared.program.Program.{Program}
+use Rattle.array_program.specs.Facts.{program_facts}
+use Rattle.array_program.specs.Running.{program_code}
 use Rattle.array_history.specs.Standing.{root_name, graph_with, IsRunOf}
 use Rattle.array_history.specs.Left.{IsOneOf}
 use Rattle.array_run.specs.declared.run.RunEnd.{RunEnd}
 use Rattle.array_run.specs.declared.run.RunEnd.TheVariants as end
-use Rattle.array_run.specs.Opening.{EndsBy}
+use Rattle.array_run.specs.Opening.{EndsBy, default_limits}
 use Rattle.autopersist.specs.declared.status.Status.{Status}
 use Rattle.autopersist.specs.declared.status.Status.TheVariants as status
 
@@ -35,6 +38,13 @@ IsNotOfForm program entry =
     (entry.size < min_lines) ⊎ (max_lines < entry.size)
     ⊎ ((words : Words) × AreRead entry words × (IsOfForm entry.size words (root_name program) → ⊥))
 
+-- The image was of a right size and had words of the form that the program's root needs, or nothing was written to it.
+pub record IsOfFormOrUntouched (program : Program) (entry : Entry) (after : Told) : Type 0 where
+  pub words : Words
+  pub read : AreRead entry words
+  pub is : ((min_lines ≤ entry.size) × (entry.size ≤ max_lines) × IsOfForm entry.size words (root_name program))
+      ⊎ (after.history ≡ entry.told.history)
+
 -- ---- the run
 
 -- the status of a run that ended so
@@ -48,8 +58,9 @@ status_of (Err end.OutOfMemory) = status.OutOfMemory
 
 -- The image had these words, among them the root's array with these ints, if it has one. It stood for a graph that is the opening one, or
 -- that has no roots and nodes while the opening one has the root as null. The acts are a plain run of the program from the opening graph,
--- and end as the status says, where so many lines are left behind all objects.
-pub record HasRun (program : Program) (entry : Entry) (opening : Graph) (acts : List Recorded) (how : Status) : Type 0 where
+-- and end as the status says, where so many lines are left behind all objects. They took no more than there is, and each was made after
+-- the lines of the image were read, and within the calls so far.
+pub record HasRun (program : Program) (entry : Entry) (opening : Graph) (acts : List Recorded) (after : Told) (how : Status) : Type 0 where
   pub words : Words
   pub read : AreRead entry words
   pub array : Option FoundArray
@@ -63,25 +74,30 @@ pub record HasRun (program : Program) (entry : Entry) (opening : Graph) (acts : 
   pub answer : Result (Unit {0}) RunEnd
   pub is : how ≡ status_of answer
   pub ends : EndsBy program opening (entry.size - free_behind array) acts answer
+  pub within : KeepsMemory (program_facts program) opening default_limits (entry.size - free_behind array)
+      (known_of (program_facts program) 0 opening (program_code program opening) acts)
+  pub made : All (λ (a : Recorded). (entry.size ≤ a.act.at) × (min (entry.told.calls + a.act.at) (2 ^ 64 - 1) ≤ after.calls)) acts
 
 -- ---- stops
 
 -- An image with these words stands for the graph of the entry image, or, where that has no roots and nodes, for the one with the
--- program's root as null.
-abbrev pub StandsAsBefore : Program → (size : ℕ) → (before : Words) → Outcome → Type 0
-StandsAsBefore program size before words = (g : Graph) → StandsFor size before g → IsKeptOrFilled size (root_name program) g words
+-- program's root as null; and it can be opened again, if the entry image can.
+pub record StandsAsBefore (program : Program) (size : ℕ) (before : Words) (words : Outcome) : Type 0 where
+  pub graph : (g : Graph) → StandsFor size before g → IsKeptOrFilled size (root_name program) g words
+  pub form : IsOfForm size before (root_name program) → IsOfForm size words (root_name program)
 
--- It stands for a graph that the acts allow, or, where there are none yet, as before.
-abbrev pub StandsRightly : Program → (opening : Graph) → (acts : List Recorded) → (size : ℕ) → (before : Words) → Outcome → Type 0
-StandsRightly program opening acts size before words =
-    IsOneOf program opening acts size words ⊎ ((acts ≡ []) × StandsAsBefore program size before words)
+-- It stands for a graph that these acts of all allow; or, where there are none yet, as before. Where the run never began, it stands as
+-- before.
+abbrev pub StandsRightly : Program → (opening : Graph) → (all acts : List Recorded) → (size : ℕ) → (before : Words) → Outcome → Type 0
+StandsRightly program opening all acts size before words =
+    ((all ≢ []) × IsOneOf program opening acts size words) ⊎ ((acts ≡ []) × StandsAsBefore program size before words)
 
 -- A stop within call n of the top call leaves only images that stand rightly for the acts before that call, and a stop after the last call
 -- those that do for all acts.
-pub record IsKept (program : Program) (entry : Entry) (opening : Graph) (acts : List Recorded) (after : Told) : Type 0 where
+pub record StandsAtStops (program : Program) (entry : Entry) (opening : Graph) (acts : List Recorded) (after : Told) : Type 0 where
   pub words : Words
   pub read : AreRead entry words
   pub within : (n : ℕ) → 0 < n → entry.told.calls + n ≤ after.calls → entry.told.calls + n < 2 ^ 64 - 1
       → (c : Outcome) → LeftWithin after.history (entry.told.calls + n) c
-      → StandsRightly program opening (acts_before n acts) entry.size words c
-  pub now : (c : Outcome) → LeavesNow after.history c → StandsRightly program opening acts entry.size words c
+      → StandsRightly program opening acts (acts_before n acts) entry.size words c
+  pub now : (c : Outcome) → LeavesNow after.history c → StandsRightly program opening acts acts entry.size words c

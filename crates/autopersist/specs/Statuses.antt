@@ -3,7 +3,6 @@ use Rattle.std.specs.Prelude.{ℕ, List, [], ◌∷◌, ◌++◌, codes, decimal
 use Rattle.std.specs.List.{flat_map}
 use Rattle.ap_base.specs.declared.fault.Which.{Which}
 use Rattle.ap_base.specs.declared.fault.Which.TheVariants as which
-use Rattle.ap_base.specs.declared.fault.Full.{Full}
 use Rattle.const_pool.specs.declared.refusal.PoolRefusal.{PoolRefusal}
 use Rattle.const_pool.specs.declared.refusal.PoolRefusal.TheVariants as pool
 use Rattle.code_form.specs.declared.refusal.CodeRefusal.{CodeRefusal}

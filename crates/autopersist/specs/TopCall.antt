@@ -1,14 +1,12 @@
 -- What the top call says of the words, the files and the run.
 use Rattle.std.specs.Prelude.{◌≡◌, ◌≢◌, ◌⊎◌, ℕ, List, [], Option, Some, None, Result, Ok, Err}
 use Rattle.ap_base.specs.declared.source.NamedBytes.{NamedBytes}
-use Rattle.line_image.specs.History.{History}
-use Rattle.graph_model.specs.declared.types.Graph.{Graph}
 use Rattle.run_history.specs.Recorded.{Recorded}
 use Rattle.array_program.specs.declared.program.Program.{Program}
 use Rattle.autopersist.specs.declared.status.Status.{Status}
 use Rattle.autopersist.specs.declared.status.Status.TheVariants as status
 use Rattle.autopersist.specs.Files.{to_run}
-use Rattle.autopersist.specs.Images.{Entry, IsNotOfForm, HasRun, IsKept}
+use Rattle.autopersist.specs.Images.{Entry, IsNotOfForm}
 use Rattle.autopersist.specs.Reading.{HadLeft}
 use Rattle.autopersist.specs.Words.{main_class}
 

@@ -1,11 +1,13 @@
 // The program that is to run.
-ghost use Rattle.std.specs.Prelude.{◌≡◌, [], ◌⊎◌, ◌≤◌, ◌↔◌, Some, None, Ok, Err, map, IfOk, IfErr, IfSome, IsErrOf, IsNone};
+ghost use Rattle.std.specs.Prelude.{◌≡◌, List, [], ◌⊎◌, ◌≤◌, ◌↔◌, Some, None, Ok, Err, map, OnOk, IfOk, IfErr, IfSome, IsErrOf, IsNone};
 ghost use Rattle.std.specs.String.{string_bytes};
 ghost use Rattle.ap_base.specs.Causes.{Rose};
+ghost use Rattle.ap_base.specs.declared.source.NamedBytes.{NamedBytes as File};
 ghost use Rattle.array_program.specs.Form.{program_of};
 ghost use Rattle.array_history.specs.Standing.{IsRight, root_name};
 ghost use Rattle.image_opening.specs.Wanted.{HasRoom};
 ghost use Rattle.autopersist.specs.Files.{built, chosen, to_run};
+ghost use Rattle.autopersist.specs.Reading.{class_seen};
 ghost use Rattle.autopersist.specs.TopCall.{IsAsked, IsCauseOf, IsOfWords};
 ghost use Rattle.autopersist.specs.Images.{Entry};
 ghost use Rattle.autopersist.specs.Words.{main_class, slashed};
@@ -16,7 +18,6 @@ use crate::words::{class_asked, internal_name};
 use ap_base::{Bytes, ClassSource};
 use array_program::{Program, read_program};
 use class_file::ClassFile;
-use image_opening::has_room;
 use std::alloc::{AllocError, Global};
 
 /// A program, and the name that its durable root has in an image, if it has one: the class and the field.
@@ -40,6 +41,8 @@ pub(crate) fn find_program<C: ClassSource>(
     ensures cause { IfErr result (λ s. (entry : Entry) → IsCauseOf (map string_bytes words.now) (C.left source.old) entry [] s) }
     ensures usage { IsErrOf result Status.Usage ↔ (main_class (map string_bytes words.now) ≡ None) }
     ensures of_words { IfErr result IsOfWords }
+    ensures unasked { main_class (map string_bytes words.now) ≡ None → source.new ≡ source.old }
+    ensures whole { OnOk result ((files : List File) → C.left source.old ≡ Some files → C.left source.new ≡ Some []) }
     ensures later { C.faults source.old ≤ C.faults source.new }
     ensures source_fault { IsErrOf result Status.SourceFault → Rose (C.faults source.old) (C.faults source.new) }
 {
@@ -52,10 +55,10 @@ pub(crate) fn find_program<C: ClassSource>(
 
 // The program of this name, where its class is the only one that was read and of the form.
 fn choose(alloc: Global, class: &str, seen: &Seen) -> Result<Chosen, Status>
-    ensures found { IfOk result (λ found. built class.now seen.now ≡ Ok found.program) }
+    ensures found { IfOk result (λ found. built class.now (class_seen seen.now) ≡ Ok found.program) }
     ensures root { IfOk result (λ found. found.root ≡ root_name found.program) }
     ensures room { IfOk result (λ found. HasRoom found.root) }
-    ensures refused { IfErr result (λ s. (s ≡ Status.OutOfMemory) ⊎ ((s ≡ Status.NotBuilt) × (built class.now seen.now ≡ Err Status.NotBuilt))) }
+    ensures refused { IfErr result (λ s. (s ≡ Status.OutOfMemory) ⊎ ((s ≡ Status.NotBuilt) × (built class.now (class_seen seen.now) ≡ Err Status.NotBuilt))) }
 {
     let Ok(name) = internal_name(alloc, class) else {
         return Err(Status::OutOfMemory);
@@ -70,7 +73,7 @@ fn choose(alloc: Global, class: &str, seen: &Seen) -> Result<Chosen, Status>
     }
 }
 
-// The program of a class file of the form, if it has this name and an image's directory has room for its root.
+// The program of a class file of the form, if it has this name.
 fn program_named(
     alloc: Global,
     class: &ClassFile,
@@ -87,10 +90,9 @@ fn program_named(
     if program.name.as_slice() != name {
         return Ok(None);
     }
+    // The names in a pool are short enough for an image's directory: `len` tells that it is a pool.
+    prove!(class.pool.len() > 0);
     let root = root_name(alloc, &program)?;
-    if !has_room(root.as_ref().map(|name| name.as_slice())) {
-        return Ok(None);
-    }
     Ok(Some(Chosen { program, root }))
 }
 

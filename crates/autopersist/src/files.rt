@@ -1,9 +1,10 @@
 // The files of a source, read and checked one by one.
-ghost use Rattle.std.specs.Prelude.{◌≡◌, ◌≢◌, ◌⊎◌, ◌≤◌, IfOk, IfErr, IsErrOf, Ok, Err};
+ghost use Rattle.std.specs.Prelude.{◌≡◌, ◌≢◌, ◌⊎◌, ◌≤◌, List, [], ◌∷◌, ◌++◌, Some, OnOk, IfOk, IfErr, IsErrOf, Ok, Err};
 ghost use Rattle.ap_base.specs.Causes.{Rose};
 ghost use Rattle.ap_base.specs.Sources as given;
-ghost use Rattle.autopersist.specs.Files.{class_of, with_class};
-ghost use Rattle.autopersist.specs.Reading.{Gives, IsFree, IsOfFiles, ComesTo};
+ghost use Rattle.ap_base.specs.declared.source.NamedBytes.{NamedBytes as File};
+ghost use Rattle.autopersist.specs.Files.{class_of};
+ghost use Rattle.autopersist.specs.Reading.{Gives, IsSeenOf, class_seen, IsFree, IsOfFiles, FilesComeTo};
 
 use crate::Status;
 use ap_base::{Bytes, ClassSource, Full, NamedBytes, SourceError, Which};
@@ -24,8 +25,9 @@ const MOST_FILES: u32 = 4_096;
 // A file has at most so many bytes.
 const MOST_BYTES: usize = 1_048_576;
 
+// One more class was read.
 fn with_class(before: Seen, class: ClassFile) -> Seen
-    ensures { result ≡ with_class before class }
+    ensures { (files : List File) (file : File) → IsSeenOf files before → class_of file ≡ Ok class → IsSeenOf (files ++ file ∷ []) result }
 {
     match before {
         Seen::Nothing => Seen::One(class),
@@ -85,8 +87,9 @@ fn next_file<C: ClassSource>(alloc: Global, source: &mut C) -> Result<Option<Nam
 
 /// The classes of the files that the source has left, or the first file that is refused.
 pub(crate) fn read_files<C: ClassSource>(alloc: Global, source: &mut C) -> Result<Seen, Status>
-    ensures seen { IfOk result (λ seen. ComesTo (C.left source.old) (Ok seen)) }
-    ensures refused { IfErr result (λ s. IsFree s ⊎ ComesTo (C.left source.old) (Err s)) }
+    ensures seen { IfOk result (λ seen. FilesComeTo (C.left source.old) (Ok (class_seen seen))) }
+    ensures refused { IfErr result (λ s. IsFree s ⊎ FilesComeTo (C.left source.old) (Err s)) }
+    ensures whole { OnOk result ((files : List File) → C.left source.old ≡ Some files → C.left source.new ≡ Some []) }
     ensures files { IfErr result IsOfFiles }
     ensures later { C.faults source.old ≤ C.faults source.new }
     ensures cause { IsErrOf result Status.SourceFault → Rose (C.faults source.old) (C.faults source.new) }

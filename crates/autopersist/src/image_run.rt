@@ -9,7 +9,7 @@ ghost use Rattle.image_opening.specs.Wanted.{HasRoom};
 ghost use Rattle.array_history.specs.Standing.{IsRight, root_name};
 ghost use Rattle.array_run.specs.Telling.{Keeps};
 ghost use Rattle.autopersist.specs.Attached.{IsAttached, IsOpenedOn};
-ghost use Rattle.autopersist.specs.Images.{Entry, IsNotOfForm, HasRun, IsKept, status_of};
+ghost use Rattle.autopersist.specs.Images.{Entry, IsNotOfForm, IsOfFormOrUntouched, HasRun, StandsAtStops, status_of};
 ghost use Rattle.autopersist.specs.TopCall.{IsOfRun, IsAfterTheFirstTurn};
 
 use crate::Status;
@@ -101,9 +101,13 @@ pub(crate) fn run_over_image<I: Image, S: Sink, G: Gate, W: Watcher>(
     requires root { chosen.now.root ≡ root_name chosen.now.program }
     requires room { HasRoom chosen.now.root }
     ensures opening { result.acts.acts ≡ [] → result.opening ≡ empty_graph }
-    ensures run { result.acts.acts ≢ [] → IsSettled (I.history image) → HasRun chosen.now.program
-        (record { size = I.size image; told = record { calls = I.calls image; history = I.history image } }) result.opening result.acts.acts result.status }
-    ensures kept { IsSettled (I.history image) → IsKept chosen.now.program
+    ensures run { result.acts.acts ≢ [] → HasRun chosen.now.program
+        (record { size = I.size image; told = record { calls = I.calls image; history = I.history image } }) result.opening result.acts.acts
+        (record { calls = I.calls result.image; history = I.history result.image }) result.status }
+    ensures untouched { IsOfFormOrUntouched chosen.now.program
+        (record { size = I.size image; told = record { calls = I.calls image; history = I.history image } })
+        (record { calls = I.calls result.image; history = I.history result.image }) }
+    ensures kept { IsSettled (I.history image) → StandsAtStops chosen.now.program
         (record { size = I.size image; told = record { calls = I.calls image; history = I.history image } }) result.opening result.acts.acts
         (record { calls = I.calls result.image; history = I.history result.image }) }
     ensures told { Keeps (W.seen watcher) (S.taken sink) result.acts.acts (W.seen result.watcher) (S.taken result.sink) }
@@ -145,10 +149,13 @@ fn open_and_run<I: Image, S: Sink, G: Gate, W: Watcher>(
     requires enough { min_lines ≤ memory.size }
     requires most { memory.size ≤ max_lines }
     ensures opening { result.acts.acts ≡ [] → result.opening ≡ empty_graph }
-    ensures run { (entry : Entry) → IsAttached entry memory → result.acts.acts ≢ [] → IsSettled entry.told.history
-        → HasRun chosen.now.program entry result.opening result.acts.acts result.status }
+    ensures run { (entry : Entry) → IsAttached entry memory → result.acts.acts ≢ []
+        → HasRun chosen.now.program entry result.opening result.acts.acts
+        (record { calls = I.calls result.image; history = I.history result.image }) result.status }
+    ensures untouched { (entry : Entry) → IsAttached entry memory
+        → IsOfFormOrUntouched chosen.now.program entry (record { calls = I.calls result.image; history = I.history result.image }) }
     ensures kept { (entry : Entry) → IsAttached entry memory → IsSettled entry.told.history
-        → IsKept chosen.now.program entry result.opening result.acts.acts (record { calls = I.calls result.image; history = I.history result.image }) }
+        → StandsAtStops chosen.now.program entry result.opening result.acts.acts (record { calls = I.calls result.image; history = I.history result.image }) }
     ensures told { Keeps (W.seen watcher) (S.taken sink) result.acts.acts (W.seen result.watcher) (S.taken result.sink) }
     ensures not_built { (entry : Entry) → IsAttached entry memory → result.status ≡ Status.NotBuilt → IsNotOfForm chosen.now.program entry }
     ensures of_run { IsOfRun result.status }
@@ -191,10 +198,11 @@ fn run_opened<I: Image, S: Sink, G: Gate, W: Watcher>(
     requires free_low { first_object_line ≤ opened.free }
     requires free_high { opened.free ≤ memory.size }
     ensures opening { result.acts.acts ≡ [] → result.opening ≡ empty_graph }
-    ensures run { (entry : Entry) (before : Memory) → IsOpenedOn entry chosen.now.root before memory opened → result.acts.acts ≢ [] → IsSettled entry.told.history
-        → HasRun chosen.now.program entry result.opening result.acts.acts result.status }
+    ensures run { (entry : Entry) (before : Memory) → IsOpenedOn entry chosen.now.root before memory opened → result.acts.acts ≢ []
+        → HasRun chosen.now.program entry result.opening result.acts.acts
+        (record { calls = I.calls result.image; history = I.history result.image }) result.status }
     ensures kept { (entry : Entry) (before : Memory) → IsOpenedOn entry chosen.now.root before memory opened → IsSettled entry.told.history
-        → IsKept chosen.now.program entry result.opening result.acts.acts (record { calls = I.calls result.image; history = I.history result.image }) }
+        → StandsAtStops chosen.now.program entry result.opening result.acts.acts (record { calls = I.calls result.image; history = I.history result.image }) }
     ensures told { Keeps (W.seen watcher) (S.taken sink) result.acts.acts (W.seen result.watcher) (S.taken result.sink) }
     ensures built { result.status ≢ Status.NotBuilt }
     ensures of_run { IsOfRun result.status }
@@ -210,6 +218,7 @@ fn run_opened<I: Image, S: Sink, G: Gate, W: Watcher>(
         memory,
         sink,
         watcher,
+        turns: 0,
     };
     let answer = run_program(&mut run, gate, &chosen.program, &opened);
     let Run {
@@ -217,6 +226,7 @@ fn run_opened<I: Image, S: Sink, G: Gate, W: Watcher>(
         memory,
         sink,
         watcher,
+        ..
     } = run;
     Ran {
         status: of_run(answer),

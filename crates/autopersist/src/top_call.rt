@@ -11,7 +11,7 @@ ghost use Rattle.array_program.specs.declared.program.Program.{Program};
 ghost use Rattle.array_run.specs.Telling.{with_all};
 ghost use Rattle.autopersist.specs.declared.status.Status.{Status as HowItEnds};
 ghost use Rattle.autopersist.specs.Files.{to_run};
-ghost use Rattle.autopersist.specs.Images.{HasRun, IsKept};
+ghost use Rattle.autopersist.specs.Images.{HasRun, StandsAtStops, IsOfFormOrUntouched};
 ghost use Rattle.autopersist.specs.Reading.{IsFree};
 ghost use Rattle.autopersist.specs.TopCall.{IsCauseOf, IsOfRun, OfProgram};
 ghost use Rattle.autopersist.specs.Words.{main_class};
@@ -41,7 +41,7 @@ pub struct Ended<C, I, S, W> {
 
 /// Runs the class of the source's files for which the words ask, on the image, and prints to the sink.
 ///
-/// The words begin with the program's name. The gate is called before each event, and the watcher is told each act.
+/// The words begin with the program's name. The gate is called in each turn before its first event, and the watcher is told each act.
 pub fn autopersist<R, C, I, S, G, W>(
     _rt: &R,
     alloc: Global,
@@ -72,22 +72,33 @@ where
     ensures image_fault { result.status ≡ Status.ImageFault → Rose (I.faults image) (I.faults result.image) }
     ensures no_memory { result.status ≡ Status.OutOfMemory → result.acts.acts ≡ [] }
 
+    // The source is left alone where the words are no command, and read to its end before a run begins.
+    ensures unasked { main_class (map string_bytes words.now.items) ≡ None → result.source ≡ source }
+    ensures whole { result.acts.acts ≢ [] → (files : List File) → C.left source ≡ Some files → C.left result.source ≡ Some [] }
+
     // What ran: a plain run of the program, from the graph that the image stood for, a new null root aside. Where the first turn wasn't
     // reached there are no acts, and the graph has no roots and nodes.
     ensures opening { result.acts.acts ≡ [] → result.opening ≡ empty_graph }
-    ensures run { result.acts.acts ≢ [] → IsSettled (I.history image) → OfProgram (map string_bytes words.now.items) (C.left source) (λ program.
+    ensures run { result.acts.acts ≢ [] → OfProgram (map string_bytes words.now.items) (C.left source) (λ program.
         HasRun program (record { size = I.size image; told = record { calls = I.calls image; history = I.history image } })
-        result.opening result.acts.acts result.status) }
+        result.opening result.acts.acts (record { calls = I.calls result.image; history = I.history result.image }) result.status) }
 
     // What the outside was told, whatever the status.
     ensures printed { S.taken result.sink ≡ with_bytes (S.taken sink) (output_of result.acts.acts) }
     ensures watched { W.seen result.watcher ≡ with_all (W.seen watcher) result.acts.acts }
 
+    // What is left alone: the image, where the answer isn't one of a run, where the words and the files come to no program, or where it isn't of
+    // the form that the program needs.
+    ensures early { IsOfRun result.status ⊎ ((result.image ≡ image) × (result.acts.acts ≡ [])) }
+    ensures untouched { (result.image ≡ image) ⊎ OfProgram (map string_bytes words.now.items) (C.left source) (λ program.
+        IsOfFormOrUntouched program (record { size = I.size image; told = record { calls = I.calls image; history = I.history image } })
+        (record { calls = I.calls result.image; history = I.history result.image })) }
+
     // The persistence theorem: a stop within any image call, or after the last one, leaves only images that stand for a graph which the acts
     // before that call allow; before the first act, for the graph of the entry image, a new null root aside. The image keeps what was
     // fenced and tears no word, and had nothing unfenced at the entry.
-    ensures stops { IsSettled (I.history image) → (result.image ≡ image) ⊎ OfProgram (map string_bytes words.now.items) (C.left source) (λ program.
-        IsKept program (record { size = I.size image; told = record { calls = I.calls image; history = I.history image } })
+    ensures stops { IsSettled (I.history image) → ((result.image ≡ image) × (result.acts.acts ≡ [])) ⊎ OfProgram (map string_bytes words.now.items) (C.left source) (λ program.
+        StandsAtStops program (record { size = I.size image; told = record { calls = I.calls image; history = I.history image } })
         result.opening result.acts.acts (record { calls = I.calls result.image; history = I.history result.image })) }
     ensures size { I.size result.image ≡ I.size image }
 {

@@ -9,7 +9,7 @@ use Rattle.image_meaning.specs.Checks.{Words}
 use Rattle.image_meaning.specs.Entries.{Entry}
 use Rattle.image_meaning.specs.Directories.{spelled_all}
 use Rattle.image_meaning.specs.Meaning.{StandsFor}
-use Rattle.image_opening.specs.Rest.{StopsLeave, OldOrPut, HasKept, ChangesOthers}
+use Rattle.image_opening.specs.Rest.{IsAtRest, StopsLeave, OldOrPut, HasKept, ChangesOthers}
 use Rattle.image_opening.specs.Form.{HasOnly, IsOutsideFree, StandFrom, IsContinued, graph_of_entries}
 use Rattle.image_opening.proofs.Putting.{stops_then, stops_weaker}
 use Rattle.image_opening.proofs.Layouts.{only_stands}
@@ -78,8 +78,22 @@ raised_only size used c d spelling before after enough has on few written same c
       roots = λ r below. same (slot_line r) (slot_word r) (omega (arith, enough, below)) (λ at. absurd (omega (arith, at))) ∙ has.roots r below;
     }
 
+-- the entries before, or those after, and no others
+abbrev pub OneOf : ℕ → List Entry → List Entry → Outcome → Type 0
+OneOf size before after c = HasOnly size c before ⊎ HasOnly size c after
+
+-- the graph of one of them
 abbrev pub Either : ℕ → List Entry → List Entry → Outcome → Type 0
 Either size before after c = StandsFor size c (graph_of_entries before) ⊎ StandsFor size c (graph_of_entries after)
+
+pub stops_stand : (size many : ℕ) (spelling : List ℕ) (before after : List Entry) (a b : Memory)
+    → IsContinued many spelling before after → StopsLeave a b (OneOf size before after) → StopsLeave a b (Either size before after)
+stops_stand size many spelling before after a b on moments =
+    stops_weaker a b (OneOf size before after) (Either size before after) moments
+    (λ k either. ⊎_elim
+    (λ has. inl (only_stands size k before has on.were))
+    (λ has. inr (only_stands size k after has on.are))
+    either)
 
 module _ (old mid : Memory) (used : ℕ) (spelling : List ℕ) (before after : List Entry) (enough : min_lines ≤ old.size)
     (has : HasOnly old.size (shown old) before) (on : IsContinued used spelling before after)
@@ -87,9 +101,9 @@ module _ (old mid : Memory) (used : ℕ) (spelling : List ℕ) (before after : L
   room : used ≤ directory_words
   room = omega (arith, few)
 
-  pub writing_moments : StopsLeave old mid (Either old.size before after)
-  writing_moments = stops_weaker old mid (HasKept (IsOutsideFree used) old) (Either old.size before after) writes.any_moment
-      (λ k kept. inl (only_stands old.size k before (only_same old.size used k (shown old) before enough has on.used room kept) on.were))
+  pub writing_moments : IsAtRest old → StopsLeave old mid (OneOf old.size before after)
+  writing_moments rest = stops_weaker old mid (HasKept (IsOutsideFree used) old) (OneOf old.size before after) (writes.any_moment rest)
+      (λ k kept. inl (only_same old.size used k (shown old) before enough has on.used room kept))
 
   pub written_only : HasOnly mid.size (shown mid) before
   written_only = subst (λ n. HasOnly n (shown mid) before) (sym writes.size)
@@ -100,20 +114,18 @@ module _ (old mid : Memory) (used : ℕ) (spelling : List ℕ) (before after : L
 
   module _ (new : Memory) (written : StandFrom (shown mid) used spelling)
       (others : (l w : ℕ) → l < mid.size → (l ≡ 0 → w ≢ 3) → shown new l w ≡ shown mid l w) where
-    pub raised_moments : StopsLeave mid new (OldOrPut mid 0 3 (used + length spelling))
-        → StopsLeave old new (Either old.size before after)
-    raised_moments moments = stops_then old mid new (Either old.size before after) writing_moments
-        (subst (λ n. StopsLeave mid new (Either n before after)) writes.size
-        (stops_weaker mid new (OldOrPut mid 0 3 (used + length spelling)) (Either mid.size before after) moments
+    pub raised_moments : IsAtRest old → StopsLeave mid new (OldOrPut mid 0 3 (used + length spelling))
+        → StopsLeave old new (OneOf old.size before after)
+    raised_moments rest moments = stops_then old mid new (OneOf old.size before after) (writing_moments rest)
+        (subst (λ n. StopsLeave mid new (OneOf n before after)) writes.size
+        (stops_weaker mid new (OldOrPut mid 0 3 (used + length spelling)) (OneOf mid.size before after) moments
         (λ k either.
         let same : (l w : ℕ) → l < mid.size → (l ≡ 0 → w ≢ 3) → k l w ≡ shown mid l w = λ l w below elsewhere.
         ⊎_elim (λ was. was) (λ put. absurd (elsewhere put.0 put.1)) (either l w below) in
         ⊎_elim
-        (λ was. inl (only_stands mid.size k before (only_same mid.size used k (shown mid) before more written_only on.used room
-        (λ l w below kept. ⊎_elim (λ it. it) (λ put. ap (λ n. k n w) put.0 ∙ ap (λ n. k 0 n) put.1 ∙ was ∙ ap (λ n. shown mid 0 n) (sym put.1) ∙ ap (λ n. shown mid n w) (sym put.0)) (either l w below)))
-        on.were))
-        (λ put. inr (only_stands mid.size k after
-        (raised_only mid.size used k (shown mid) spelling before after more written_only on few written same put.2) on.are))
+        (λ was. inl (only_same mid.size used k (shown mid) before more written_only on.used room
+        (λ l w below kept. ⊎_elim (λ it. it) (λ put. ap (λ n. k n w) put.0 ∙ ap (λ n. k 0 n) put.1 ∙ was ∙ ap (λ n. shown mid 0 n) (sym put.1) ∙ ap (λ n. shown mid n w) (sym put.0)) (either l w below))))
+        (λ put. inr (raised_only mid.size used k (shown mid) spelling before after more written_only on few written same put.2))
         (either 0 3 (omega (arith, more))))))
 
     pub raised : shown new 0 3 ≡ used + length spelling → HasOnly old.size (shown new) after

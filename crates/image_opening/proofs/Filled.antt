@@ -8,10 +8,12 @@ use Rattle.image_meaning.specs.Meaning.{empty_graph, StandsFor}
 use Rattle.image_meaning.specs.Arrays.{array_entries, null_graph}
 use Rattle.image_meaning.proofs.Arrays.{shape-may_stand, root-may_stand}
 use Rattle.image_opening.specs.Rest.{StopsLeave}
-use Rattle.image_opening.specs.Form.{IsContinued}
+use Rattle.image_opening.specs.Form.{IsBlankOrEmpty, IsContinued}
+use Rattle.image_opening.specs.Prepared.{IsUnfilled}
 use Rattle.image_opening.specs.Wanted.{shape_alone}
 use Rattle.image_opening.proofs.Putting.{stops_then, stops_weaker}
-use Rattle.image_opening.proofs.Entering.{Either}
+use Rattle.image_opening.proofs.Entering.{OneOf, Either}
+use Rattle.image_opening.proofs.Forms.{none_unfilled, shape_unfilled, all_unfilled}
 
 -- the first three words spell the shape
 pub shape_continued : (name spelling some : List ℕ) → spelling ≡ spelled_all (array_entries name) → some ≡ take 3 spelling
@@ -56,3 +58,35 @@ pub last_moments : (size : ℕ) (name : List ℕ) (a b : Memory) → StopsLeave 
     → StopsLeave a b (NoRootOrNull size name)
 last_moments size name a b moments =
     stops_weaker a b (Either size shape_alone (array_entries name)) (NoRootOrNull size name) moments (λ k either. either)
+
+-- ---- the form meanwhile
+
+-- an image that is blank or has none of the wanted entries
+pub blank_reopens : (size : ℕ) (spelling : List ℕ) (a b : Memory) → StopsLeave a b (IsBlankOrEmpty size)
+    → StopsLeave a b (λ c. IsUnfilled size c spelling)
+blank_reopens size spelling a b moments =
+    stops_weaker a b (IsBlankOrEmpty size) (λ c. IsUnfilled size c spelling) moments
+    (λ k either. ⊎_elim (λ zero. inl zero) (λ none. none_unfilled size k spelling none) either)
+
+-- or none, the first or all of them
+module _ (size : ℕ) (name spelling : List ℕ) (is : spelling ≡ spelled_all (array_entries name)) (a b : Memory) where
+  pub shape_reopens : StopsLeave a b (OneOf size [] shape_alone) → StopsLeave a b (λ c. IsUnfilled size c spelling)
+  shape_reopens moments = stops_weaker a b (OneOf size [] shape_alone) (λ c. IsUnfilled size c spelling) moments
+      (λ k either. ⊎_elim
+      (λ none. none_unfilled size k spelling none)
+      (λ shape. shape_unfilled size k spelling (ap (take 3) is) shape)
+      either)
+
+  pub root_reopens : StopsLeave a b (OneOf size shape_alone (array_entries name)) → StopsLeave a b (λ c. IsUnfilled size c spelling)
+  root_reopens moments = stops_weaker a b (OneOf size shape_alone (array_entries name)) (λ c. IsUnfilled size c spelling) moments
+      (λ k either. ⊎_elim
+      (λ shape. shape_unfilled size k spelling (ap (take 3) is) shape)
+      (λ all. all_unfilled size k spelling (array_entries name) is all)
+      either)
+
+pub both_reopen : (size other : ℕ) (name spelling : List ℕ) (a b d : Memory) → spelling ≡ spelled_all (array_entries name) → other ≡ size
+    → StopsLeave a b (OneOf size [] shape_alone) → StopsLeave b d (OneOf other shape_alone (array_entries name))
+    → StopsLeave a d (λ c. IsUnfilled size c spelling)
+both_reopen size other name spelling a b d is same first second =
+    stops_then a b d (λ c. IsUnfilled size c spelling) (shape_reopens size name spelling is a b first)
+    (subst (λ n. StopsLeave b d (λ c. IsUnfilled n c spelling)) same (root_reopens other name spelling is b d second))

@@ -1,5 +1,6 @@
 pub mod Entering
 pub mod Filled
+pub mod Forms
 pub mod Fronts
 pub mod Layouts
 pub mod Openings

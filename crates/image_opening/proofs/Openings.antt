@@ -1,5 +1,5 @@
 -- What is found in an image that is opened.
-use Rattle.std.proofs.Common.{◌≡◌, ◌⊎◌, inl, inr, ⊎_elim, ◌≤◌, ℕ, ℤ, List, [], ◌∷◌, length, Option, Some, None, Result, Ok, Err, refl, subst, arith}
+use Rattle.std.proofs.Common.{◌≡◌, ◌⊎◌, inl, inr, ⊎_elim, ◌≤◌, ℕ, ℤ, List, [], ◌∷◌, length, Option, Some, None, Result, Ok, Err, refl, sym, subst, arith}
 use Rattle.std.specs.Prelude.{IfSome, IfOk, OnOk}
 use Rattle.std.proofs.lemmas.List.{take_all}
 use Rattle.graph_model.specs.declared.types.Graph.{Graph}
@@ -21,16 +21,25 @@ use Rattle.image_opening.specs.Form.{IsFront}
 use Rattle.image_opening.specs.Prepared.{IsUnfilled, IsFilled, Says}
 use Rattle.image_opening.specs.Wanted.{shape_alone, wanted, HasRoom}
 use Rattle.image_opening.specs.Opened.{opening_graph, HasArray, IsOfForm, WasFound, IsFound, IsReady, IsFrom}
+use Rattle.image_opening.specs.Rest.{IsAtRest, StopsLeave}
+use Rattle.image_opening.proofs.Putting.{stops_weaker}
+use Rattle.image_opening.proofs.Forms.{form_stays}
 use Rattle.image_opening.proofs.Layouts.{first_zero-stands, only_stands}
 use Rattle.image_opening.proofs.Fronts.{front_entries, front_in_use, front_spells, front_empty, front_shape, front_all}
 use Rattle.image_opening.proofs.Unfilled.{named_directory}
 
 -- an image isn't both
-pub filled_only : (size : ℕ) (c : Words) (spelling : List ℕ) → IsFilled size c spelling → IsUnfilled size c spelling → ⊥
+filled_only : (size : ℕ) (c : Words) (spelling : List ℕ) → IsFilled size c spelling → IsUnfilled size c spelling → ⊥
 filled_only size c spelling filled unfilled = ⊎_elim
     (λ zero. omega (arith, zero, filled.0.super.0))
     (λ null. filled.1 null.1.1)
     unfilled
+
+-- so one that is filled is left as it was
+pub filled_left : (size : ℕ) (c : Words) (spelling : List ℕ) (old new : Memory) → IsFilled size c spelling
+    → IsUnfilled size c spelling ⊎ (new ≡ old) → new ≡ old
+filled_left size c spelling old new filled left =
+    ⊎_elim (λ unfilled. absurd (filled_only size c spelling filled unfilled)) (λ same. same) left
 
 -- ---- an image with an array
 
@@ -45,6 +54,7 @@ module _ (size : ℕ) (c : Words) (name : List ℕ) (enough : min_lines ≤ size
 
   pub array_ready : (line : ℕ) (ints : List ℤ) → HasArray size c line ints → IsReady size c (Some name) (array_graph name ints)
   array_ready line ints has = record {
+    form = inr (line, ints, record { filled = filled; array = has });
     in_use = λ zero. omega (arith, zero, front.super.0);
     unlogged = front.logs;
     directory = named_directory c name (directory-again c (array_entries name) (root-may_stand name bytes) spells);
@@ -175,3 +185,31 @@ pub opened_form : (old new : Memory) (root : Option (List ℕ)) (result : Result
     → IfOk result (λ opened. (ints : Option (List ℤ)) × IsFound root old new opened ints) → OnOk result (IsOfForm old.size (shown old) root)
 opened_form old new root (Ok opened) found = found_form old.size (shown old) root opened.array found.0 found.1.was
 opened_form old new root (Err fault) found = tt
+
+-- ---- the form meanwhile
+
+unfilled_form : (root : Option (List ℕ)) (size : ℕ) (c : Words) → IsUnfilled size c (spelled_all (wanted root)) → IsOfForm size c root
+unfilled_form root size c unfilled = found_form size c root None None (was_none root size c unfilled)
+
+-- what is said of an image's lines, and of the words that spell what its root wants
+module _ (lines : ℕ) (old new : Memory) (named root : Option (List ℕ)) (spelling : List ℕ) (many : lines ≡ old.size) (same : named ≡ root)
+    (is : spelling ≡ spelled_all (wanted named)) (untouched : IsUnfilled lines (shown old) spelling ⊎ (new ≡ old)) where
+  left : IsUnfilled old.size (shown old) (spelled_all (wanted root)) ⊎ (new ≡ old)
+  left = along lines old.size named root spelling many same is (λ n r s. IsUnfilled n (shown old) s ⊎ (new ≡ old)) untouched
+
+  pub form_or_left : IsOfForm old.size (shown old) root ⊎ (new ≡ old)
+  form_or_left = ⊎_elim (λ unfilled. inl (unfilled_form root old.size (shown old) unfilled)) (λ kept. inr kept) left
+
+  -- an image of the form that isn't filled keeps it while it is, and any other one is left as it was
+  pub form_reopens : min_lines ≤ old.size → HasRoom root → IsAtRest old
+      → (IsUnfilled lines (shown old) spelling → StopsLeave old new (λ c. IsUnfilled lines c spelling))
+      → IsOfForm old.size (shown old) root → StopsLeave old new (λ c. IsOfForm old.size c root)
+  form_reopens enough room rest reopens form = ⊎_elim
+      (λ unfilled.
+      stops_weaker old new (λ c. IsUnfilled old.size c (spelled_all (wanted root))) (λ c. IsOfForm old.size c root)
+      (along lines old.size named root spelling many same is
+      (λ n r s. IsUnfilled n (shown old) s → StopsLeave old new (λ c. IsUnfilled n c s)) reopens unfilled)
+      (λ k has. unfilled_form root old.size k has))
+      (λ kept.
+      subst (λ (m : Memory). StopsLeave old m (λ c. IsOfForm old.size c root)) (sym kept) (form_stays old root enough room rest form))
+      left

@@ -1,6 +1,7 @@
 -- Single words that are put, and what stops leave meanwhile.
-use Rattle.std.proofs.Common.{◌≡◌, ◌≢◌, inl, inr, ⊎_elim, ◌<◌, ℕ, [], ◌∷◌, refl, sym, ◌∙◌, subst, get_or, All, arith}
+use Rattle.std.proofs.Common.{◌≡◌, ◌≢◌, inl, inr, ⊎_elim, ◌<◌, ◌≤◌, ℕ, [], ◌∷◌, Result, Ok, Err, refl, sym, ◌∙◌, subst, get_or, All, arith}
 use Rattle.std.proofs.lemmas.Bool.{cases_eq, eq-eqb}
+use Rattle.ap_base.specs.Causes.{HasCause}
 use Rattle.line_image.specs.History.{Outcome}
 use Rattle.line_memory.specs.Memory.{Memory, shown, IsResident, IsKnown, CanLeaveAll, IsDurable}
 use Rattle.line_memory.specs.Moments.{Goes}
@@ -41,6 +42,11 @@ calls_on a b c first second fits =
     let there = first fits in
     let after = second there.1 in
     (omega (arith, there.0, after.0), after.1)
+
+-- a cause of a call after earlier ones
+pub cause_after : {T E : Type 0} (before then now : ℕ) (r : Result T E) → before ≤ then → HasCause then now r → HasCause before now r
+cause_after before then now (Ok x) le cause = record { later = omega (arith, le, cause.later); failed = tt }
+cause_after before then now (Err e) le cause = record { later = omega (arith, le, cause.later); failed = omega (arith, le, cause.failed) }
 
 -- ---- one word
 
@@ -104,12 +110,13 @@ module _ (old new : Memory) (change : Change) where
 
 -- ---- words that are kept
 
-pub changes_more : (Kept : ℕ → ℕ → Type 0) (a b c : Memory) → ChangesOthers Kept a b → ChangesOthers Kept b c → ChangesOthers Kept a c
-changes_more Kept a b c first second = record {
+pub changes_more : (Kept : ℕ → ℕ → Type 0) (a b c : Memory) → (IsAtRest a → IsAtRest b) → ChangesOthers Kept a b → ChangesOthers Kept b c
+    → ChangesOthers Kept a c
+changes_more Kept a b c still first second = record {
   size = second.size ∙ first.size;
   shows = λ l w below kept. second.shows l w (subst (λ n. l < n) (sym first.size) below) kept ∙ first.shows l w below kept;
-  any_moment = stops_then a b c (HasKept Kept a) first.any_moment
-      (stops_weaker b c (HasKept Kept b) (HasKept Kept a) second.any_moment
+  any_moment = λ rest. stops_then a b c (HasKept Kept a) (first.any_moment rest)
+      (stops_weaker b c (HasKept Kept b) (HasKept Kept a) (second.any_moment (still rest))
       (λ k has l w below kept. has l w (subst (λ n. l < n) (sym first.size) below) kept ∙ first.shows l w below kept));
 }
 
@@ -117,20 +124,13 @@ changes_more Kept a b c first second = record {
 pub put_changes : (Kept : ℕ → ℕ → Type 0) (old new : Memory) (line word value : ℕ) → (Kept line word → ⊥)
     → new.size ≡ old.size
     → ((l w : ℕ) → l < old.size → (l ≡ line → w ≢ word) → shown new l w ≡ shown old l w)
-    → StopsLeave old new (OldOrPut old line word value) → ChangesOthers Kept old new
+    → (IsAtRest old → StopsLeave old new (OldOrPut old line word value)) → ChangesOthers Kept old new
 put_changes Kept old new line word value elsewhere size others moments = record {
   size = size;
   shows = λ l w below kept. others l w below (λ at same. elsewhere (subst (λ k. Kept k word) at (subst (λ k. Kept l k) same kept)));
-  any_moment = stops_weaker old new (OldOrPut old line word value) (HasKept Kept old) moments
+  any_moment = λ rest. stops_weaker old new (OldOrPut old line word value) (HasKept Kept old) (moments rest)
       (λ k either l w below kept. ⊎_elim
       (λ was. was)
       (λ put. absurd (elsewhere (subst (λ n. Kept n word) put.0 (subst (λ n. Kept l n) put.1 kept))))
       (either l w below));
-}
-
-pub changes_nothing : (Kept : ℕ → ℕ → Type 0) (m : Memory) → IsAtRest m → ChangesOthers Kept m m
-changes_nothing Kept m rest = record {
-  size = refl;
-  shows = λ l w below kept. refl;
-  any_moment = rest_stops m (HasKept Kept m) rest (λ k agrees l w below kept. agrees l w below);
 }

@@ -20,6 +20,7 @@ use Rattle.image_opening.specs.Wanted.{shape_alone}
 use Rattle.image_opening.specs.Opened.{IsReady, IsKeptOrFilled}
 use Rattle.image_opening.proofs.Putting.{rest_stops, stops_weaker}
 use Rattle.image_opening.proofs.Layouts.{first_zero-stands, only_stands}
+use Rattle.image_opening.proofs.Forms.{all_unfilled}
 use Rattle.image_opening.proofs.Entering.{Either}
 use Rattle.image_opening.proofs.Filled.{NoRootOrNull, last_moments}
 use Rattle.image_opening.proofs.Fronts.{front_entries, front_empty, front_shape}
@@ -72,9 +73,10 @@ empty_kept size graph a b empty moments =
 pub used_if : (size : ℕ) (c : Words) (entries : List Entry) → HasOnly size c entries → c 0 0 ≢ 0
 used_if size c entries has zero = omega (arith, zero, has.in_use.magic)
 
-pub none_ready : (size : ℕ) (c : Words) (entries : List Entry) → HasOnly size c entries → AreEntries no_entries entries
-    → null_graph (with_all no_entries entries).roots ≡ empty_graph → IsReady size c None empty_graph
-none_ready size c entries has are none = record {
+pub none_ready : (size : ℕ) (c : Words) (entries : List Entry) → IsUnfilled size c (spelled_all shape_alone) → HasOnly size c entries
+    → AreEntries no_entries entries → null_graph (with_all no_entries entries).roots ≡ empty_graph → IsReady size c None empty_graph
+none_ready size c entries form has are none = record {
+  form = form;
   in_use = used_if size c entries has;
   unlogged = has.in_use.logs;
   directory = λ name is. absurd (let no_root : Option (List ℕ) = None in let same : no_root ≡ Some name = is in cc);
@@ -91,6 +93,7 @@ named_directory c name is other same =
 pub some_ready : (size : ℕ) (c : Words) (name : List ℕ) → AreBytes name → HasOnly size c (array_entries name)
     → IsReady size c (Some name) (null_graph (name ∷ []))
 some_ready size c name bytes has = record {
+  form = inl (all_unfilled size c (spelled_all (array_entries name)) (array_entries name) refl has);
   in_use = used_if size c (array_entries name) has;
   unlogged = has.in_use.logs;
   directory = named_directory c name (directory-again c (array_entries name) (root-may_stand name bytes) has.directory);
@@ -116,13 +119,14 @@ null_front size c spelling (Refers word) other says unfilled = ⊎_elim
 pub front_ready : (size : ℕ) (c : Words) (spelling : List ℕ) (used : ℕ) → min_lines ≤ size → size ≤ max_lines
     → spelling ≡ spelled_all shape_alone → IsNullFront size c spelling used → IsReady size c None empty_graph
 front_ready size c spelling used enough most is null =
+    let form : IsUnfilled size c (spelled_all shape_alone) = subst (λ s. IsUnfilled size c s) is (inr (used, null)) in
     let shape : used ≡ 3 → IsReady size c None empty_graph = λ three.
-    none_ready size c shape_alone
+    none_ready size c shape_alone form
     (front_entries size c spelling 3 shape_alone enough most (subst (λ (k : ℕ). IsFront size c spelling k) three null.0) null.1
     (omega arith) (ap (take 3) is) refl)
     shape-may_stand refl in
     ⊎_elim
-    (λ none. none_ready size c []
+    (λ none. none_ready size c [] form
     (front_entries size c spelling 0 [] enough most (subst (λ (k : ℕ). IsFront size c spelling k) none null.0) null.1 (omega arith) refl refl)
     tt refl)
     (λ more. ⊎_elim shape (λ all. shape (all ∙ ap length is)) more)

@@ -1,5 +1,5 @@
 -- Images without objects.
-use Rattle.std.specs.Prelude.{◌≡◌, ◌⊎◌, ◌<◌, ◌≤◌, ◌+◌, ◌*◌, ℕ, List, ◌++◌, length, take, slice_index_or}
+use Rattle.std.specs.Prelude.{◌≡◌, ◌⊎◌, ◌<◌, ◌≤◌, ◌+◌, ◌*◌, ℕ, List, [], ◌++◌, length, take, slice_index_or}
 use Rattle.graph_model.specs.declared.types.Graph.{Graph}
 use Rattle.image_layout.specs.Places.{magic, version, root_slots, log_head_line, directory_line, directory_word}
 use Rattle.image_meaning.specs.Checks.{Words}
@@ -14,6 +14,10 @@ pub record HasOnly (size : ℕ) (words : Words) (entries : List Entry) : Type 0 
   pub in_use : IsInUse size words
   pub directory : Spells words entries
   pub roots : (r : ℕ) → r < root_slots → root_word words r ≡ 0
+
+-- The image is blank; or it is in use, its directory is empty, and no root refers to anything.
+abbrev pub IsBlankOrEmpty : ℕ → Words → Type 0
+IsBlankOrEmpty size words = (words 0 0 ≡ 0) ⊎ HasOnly size words []
 
 -- ---- parts of an image
 

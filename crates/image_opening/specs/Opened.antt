@@ -92,8 +92,10 @@ ints_at words line count = map (λ i. cast_signed w32 (object_slot words line i)
 
 -- ---- what an image stands for, before and after
 
--- The image is in use, no entry of a log counts, its directory is that of the root, if it has one, and it stands for this graph.
+-- The image is of the form and in use, no entry of a log counts, its directory is that of the root, if it has one, and it stands for this
+-- graph.
 pub record IsReady (size : ℕ) (words : Words) (root : Option (List ℕ)) (graph : Graph) : Type 0 where
+  pub form : IsOfForm size words root
   pub in_use : words 0 0 ≢ 0
   pub unlogged : NoneLogged words
   pub directory : (name : List ℕ) → root ≡ Some name → directory_of words ≡ Ok (with_all no_entries (array_entries name))

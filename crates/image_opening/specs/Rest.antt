@@ -31,8 +31,8 @@ OldOrPut m line word value c =
 abbrev pub HasKept : (ℕ → ℕ → Type 0) → Memory → Outcome → Type 0
 HasKept Kept m c = (l w : ℕ) → l < m.size → Kept l w → c l w ≡ shown m l w
 
--- Words were changed but for those that are kept: these each stop left as they were.
+-- Words were changed but for those that are kept: these, where they were at rest, each stop left as they were.
 pub record ChangesOthers (Kept : ℕ → ℕ → Type 0) (old new : Memory) : Type 0 where
   pub size : new.size ≡ old.size
   pub shows : (l w : ℕ) → l < old.size → Kept l w → shown new l w ≡ shown old l w
-  pub any_moment : StopsLeave old new (HasKept Kept old)
+  pub any_moment : IsAtRest old → StopsLeave old new (HasKept Kept old)

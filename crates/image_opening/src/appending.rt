@@ -26,13 +26,16 @@ pub fn append_entries<I: Image>(
     requires room { used + length spelling.now ≤ directory_words }
     ensures size { memory.new.size ≡ memory.old.size }
     ensures rest { IsAtRest memory.old → OnOk result (IsAtRest memory.new) }
-    ensures appended { (before after : List Entry) → IsAtRest memory.old → HasOnly memory.old.size (shown memory.old) before
+    ensures appended { (before after : List Entry) → HasOnly memory.old.size (shown memory.old) before
         → IsContinued used spelling.now before after
         → OnOk result (HasOnly memory.old.size (shown memory.new) after) }
     ensures any_moment { (before after : List Entry) → IsAtRest memory.old → HasOnly memory.old.size (shown memory.old) before
         → IsContinued used spelling.now before after
         → StopsLeave memory.old memory.new (λ c. StandsFor memory.old.size c (graph_of_entries before)
         ⊎ StandsFor memory.old.size c (graph_of_entries after)) }
+    ensures reopens { (before after : List Entry) → IsAtRest memory.old → HasOnly memory.old.size (shown memory.old) before
+        → IsContinued used spelling.now before after
+        → StopsLeave memory.old memory.new (λ c. HasOnly memory.old.size c before ⊎ HasOnly memory.old.size c after) }
     ensures counts { (begin : ℕ) → CountsFrom begin memory.old → CountsFrom begin memory.new }
     ensures calls { CallsGoOn memory.old memory.new }
     ensures cause { HasCause memory.old.faults memory.new.faults result }
@@ -52,8 +55,8 @@ fn write_entries<I: Image>(
     requires enough { min_lines ≤ memory.old.size }
     requires room { used + length spelling.now ≤ directory_words }
     ensures rest { IsAtRest memory.old → OnOk result (IsAtRest memory.new) }
-    ensures written { IsAtRest memory.old → OnOk result (StandFrom (shown memory.new) used spelling.now) }
-    ensures others { IsAtRest memory.old → ChangesOthers (IsOutsideFree used) memory.old memory.new }
+    ensures written { OnOk result (StandFrom (shown memory.new) used spelling.now) }
+    ensures others { ChangesOthers (IsOutsideFree used) memory.old memory.new }
     ensures size { memory.new.size ≡ memory.old.size }
     ensures counts { (begin : ℕ) → CountsFrom begin memory.old → CountsFrom begin memory.new }
     ensures calls { CallsGoOn memory.old memory.new }

@@ -10,6 +10,7 @@ ghost use Rattle.image_meaning.specs.Meaning.{empty_graph, StandsFor};
 ghost use Rattle.image_meaning.specs.Arrays.{array_entries, null_graph};
 ghost use Rattle.image_opening.specs.Rest.{IsAtRest, CallsGoOn, StopsLeave};
 ghost use Rattle.image_opening.specs.Form.{HasOnly};
+ghost use Rattle.image_opening.specs.Prepared.{IsUnfilled};
 
 use crate::appending::append_entries;
 use crate::formatting::format_image;
@@ -31,11 +32,14 @@ pub fn lay_out<I: Image>(
     ensures size { memory.new.size ≡ memory.old.size }
     ensures rest { IsAtRest memory.old → OnOk result (IsAtRest memory.new) }
     ensures filled { (name : List ℕ) → AreBytes name → spelling.now ≡ spelled_all (array_entries name)
-        → IsAtRest memory.old → OnOk result (HasOnly lines (shown memory.new) (array_entries name)) }
+        → OnOk result (HasOnly lines (shown memory.new) (array_entries name)) }
     ensures any_moment { (name : List ℕ) → AreBytes name → spelling.now ≡ spelled_all (array_entries name)
         → IsAtRest memory.old → shown memory.old 0 0 ≡ 0
         → StopsLeave memory.old memory.new
         (λ c. StandsFor lines c empty_graph ⊎ StandsFor lines c (null_graph (name ∷ []))) }
+    ensures reopens { (name : List ℕ) → AreBytes name → spelling.now ≡ spelled_all (array_entries name)
+        → IsAtRest memory.old → shown memory.old 0 0 ≡ 0
+        → StopsLeave memory.old memory.new (λ c. IsUnfilled lines c spelling.now) }
     ensures counts { (begin : ℕ) → CountsFrom begin memory.old → CountsFrom begin memory.new }
     ensures calls { CallsGoOn memory.old memory.new }
     ensures cause { HasCause memory.old.faults memory.new.faults result }
@@ -57,12 +61,15 @@ pub fn fill_directory<I: Image>(
     ensures size { memory.new.size ≡ memory.old.size }
     ensures rest { IsAtRest memory.old → OnOk result (IsAtRest memory.new) }
     ensures filled { (name : List ℕ) → AreBytes name → spelling.now ≡ spelled_all (array_entries name)
-        → IsAtRest memory.old → HasOnly memory.old.size (shown memory.old) []
+        → HasOnly memory.old.size (shown memory.old) []
         → OnOk result (HasOnly memory.old.size (shown memory.new) (array_entries name)) }
     ensures any_moment { (name : List ℕ) → AreBytes name → spelling.now ≡ spelled_all (array_entries name)
         → IsAtRest memory.old → HasOnly memory.old.size (shown memory.old) []
         → StopsLeave memory.old memory.new
         (λ c. StandsFor memory.old.size c empty_graph ⊎ StandsFor memory.old.size c (null_graph (name ∷ []))) }
+    ensures reopens { (name : List ℕ) → AreBytes name → spelling.now ≡ spelled_all (array_entries name)
+        → IsAtRest memory.old → HasOnly memory.old.size (shown memory.old) []
+        → StopsLeave memory.old memory.new (λ c. IsUnfilled memory.old.size c spelling.now) }
     ensures counts { (begin : ℕ) → CountsFrom begin memory.old → CountsFrom begin memory.new }
     ensures calls { CallsGoOn memory.old memory.new }
     ensures cause { HasCause memory.old.faults memory.new.faults result }

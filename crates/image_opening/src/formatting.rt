@@ -7,7 +7,7 @@ ghost use Rattle.image_layout.specs.Places.{min_lines, max_lines, root_slots};
 ghost use Rattle.image_meaning.specs.Logs.{NoneLogged};
 ghost use Rattle.image_meaning.specs.Meaning.{root_word, empty_graph, StandsFor};
 ghost use Rattle.image_opening.specs.Rest.{IsAtRest, CallsGoOn, StopsLeave, ChangesOthers};
-ghost use Rattle.image_opening.specs.Form.{HasOnly, IsNoSlot, IsBeforeLogs};
+ghost use Rattle.image_opening.specs.Form.{HasOnly, IsBlankOrEmpty, IsNoSlot, IsBeforeLogs};
 
 use crate::words::{count_spot, put_word, root_spot};
 use ap_base::Spot;
@@ -23,9 +23,11 @@ pub fn format_image<I: Image>(memory: &mut LineMemory<I>, lines: u64) -> Result<
     requires most { lines ≤ max_lines }
     ensures size { memory.new.size ≡ memory.old.size }
     ensures rest { IsAtRest memory.old → OnOk result (IsAtRest memory.new) }
-    ensures formatted { IsAtRest memory.old → OnOk result (HasOnly lines (shown memory.new) []) }
+    ensures formatted { OnOk result (HasOnly lines (shown memory.new) []) }
     ensures any_moment { IsAtRest memory.old → shown memory.old 0 0 ≡ 0
         → StopsLeave memory.old memory.new (λ c. StandsFor lines c empty_graph) }
+    ensures reopens { IsAtRest memory.old → shown memory.old 0 0 ≡ 0
+        → StopsLeave memory.old memory.new (IsBlankOrEmpty lines) }
     ensures counts { (begin : ℕ) → CountsFrom begin memory.old → CountsFrom begin memory.new }
     ensures calls { CallsGoOn memory.old memory.new }
     ensures cause { HasCause memory.old.faults memory.new.faults result }
@@ -39,8 +41,8 @@ pub fn format_image<I: Image>(memory: &mut LineMemory<I>, lines: u64) -> Result<
 fn clear_slots<I: Image>(memory: &mut LineMemory<I>) -> Result<(), ImageFailed>
     requires { min_lines ≤ memory.old.size }
     ensures rest { IsAtRest memory.old → OnOk result (IsAtRest memory.new) }
-    ensures cleared { IsAtRest memory.old → OnOk result ((r : ℕ) → r < root_slots → root_word (shown memory.new) r ≡ 0) }
-    ensures others { IsAtRest memory.old → ChangesOthers IsNoSlot memory.old memory.new }
+    ensures cleared { OnOk result ((r : ℕ) → r < root_slots → root_word (shown memory.new) r ≡ 0) }
+    ensures others { ChangesOthers IsNoSlot memory.old memory.new }
     ensures size { memory.new.size ≡ memory.old.size }
     ensures counts { (begin : ℕ) → CountsFrom begin memory.old → CountsFrom begin memory.new }
     ensures calls { CallsGoOn memory.old memory.new }
@@ -56,8 +58,8 @@ fn clear_slots<I: Image>(memory: &mut LineMemory<I>) -> Result<(), ImageFailed>
 fn clear_logs<I: Image>(memory: &mut LineMemory<I>) -> Result<(), ImageFailed>
     requires { min_lines ≤ memory.old.size }
     ensures rest { IsAtRest memory.old → OnOk result (IsAtRest memory.new) }
-    ensures cleared { IsAtRest memory.old → OnOk result (NoneLogged (shown memory.new)) }
-    ensures others { IsAtRest memory.old → ChangesOthers IsBeforeLogs memory.old memory.new }
+    ensures cleared { OnOk result (NoneLogged (shown memory.new)) }
+    ensures others { ChangesOthers IsBeforeLogs memory.old memory.new }
     ensures size { memory.new.size ≡ memory.old.size }
     ensures counts { (begin : ℕ) → CountsFrom begin memory.old → CountsFrom begin memory.new }
     ensures calls { CallsGoOn memory.old memory.new }
@@ -76,12 +78,14 @@ fn write_superblock<I: Image>(memory: &mut LineMemory<I>, lines: u64) -> Result<
     requires most { lines ≤ max_lines }
     ensures size { memory.new.size ≡ memory.old.size }
     ensures rest { IsAtRest memory.old → OnOk result (IsAtRest memory.new) }
-    ensures formatted { IsAtRest memory.old
-        → ((r : ℕ) → r < root_slots → root_word (shown memory.old) r ≡ 0) → NoneLogged (shown memory.old)
+    ensures formatted { ((r : ℕ) → r < root_slots → root_word (shown memory.old) r ≡ 0) → NoneLogged (shown memory.old)
         → OnOk result (HasOnly lines (shown memory.new) []) }
     ensures any_moment { IsAtRest memory.old → shown memory.old 0 0 ≡ 0
         → ((r : ℕ) → r < root_slots → root_word (shown memory.old) r ≡ 0) → NoneLogged (shown memory.old)
         → StopsLeave memory.old memory.new (λ c. StandsFor lines c empty_graph) }
+    ensures reopens { IsAtRest memory.old → shown memory.old 0 0 ≡ 0
+        → ((r : ℕ) → r < root_slots → root_word (shown memory.old) r ≡ 0) → NoneLogged (shown memory.old)
+        → StopsLeave memory.old memory.new (IsBlankOrEmpty lines) }
     ensures counts { (begin : ℕ) → CountsFrom begin memory.old → CountsFrom begin memory.new }
     ensures calls { CallsGoOn memory.old memory.new }
     ensures cause { HasCause memory.old.faults memory.new.faults result }

@@ -1,6 +1,6 @@
 //! Opens an image for a class set with at most one durable root, which holds an array of ints: a blank one is laid
-//! out, what is missing in its directory is added, so that each stop leaves an image that stands for the same graph,
-//! or for that with the new root as null, and the array to which the root refers is read.
+//! out, what is missing in its directory is added, so that each stop leaves an image that can be opened again and
+//! stands for the same graph, or for that with the new root as null, and the array to which the root refers is read.
 #![tactic(auto)]
 
 mod appending;

@@ -1,5 +1,5 @@
 // An image is opened for a class set: what it holds.
-ghost use Rattle.std.specs.Prelude.{◌≡◌, ◌≤◌, ◌+◌, ℕ, ℤ, List, Option, Some, option_copied, OnOk, IfOk, IfSome, IsErrOf};
+ghost use Rattle.std.specs.Prelude.{◌≡◌, ◌⊎◌, ◌≤◌, ◌+◌, ℕ, ℤ, List, [], Option, Some, None, option_copied, OnOk, IfOk, IfSome, IsErrOf};
 ghost use Rattle.ap_base.specs.Causes.{Rose};
 ghost use Rattle.graph_model.specs.declared.types.Graph.{Graph};
 ghost use Rattle.line_image.specs.History.{Outcome};
@@ -9,8 +9,9 @@ ghost use Rattle.image_layout.specs.Places.{min_lines, max_lines, first_object_l
 ghost use Rattle.image_meaning.specs.Entries.{AreBytes};
 ghost use Rattle.image_meaning.specs.Directories.{spelled_all};
 ghost use Rattle.image_meaning.specs.Meaning.{root_word, StandsFor};
-ghost use Rattle.image_opening.specs.Rest.{IsAtRest, CallsGoOn};
+ghost use Rattle.image_opening.specs.Rest.{IsAtRest, CallsGoOn, StopsLeave};
 ghost use Rattle.image_opening.specs.Wanted.{wanted, HasRoom};
+ghost use Rattle.image_opening.specs.Form.{HasOnly};
 ghost use Rattle.image_opening.specs.Prepared.{IsFilled};
 ghost use Rattle.image_opening.specs.Opened.{IsOfForm, IsFound, IsReady, IsFrom, IsKeptOrFilled};
 ghost use Rattle.image_opening.specs.declared.opening.OpenFault.TheVariants.{OutOfMemory as NoMemory, ImageFailed as Failed};
@@ -83,8 +84,8 @@ impl From<ImageFailed> for OpenFault {
 
 /// Opens an image for a class set with a durable root of this name (`Main.data`), or for one without: a blank image
 /// is laid out, and what is missing in the directory is added, so that the root is null. `NotOfForm` is said only of
-/// an image that isn't of the form that is opened, and that is left as it was; any other fault is one of the image or
-/// of memory.
+/// an image that isn't of the form that is opened; such an image is left as it was, whatever is answered. Any other
+/// fault is one of the image or of memory.
 pub fn open_image<I: Image>(
     alloc: Global,
     memory: &mut LineMemory<I>,
@@ -97,7 +98,11 @@ pub fn open_image<I: Image>(
     ensures form_right { OnOk result (IsOfForm memory.old.size (shown memory.old) root.now) }
     ensures form_wrong { IsErrOf result OpenFault.NotOfForm
         → ¬ IsOfForm memory.old.size (shown memory.old) root.now }
-    ensures untouched { IsErrOf result OpenFault.NotOfForm → memory.new ≡ memory.old }
+    ensures untouched { IsOfForm memory.old.size (shown memory.old) root.now ⊎ (memory.new ≡ memory.old) }
+    // for a class set without a root nothing is added: a blank image is laid out with an empty directory, any other is
+    // left as it was
+    ensures bare { root.now ≡ None → ((shown memory.old 0 0 ≡ 0)
+        × OnOk result (HasOnly memory.old.size (shown memory.new) [])) ⊎ (memory.new ≡ memory.old) }
 
     // what is found, in it before and now
     ensures found { IfOk result (λ opened. (ints : Option (List ℤ))
@@ -111,8 +116,7 @@ pub fn open_image<I: Image>(
     // what it stood for, and stands for now
     ensures entry { IfOk result (λ opened. (graph : Graph) × StandsFor memory.old.size (shown memory.old) graph
         × IsFrom root.now graph opened.graph) }
-    ensures ready { IsAtRest memory.old
-        → IfOk result (λ opened. IsReady memory.new.size (shown memory.new) root.now opened.graph) }
+    ensures ready { IfOk result (λ opened. IsReady memory.new.size (shown memory.new) root.now opened.graph) }
     ensures rest { IsAtRest memory.old → OnOk result (IsAtRest memory.new) }
 
     // stops meanwhile, and afterwards, whatever the answer
@@ -120,6 +124,10 @@ pub fn open_image<I: Image>(
         → Goes memory.old.image memory.new.image (IsKeptOrFilled memory.old.size root.now graph) }
     ensures left { IsAtRest memory.old → (graph : Graph) → StandsFor memory.old.size (shown memory.old) graph
         → (c : Outcome) → CanLeaveAll memory.new c → IsKeptOrFilled memory.old.size root.now graph c }
+
+    // an image of the form can be opened again, wherever it is stopped
+    ensures reopens { IsAtRest memory.old → IsOfForm memory.old.size (shown memory.old) root.now
+        → StopsLeave memory.old memory.new (λ c. IsOfForm memory.old.size c root.now) }
 
     ensures size { memory.new.size ≡ memory.old.size }
     ensures counts { (begin : ℕ) → CountsFrom begin memory.old → CountsFrom begin memory.new }

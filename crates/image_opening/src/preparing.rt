@@ -42,12 +42,19 @@ pub fn prepare_for<I: Image>(
     ensures says { IfOk result (λ found. Says lines (shown memory.old) spelling.now found) }
     ensures rest { IsAtRest memory.old → OnOk result (IsAtRest memory.new) }
     // an image whose root refers to nothing has all that is wanted then, and any other one is left as it was
-    ensures ready { IsAtRest memory.old → IsUnfilled lines (shown memory.old) spelling.now
+    ensures ready { IsUnfilled lines (shown memory.old) spelling.now
         → OnOk result (IsReady lines (shown memory.new) (option_copied root.entry)
         (opening_graph (option_copied root.entry) None)) }
     ensures any_moment { IsAtRest memory.old → (graph : Graph) → StandsFor lines (shown memory.old) graph
         → StopsLeave memory.old memory.new (IsKeptOrFilled lines (option_copied root.entry) graph) }
-    ensures untouched { ¬ IsUnfilled lines (shown memory.old) spelling.now → memory.new ≡ memory.old }
+    // what is missing can be added again, wherever this is stopped
+    ensures reopens { IsAtRest memory.old → IsUnfilled lines (shown memory.old) spelling.now
+        → StopsLeave memory.old memory.new (λ c. IsUnfilled lines c spelling.now) }
+    ensures untouched { IsUnfilled lines (shown memory.old) spelling.now ⊎ (memory.new ≡ memory.old) }
+    // for a class set without a root nothing is added: a blank image is laid out with an empty directory, any other is
+    // left as it was
+    ensures bare { option_copied root.entry ≡ None → ((shown memory.old 0 0 ≡ 0)
+        × OnOk result (HasOnly lines (shown memory.new) [])) ⊎ (memory.new ≡ memory.old) }
     ensures counts { (begin : ℕ) → CountsFrom begin memory.old → CountsFrom begin memory.new }
     ensures calls { CallsGoOn memory.old memory.new }
     ensures cause { HasCause memory.old.faults memory.new.faults result }
@@ -72,11 +79,15 @@ fn prepare_without_root<I: Image>(
     ensures size { memory.new.size ≡ memory.old.size }
     ensures says { IfOk result (λ found. Says lines (shown memory.old) spelling.now found) }
     ensures rest { IsAtRest memory.old → OnOk result (IsAtRest memory.new) }
-    ensures ready { IsAtRest memory.old → IsUnfilled lines (shown memory.old) spelling.now
+    ensures ready { IsUnfilled lines (shown memory.old) spelling.now
         → OnOk result (IsReady lines (shown memory.new) None (opening_graph None None)) }
     ensures any_moment { IsAtRest memory.old → (graph : Graph) → StandsFor lines (shown memory.old) graph
         → StopsLeave memory.old memory.new (IsKeptOrFilled lines None graph) }
-    ensures untouched { ¬ IsUnfilled lines (shown memory.old) spelling.now → memory.new ≡ memory.old }
+    ensures reopens { IsAtRest memory.old → IsUnfilled lines (shown memory.old) spelling.now
+        → StopsLeave memory.old memory.new (λ c. IsUnfilled lines c spelling.now) }
+    ensures untouched { IsUnfilled lines (shown memory.old) spelling.now ⊎ (memory.new ≡ memory.old) }
+    ensures bare { ((shown memory.old 0 0 ≡ 0) × OnOk result (HasOnly lines (shown memory.new) []))
+        ⊎ (memory.new ≡ memory.old) }
     ensures counts { (begin : ℕ) → CountsFrom begin memory.old → CountsFrom begin memory.new }
     ensures calls { CallsGoOn memory.old memory.new }
     ensures cause { HasCause memory.old.faults memory.new.faults result }
@@ -108,12 +119,15 @@ pub fn prepare_image<I: Image>(
     ensures rest { IsAtRest memory.old → OnOk result (IsAtRest memory.new) }
     // an image without roots or with a null one has all that is wanted then
     ensures filled { (name : List ℕ) → AreBytes name → spelling.now ≡ spelled_all (array_entries name)
-        → IsAtRest memory.old → IsUnfilled lines (shown memory.old) spelling.now
+        → IsUnfilled lines (shown memory.old) spelling.now
         → OnOk result (HasOnly lines (shown memory.new) (array_entries name)) }
     ensures any_moment { (name : List ℕ) → AreBytes name → spelling.now ≡ spelled_all (array_entries name)
         → IsAtRest memory.old → (graph : Graph) → StandsFor lines (shown memory.old) graph
         → StopsLeave memory.old memory.new (IsKeptOrFilled lines (Some name) graph) }
-    ensures untouched { ¬ IsUnfilled lines (shown memory.old) spelling.now → memory.new ≡ memory.old }
+    ensures reopens { (name : List ℕ) → AreBytes name → spelling.now ≡ spelled_all (array_entries name)
+        → IsAtRest memory.old → IsUnfilled lines (shown memory.old) spelling.now
+        → StopsLeave memory.old memory.new (λ c. IsUnfilled lines c spelling.now) }
+    ensures untouched { IsUnfilled lines (shown memory.old) spelling.now ⊎ (memory.new ≡ memory.old) }
     ensures counts { (begin : ℕ) → CountsFrom begin memory.old → CountsFrom begin memory.new }
     ensures calls { CallsGoOn memory.old memory.new }
     ensures cause { HasCause memory.old.faults memory.new.faults result }

@@ -98,7 +98,7 @@ world_by_visible known (a ∷ acts) =
     ≡ world_after known.world (cond (not b) (a ∷ visible acts) (visible acts))) [ true ↦ refl | false ↦ refl ]
 
 -- the first numbers are those below their count
-numbers_to-below : (count : ℕ) → All (λ k. k < count) (numbers_to count)
+pub numbers_to-below : (count : ℕ) → All (λ k. k < count) (numbers_to count)
 numbers_to-below zero = All-nil (λ k. k < zero)
 numbers_to-below (suc n) =
     All-push (λ k. k < suc n) (numbers_to n) n (All-weaker (λ k. k < n) (λ k. k < suc n) (λ k below. omega (arith, below)) (numbers_to n) (numbers_to-below n)) (omega arith)

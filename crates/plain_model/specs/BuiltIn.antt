@@ -1,6 +1,6 @@
 -- The built-in classes, by their names' bytes, as docs/MODEL.md lists them: which classes each is a subtype of, and its fields.
 -- Their numbers follow those of the program's classes, of which there are `first`.
-use Rattle.std.specs.Prelude.{ℕ, ◌+◌, Bool, true, false, List, [], ◌∷◌, ◌++◌, map, codes, Option, Some, None, length}
+use Rattle.std.specs.Prelude.{ℕ, ◌+◌, Bool, true, false, List, [], ◌∷◌, map, codes, Option, Some, None}
 use Rattle.ap_base.specs.declared.kind.Kind.{Kind}
 use Rattle.ap_base.specs.declared.kind.Kind.TheVariants.{C, I, L}
 use Rattle.ap_base.specs.declared.kind.Known.{Known as KnownClasses}

@@ -1,5 +1,5 @@
 -- How a run ends: by a fault that its last event meets, by a throwable that ended a thread, or normally.
-use Rattle.std.specs.Prelude.{◌≡◌, ◌≢◌, ◌⊎◌, ℕ, suc, ◌+◌, ◌-◌, ◌/◌, ◌<◌, true, false, nat_eq, List, [], ◌∷◌, length, drop, filter, sum_by, slice_get, Option, Some, None, All, AllPairs, IsSome}
+use Rattle.std.specs.Prelude.{◌≡◌, ◌≢◌, ◌⊎◌, ℕ, suc, ◌+◌, ◌-◌, ◌/◌, ◌<◌, ◌≤◌, max, true, false, nat_eq, nat_le, List, [], ◌∷◌, ◌++◌, length, drop, filter, sum_by, slice_get, Option, Some, None, All, AllPairs, Contains, IsSome}
 use Rattle.ap_base.specs.declared.wait.On.{On}
 use Rattle.ap_base.specs.declared.place.Place.{Place}
 use Rattle.ap_base.specs.declared.kind.Limits.{Limits}
@@ -18,10 +18,12 @@ use Rattle.run_history.specs.Recorded.{Recorded}
 use Rattle.run_history.specs.Worlds.{World, Thread, held, depth_of}
 use Rattle.run_history.specs.Knowing.{Known, Guard, durable_at, guard_of}
 use Rattle.run_history.specs.Wanted.{Wishes}
+use Rattle.natives.specs.declared.requests.Request.TheVariants as ask
 use Rattle.plain_model.specs.Facts.{SetFacts}
 use Rattle.plain_model.specs.Requests.{PlainRequest, from_of}
 use Rattle.plain_model.specs.Steps.{Step, Does, Waits, WrongOperand, IsOver, step}
 use Rattle.plain_model.specs.Codes.{Code}
+use Rattle.plain_model.specs.First.{first_heap}
 use Rattle.plain_model.specs.Runs.{IsAbout, has_guarded, known_of, wants_of, request_after}
 
 pub data Ending : Type 0 where
@@ -125,13 +127,28 @@ FillsMonitors set known request t f =
 abbrev pub IsTaken : Graph → Known → Wishes → ℕ → Type 0
 IsTaken opening known Now n = (length opening.nodes < suc n) × ((has_number known.durable n ≡ true) ⊎ ((u : ℕ) × Now u n))
 
--- The image has too few lines for the objects that became durable or are wanted.
+-- the objects that became durable in the run
+abbrev pub joined_of : Graph → Known → List ℕ
+joined_of opening known = filter (λ n. nat_le (length opening.nodes) n) known.durable
+
+-- The image has too few lines for a further object beside those that have taken theirs: all that became durable in the run, and maybe
+-- some that are wanted.
 pub record FillsImage (opening : Graph) (lines : ℕ) (known : Known) (Now : Wishes) (f : RunFault) : Type 0 where
-  pub objects : List ℕ
-  pub once : AllPairs (λ m n. m ≢ n) objects
-  pub taken : All (IsTaken opening known Now) objects
-  pub too_many : lines < sum_by (lines_of known.world.heap) objects
-  pub names : (need left : ℕ) × UsesUp need left which.ImageLines f
+  pub claimed : List ℕ
+  pub refused : ℕ
+  pub once : AllPairs (λ m n. m ≢ n) (claimed ++ refused ∷ [])
+  pub taken : All (IsTaken opening known Now) (claimed ++ refused ∷ [])
+  pub joined : All (λ n. Contains claimed n) (joined_of opening known)
+  pub used_up : UsesUp (lines_of known.world.heap refused) (lines - sum_by (lines_of known.world.heap) claimed) which.ImageLines f
+
+-- A run never takes more than there is: of volatile memory, beyond what its first objects take, and of the image's lines.
+pub record KeepsMemory (set : SetFacts) (opening : Graph) (limits : Limits) (lines : ℕ) (known : Known) : Type 0 where
+  pub words : words_taken opening known.world.heap ≤ max limits.heap_words (words_taken opening (first_heap set opening))
+  pub image : sum_by (lines_of known.world.heap) (joined_of opening known) ≤ lines
+
+-- the request prints a piece
+abbrev pub Prints : Option PlainRequest → Type 0
+Prints request = (from : _) × (piece : List ℕ) × (request ≡ Some (ask.Print from piece))
 
 -- a throwable ended none of these threads, or the least one that a throwable ended is this, with its class
 abbrev pub first_uncaught : ℕ → List Thread → Ending
@@ -139,11 +156,11 @@ first_uncaught t [] = Finished
 first_uncaught t (thread ∷ threads) = elim thread.uncaught [ None ↦ first_uncaught (suc t) threads | Some class ↦ Uncaught t class ]
 
 module _ (set : SetFacts) (main : ℕ) (opening : Graph) {Frames : Type 0} (code : Code set main opening Frames) (limits : Limits) (lines : ℕ) where
-  -- The event of thread t after these acts ends the run by this fault. A fault of the sink or of the image may come at any event:
-  -- its cause is a count that rose. `lines` are those that the image has for objects, from the first free one on.
+  -- The event of thread t after these acts ends the run by this fault. The sink fails where the thread prints, and the image where it asks
+  -- for anything: the further cause is a count that rose. `lines` are those that the image has for objects, from the first free one on.
   abbrev pub FaultComes : List Recorded → ℕ → RunFault → Type 0
-  FaultComes acts t fault.SinkFault = Unit {0}
-  FaultComes acts t fault.ImageFault = Unit {0}
+  FaultComes acts t fault.SinkFault = Prints (request_after set main opening code acts t)
+  FaultComes acts t fault.ImageFault = IsSome (request_after set main opening code acts t)
   FaultComes acts t f =
       let known = known_of set main opening code acts in let request = request_after set main opening code acts t in
       IsSome request

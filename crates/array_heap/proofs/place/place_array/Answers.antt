@@ -6,24 +6,24 @@ use Rattle.array_heap.proofs.Placing.{placed-shows, placed-durable, placed-leave
 use Rattle.array_heap.proofs.place.place_array.Goals as goal
 
 pub returns-clause-shows : goal.returns-clause-shows
-returns-clause-shows g c lies directory heap heap_shape held room =
+returns-clause-shows g c lies directory heap heap_shape shows room =
     let store = c.store_array.ensures in
     placed-shows lies directory heap c.args.memory.now c.store_array.new.memory c.args.line c.args.shape heap_shape c.args.elements.now
-    held room (omega arith) store.head store.elements store.fit store.lines
+    shows room (omega arith) store.head store.elements store.fit store.lines
     c.write_lines_for_good.new.memory c.write_lines_for_good.ensures.writes
 
 pub returns-clause-any_moment : goal.returns-clause-any_moment
-returns-clause-any_moment g c lies directory heap heap_shape held room =
+returns-clause-any_moment g c lies directory heap heap_shape shows room settled =
     let store = c.store_array.ensures in
     placed-moments lies directory heap c.args.memory.now c.store_array.new.memory c.args.line c.args.shape heap_shape c.args.elements.now
-    held room (omega arith) store.head store.elements store.fit store.lines
+    shows room (omega arith) store.head store.elements store.fit store.lines settled
     c.write_lines_for_good.new.memory c.write_lines_for_good.ensures.writes
 
 pub returns-clause-leaves : goal.returns-clause-leaves
-returns-clause-leaves g c lies directory heap heap_shape held room =
+returns-clause-leaves g c lies directory heap heap_shape shows room settled =
     let store = c.store_array.ensures in
     placed-leaves lies directory heap c.args.memory.now c.store_array.new.memory c.args.line c.args.shape heap_shape c.args.elements.now
-    held room (omega arith) store.head store.elements store.fit store.lines
+    shows room (omega arith) store.head store.elements store.fit store.lines settled
     c.write_lines_for_good.new.memory c.write_lines_for_good.ensures.writes
 
 pub returns-clause-durable : goal.returns-clause-durable
@@ -31,8 +31,8 @@ returns-clause-durable g c =
     let new = c.write_lines_for_good.new.memory in
     let store = c.store_array.ensures in
     on_ok c.write_lines_for_good.result (λ (durable : (l w : ℕ) → c.args.line ≤ l → l < c.args.line + c.lines_of.result → IsDurable new l w)
-    lies directory heap heap_shape held room.
+    lies directory heap heap_shape shows room settled.
     placed-durable lies directory heap c.args.memory.now c.store_array.new.memory c.args.line c.args.shape heap_shape c.args.elements.now
-    held room (omega arith) store.head store.elements store.fit store.lines
+    shows room (omega arith) store.head store.elements store.fit store.lines settled
     new c.write_lines_for_good.ensures.writes
     (λ l w low high. durable l w low (omega (arith, high)))) c.write_lines_for_good.ensures.durable

@@ -1,3 +1,4 @@
+use Rattle.std.proofs.Common.{refl}
 use Rattle.array_history.proofs.Endings.{ends_finished, ends_uncaught, full_array, full_image}
 use Rattle.array_history.proofs.laws.a_run_ends.Goals as goal
 
@@ -11,5 +12,5 @@ pub returns-clause-heap : goal.returns-clause-heap
 returns-clause-heap c program opening acts uncaught state at count make put gs limits lines stands more = full_array stands limits lines more
 
 pub returns-clause-image : goal.returns-clause-image
-returns-clause-image c program opening acts frame uncaught state at k limits lines need left stands lives owes volatile many more =
-    full_image stands lives owes volatile limits lines need left many more
+returns-clause-image c program opening acts frame uncaught state at k limits lines stands lives owes volatile more =
+    full_image stands lives owes volatile limits lines _ _ refl refl more

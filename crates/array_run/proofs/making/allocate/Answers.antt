@@ -10,4 +10,4 @@ returns-then-objects-need-clause-goes g c = λ s make put gs root stands.
 pub returns-clause-goes : goal.returns-clause-goes
 returns-clause-goes g c = λ s make put gs root stands.
     allocated s c.args.count make put (3 + c.from-need.result) gs c.args.run.now.acts.acts c.visible.new.run.acts.acts c.args.objects.now c.args.run.now.memory c.visible.new.run.memory
-    root (ap (λ k. 3 + k) c.from-need.ensures) stands c.visible.ensures.acts c.visible.ensures.memory
+    root (ap (λ k. 3 + k) c.from-need.ensures) c.if-objects-need.false stands c.visible.ensures.acts c.visible.ensures.memory

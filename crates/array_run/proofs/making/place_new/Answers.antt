@@ -2,11 +2,11 @@
 use Rattle.std.proofs.Common.{◌≡◌, ℕ, pos, replicate, ap, ◌∙◌, subst, sym, arith, Err, Result}
 use Rattle.std.proofs.lemmas.Result.{err_from_is_err_and}
 use Rattle.line_image.specs.History.{Outcome}
-use Rattle.line_memory.specs.Memory.{Memory, CanLeaveAll}
+use Rattle.line_memory.specs.Memory.{Memory, shown, IsKnown, CanLeaveAll}
 use Rattle.line_memory.specs.Moments.{Goes}
 use Rattle.image_layout.specs.Places.{lines_of}
-use Rattle.array_heap.specs.Calls.{OnRoom}
-use Rattle.array_heap.specs.Holding.{HoldsHeap, StandsForHeap}
+use Rattle.array_heap.specs.Calls.{IsIn, OnRoom}
+use Rattle.array_heap.specs.Holding.{ShowsHeap, IsSettledFor, IsImageOf}
 use Rattle.line_memory.proofs.Whole.{all_resident}
 use Rattle.array_run.specs.declared.run.RunEnd.{RunEnd}
 use Rattle.array_run.specs.declared.objects.DurableArray.{DurableArray}
@@ -38,21 +38,25 @@ place_zeros-requires-clause-resident g c = λ l from to.
     (omega (arith, to, line, c.if-left-lines.false, c.lines.ensures, c.lines_of-lines.ensures, c.allocate.ensures.free, c.requires.range.high))
 
 -- what `place_zeros` says of so many zeros, by another name of their number
-any_moment : (old new : Memory) (line n k : ℕ) → n ≡ k
-    → OnRoom old line 0 (replicate n (pos 0)) (λ R directory heap after. Goes old.image new.image (StandsForHeap old.size heap))
-    → OnRoom old line 0 (replicate k (pos 0)) (λ R directory heap after. Goes old.image new.image (StandsForHeap old.size heap))
-any_moment old new line n k same = subst (λ i. OnRoom old line 0 (replicate i (pos 0)) (λ R directory heap after. Goes old.image new.image (StandsForHeap old.size heap))) same
+renamed : (P : ℕ → Type 0) (n k : ℕ) → n ≡ k → P n → P k
+renamed P n k same = subst P same
 
-leaves : (old new : Memory) (line n k : ℕ) → n ≡ k
-    → OnRoom old line 0 (replicate n (pos 0)) (λ R directory heap after. (c : Outcome) → CanLeaveAll new c → StandsForHeap old.size heap c)
-    → OnRoom old line 0 (replicate k (pos 0)) (λ R directory heap after. (c : Outcome) → CanLeaveAll new c → StandsForHeap old.size heap c)
-leaves old new line n k same =
-    subst (λ i. OnRoom old line 0 (replicate i (pos 0)) (λ R directory heap after. (c : Outcome) → CanLeaveAll new c → StandsForHeap old.size heap c)) same
+abbrev AnyMoment : Memory → Memory → ℕ → ℕ → Type 0
+AnyMoment old new line n = OnRoom old line 0 (replicate n (pos 0)) (λ before R directory heap after. IsSettledFor before heap old
+    → Goes old.image new.image (IsImageOf before directory old.size (shown old) heap))
 
-durable : (old new : Memory) (line n k : ℕ) → n ≡ k
-    → OnRoom old line 0 (replicate n (pos 0)) (λ R directory heap after. HoldsHeap R directory after new)
-    → OnRoom old line 0 (replicate k (pos 0)) (λ R directory heap after. HoldsHeap R directory after new)
-durable old new line n k same = subst (λ i. OnRoom old line 0 (replicate i (pos 0)) (λ R directory heap after. HoldsHeap R directory after new)) same
+abbrev Leaves : Memory → Memory → ℕ → ℕ → Type 0
+Leaves old new line n = OnRoom old line 0 (replicate n (pos 0)) (λ before R directory heap after. IsSettledFor before heap old
+    → (c : Outcome) → CanLeaveAll new c → IsImageOf before directory old.size (shown old) heap c)
+
+abbrev Shows : Memory → Memory → ℕ → ℕ → Type 0
+Shows old new line n = OnRoom old line 0 (replicate n (pos 0)) (λ before R directory heap after. ShowsHeap R directory after new)
+
+abbrev Settles : Memory → Memory → ℕ → ℕ → Type 0
+Settles old new line n = OnRoom old line 0 (replicate n (pos 0)) (λ before R directory heap after. IsSettledFor before heap old → IsSettledFor R after new)
+
+abbrev Others : Memory → Memory → ℕ → ℕ → Type 0
+Others old new line n = (l w : ℕ) → IsKnown old l → ¬ IsIn line (lines_of n) l → shown new l w ≡ shown old l w
 
 pub returns-in_err-place_zeros-clause-goes : goal.returns-in_err-place_zeros-clause-goes
 returns-in_err-place_zeros-clause-goes g c = λ s make put gs root stands.
@@ -70,8 +74,8 @@ returns-in_err-place_zeros-clause-goes g c = λ s make put gs root stands.
     (omega (arith, line, c.requires.range.low))
     (omega (arith, line, count, c.if-left-lines.false, c.lines.ensures, c.lines_of-lines.ensures, c.allocate.ensures.free, c.requires.range.high))
     c.place_zeros.ensures.size_after c.place_zeros.ensures.counts (c.place_zeros.ensures.later (omega (arith, calls, c.visible.ensures.fits)))
-    (any_moment old new array.line c.args.count array.length (sym count) c.place_zeros.ensures.any_moment)
-    (leaves old new array.line c.args.count array.length (sym count) c.place_zeros.ensures.leaves))
+    (renamed (AnyMoment old new array.line) c.args.count array.length (sym count) c.place_zeros.ensures.any_moment)
+    (renamed (Leaves old new array.line) c.args.count array.length (sym count) c.place_zeros.ensures.leaves))
 
 pub returns-clause-goes : goal.returns-clause-goes
 returns-clause-goes g c = λ s make put gs root stands.
@@ -87,10 +91,12 @@ returns-clause-goes g c = λ s make put gs root stands.
     (omega (arith, line, c.requires.range.low))
     (omega (arith, line, count, c.if-left-lines.false, c.lines.ensures, c.lines_of-lines.ensures, c.allocate.ensures.free, c.requires.range.high))
     c.place_zeros.ensures.size_after c.place_zeros.ensures.counts (c.place_zeros.ensures.later (omega (arith, calls, c.visible.ensures.fits)))
-    (any_moment old new array.line c.args.count array.length (sym count) c.place_zeros.ensures.any_moment)
-    (leaves old new array.line c.args.count array.length (sym count) c.place_zeros.ensures.leaves)
+    (renamed (AnyMoment old new array.line) c.args.count array.length (sym count) c.place_zeros.ensures.any_moment)
+    (renamed (Leaves old new array.line) c.args.count array.length (sym count) c.place_zeros.ensures.leaves)
     c.joins.new.run.acts.acts c.joins.new.run.memory c.lines_of-lines.result
-    (durable old new array.line c.args.count array.length (sym count) c.in_ok-place_zeros.ensures.durable)
+    (renamed (Shows old new array.line) c.args.count array.length (sym count) c.place_zeros.ensures.shows)
+    (renamed (Settles old new array.line) c.args.count array.length (sym count) c.in_ok-place_zeros.ensures.durable)
+    (renamed (Others old new array.line) c.args.count array.length (sym count) c.place_zeros.ensures.others)
     c.joins.ensures.acts c.joins.ensures.memory (c.lines_of-lines.ensures.lines ∙ ap lines_of (sym count))
 
 pub returns-then-left-lines-clause-told : goal.returns-then-left-lines-clause-told

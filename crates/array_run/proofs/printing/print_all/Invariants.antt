@@ -1,5 +1,6 @@
 -- What is left of the piece is still to be printed.
-use Rattle.std.proofs.Common.{◌≡◌, ◌+◌, ◌≤◌, [], List, length}
+use Rattle.std.proofs.Common.{◌≡◌, ◌+◌, ◌<◌, ◌≤◌, [], List, length}
+use Rattle.std.specs.Prelude.{IfSome}
 use Rattle.graph_model.specs.declared.types.Value.TheVariants.{Obj as Object}
 use Rattle.array_program.specs.declared.program.Group.{Group}
 use Rattle.array_program.specs.Running.{Printing, print_rest}
@@ -15,6 +16,7 @@ invariant-loop-left g l = record {
   goes : (s : Setting) (objects : Objects) (gs : List Group)
       → Stands s (Printing (Object (stream_of s.opening)) l.fn.piece gs) Nothing l.fn.run.acts.acts objects l.fn.run.memory
       → Stands s (print_rest (Object (stream_of s.opening)) (text_left l.left) gs) Nothing l.run.acts.acts objects l.run.memory;
+  some : IfSome l.left (λ text. 0 < length text);
   unnamed : l.run.acts.named ≡ [];
   limit : l.run.acts.limit ≡ l.fn.run.acts.limit;
   few : length l.run.acts.acts + length (text_left l.left) ≤ length l.fn.run.acts.acts + length l.fn.piece;

@@ -11,17 +11,34 @@ use Rattle.array_run.specs.declared.run.RunEnd.TheVariants.{ImageFailed as NoIma
 use Rattle.array_run.specs.Going.{Stands, Stopped, AreInRange}
 use Rattle.array_run.specs.Opening.{IsOpened}
 use Rattle.array_run.proofs.Tellings.{tells_on, tells-keeps}
+use Rattle.array_run.proofs.Goings.{keeps}
 use Rattle.array_run.proofs.Starting.{setting, stands_opened}
-use Rattle.array_run.proofs.Ran.{first_in_range, root_named, before_group, thread_ended, finished, ends_with, rose_from, safe_without_acts, tells_from_none, some_still, not_none, is_err_same}
+use Rattle.array_run.proofs.Ran.{first_in_range, root_named, before_group, thread_ended, finished, ends_with, rose_from, safe_without_acts, keeps_without_acts, made_without_acts, tells_from_none, some_still, not_none, is_err_same}
 use Rattle.array_run.proofs.run.run_program.Goals as goal
 
 pub returns-in_err-objects-clause-safe : goal.returns-in_err-objects-clause-safe
-returns-in_err-objects-clause-safe g c = λ begin is counts.
-    safe_without_acts c.args.program.now c.args.opened.now c.args.run.now.memory c.args.run.now.acts.acts c.requires.empty is begin counts
+returns-in_err-objects-clause-safe g c = λ begin is rest counts.
+    safe_without_acts c.args.program.now c.args.opened.now c.args.run.now.memory c.args.run.now.acts.acts c.requires.empty is rest begin counts
+
+pub returns-in_err-objects-clause-within : goal.returns-in_err-objects-clause-within
+returns-in_err-objects-clause-within g c = λ is.
+    keeps_without_acts c.args.program.now c.args.opened.now c.args.run.now.memory c.args.run.now.acts.acts c.requires.empty is
+
+pub returns-in_err-objects-clause-made : goal.returns-in_err-objects-clause-made
+returns-in_err-objects-clause-made g c = λ is.
+    made_without_acts c.args.run.now.acts.acts c.args.run.now.memory.calls c.args.run.now.memory.calls c.requires.empty
+
+pub returns-in_err-reserve-clause-within : goal.returns-in_err-reserve-clause-within
+returns-in_err-reserve-clause-within g c = λ is.
+    keeps_without_acts c.args.program.now c.args.opened.now c.args.run.now.memory c.reserve.new.acts.acts c.reserve.ensures.empty_after is
+
+pub returns-in_err-reserve-clause-made : goal.returns-in_err-reserve-clause-made
+returns-in_err-reserve-clause-made g c = λ is.
+    made_without_acts c.reserve.new.acts.acts c.args.run.now.memory.calls c.args.run.now.memory.calls c.reserve.ensures.empty_after
 
 pub returns-in_err-reserve-clause-safe : goal.returns-in_err-reserve-clause-safe
-returns-in_err-reserve-clause-safe g c = λ begin is counts.
-    safe_without_acts c.args.program.now c.args.opened.now c.args.run.now.memory c.reserve.new.acts.acts c.reserve.ensures.empty_after is begin counts
+returns-in_err-reserve-clause-safe g c = λ begin is rest counts.
+    safe_without_acts c.args.program.now c.args.opened.now c.args.run.now.memory c.reserve.new.acts.acts c.reserve.ensures.empty_after is rest begin counts
 
 pub loop-group-init : goal.loop-group-init
 loop-group-init g c =
@@ -36,7 +53,7 @@ loop-group-init g c =
           (c.begin.ensures.stands s c.in_ok-objects.objects
           (subst (λ (acts : List Recorded). Stands s Beginning Nothing acts c.in_ok-objects.objects c.args.run.now.memory) (sym none)
           (stands_opened c.args.program.now c.args.opened.now c.args.run.now.memory is c.in_ok-objects.objects
-          record { stream = e.stream; next = e.next; words = e.words; free = e.free; array = e.array })));
+          record { stream = e.stream; next = e.next; words = e.words; free = e.free; array = e.array } c.requires.free.1)));
       unnamed = spent.unnamed;
       fits = let zero_is = ap (length {A = Recorded}) none in omega (arith, zero_is, room.fits, spent.few, spent.limit);
       nameable = omega (arith, room.nameable, spent.nameable);
@@ -94,7 +111,16 @@ returns-in_err-run_group-clause-ends g c = λ is.
     (answered g c) (stopped g c is)
 
 pub returns-in_err-run_group-clause-safe : goal.returns-in_err-run_group-clause-safe
-returns-in_err-run_group-clause-safe g c = λ begin is counts. (stopped g c is).safe begin counts
+returns-in_err-run_group-clause-safe g c = λ begin is rest counts. (stopped g c is).safe rest begin counts
+
+pub returns-in_err-run_group-clause-within : goal.returns-in_err-run_group-clause-within
+returns-in_err-run_group-clause-within g c = λ is. (stopped g c is).within
+
+pub returns-in_err-run_group-clause-made : goal.returns-in_err-run_group-clause-made
+returns-in_err-run_group-clause-made g c = λ is. (stopped g c is).timed.made
+
+pub returns-in_err-run_group-clause-counts : goal.returns-in_err-run_group-clause-counts
+returns-in_err-run_group-clause-counts g c = λ begin is from. (stopped g c is).timed.counts begin from
 
 pub returns-in_err-run_group-clause-kept : goal.returns-in_err-run_group-clause-kept
 returns-in_err-run_group-clause-kept g c =
@@ -172,7 +198,18 @@ returns-clause-ends g c = λ is.
     finished (setting c.args.program.now c.args.opened.now.graph c.args.run.now.memory c.args.opened.now.free) c.visible.new.run.acts.acts c.loop-group.objects c.visible.new.run.memory (left g c is)
 
 pub returns-clause-safe : goal.returns-clause-safe
-returns-clause-safe g c = λ begin is counts. (left g c is).safe begin counts
+returns-clause-safe g c = λ begin is rest counts. (left g c is).safe rest begin counts
+
+pub returns-clause-within : goal.returns-clause-within
+returns-clause-within g c = λ is.
+    keeps (setting c.args.program.now c.args.opened.now.graph c.args.run.now.memory c.args.opened.now.free) Left Nothing c.visible.new.run.acts.acts
+    c.loop-group.objects c.visible.new.run.memory (left g c is)
+
+pub returns-clause-made : goal.returns-clause-made
+returns-clause-made g c = λ is. (left g c is).timed.made
+
+pub returns-clause-counts : goal.returns-clause-counts
+returns-clause-counts g c = λ begin is from. (left g c is).timed.counts begin from
 
 pub returns-clause-kept : goal.returns-clause-kept
 returns-clause-kept g c =

@@ -9,7 +9,7 @@ use Rattle.line_memory.specs.Memory.{Memory, IsDurable}
 use Rattle.line_memory.proofs.Whole.{all_resident}
 use Rattle.image_layout.specs.Places.{object_line, object_word}
 use Rattle.array_heap.specs.Calls.{OnElement}
-use Rattle.array_heap.specs.Holding.{TurnedInto}
+use Rattle.array_heap.specs.Holding.{ShowsHeap, IsSettledFor, TurnedInto}
 use Rattle.run_history.specs.declared.act.Op.TheVariants as op
 use Rattle.array_program.specs.Running.{Before}
 use Rattle.array_history.specs.Standing.{Nothing, with_op}
@@ -38,12 +38,14 @@ returns-clause-goes g c = λ s store gs objects root is stands.
     c.args.run.now.memory c.visible.new.run.memory c.store_element.new.memory root is c.requires.within c.ranges.number stands c.visible.ensures.fits
     first c.visible.ensures.memory
     (subst (λ z. OnElement c.visible.new.run.memory c.args.array.line c.args.index z (λ R directory heap after.
-    TurnedInto R directory heap after (object_line c.args.array.line c.args.index) (object_word c.args.index) c.store_element.new.memory)) same c.store_element.ensures.turned)
-    c.store_element.ensures.same c.store_element.ensures.size_after
-    c.visible-2.new.run.acts.acts c.make_durable.new.memory c.visible-2.new.run.memory c.make_durable.ensures.writes
+    ShowsHeap R directory after c.store_element.new.memory)) same c.store_element.ensures.shows)
+    (subst (λ z. OnElement c.visible.new.run.memory c.args.array.line c.args.index z (λ R directory heap after. IsSettledFor R heap c.visible.new.run.memory
+    → TurnedInto R directory heap after (object_line c.args.array.line c.args.index) (object_word c.args.index) c.store_element.new.memory)) same c.store_element.ensures.turned)
+    c.store_element.ensures.others c.store_element.ensures.same c.store_element.ensures.size_after
+    c.further.new.run.acts.acts c.make_durable.new.memory c.further.new.run.memory c.make_durable.ensures.writes
     (let line = rw c.unwrap-spot.ensures at c.object_slot.ensures.line in
     subst (λ l. IsDurable c.make_durable.new.memory l (object_word c.args.index)) line (c.in_ok-make_durable.ensures.durable (object_word c.args.index)))
-    c.visible-2.ensures.acts c.visible-2.ensures.memory
+    c.further.ensures.acts c.further.ensures.memory
 
 pub returns-in_err-make_durable-clause-goes : goal.returns-in_err-make_durable-clause-goes
 returns-in_err-make_durable-clause-goes g c = λ s store gs objects root is stands.
@@ -56,9 +58,11 @@ returns-in_err-make_durable-clause-goes g c = λ s store gs objects root is stan
     c.args.run.now.memory c.visible.new.run.memory c.store_element.new.memory root is c.requires.within c.ranges.number stands c.visible.ensures.fits
     first c.visible.ensures.memory
     (subst (λ z. OnElement c.visible.new.run.memory c.args.array.line c.args.index z (λ R directory heap after.
-    TurnedInto R directory heap after (object_line c.args.array.line c.args.index) (object_word c.args.index) c.store_element.new.memory)) same c.store_element.ensures.turned)
-    c.store_element.ensures.same c.store_element.ensures.size_after
+    ShowsHeap R directory after c.store_element.new.memory)) same c.store_element.ensures.shows)
+    (subst (λ z. OnElement c.visible.new.run.memory c.args.array.line c.args.index z (λ R directory heap after. IsSettledFor R heap c.visible.new.run.memory
+    → TurnedInto R directory heap after (object_line c.args.array.line c.args.index) (object_word c.args.index) c.store_element.new.memory)) same c.store_element.ensures.turned)
+    c.store_element.ensures.others c.store_element.ensures.same c.store_element.ensures.size_after
     c.make_durable.new.memory c.make_durable.ensures.writes)
 
 pub returns-clause-told : goal.returns-clause-told
-returns-clause-told g c = tells_on c.visible.ensures.told c.visible-2.ensures.told
+returns-clause-told g c = tells_on c.visible.ensures.told c.further.ensures.told

@@ -14,32 +14,32 @@ use Rattle.array_run.proofs.storing.set_root_to.Goals as goal
 
 pub store_root-requires : goal.store_root-requires
 store_root-requires g c =
-    let same = ap (λ (k : Memory). k.size) c.visible.ensures.memory in
-    all_resident c.visible.new.run.memory 1 (omega (arith, same, c.requires.range.enough))
+    let same = ap (λ (k : Memory). k.size) c.further.ensures.memory in
+    all_resident c.further.new.run.memory 1 (omega (arith, same, c.requires.range.enough))
 
 pub make_durable-requires-clause-resident : goal.make_durable-requires-clause-resident
 make_durable-requires-clause-resident g c =
-    let same = ap (λ (k : Memory). k.size) c.visible.ensures.memory in
+    let same = ap (λ (k : Memory). k.size) c.further.ensures.memory in
     all_resident c.store_root.new.memory 1 (omega (arith, same, c.requires.range.enough))
 
 pub returns-clause-goes : goal.returns-clause-goes
 returns-clause-goes g c = λ s put gs root placed.
-    root_fenced s c.args.run.now.acts.acts c.visible.new.run.acts.acts c.args.objects.now c.args.array put gs
-    c.args.run.now.memory c.visible.new.run.memory c.store_root.new.memory root placed c.visible.ensures.fits
-    c.visible.ensures.acts c.visible.ensures.memory c.store_root.ensures.turned c.store_root.ensures.same c.store_root.ensures.size
-    c.visible-2.new.run.acts.acts c.make_durable.new.memory c.visible-2.new.run.memory c.make_durable.ensures.writes
+    root_fenced s c.args.run.now.acts.acts c.further.new.run.acts.acts c.args.objects.now c.args.array put gs
+    c.args.run.now.memory c.further.new.run.memory c.store_root.new.memory root placed c.further.ensures.fits
+    c.further.ensures.acts c.further.ensures.memory c.store_root.ensures.shows c.store_root.ensures.turned c.store_root.ensures.others c.store_root.ensures.same c.store_root.ensures.size
+    c.further-2.new.run.acts.acts c.make_durable.new.memory c.further-2.new.run.memory c.make_durable.ensures.writes
     (c.in_ok-make_durable.ensures.durable (slot_word 0))
-    c.visible-2.ensures.acts c.visible-2.ensures.memory
+    c.further-2.ensures.acts c.further-2.ensures.memory
 
 pub returns-in_err-make_durable-clause-goes : goal.returns-in_err-make_durable-clause-goes
 returns-in_err-make_durable-clause-goes g c = λ s put gs root placed.
     let p = err_from_is_err_and c.from_residual.result c.from_residual.ensures.1 in
-    goes_err s (Before gs) Nothing c.visible.new.run.acts.acts c.args.objects.now c.make_durable.new.memory c.from_residual.result end.ImageFailed
+    goes_err s (Before gs) Nothing c.further.new.run.acts.acts c.args.objects.now c.make_durable.new.memory c.from_residual.result end.ImageFailed
     (p.1 ∙ ap Err p.2)
-    (root_stopped s c.args.run.now.acts.acts c.visible.new.run.acts.acts c.args.objects.now c.args.array put gs
-    c.args.run.now.memory c.visible.new.run.memory c.store_root.new.memory root placed c.visible.ensures.fits
-    c.visible.ensures.acts c.visible.ensures.memory c.store_root.ensures.turned c.store_root.ensures.same c.store_root.ensures.size
+    (root_stopped s c.args.run.now.acts.acts c.further.new.run.acts.acts c.args.objects.now c.args.array put gs
+    c.args.run.now.memory c.further.new.run.memory c.store_root.new.memory root placed c.further.ensures.fits
+    c.further.ensures.acts c.further.ensures.memory c.store_root.ensures.shows c.store_root.ensures.turned c.store_root.ensures.others c.store_root.ensures.same c.store_root.ensures.size
     c.make_durable.new.memory c.make_durable.ensures.writes)
 
 pub returns-clause-told : goal.returns-clause-told
-returns-clause-told g c = tells_on c.visible.ensures.told c.visible-2.ensures.told
+returns-clause-told g c = tells_on c.further.ensures.told c.further-2.ensures.told

@@ -5,8 +5,8 @@ use Rattle.ap_base.specs.Sources as given
 use Rattle.autopersist.specs.declared.status.Status.{Status}
 use Rattle.autopersist.specs.declared.status.Status.TheVariants as status
 use Rattle.autopersist.specs.Files.{class_of}
-use Rattle.autopersist.specs.Reading.{HasRead, ComesTo, IsFree}
-use Rattle.autopersist.proofs.SourceFiles.{goes_on, ends, refuses, passes}
+use Rattle.autopersist.specs.Reading.{FilesComeTo, IsFree}
+use Rattle.autopersist.proofs.SourceFiles.{HasRead, goes_on, ends, refuses, passes, whole}
 use Rattle.autopersist.proofs.files.read_files.Goals as goal
 
 pub returns-in_default-clause-seen : goal.returns-in_default-clause-seen
@@ -17,6 +17,16 @@ returns-in_default-clause-seen g c =
 pub returns-in-None-clause-seen : goal.returns-in-None-clause-seen
 returns-in-None-clause-seen g c =
     ends _ (g.C.ClassSource.left c.loop.source) (g.C.ClassSource.left c.next_file-2.new.source) (4096 - c.loop.counter) c.loop.before c.loop.invariant.read
+    (subst (λ f. given.Gives (g.C.ClassSource.left c.loop.source) f (g.C.ClassSource.left c.next_file-2.new.source)) c.in-None.is c.in_ok-next_file.ensures.file)
+
+pub returns-in_default-clause-whole : goal.returns-in_default-clause-whole
+returns-in_default-clause-whole g c =
+    whole _ (g.C.ClassSource.left c.loop.source) (g.C.ClassSource.left c.next_file.new.source) (4096 - c.loop.counter) c.loop.before c.loop.invariant.read
+    (subst (λ f. given.Gives (g.C.ClassSource.left c.loop.source) f (g.C.ClassSource.left c.next_file.new.source)) c.in_default.is c.in_ok-file.ensures.file)
+
+pub returns-in-None-clause-whole : goal.returns-in-None-clause-whole
+returns-in-None-clause-whole g c =
+    whole _ (g.C.ClassSource.left c.loop.source) (g.C.ClassSource.left c.next_file-2.new.source) (4096 - c.loop.counter) c.loop.before c.loop.invariant.read
     (subst (λ f. given.Gives (g.C.ClassSource.left c.loop.source) f (g.C.ClassSource.left c.next_file-2.new.source)) c.in-None.is c.in_ok-next_file.ensures.file)
 
 pub returns-in-Some-2-clause-refused : goal.returns-in-Some-2-clause-refused
@@ -30,9 +40,10 @@ pub loop-preserved : goal.loop-preserved
 loop-preserved g c =
     let more : 4096 - c.loop.counter ≡ suc (4096 - (c.loop.counter + 1)) = omega arith in
     record {
-      read = rw c.with_class-before.ensures (goes_on (g.C.ClassSource.left c.args.source.now) (g.C.ClassSource.left c.loop.source) (g.C.ClassSource.left c.next_file.new.source) (4096 - (c.loop.counter + 1)) c.loop.before c.in-Some.file c.in_ok-class.class
+      read = goes_on (g.C.ClassSource.left c.args.source.now) (g.C.ClassSource.left c.loop.source) (g.C.ClassSource.left c.next_file.new.source) (4096 - (c.loop.counter + 1)) c.loop.before c.with_class-before.result c.in-Some.file c.in_ok-class.class
           (subst (λ n. HasRead (g.C.ClassSource.left c.args.source.now) (g.C.ClassSource.left c.loop.source) n c.loop.before) more c.loop.invariant.read)
-          (subst (λ f. given.Gives (g.C.ClassSource.left c.loop.source) f (g.C.ClassSource.left c.next_file.new.source)) c.in-Some.is c.in_ok-file.ensures.file) c.in_ok-class.ensures.class);
+          (subst (λ f. given.Gives (g.C.ClassSource.left c.loop.source) f (g.C.ClassSource.left c.next_file.new.source)) c.in-Some.is c.in_ok-file.ensures.file) c.in_ok-class.ensures.class
+          (λ files seen. c.with_class-before.ensures files c.in-Some.file seen c.in_ok-class.ensures.class);
       later = omega (arith, c.loop.invariant.later, c.next_file.ensures.later);
     }
 
@@ -50,7 +61,7 @@ returns-in_err-class-clause-refused g c =
     let more : 4096 - c.loop.counter ≡ suc (4096 - (c.loop.counter + 1)) = omega arith in
     let has = subst (λ n. HasRead first left n c.loop.before) more c.loop.invariant.read in
     let gives = subst (λ f. given.Gives left f after) c.in-Some.is c.in_ok-file.ensures.file in
-    rw (p.1, p.2) (of_class (λ s. ComesTo first (Err s)) c.in_err-class.field-0.0 c.in-Some.file c.in_err-class.ensures.class
+    rw (p.1, p.2) (of_class (λ s. FilesComeTo first (Err s)) c.in_err-class.field-0.0 c.in-Some.file c.in_err-class.ensures.class
     (refuses first left after (4096 - (c.loop.counter + 1)) c.loop.before c.in-Some.file c.in_err-class.field-0.0 has gives))
 
 pub returns-in_err-class-clause-cause : goal.returns-in_err-class-clause-cause

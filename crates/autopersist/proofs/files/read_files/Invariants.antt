@@ -1,6 +1,6 @@
 -- The files so far were read, and as many may follow.
 use Rattle.std.proofs.Common.{◌≤◌, ◌-◌}
-use Rattle.autopersist.specs.Reading.{HasRead}
+use Rattle.autopersist.proofs.SourceFiles.{HasRead}
 use Rattle.autopersist.proofs.files.read_files.Given as goal
 
 abbrev pub invariant-loop : goal.invariant-loop

@@ -1,8 +1,8 @@
-use Rattle.std.proofs.Common.{◌≡◌, inr, map, sym, List, [], String, ℕ, Global, subst}
+use Rattle.std.proofs.Common.{inr, map, sym, List, [], String, Global, subst}
 use Rattle.std.specs.String.{string_bytes}
 use Rattle.run_history.specs.Recorded.{History}
-use Rattle.autopersist.specs.Images.{Entry, IsKept}
-use Rattle.autopersist.specs.TopCall.{IsAsked, IsCauseOf, OfProgram}
+use Rattle.autopersist.specs.Images.{Entry}
+use Rattle.autopersist.specs.TopCall.{IsAsked, IsCauseOf}
 use Rattle.autopersist.proofs.Causes.{cause_of_run, refused_by_words, runs_by_words}
 use Rattle.autopersist.proofs.top_call.autopersist.Goals as goal
 
@@ -11,6 +11,13 @@ returns-in-Ok-clause-stops g c = λ settled. inr (record {
   program = c.in-Ok.chosen.program;
   is_asked = subst (λ (words : List (String Global)). IsAsked (map string_bytes words) (g.C.ClassSource.left c.args.source) c.in-Ok.chosen.program) c.as_slice.ensures.value c.in-Ok.ensures.found;
   holds = c.run_over_image-ran.ensures.kept settled;
+})
+
+pub returns-in-Ok-clause-untouched : goal.returns-in-Ok-clause-untouched
+returns-in-Ok-clause-untouched g c = inr (record {
+  program = c.in-Ok.chosen.program;
+  is_asked = subst (λ (words : List (String Global)). IsAsked (map string_bytes words) (g.C.ClassSource.left c.args.source) c.in-Ok.chosen.program) c.as_slice.ensures.value c.in-Ok.ensures.found;
+  holds = c.run_over_image-ran.ensures.untouched;
 })
 
 pub returns-in-Ok-clause-cause : goal.returns-in-Ok-clause-cause

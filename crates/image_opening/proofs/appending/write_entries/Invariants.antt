@@ -11,9 +11,9 @@ abbrev pub invariant-loop-i : goal.invariant-loop-i
 invariant-loop-i g l = record {
   size : l.memory.size ≡ l.fn.memory.size;
   rest : IsAtRest l.fn.memory → IsAtRest l.memory;
-  written : IsAtRest l.fn.memory → (k : ℕ) → k < l.i
+  written : (k : ℕ) → k < l.i
       → shown l.memory (directory_line (l.used + k)) (directory_word (l.used + k)) ≡ slice_index_or l.spelling k 0;
-  others : IsAtRest l.fn.memory → ChangesOthers (IsOutsideFree l.used) l.fn.memory l.memory;
+  others : ChangesOthers (IsOutsideFree l.used) l.fn.memory l.memory;
   counts : (begin : ℕ) → CountsFrom begin l.fn.memory → CountsFrom begin l.memory;
   calls : CallsGoOn l.fn.memory l.memory;
   later : l.fn.memory.faults ≤ l.memory.faults;

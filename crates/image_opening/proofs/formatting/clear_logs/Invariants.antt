@@ -11,8 +11,8 @@ abbrev pub invariant-loop-thread : goal.invariant-loop-thread
 invariant-loop-thread g l = record {
   size : l.memory.size ≡ l.fn.memory.size;
   rest : IsAtRest l.fn.memory → IsAtRest l.memory;
-  cleared : IsAtRest l.fn.memory → (t : ℕ) → t < l.thread → log_count (shown l.memory) t ≡ 0;
-  others : IsAtRest l.fn.memory → ChangesOthers IsBeforeLogs l.fn.memory l.memory;
+  cleared : (t : ℕ) → t < l.thread → log_count (shown l.memory) t ≡ 0;
+  others : ChangesOthers IsBeforeLogs l.fn.memory l.memory;
   counts : (begin : ℕ) → CountsFrom begin l.fn.memory → CountsFrom begin l.memory;
   calls : CallsGoOn l.fn.memory l.memory;
   later : l.fn.memory.faults ≤ l.memory.faults;

@@ -11,8 +11,8 @@ abbrev pub invariant-loop-root : goal.invariant-loop-root
 invariant-loop-root g l = record {
   size : l.memory.size ≡ l.fn.memory.size;
   rest : IsAtRest l.fn.memory → IsAtRest l.memory;
-  cleared : IsAtRest l.fn.memory → (r : ℕ) → r < l.root → root_word (shown l.memory) r ≡ 0;
-  others : IsAtRest l.fn.memory → ChangesOthers IsNoSlot l.fn.memory l.memory;
+  cleared : (r : ℕ) → r < l.root → root_word (shown l.memory) r ≡ 0;
+  others : ChangesOthers IsNoSlot l.fn.memory l.memory;
   counts : (begin : ℕ) → CountsFrom begin l.fn.memory → CountsFrom begin l.memory;
   calls : CallsGoOn l.fn.memory l.memory;
   later : l.fn.memory.faults ≤ l.memory.faults;

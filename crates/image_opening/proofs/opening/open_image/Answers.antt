@@ -10,8 +10,9 @@ use Rattle.image_opening.specs.Rest.{StopsLeave}
 use Rattle.image_opening.specs.Prepared.{IsUnfilled, Says}
 use Rattle.image_opening.specs.Opened.{opening_graph, WasFound, IsReady, IsFrom, IsKeptOrFilled}
 use Rattle.image_opening.specs.Wanted.{wanted}
+use Rattle.image_opening.proofs.Forms.{form_stays}
 use Rattle.image_opening.proofs.Unfilled.{kept_stops}
-use Rattle.image_opening.proofs.Openings.{filled_only, found_form, opened_form, was_none, unfilled_entry, found_unfilled, along, refers_found, refers_entry}
+use Rattle.image_opening.proofs.Openings.{filled_left, found_form, opened_form, was_none, unfilled_entry, found_unfilled, along, refers_found, refers_entry, form_or_left, form_reopens}
 use Rattle.image_opening.proofs.opening.open_image.Goals as goal
 
 pub returns-in_err-words-clause-left : goal.returns-in_err-words-clause-left
@@ -134,8 +135,8 @@ returns-in-Refers-clause-found g c =
     let named = option_copied c.root_bytes-name.result in
     let says : Says c.lines-lines.result (shown old) c.as_slice.result.now (Refers c.in-Refers.word) =
     rw c.in-Refers.is at c.in_ok-prepare_for.ensures.says in
-    let kept : new ≡ old = c.prepare_for.ensures.untouched
-    (λ unfilled. filled_only c.lines-lines.result (shown old) c.as_slice.result.now says.0 unfilled) in
+    let kept : new ≡ old =
+    filled_left c.lines-lines.result (shown old) c.as_slice.result.now old new says.0 c.prepare_for.ensures.untouched in
     refers_found old new named root c.open_filled.result kept c.root_bytes-name.ensures.same c.open_filled.ensures.found
 
 pub returns-in-Refers-clause-form_right : goal.returns-in-Refers-clause-form_right
@@ -146,8 +147,8 @@ returns-in-Refers-clause-form_right g c =
     let named = option_copied c.root_bytes-name.result in
     let says : Says c.lines-lines.result (shown old) c.as_slice.result.now (Refers c.in-Refers.word) =
     rw c.in-Refers.is at c.in_ok-prepare_for.ensures.says in
-    let kept : new ≡ old = c.prepare_for.ensures.untouched
-    (λ unfilled. filled_only c.lines-lines.result (shown old) c.as_slice.result.now says.0 unfilled) in
+    let kept : new ≡ old =
+    filled_left c.lines-lines.result (shown old) c.as_slice.result.now old new says.0 c.prepare_for.ensures.untouched in
     opened_form old new root c.open_filled.result
     (refers_found old new named root c.open_filled.result kept c.root_bytes-name.ensures.same c.open_filled.ensures.found)
 
@@ -159,8 +160,8 @@ returns-in-Refers-clause-entry g c =
     let named = option_copied c.root_bytes-name.result in
     let says : Says c.lines-lines.result (shown old) c.as_slice.result.now (Refers c.in-Refers.word) =
     rw c.in-Refers.is at c.in_ok-prepare_for.ensures.says in
-    let kept : new ≡ old = c.prepare_for.ensures.untouched
-    (λ unfilled. filled_only c.lines-lines.result (shown old) c.as_slice.result.now says.0 unfilled) in
+    let kept : new ≡ old =
+    filled_left c.lines-lines.result (shown old) c.as_slice.result.now old new says.0 c.prepare_for.ensures.untouched in
     refers_entry old new named root c.open_filled.result kept c.open_filled.ensures.ready
 
 pub returns-clause-found : goal.returns-clause-found
@@ -218,7 +219,7 @@ returns-clause-entry g c =
     (unfilled_entry old.size (shown old) root c.requires.enough c.requires.most bytes c.requires.room unfilled)
 
 pub returns-clause-ready : goal.returns-clause-ready
-returns-clause-ready g c rest =
+returns-clause-ready g c =
     let old = c.args.memory.now in
     let new = c.prepare_for.new.memory in
     let root = c.args.root.now in
@@ -229,6 +230,60 @@ returns-clause-ready g c rest =
     let ready : IsReady old.size (shown new) root (opening_graph root None) =
     along c.lines-lines.result old.size named root (spelled_all (wanted named)) c.lines-lines.ensures c.root_bytes-name.ensures.same refl
     (λ n r s. IsReady n (shown new) r (opening_graph r None))
-    (c.in_ok-prepare_for.ensures.ready rest looked) in
+    (c.in_ok-prepare_for.ensures.ready looked) in
     subst (λ (h : Graph). IsReady new.size (shown new) root h) (sym graph)
     (subst (λ (n : ℕ). IsReady n (shown new) root (opening_graph root None)) (sym c.prepare_for.ensures.size) ready)
+
+pub returns-in_err-words-clause-reopens : goal.returns-in_err-words-clause-reopens
+returns-in_err-words-clause-reopens g c rest form = form_stays c.args.memory.now c.args.root.now c.requires.enough c.requires.room rest form
+
+pub returns-in_err-graph-clause-reopens : goal.returns-in_err-graph-clause-reopens
+returns-in_err-graph-clause-reopens g c rest form = form_stays c.args.memory.now c.args.root.now c.requires.enough c.requires.room rest form
+
+pub returns-in_err-prepare_for-clause-untouched : goal.returns-in_err-prepare_for-clause-untouched
+returns-in_err-prepare_for-clause-untouched g c =
+    form_or_left c.lines-lines.result c.args.memory.now c.prepare_for.new.memory (option_copied c.root_bytes-name.result) c.args.root.now
+    c.as_slice.result.now c.lines-lines.ensures c.root_bytes-name.ensures.same (c.as_slice.ensures.value ∙ c.in_ok-words.ensures)
+    c.prepare_for.ensures.untouched
+
+pub returns-in_err-prepare_for-clause-reopens : goal.returns-in_err-prepare_for-clause-reopens
+returns-in_err-prepare_for-clause-reopens g c rest form =
+    form_reopens c.lines-lines.result c.args.memory.now c.prepare_for.new.memory (option_copied c.root_bytes-name.result) c.args.root.now
+    c.as_slice.result.now c.lines-lines.ensures c.root_bytes-name.ensures.same (c.as_slice.ensures.value ∙ c.in_ok-words.ensures)
+    c.prepare_for.ensures.untouched c.requires.enough c.requires.room rest (c.prepare_for.ensures.reopens rest) form
+
+pub returns-in-NotOfForm-clause-untouched : goal.returns-in-NotOfForm-clause-untouched
+returns-in-NotOfForm-clause-untouched g c =
+    form_or_left c.lines-lines.result c.args.memory.now c.prepare_for.new.memory (option_copied c.root_bytes-name.result) c.args.root.now
+    c.as_slice.result.now c.lines-lines.ensures c.root_bytes-name.ensures.same (c.as_slice.ensures.value ∙ c.in_ok-words.ensures)
+    c.prepare_for.ensures.untouched
+
+pub returns-in-NotOfForm-clause-reopens : goal.returns-in-NotOfForm-clause-reopens
+returns-in-NotOfForm-clause-reopens g c rest form =
+    form_reopens c.lines-lines.result c.args.memory.now c.prepare_for.new.memory (option_copied c.root_bytes-name.result) c.args.root.now
+    c.as_slice.result.now c.lines-lines.ensures c.root_bytes-name.ensures.same (c.as_slice.ensures.value ∙ c.in_ok-words.ensures)
+    c.prepare_for.ensures.untouched c.requires.enough c.requires.room rest (c.prepare_for.ensures.reopens rest) form
+
+pub returns-in-Refers-clause-untouched : goal.returns-in-Refers-clause-untouched
+returns-in-Refers-clause-untouched g c =
+    form_or_left c.lines-lines.result c.args.memory.now c.prepare_for.new.memory (option_copied c.root_bytes-name.result) c.args.root.now
+    c.as_slice.result.now c.lines-lines.ensures c.root_bytes-name.ensures.same (c.as_slice.ensures.value ∙ c.in_ok-words.ensures)
+    c.prepare_for.ensures.untouched
+
+pub returns-in-Refers-clause-reopens : goal.returns-in-Refers-clause-reopens
+returns-in-Refers-clause-reopens g c rest form =
+    form_reopens c.lines-lines.result c.args.memory.now c.prepare_for.new.memory (option_copied c.root_bytes-name.result) c.args.root.now
+    c.as_slice.result.now c.lines-lines.ensures c.root_bytes-name.ensures.same (c.as_slice.ensures.value ∙ c.in_ok-words.ensures)
+    c.prepare_for.ensures.untouched c.requires.enough c.requires.room rest (c.prepare_for.ensures.reopens rest) form
+
+pub returns-clause-untouched : goal.returns-clause-untouched
+returns-clause-untouched g c =
+    form_or_left c.lines-lines.result c.args.memory.now c.prepare_for.new.memory (option_copied c.root_bytes-name.result) c.args.root.now
+    c.as_slice.result.now c.lines-lines.ensures c.root_bytes-name.ensures.same (c.as_slice.ensures.value ∙ c.in_ok-words.ensures)
+    c.prepare_for.ensures.untouched
+
+pub returns-clause-reopens : goal.returns-clause-reopens
+returns-clause-reopens g c rest form =
+    form_reopens c.lines-lines.result c.args.memory.now c.prepare_for.new.memory (option_copied c.root_bytes-name.result) c.args.root.now
+    c.as_slice.result.now c.lines-lines.ensures c.root_bytes-name.ensures.same (c.as_slice.ensures.value ∙ c.in_ok-words.ensures)
+    c.prepare_for.ensures.untouched c.requires.enough c.requires.room rest (c.prepare_for.ensures.reopens rest) form

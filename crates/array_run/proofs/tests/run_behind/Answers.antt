@@ -3,7 +3,7 @@ use Rattle.std.proofs.Common.{◌≡◌, ℕ, ◌+◌, ◌≤◌, Option, Some, 
 use Rattle.std.specs.Prelude.{IfSome}
 use Rattle.image_layout.specs.Places.{first_object_line, lines_of}
 use Rattle.image_opening.specs.declared.opening.FoundArray.{FoundArray}
-use Rattle.array_run.proofs.tests.run_within.Goals as goal
+use Rattle.array_run.proofs.tests.run_behind.Goals as goal
 
 both : (size : ℕ) (found : Option FoundArray) → IfSome found (λ a. first_object_line ≤ a.line) → IfSome found (λ a. a.line + lines_of a.length ≤ size)
     → (n : ℕ) → size ≡ n → IfSome found (λ a. (first_object_line ≤ a.line) × (a.line + lines_of a.length ≤ n))
@@ -11,5 +11,5 @@ both size None low high n same = low
 both size (Some array) low high n same = (low, omega (arith, high, same))
 
 pub run_program-answer-requires-clause-array : goal.run_program-answer-requires-clause-array
-run_program-answer-requires-clause-array c =
+run_program-answer-requires-clause-array g c =
     both c.open_image.new.memory.size c.in_ok-opened.opened.array c.in_ok-opened.ensures.array_low c.in_ok-opened.ensures.array_high _ (search rules)

@@ -1,0 +1,55 @@
+-- What a run takes: the objects that became durable in it are the arrays that joined the nodes of the opening graph.
+use Rattle.std.proofs.Common.{◌≡◌, ℕ, ◌<◌, ◌≤◌, Bool, true, false, List, [], ◌∷◌, length, Option, refl, sym, ◌∙◌, ap, subst, sum_by, nat_le}
+use Rattle.std.specs.Prelude.{All, filter, max}
+use Rattle.std.proofs.lemmas.Bool.{le-leb, lt-leb}
+use Rattle.std.proofs.lemmas.List.Elements.{All-head, All-tail, All-weaker, filter-append}
+use Rattle.ap_base.specs.declared.kind.Limits.{Limits}
+use Rattle.graph_model.specs.declared.types.Graph.{Graph}
+use Rattle.run_history.specs.Recorded.{Recorded}
+use Rattle.run_history.specs.Knowing.{Known}
+use Rattle.plain_model.specs.First.{first_heap, numbers_to}
+use Rattle.plain_model.specs.Runs.{known_of}
+use Rattle.plain_model.specs.Ends.{KeepsMemory, words_taken, lines_of}
+use Rattle.plain_model.proofs.Durable.{numbers_to-below}
+use Rattle.array_program.specs.declared.program.Program.{Program}
+use Rattle.array_program.specs.Facts.{program_facts}
+use Rattle.array_program.specs.Running.{Frame, program_code}
+use Rattle.array_history.specs.Standing.{IsAt, State, IsHeapOf, durable_of}
+
+-- ---- a test that all elements pass, or none does
+
+module _ {X : Type 0} (p : X → Bool) where
+  filter_all : (xs : List X) → All (λ x. p x ≡ true) xs → filter p xs ≡ xs
+  filter_all [] all = refl
+  filter_all (x ∷ xs) all =
+      rw (All-head (λ y. p y ≡ true) x xs all) (ap (λ (rest : List X). x ∷ rest) (filter_all xs (All-tail (λ y. p y ≡ true) x xs all)))
+
+  filter_none : (xs : List X) → All (λ x. p x ≡ false) xs → filter p xs ≡ []
+  filter_none [] all = refl
+  filter_none (x ∷ xs) all = rw (All-head (λ y. p y ≡ false) x xs all) (filter_none xs (All-tail (λ y. p y ≡ false) x xs all))
+
+-- ---- the arrays that joined
+
+-- of the durable objects those that are no nodes
+pub joined_are : {program : Program} {opening : Graph} {state : State} → IsHeapOf program opening state
+    → filter (λ n. nat_le (length opening.nodes) n) (durable_of opening state) ≡ state.joined
+joined_are {opening = opening} {state = state} is =
+    let many = length opening.nodes in
+    let is_new : ℕ → Bool = λ n. nat_le many n in
+    let none : filter is_new (numbers_to many) ≡ [] = filter_none is_new (numbers_to many)
+    (All-weaker (λ n. n < many) (λ n. is_new n ≡ false) (λ n below. lt-leb many n below) (numbers_to many) (numbers_to-below many)) in
+    let all : filter is_new state.joined ≡ state.joined = filter_all is_new state.joined
+    (All-weaker (λ n. many ≤ n) (λ n. is_new n ≡ true) (λ n behind. le-leb many n behind) state.joined is.new) in
+    filter-append is_new (numbers_to many) state.joined ∙ rw (none, all) refl
+
+-- A run takes no more than there is, where the words of its heap and the lines of its arrays are no more.
+pub keeps_memory : {program : Program} {opening : Graph} {acts : List Recorded} {frame : Frame} {uncaught : Option ℕ} {state : State} {at : ℕ}
+    → IsAt program opening acts frame uncaught state at → (limits : Limits) (lines : ℕ)
+    → words_taken opening state.heap ≤ max limits.heap_words (words_taken opening (first_heap (program_facts program) opening))
+    → sum_by (lines_of state.heap) state.joined ≤ lines
+    → KeepsMemory (program_facts program) opening limits lines (known_of (program_facts program) 0 opening (program_code program opening) acts)
+keeps_memory {program = program} {opening = opening} {state = state} stands limits lines words image =
+    subst (λ (known : Known). KeepsMemory (program_facts program) opening limits lines known) (sym stands.known) (record {
+      words = words;
+      image = subst (λ (joined : List ℕ). sum_by (lines_of state.heap) joined ≤ lines) (sym (joined_are stands.heap)) image;
+    })
