@@ -1,0 +1,6 @@
+mod Marks
+mod Lists
+mod Firsts
+mod Walks
+mod Visiting
+mod Later
