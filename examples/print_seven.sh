@@ -1,8 +1,8 @@
 #!/bin/sh
 # Runs the class Main, which prints 7, on a blank image of 32,768 lines.
 set -e
-cd "$(dirname "$0")/../crates/autopersist_main"
+top=$(dirname "$0")/..
 image=$(mktemp)
 trap 'rm -f "$image"' EXIT
 truncate -s 2097152 "$image"
-rt run -- run --image "$image" --main Main "$PWD/data/classes"
+"$top/autopersist" run --image "$image" --main Main "$top/crates/autopersist_main/data/classes"

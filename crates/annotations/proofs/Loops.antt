@@ -1,8 +1,8 @@
 -- Values and annotations that a loop reads one after the other.
 use Rattle.std.proofs.Common.{◌≡◌, ℕ, suc, Bool, true, false, ◌||◌, List, ◌∷◌, ◌-◌, ◌+◌, ◌≤◌, ◌<◌, Result, Ok, Err, refl, sym, ◌∙◌, arith}
 use Rattle.std.specs.List.{list_any}
-use Rattle.const_pool.specs.Reading.{Place}
-use Rattle.class_items.specs.Parsing.{◌>>=◌, many_from}
+use Rattle.parsing.specs.Results.{◌>>=◌, many_from}
+use Rattle.parsing.specs.Places.{Place}
 use Rattle.annotations.specs.declared.refusal.AnnotationRefusal.{AnnotationRefusal}
 use Rattle.annotations.specs.declared.marks.Marks.{Marks}
 use Rattle.const_pool.specs.Pool.{Slots}
@@ -35,8 +35,15 @@ module _ (one : Skips) (count i : ℕ) (file : Place) (total : Result Place Anno
 -- ---- which annotations are among those that are read
 
 -- the marks before, and those of the annotations that are still read
-abbrev pub with_before : Marks → Result (Marks × Place) AnnotationRefusal → Result (Marks × Place) AnnotationRefusal
-with_before before read = read >>= λ x. Ok (record { root = before.root || x.0.root; unrecoverable = before.unrecoverable || x.0.unrecoverable }, x.1)
+abbrev pub with_before : Marks → Result (Marks × Place) AnnotationRefusal
+    → Result (Marks × Place) AnnotationRefusal
+with_before before read = read >>= λ x. Ok (
+  record {
+    root = before.root || x.0.root;
+    unrecoverable = before.unrecoverable || x.0.unrecoverable;
+  },
+  x.1,
+)
 
 or_assoc : (a b c : Bool) → (a || (b || c)) ≡ ((a || b) || c)
 or_assoc true b c = refl
@@ -61,7 +68,8 @@ regroup : (pool : Slots) (before : Marks) (type : ℕ) (read : Result Types Anno
 regroup pool before type (Ok r) = rw (or_assoc before.root (is_root pool type) (list_any (is_root pool) r.0), or_assoc before.unrecoverable (is_unrecoverable pool type) (list_any (is_unrecoverable pool) r.0)) refl
 regroup pool before type (Err e) = refl
 
-module _ (pool : Slots) (before : Marks) (count i : ℕ) (file : Place) (total : Result (Marks × Place) AnnotationRefusal) where
+module _ (pool : Slots) (before : Marks) (count i : ℕ) (file : Place)
+    (total : Result (Marks × Place) AnnotationRefusal) where
   pub marks_go_on : (type : ℕ) (after : Place) → i < count → annotation_at pool file ≡ Ok (type, after)
       → with_before before (marks_from pool (count - i) file) ≡ total
       → with_before (with_type pool before type) (marks_from pool (count - (i + 1)) after) ≡ total
@@ -79,7 +87,8 @@ module _ (pool : Slots) (before : Marks) (count i : ℕ) (file : Place) (total :
       let step : with_before before (marks_from pool (count - i) file) ≡ Err e = rw (k, h) refl in
       sym so_far ∙ step
 
-  pub marks_done : count ≤ i → with_before before (marks_from pool (count - i) file) ≡ total → total ≡ Ok (before, file)
+  pub marks_done : count ≤ i → with_before before (marks_from pool (count - i) file) ≡ total
+      → total ≡ Ok (before, file)
   unfolding marks_from many_from
   marks_done le so_far =
       let k : count - i ≡ 0 = omega arith in

@@ -1,41 +1,46 @@
--- The content of an attribute of annotations (JVMS 4.7.16, 4.7.17), read from front to back, with the first fault that
--- is met. A place is the offset from the file's start and the bytes from there on.
-use Rattle.std.specs.Prelude.{◌≡◌, ℕ, zero, suc, ◌==◌, Bool, false, List, length, codes, Option, Some, None, Result, Ok, Err, ◌||◌, if◌then◌else◌}
+-- The content of an attribute of annotations (JVMS 4.7.16, 4.7.17), read from front to back, with the first
+-- fault that is met. A place is the offset from the file's start and the bytes from there on.
+use Rattle.std.specs.Prelude.{ℕ, zero, suc, ◌==◌, Bool, false, List, length, codes, Option, Some, None, Result, Ok, Err, ◌||◌, if◌then◌else◌}
 use Rattle.std.specs.List.{list_any}
 use Rattle.std.specs.Str.{bytes_eq}
+use Rattle.parsing.specs.declared.cut.Cut.{Cut}
+use Rattle.parsing.specs.Results as results
+use Rattle.parsing.specs.Results.{◌>>=◌, placed, many_from}
+use Rattle.parsing.specs.Places.{Place, number_at}
 use Rattle.const_pool.specs.declared.entry.Tag.{Tag}
 use Rattle.const_pool.specs.declared.entry.Tag.TheVariants.{Utf8, Integer, Float, Long, Double}
 use Rattle.const_pool.specs.Pool.{Slots, utf8_at}
-use Rattle.const_pool.specs.Reading.{Place}
 use Rattle.class_items.specs.declared.refusal.ItemRefusal.{ItemRefusal}
 use Rattle.class_items.specs.declared.refusal.ItemRefusal.TheVariants as item
-use Rattle.class_items.specs.Items.{number_at, index_at}
-use Rattle.class_items.specs.Parsing.{◌>>=◌, told, many_from}
+use Rattle.class_items.specs.Items.{index_at}
 use Rattle.annotations.specs.declared.form.ValueForm.{ValueForm}
 use Rattle.annotations.specs.declared.form.ValueForm.TheVariants.{Constant, EnumConstant, Nested, Array}
 use Rattle.annotations.specs.declared.marks.Marks.{Marks}
 use Rattle.annotations.specs.declared.refusal.AnnotationRefusal.{AnnotationRefusal}
 use Rattle.annotations.specs.declared.refusal.AnnotationRefusal.TheVariants.{BadForm, BadIndex}
 
--- what a call gave, seen by view, is what reading gives
+-- what a call gave is what reading gives; nothing takes memory
 abbrev pub Gives : {A B : Type 0} → (A → B) → Result A AnnotationRefusal → Result B AnnotationRefusal → Type 0
-Gives view (Ok x) read = read ≡ Ok (view x)
-Gives view (Err e) read = read ≡ Err e
+Gives view result read = results.Gives None view result read
 
 -- ---- numbers and indices
 
--- the refusal of an item as that of annotations, of which one that is cut off has no other fault than its form
+-- a field that is cut off has no other fault than the form of the annotations
+abbrev pub of_cut : Cut → AnnotationRefusal
+of_cut cut = BadForm
+
+-- the refusal of an item
 abbrev pub of_item : ItemRefusal → AnnotationRefusal
 of_item (item.BadIndex offset index) = BadIndex offset index
 of_item other = BadForm
 
 -- a number of n bytes, the highest first
-unfoldable pub number_in : ℕ → Place → Result (ℕ × Place) AnnotationRefusal
-number_in n file = told of_item (number_at n file)
+abbrev pub number_in : ℕ → Place → Result (ℕ × Place) AnnotationRefusal
+number_in n file = placed of_cut (number_at n file)
 
 -- an index that names an entry of this kind
-unfoldable pub index_in : Slots → Tag → Place → Result (ℕ × Place) AnnotationRefusal
-index_in pool tag file = told of_item (index_at pool tag file)
+abbrev pub index_in : Slots → Tag → Place → Result (ℕ × Place) AnnotationRefusal
+index_in pool tag file = placed of_item (index_at pool tag file)
 
 -- ---- what is read over: from where it begins to the place after it
 
@@ -135,7 +140,10 @@ is_unrecoverable pool index = is_text pool (codes "Lautopersist/Unrecoverable;")
 
 -- which of the two are among annotations with these types
 abbrev pub marks_of : Slots → List ℕ → Marks
-marks_of pool types = record { root = list_any (is_root pool) types; unrecoverable = list_any (is_unrecoverable pool) types }
+marks_of pool types = record {
+  root = list_any (is_root pool) types;
+  unrecoverable = list_any (is_unrecoverable pool) types;
+}
 
 -- the marks before, and those of one more annotation
 abbrev pub with_type : Slots → Marks → ℕ → Marks
@@ -150,7 +158,8 @@ marks_from pool count file = do
   types ← many_from (annotation_at pool) count file
   Ok (marks_of pool types.0, types.1)
 
--- A count, and so many annotations, after which nothing is left. The answer is which of the two are among them.
+-- A count, and so many annotations, after which nothing is left. The answer is which of the two are among
+-- them.
 unfoldable pub annotations_in : Slots → Place → Result Marks AnnotationRefusal
 annotations_in pool file = do
   count ← number_in 2 file

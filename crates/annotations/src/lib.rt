@@ -3,7 +3,6 @@
 
 mod form;
 mod marks;
-mod numbers;
 mod reading;
 mod refusal;
 mod value;
@@ -11,6 +10,3 @@ mod value;
 pub use marks::Marks;
 pub use reading::read_annotations;
 pub use refusal::AnnotationRefusal;
-
-#[cfg(test)]
-mod tests;

@@ -3,10 +3,10 @@
 ghost use Rattle.std.specs.Prelude.{◌≡◌, ◌+◌, ◌^◌, ◌<◌, length};
 ghost use Rattle.annotations.specs.Annotations.{Gives, annotation_at, is_text, with_type, marks_from, annotations_in};
 
-use crate::numbers::u16;
 use crate::value::annotation;
 use crate::{AnnotationRefusal, Marks};
-use const_pool::{Pool, Reader};
+use const_pool::Pool;
+use parsing::Reader;
 
 /// How deep values may nest.
 const DEEPEST: u8 = 64;
@@ -65,7 +65,7 @@ pub fn read_annotations(pool: &Pool, at: usize, content: &[u8]) -> Result<Marks,
     ensures exact { result ≡ annotations_in pool.now (at, content.now) }
 {
     let mut file = Reader::new(at, content);
-    let count = u16(&mut file)?;
+    let count = file.u16()?;
     let marks = some_annotations(pool, count, &mut file)?;
     if !file.is_ended() {
         return Err(AnnotationRefusal::BadForm);

@@ -1,9 +1,10 @@
 //! Why bytes are no annotations.
 
 ghost use Rattle.std.specs.Prelude.{◌≡◌};
-ghost use Rattle.annotations.specs.declared.refusal.AnnotationRefusal.TheVariants.{BadForm};
+ghost use Rattle.annotations.specs.Annotations.{of_cut, of_item};
 
-use const_pool::PoolRefusal;
+use class_items::ItemRefusal;
+use parsing::Cut;
 use thiserror::Error;
 
 /// The first fault of the content of an attribute of annotations.
@@ -23,11 +24,24 @@ pub enum AnnotationRefusal {
     },
 }
 
-impl From<PoolRefusal> for AnnotationRefusal {
-    ghost from_gives = { λ _ made. made ≡ BadForm };
+impl From<Cut> for AnnotationRefusal {
+    ghost from_gives = { λ cut e. e ≡ of_cut cut };
 
-    /// A field is refused where it is cut off.
-    fn from(_cut_off: PoolRefusal) -> AnnotationRefusal {
+    fn from(_cut: Cut) -> AnnotationRefusal {
         AnnotationRefusal::BadForm
+    }
+}
+
+impl From<ItemRefusal> for AnnotationRefusal {
+    ghost from_gives = { λ refusal e. e ≡ of_item refusal };
+
+    fn from(refusal: ItemRefusal) -> AnnotationRefusal {
+        match refusal {
+            ItemRefusal::BadIndex { offset, index } => AnnotationRefusal::BadIndex {
+                offset,
+                index,
+            },
+            _ => AnnotationRefusal::BadForm,
+        }
     }
 }

@@ -5,8 +5,9 @@ ghost use Rattle.annotations.specs.Annotations.{Gives, after_counted, after_pair
 
 use crate::AnnotationRefusal;
 use crate::form::{ValueForm, known_form};
-use crate::numbers::{index, u8, u16};
-use const_pool::{Pool, Reader, Tag};
+use class_items::index;
+use const_pool::{Pool, Tag};
+use parsing::Reader;
 
 /// A value, from which on values may nest so deep. Each takes its tag from what is left, so however many a count
 /// promises, the time is linear in the content.
@@ -18,7 +19,7 @@ fn value(pool: &Pool, deep: u8, file: &mut Reader) -> Result<(), AnnotationRefus
     if deep == 0 {
         return Err(AnnotationRefusal::BadForm);
     }
-    let tag = u8(file)?;
+    let tag = file.u8()?;
     let form = known_form(tag)?;
     content(pool, form, deep - 1, file)
 }
@@ -32,7 +33,8 @@ fn content(
     deep: u8,
     file: &mut Reader,
 ) -> Result<(), AnnotationRefusal>
-    ensures { Gives (λ _. file.new) result (after_content (after_value pool.now deep) pool.now form file.old) }
+    ensures { Gives (λ _. file.new) result
+        (after_content (after_value pool.now deep) pool.now form file.old) }
 {
     match form {
         ValueForm::Constant(kind) => {
@@ -58,7 +60,7 @@ fn content(
 fn values(pool: &Pool, deep: u8, file: &mut Reader) -> Result<(), AnnotationRefusal>
     ensures { Gives (λ _. file.new) result (after_counted (after_value pool.now deep) file.old) }
 {
-    let count = u16(file)?;
+    let count = file.u16()?;
     for _ in 0..count {
         value(pool, deep, file)?;
     }
@@ -79,9 +81,10 @@ fn pair(pool: &Pool, deep: u8, file: &mut Reader) -> Result<(), AnnotationRefusa
 #[cycle(value)]
 #[tactic(auto, unfolding(crate::specs::Annotations::after_counted), using(crate::proofs::Loops::goes_on, crate::proofs::Loops::ends, crate::proofs::Loops::is_done))]
 fn pairs(pool: &Pool, deep: u8, file: &mut Reader) -> Result<(), AnnotationRefusal>
-    ensures { Gives (λ _. file.new) result (after_counted (after_pair (after_value pool.now deep) pool.now) file.old) }
+    ensures { Gives (λ _. file.new) result
+        (after_counted (after_pair (after_value pool.now deep) pool.now) file.old) }
 {
-    let count = u16(file)?;
+    let count = file.u16()?;
     for _ in 0..count {
         pair(pool, deep, file)?;
     }
@@ -92,7 +95,8 @@ fn pairs(pool: &Pool, deep: u8, file: &mut Reader) -> Result<(), AnnotationRefus
 #[cycle(value)]
 #[tactic(auto, unfolding(crate::specs::Annotations::annotation_of))]
 pub(crate) fn annotation(pool: &Pool, deep: u8, file: &mut Reader) -> Result<u16, AnnotationRefusal>
-    ensures { Gives (λ x. (x, file.new)) result (annotation_of (after_value pool.now deep) pool.now file.old) }
+    ensures { Gives (λ x. (x, file.new)) result
+        (annotation_of (after_value pool.now deep) pool.now file.old) }
 {
     let kind = index(pool, Tag::Utf8, file)?;
     pairs(pool, deep, file)?;

@@ -2,7 +2,7 @@
 use Rattle.std.proofs.Common.{◌≡◌, inl, inr, ⊎_elim, ℕ, ◌<◌, ◌≤◌, ◌&&◌, Bool, true, false, nat_le, Option, Some, None, refl, sym, ◌∙◌, subst, arith}
 use Rattle.std.proofs.lemmas.Bool.{leb-true}
 use Rattle.graph_model.specs.declared.types.Heap.{Heap}
-use Rattle.line_image.specs.History.{Outcome}
+use Rattle.line_image.specs.Trace.{Outcome}
 use Rattle.line_memory.specs.Memory.{Memory, shown, IsKnown, CanLeaveAll, IsDurable}
 use Rattle.image_layout.specs.Places.{min_lines, max_lines, slot_line, slot_word, directory_line, directory_word, log_head_line, object_line, object_word, has_size, checked, super_check}
 use Rattle.image_layout.specs.declared.superblock.BadReason.{BadReason}

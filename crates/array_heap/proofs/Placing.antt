@@ -12,10 +12,11 @@ use Rattle.graph_model.specs.declared.types.Field.{Field}
 use Rattle.graph_model.specs.declared.types.Obj.{Obj}
 use Rattle.graph_model.specs.declared.types.Heap.{Heap}
 use Rattle.graph_model.specs.Heaps.{no_object, no_shape, object_at, shape_at, values_of}
-use Rattle.line_memory.specs.Memory.{Memory, Told, shown, IsKnown, IsTelling, CanLeaveAll, IsDurable}
+use Rattle.line_image.specs.Told.{Told}
+use Rattle.line_memory.specs.Memory.{Memory, shown, IsKnown, IsTelling, CanLeaveAll, IsDurable}
 use Rattle.line_memory.specs.Moments.{Goes}
 use Rattle.line_memory.proofs.Chain.{goes_on, goes_nowhere}
-use Rattle.line_image.specs.History.{Outcome}
+use Rattle.line_image.specs.Trace.{Outcome}
 use Rattle.image_layout.specs.Places.{lines_of, head_of, object_line, object_word}
 use Rattle.image_meaning.specs.Checks.{Words}
 use Rattle.image_meaning.specs.Directories.{Directory}
@@ -183,7 +184,7 @@ module _ (lies : ℕ → ℕ → Bool) (directory : Directory) (heap : Heap) (ol
 
   known : (l : ℕ) → l < stored.size → IsKnown stored l
   known l h =
-      still_known old stored stores.resident (λ tell. subst (λ (told : Told). IsTelling told.history) (sym stores.same.image) tell) l
+      still_known old stored stores.resident (λ tell. subst (λ (told : Told). IsTelling told.trace) (sym stores.same.image) tell) l
       (shows.known l (rw stores.size at h))
 
   counted : (l w : ℕ) → Counts R heap (shown stored) l w → Counts R heap (shown old) l w

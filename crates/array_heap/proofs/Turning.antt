@@ -3,8 +3,9 @@ use Rattle.std.proofs.Common.{◌≡◌, ◌≢◌, ◌⊎◌, inl, inr, ⊎_eli
 use Rattle.std.proofs.lemmas.Bool.{cases_eq}
 use Rattle.graph_model.specs.declared.types.Heap.{Heap}
 use Rattle.graph_model.specs.Heaps.{values_of}
-use Rattle.line_image.specs.History.{Outcome}
-use Rattle.line_memory.specs.Memory.{Memory, Told, shown, IsTelling, CanLeave, CanLeaveAll, IsDurable, SameResident, SameImage, KeepsTelling}
+use Rattle.line_image.specs.Trace.{Outcome}
+use Rattle.line_image.specs.Told.{Told}
+use Rattle.line_memory.specs.Memory.{Memory, shown, IsTelling, CanLeave, CanLeaveAll, IsDurable, SameResident, SameImage, KeepsTelling}
 use Rattle.line_memory.specs.Moments.{Goes}
 use Rattle.line_memory.proofs.Chain.{goes_on, goes_nowhere}
 use Rattle.image_layout.specs.Places.{first_object_line, logs, directory_words, directory_line, directory_word, log_head_line}
@@ -66,7 +67,7 @@ module _ (R : LiesAt) (directory : Directory) (heap after : Heap) (old new : Mem
   no_data l w none = others l w (λ e. absurd (none (subst IsData (sym e) is_data)))
 
   telling : KeepsTelling old new
-  telling tell = subst (λ (told : Told). IsTelling told.history) (sym same.image) tell
+  telling tell = subst (λ (told : Told). IsTelling told.trace) (sym same.image) tell
 
   pub turned-shows : ShowsHeap R directory after new
   turned-shows =

@@ -5,7 +5,7 @@ use Rattle.graph_model.specs.declared.types.Heap.{Heap}
 use Rattle.graph_model.specs.declared.types.Graph.{Graph}
 use Rattle.graph_model.specs.Heaps.{values_of}
 use Rattle.graph_model.specs.Canon.{canon_of}
-use Rattle.line_image.specs.History.{Outcome}
+use Rattle.line_image.specs.Trace.{Outcome}
 use Rattle.line_memory.specs.Memory.{Memory, shown, IsKnown, CanLeaveAll, IsDurable}
 use Rattle.image_layout.specs.Places.{root_slots, logs, slot_line, slot_word, directory_line, directory_word, log_head_line, object_line, object_word}
 use Rattle.image_meaning.specs.Checks.{Words}

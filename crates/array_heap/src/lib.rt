@@ -7,8 +7,6 @@ mod elements;
 mod laws;
 mod place;
 mod root;
-#[cfg(test)]
-mod tests;
 
 pub use durable::make_durable;
 pub use elements::{element, length, set_element, store_element};

@@ -2,7 +2,7 @@
 ghost use Rattle.std.specs.Prelude.{◌≡◌, ◌≢◌, ◌⊎◌, ◌<◌, ◌≤◌, ◌+◌, ◌*◌, ◌^◌, ℕ, length, replicate, slice_index_or, pos, FitsSigned, OnOk};
 ghost use Rattle.std.specs.Int.{w32, cast_unsigned};
 ghost use Rattle.ap_base.specs.Causes.{HasCause};
-ghost use Rattle.line_image.specs.History.{Outcome};
+ghost use Rattle.line_image.specs.Trace.{Outcome};
 ghost use Rattle.line_memory.specs.Memory.{shown, IsResident, IsKnown, CanLeave, CanLeaveAll, SameResident, SameImage, KeepsTelling};
 ghost use Rattle.line_memory.specs.Moments.{Goes, CountsFrom};
 ghost use Rattle.image_layout.specs.Places.{max_lines, lines_of, head_of, object_line, object_word};

@@ -13,7 +13,7 @@ use Rattle.run_history.specs.declared.act.Op.{Op}
 use Rattle.run_history.specs.declared.act.Op.TheVariants as op
 use Rattle.run_history.specs.Recorded.{Recorded}
 use Rattle.run_history.specs.Worlds.{World, Thread, after}
-use Rattle.run_history.specs.Knowing.{Known, next_known, known_after, known_after_op, after_end, is_outermost}
+use Rattle.run_history.specs.Knowing.{Knowledge, next_known, known_after, known_after_op, after_end, is_outermost}
 use Rattle.run_history.specs.Wanted.{Wishes, NoWish, WantsNow}
 use Rattle.plain_model.specs.First.{first_known, first_world}
 use Rattle.plain_model.specs.Requests.{PlainRequest}
@@ -99,11 +99,11 @@ module _ (program : Program) (opening : Graph) (rooted : GroupsFit program progr
 
   -- ---- any act
 
-  ended_world : (known : Known) (t : ℕ) (b : Bool) → (after_end known t b).world ≡ after known.world t op.End
+  ended_world : (known : Knowledge) (t : ℕ) (b : Bool) → (after_end known t b).world ≡ after known.world t op.End
   ended_world known t true = refl
   ended_world known t false = refl
 
-  on_op : (known : Known) (frames : List Frame) (Now : Wishes) (t : ℕ) (named : List ℕ) (o : Op)
+  on_op : (known : Knowledge) (frames : List Frame) (Now : Wishes) (t : ℕ) (named : List ℕ) (o : Op)
       → Rule (program_facts program) known Now (asks known.world frames t) t named o → Stands program known.world frames
       → Stands program (known_after_op known t named o).world (frames_after_op (program_facts program) 0 opening (program_code program opening) known.world frames t o)
   unfolding known_after_op frames_after_op
@@ -118,7 +118,7 @@ module _ (program : Program) (opening : Graph) (rooted : GroupsFit program progr
       (visible known.world frames t op.End stands rule.is_about)
   on_op known frames Now t named o rule stands = visible known.world frames t o stands rule
 
-  on_acts : (known : Known) (frames : List Frame) (Now : Wishes) (acts : List Recorded) → Stands program known.world frames
+  on_acts : (known : Knowledge) (frames : List Frame) (Now : Wishes) (acts : List Recorded) → Stands program known.world frames
       → GoesOn (program_facts program) 0 opening (program_code program opening) known frames Now acts
       → Stands program (known_after known acts).world (frames_after (program_facts program) 0 opening (program_code program opening) known frames acts)
   on_acts known frames Now [] stands goes = stands

@@ -16,21 +16,21 @@ use Rattle.plain_model.specs.Requests.{PlainRequest}
 use Rattle.std.proofs.Common.{◌≡◌, ℕ, ◌+◌, ◌-◌, ◌<◌, ◌≤◌, pos, true, false, List, [], ◌∷◌, ◌++◌, length, Option, Some, None, refl, sym, ◌∙◌, ap, subst, arith, inl, inr, sum_by, ⊎_elim, nat_eq, get_or, ℤ, negsuc, nat_lt, nat_le, is_some}
 use Rattle.std.specs.Prelude.{All, IsSome, ◌≢◌, AllPairs, Contains, filter}
 use Rattle.std.proofs.lemmas.List.Elements.{All-nil, All-cons, All-push, All-contains_itself}
-use Rattle.ap_base.specs.declared.kind.Limits.{Limits}
-use Rattle.ap_base.specs.declared.fault.RunFault.{RunFault}
-use Rattle.ap_base.specs.declared.fault.RunFault.TheVariants as fault
-use Rattle.ap_base.specs.declared.fault.Which.TheVariants as which
+use Rattle.run_types.specs.declared.limits.Limits.{Limits}
+use Rattle.run_types.specs.declared.fault.RunFault.{RunFault}
+use Rattle.run_types.specs.declared.fault.RunFault.TheVariants as fault
+use Rattle.run_types.specs.declared.fault.Which.TheVariants as which
 use Rattle.graph_model.specs.declared.types.Graph.{Graph}
 use Rattle.run_history.specs.declared.act.Op.{Op}
 use Rattle.run_history.specs.declared.act.Op.TheVariants as op
 use Rattle.run_history.specs.Recorded.{Recorded}
 use Rattle.run_history.specs.Worlds.{Thread}
-use Rattle.run_history.specs.Knowing.{Known, Mark}
+use Rattle.run_history.specs.Knowing.{Knowledge, Mark}
 use Rattle.plain_model.specs.First.{numbers_to}
 use Rattle.plain_model.specs.Steps.{step, Step, Does, op_of}
 use Rattle.plain_model.specs.Codes.{taken_by, request_of}
 use Rattle.plain_model.specs.Runs.{op_given, known_of, frames_of, wants_of}
-use Rattle.plain_model.specs.Ends.{EndsAs, Fault, Uncaught, Finished, FillsHeap, words_taken, words_made, first_uncaught, FillsImage, IsTaken, lines_of, Prints}
+use Rattle.plain_model.specs.Ends.{EndsAs, Fault, Uncaught, Finished, FillsHeap, words_taken, words_made, first_uncaught, FillsImage, IsTaken, object_lines, Prints}
 use Rattle.array_program.specs.declared.program.Group.{Group}
 use Rattle.array_program.specs.declared.program.Group.TheVariants as group
 use Rattle.array_program.specs.declared.program.Program.{Program}
@@ -42,12 +42,12 @@ use Rattle.array_history.proofs.Taking.{joined_are}
 
 module _ {program : Program} {opening : Graph} {acts : List Recorded} {frame : Frame} {uncaught : Option ℕ} {state : State} {at : ℕ} (stands : IsAt program opening acts frame uncaught state at) where
   -- what holds of all that is known at the frame holds of what is known after the acts
-  at_frame : (P : Known → List Frame → Type 0) → ((marks : List Mark) (stores before : ℕ) → P (known_at program opening frame uncaught state marks stores before) (frame ∷ []))
+  at_frame : (P : Knowledge → List Frame → Type 0) → ((marks : List Mark) (stores before : ℕ) → P (known_at program opening frame uncaught state marks stores before) (frame ∷ []))
       → P (known_of (program_facts program) 0 opening (program_code program opening) acts) (frames_of (program_facts program) 0 opening (program_code program opening) acts)
   at_frame P there =
-      let known : Known = known_of (program_facts program) 0 opening (program_code program opening) acts in
+      let known : Knowledge = known_of (program_facts program) 0 opening (program_code program opening) acts in
       subst (λ (fs : List Frame). P known fs) (sym stands.frames)
-      (subst (λ (k : Known). P k (frame ∷ [])) (sym stands.known) (there known.marks known.stores known.at))
+      (subst (λ (k : Knowledge). P k (frame ∷ [])) (sym stands.known) (there known.marks known.stores known.at))
 
   -- what thread 0 asks at the frame
   abbrev asked_there : Option PlainRequest
@@ -71,7 +71,7 @@ module _ {program : Program} {opening : Graph} {acts : List Recorded} {frame : F
       let set = program_facts program in
       let code = program_code program opening in
       let f : RunFault = fault.Full (record { which = which.VolatileWords; need = need; left = limits.heap_words - words_taken opening state.heap }) in
-      let Fills : Known → List Frame → Type 0 = λ k fs.
+      let Fills : Knowledge → List Frame → Type 0 = λ k fs.
       IsSome (request_of set 0 opening code k.world fs 0) × FillsHeap set opening limits k (request_of set 0 opening code k.world fs 0) 0 f in
       let (asked, fills) = at_frame Fills (λ marks stores before. (asks, (o, need, about, made, record { more = more; names = refl }))) in
       (0, (asked, inr (inr (inr (inr (inr (inl fills)))))))
@@ -91,13 +91,13 @@ ends_sink {program = program} {opening = opening} stands limits lines =
 pub ends_finished : {program : Program} {opening : Graph} {acts : List Recorded} {state : State} {at : ℕ} → IsAt program opening acts Left None state at → (limits : Limits) (lines : ℕ)
     → EndsAs (program_facts program) 0 opening (program_code program opening) limits lines acts Finished
 ends_finished stands limits lines =
-    at_frame stands (λ (k : Known) (fs : List Frame). All (λ (thread : Thread). thread.ended ≡ true) k.world.threads × (first_uncaught 0 k.world.threads ≡ Finished))
+    at_frame stands (λ (k : Knowledge) (fs : List Frame). All (λ (thread : Thread). thread.ended ≡ true) k.world.threads × (first_uncaught 0 k.world.threads ≡ Finished))
     (λ marks stores before. (All-cons (λ (thread : Thread). thread.ended ≡ true) _ [] refl (All-nil (λ (thread : Thread). thread.ended ≡ true)), refl))
 
 pub ends_uncaught : {program : Program} {opening : Graph} {acts : List Recorded} {state : State} {at : ℕ} (class : ℕ) → IsAt program opening acts Left (Some class) state at → (limits : Limits) (lines : ℕ)
     → EndsAs (program_facts program) 0 opening (program_code program opening) limits lines acts (Uncaught 0 class)
 ends_uncaught class stands limits lines =
-    at_frame stands (λ (k : Known) (fs : List Frame). All (λ (thread : Thread). thread.ended ≡ true) k.world.threads × (first_uncaught 0 k.world.threads ≡ Uncaught 0 class))
+    at_frame stands (λ (k : Knowledge) (fs : List Frame). All (λ (thread : Thread). thread.ended ≡ true) k.world.threads × (first_uncaught 0 k.world.threads ≡ Uncaught 0 class))
     (λ marks stores before. (All-cons (λ (thread : Thread). thread.ended ≡ true) _ [] refl (All-nil (λ (thread : Thread). thread.ended ≡ true)), refl))
 
 -- ---- a new array
@@ -151,7 +151,7 @@ module _ {program : Program} {opening : Graph} {acts : List Recorded} {frame : F
 
   -- More lines are needed by the array that is to become durable than the arrays that did leave.
   pub full_image : {k : ℕ} → has_left frame ≡ false → state.owes ≡ Store k → has_number (durable_of opening state) k ≡ false
-      → (limits : Limits) (lines need left : ℕ) → need ≡ lines_of state.heap k → left ≡ lines - sum_by (lines_of state.heap) state.joined → left < need
+      → (limits : Limits) (lines need left : ℕ) → need ≡ object_lines state.heap k → left ≡ lines - sum_by (object_lines state.heap) state.joined → left < need
       → EndsAs (program_facts program) 0 opening (program_code program opening) limits lines acts
       (Fault (fault.Full (record { which = which.ImageLines; need = need; left = left })))
   unfolding program_code
@@ -159,7 +159,7 @@ module _ {program : Program} {opening : Graph} {acts : List Recorded} {frame : F
       let set = program_facts program in
       let code = program_code program opening in
       let f : RunFault = fault.Full (record { which = which.ImageLines; need = need; left = left }) in
-      let Fills : Known → List Frame → Type 0 = λ known fs. IsSome (request_of set 0 opening code known.world fs 0) × FillsImage opening lines known Now f in
+      let Fills : Knowledge → List Frame → Type 0 = λ known fs. IsSome (request_of set 0 opening code known.world fs 0) × FillsImage opening lines known Now f in
       let (asked, fills) = at_frame stands Fills (λ marks stores before. (
         rw lives refl,
         record {

@@ -9,7 +9,7 @@ use Rattle.graph_model.specs.Reach.{here}
 use Rattle.run_history.specs.declared.act.Op.{Op}
 use Rattle.run_history.specs.Recorded.{Recorded}
 use Rattle.run_history.specs.Worlds.{heap_after_op, heap_after}
-use Rattle.run_history.specs.Knowing.{Known, Mark, next_known, known_after, with_sure}
+use Rattle.run_history.specs.Knowing.{Knowledge, Mark, next_known, known_after, with_sure}
 use Rattle.run_history.specs.Wanted.{Wishes, NoWish, WantsNow}
 use Rattle.run_history.specs.Kept.{kept}
 use Rattle.run_history.proofs.KeptLists.{kept-with_sure}
@@ -49,13 +49,13 @@ pub record LeadsOn (program : Program) (opening : Graph) (frame next : Frame) (u
   pub heap : IsHeapOf program opening state → IsHeapOf program opening state'
 
 -- the last act's count of image calls is no larger than that of all
-at_most : (known : Known) (acts : List Recorded) (at : ℕ) → known.at ≤ at → All (λ (a : Recorded). a.act.at ≤ at) acts → (known_after known acts).at ≤ at
+at_most : (known : Knowledge) (acts : List Recorded) (at : ℕ) → known.at ≤ at → All (λ (a : Recorded). a.act.at ≤ at) acts → (known_after known acts).at ≤ at
 at_most known [] at few all = few
 at_most known (a ∷ acts) at few all =
     at_most (next_known known a) acts at (All-head (λ (b : Recorded). b.act.at ≤ at) a acts all) (All-tail (λ (b : Recorded). b.act.at ≤ at) a acts all)
 
 -- what thread 0 has asked it wants
-wanted_asked : (owes : Owes) (known : Known) (Before : Wishes) (n : ℕ) → known.asked ≡ asked_of owes → owes ≡ Store n → WantsNow known Before 0 n
+wanted_asked : (owes : Owes) (known : Knowledge) (Before : Wishes) (n : ℕ) → known.asked ≡ asked_of owes → owes ≡ Store n → WantsNow known Before 0 n
 wanted_asked owes known Before n asked is =
     let now : known.asked ≡ asked_of (Store n) = asked ∙ ap asked_of is in
     rw now (here n (inl refl))
@@ -71,37 +71,37 @@ module _ (program : Program) (opening : Graph) where
       let code = program_code program opening in
       let first = first_known set opening in
       let a = recorded at o named in
-      let before : Known = known_of set 0 opening code acts in
+      let before : Knowledge = known_of set 0 opening code acts in
       let stood : List Frame = frames_of set 0 opening code acts in
       let Now : Wishes = wants_of set 0 opening code acts in
-      let there : Known = known_at program opening frame uncaught state before.marks before.stores before.at in
+      let there : Knowledge = known_at program opening frame uncaught state before.marks before.stores before.at in
       let heap : IsHeapOf program opening state' = leads.heap is.heap in
-      let IsNext : Known → Type 0 = λ k. k ≡ known_at program opening next uncaught' state' k.marks k.stores k.at in
+      let IsNext : Knowledge → Type 0 = λ k. k ≡ known_at program opening next uncaught' state' k.marks k.stores k.at in
       let known : IsNext (next_known there a) = leads.known before.marks before.stores before.at in
       let may : MayAct set there Now (request_of set 0 opening code (world_at program opening frame uncaught state.heap) (frame ∷ []) 0) a = record {
         later = at_most first acts at (omega arith) is.later;
         rule = leads.rule before.marks before.stores before.at Now is.wanted;
         named = leads.names;
         fence = leads.fence;
-        is_closed = closed program opening state' heap (next_known there a) (ap (λ (k : Known). k.durable) known) (ap (λ (k : Known). k.world.heap) known);
+        is_closed = closed program opening state' heap (next_known there a) (ap (λ (k : Knowledge). k.durable) known) (ap (λ (k : Knowledge). k.world.heap) known);
       } in
-      let after : known_of set 0 opening code (acts ++ a ∷ []) ≡ next_known there a = known_after-append first acts (a ∷ []) ∙ ap (λ (k : Known). next_known k a) is.known in
+      let after : known_of set 0 opening code (acts ++ a ∷ []) ≡ next_known there a = known_after-append first acts (a ∷ []) ∙ ap (λ (k : Knowledge). next_known k a) is.known in
       record {
         run = GoesOn-push set 0 opening code first (first_frames set 0 opening code) NoWish acts a (
           is.run,
-          subst (λ (k : Known). MayAct set k Now (request_of set 0 opening code k.world stood 0) a) (sym is.known) (
+          subst (λ (k : Knowledge). MayAct set k Now (request_of set 0 opening code k.world stood 0) a) (sym is.known) (
               subst (λ (fs : List Frame). MayAct set there Now (request_of set 0 opening code (world_at program opening frame uncaught state.heap) fs 0) a)
               (sym is.frames) may),
         );
         frames = frames_after-push set 0 opening code first (first_frames set 0 opening code) acts a ∙ (
-            subst (λ (k : Known). frames_after_op set 0 opening code k.world stood 0 o ≡ next ∷ []) (sym is.known) (
+            subst (λ (k : Knowledge). frames_after_op set 0 opening code k.world stood 0 o ≡ next ∷ []) (sym is.known) (
             subst (λ (fs : List Frame). frames_after_op set 0 opening code (world_at program opening frame uncaught state.heap) fs 0 o ≡ next ∷ []) (sym is.frames) leads.frames));
         known = subst IsNext (sym after) known;
         wanted = λ n owes. (wants_after-push first NoWish acts a 0 n).1 (
             wanted_asked state'.owes (next_known before a) Now n (
-            subst (λ (k : Known). (next_known k a).asked ≡ asked_of state'.owes) (sym is.known) (ap (λ (k : Known). k.asked) known)) owes);
+            subst (λ (k : Knowledge). (next_known k a).asked ≡ asked_of state'.owes) (sym is.known) (ap (λ (k : Knowledge). k.asked) known)) owes);
         later = All-push (λ (b : Recorded). b.act.at ≤ at) acts a is.later (omega arith);
-        whole = subst (λ (k : Known). heap_after (first_heap set opening) (all_kept k.marks) ≡ state'.heap) (sym after) (
+        whole = subst (λ (k : Knowledge). heap_after (first_heap set opening) (all_kept k.marks) ≡ state'.heap) (sym after) (
             leads.whole (first_heap set opening) before.marks before.stores before.at is.whole);
         heap = heap;
       }

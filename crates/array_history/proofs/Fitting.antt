@@ -8,7 +8,7 @@ use Rattle.std.proofs.lemmas.List.Elements.{All-head, All-tail, All-set, All-wea
 use Rattle.std.proofs.lemmas.Option.{none-some}
 use Rattle.ap_base.specs.declared.kind.Kind.TheVariants.{I, L}
 use Rattle.ap_base.specs.declared.place.Place.TheVariants.{Static, Slot}
-use Rattle.ap_base.specs.declared.wait.On.TheVariants as on
+use Rattle.run_types.specs.declared.wait.On.TheVariants as on
 use Rattle.graph_model.specs.declared.types.Value.{Value}
 use Rattle.graph_model.specs.declared.types.Value.TheVariants.{Int, Long, Null, Obj as Object}
 use Rattle.graph_model.specs.declared.types.Heap.{Heap}

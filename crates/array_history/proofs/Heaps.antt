@@ -11,7 +11,7 @@ use Rattle.graph_model.specs.declared.types.Root.{Root}
 use Rattle.graph_model.specs.declared.types.Heap.{Heap}
 use Rattle.graph_model.specs.declared.types.Graph.{Graph}
 use Rattle.graph_model.specs.Heaps.{has_number, values_of}
-use Rattle.run_history.specs.Knowing.{Known, is_root}
+use Rattle.run_history.specs.Knowing.{Knowledge, is_root}
 use Rattle.run_history.specs.Wanted.{IsClosed}
 use Rattle.image_meaning.specs.Arrays.{int_value}
 use Rattle.plain_model.specs.Facts.{SetFacts}
@@ -61,7 +61,7 @@ module _ (program : Program) (opening : Graph) (state : State) where
   refers_durable is (suc j) n root holds = is.refers n (referred program.root state.array j n holds)
 
   -- durable objects hold ints, and the root null or a durable object
-  pub closed : IsHeapOf program opening state → (known : Known) → known.durable ≡ durable_of opening state → known.world.heap ≡ state.heap → IsClosed known
+  pub closed : IsHeapOf program opening state → (known : Knowledge) → known.durable ≡ durable_of opening state → known.world.heap ≡ state.heap → IsClosed known
   closed is known durable heap = record {
     objects = λ m n has refers.
         let (ints, array) = is.arrays m (rw durable at has) in

@@ -6,13 +6,13 @@ use Rattle.ap_base.specs.declared.place.Place.{Place}
 use Rattle.graph_model.specs.declared.types.Value.{Value}
 use Rattle.graph_model.specs.declared.types.Graph.{Graph}
 use Rattle.graph_model.specs.Canon.{canon_of}
-use Rattle.line_image.specs.History.{Outcome}
+use Rattle.line_image.specs.Trace.{Outcome}
 use Rattle.image_meaning.specs.Meaning.{StandsFor}
 use Rattle.image_opening.specs.Opened.{IsOfForm}
 use Rattle.run_history.specs.declared.act.Op.{Op}
 use Rattle.run_history.specs.declared.act.Op.TheVariants as op
 use Rattle.run_history.specs.Recorded.{Recorded}
-use Rattle.run_history.specs.Knowing.{Known, Mark, is_durable}
+use Rattle.run_history.specs.Knowing.{Knowledge, Mark, is_durable}
 use Rattle.run_history.specs.Kept.{kept, acts_before}
 use Rattle.run_history.specs.Laws.{Past, known_in, IsSingleStore}
 use Rattle.run_history.proofs.ActsBefore.{acts_before-all}
@@ -60,7 +60,7 @@ module _ {program : Program} {opening : Graph} {acts : List Recorded} {frame : F
 
   single_store : unfenced_of state.owes ≡ [] → (place : Place) → is_durable state.heap (durable_of opening state) place ≡ true → IsSingleStore (known_in past) 0 place
   single_store owes place durable =
-      let IsSingle : Known → Type 0 = λ known. IsSingleStore known 0 place in
+      let IsSingle : Knowledge → Type 0 = λ known. IsSingleStore known 0 place in
       subst IsSingle (sym stands.known) (record { owes_none = rw owes refl; fate = rw durable refl })
 
   -- where it loses the last one, which isn't fenced

@@ -14,12 +14,13 @@ use Rattle.code_form.specs.declared.ins.Placed.{Placed}
 use Rattle.class_file.specs.declared.method.Method.{Method}
 use Rattle.class_file.specs.declared.class.ClassFile.{ClassFile}
 use Rattle.class_file.specs.declared.refusal.ClassRefusal.{ClassRefusal}
-use Rattle.class_file.specs.Refusals.{of_pool, unless, of_item}
+use Rattle.class_file.specs.Refusals.{of_pool, of_item}
 use Rattle.class_file.specs.Classes.{is_misnamed, head_at, this_at, behind_at, class_in, interfaces_at, is_barred}
 use Rattle.class_file.specs.Members.{number, index, fields_at, methods_at}
-use Rattle.class_items.specs.Parsing.{told, ◌>>=◌ as ◌↠◌}
-use Rattle.const_pool.specs.Reading.{Place, pool_in}
-use Rattle.const_pool.proofs.Grammar.{bind_some}
+use Rattle.parsing.specs.Results.{placed, unless, ◌>>=◌ as ◌↠◌}
+use Rattle.const_pool.specs.Reading.{pool_in}
+use Rattle.parsing.specs.Places.{Place}
+use Rattle.parsing.proofs.Options.{bind_some}
 use Rattle.const_pool.specs.declared.entry.Tag.TheVariants.{Class}
 use Rattle.class_file.specs.declared.refusal.ClassRefusal.TheVariants as refusal
 use Rattle.class_items.specs.Items.{attributes_at}
@@ -183,13 +184,13 @@ behind_named pool place file is =
     let named : is_misnamed (class_name_at pool this.0) ≡ false = this_named pool access.1 this this_is in
     given IsNamed (index pool Class this.1) _ (λ super super_is f. given IsNamed (interfaces_at pool super.1) _ (λ interfaces interfaces_are f.
     given IsNamed (fields_at pool interfaces.1) _ (λ fields fields_are f. given IsNamed (methods_at pool fields.1) _ (λ methods methods_are f.
-    given IsNamed (told of_item (attributes_at pool methods.1)) _ (λ attributes attributes_are f. given IsNamed (unless (nat_lt 0 (length attributes.1.1)) (refusal.TrailingBytes attributes.1.0)) _ (λ ended ended_is f same.
+    given IsNamed (placed of_item (attributes_at pool methods.1)) _ (λ attributes attributes_are f. given IsNamed (unless (nat_lt 0 (length attributes.1.1)) (refusal.TrailingBytes attributes.1.0)) _ (λ ended ended_is f same.
     subst IsNamed (same_Ok _ f same) named) f) f) f) f) f) f) f) file is
 
 well_named : (bytes : List ℕ) (file : ClassFile) → class_in bytes ≡ Ok file → IsNamed file
 unfolding class_in
 well_named bytes file is =
-    given IsNamed (head_at (0, bytes)) _ (λ head head_is f. given IsNamed (told of_pool (pool_in bytes)) _ (λ pool pool_is f behind.
+    given IsNamed (head_at (0, bytes)) _ (λ head head_is f. given IsNamed (placed of_pool (pool_in bytes)) _ (λ pool pool_is f behind.
     behind_named pool.0 (pool.1, drop pool.1 bytes) f behind) f) file is
 
 -- arrays of ints are named with [

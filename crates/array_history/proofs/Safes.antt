@@ -4,8 +4,9 @@ use Rattle.std.specs.Prelude.{All}
 use Rattle.std.proofs.lemmas.Bool.{cases_lt}
 use Rattle.std.proofs.lemmas.List.Elements.{All-weaker, All-nil, All-push}
 use Rattle.graph_model.specs.declared.types.Graph.{Graph}
-use Rattle.line_image.specs.History.{History, Outcome, LeavesNow, history_within}
-use Rattle.line_memory.specs.Memory.{Memory, Told, CanLeaveAll, SameImage}
+use Rattle.line_image.specs.Trace.{Trace, Outcome, LeavesNow, trace_within}
+use Rattle.line_image.specs.Told.{Told}
+use Rattle.line_memory.specs.Memory.{Memory, CanLeaveAll, SameImage}
 use Rattle.line_memory.specs.Moments.{Goes, CountsFrom}
 use Rattle.line_memory.proofs.Chain.{counts_same, each_same}
 use Rattle.run_history.specs.declared.act.Op.{Op}
@@ -59,12 +60,12 @@ module _ {program : Program} {opening : Graph} {begin : ℕ} {start : Memory} {a
           subst (λ (done : List Recorded). IsOneOf program opening done new.size c) (sym all)
           (subst (λ (many : ℕ). IsOneOf program opening acts many c) (sym size) one)
 
-      old_moment : (n : ℕ) → 0 < n → n ≤ old.calls → begin + n < 2 ^ 64 - 1 → (c : Outcome) → LeavesNow (history_within (begin + n) new.image.history) c
+      old_moment : (n : ℕ) → 0 < n → n ≤ old.calls → begin + n < 2 ^ 64 - 1 → (c : Outcome) → LeavesNow (trace_within (begin + n) new.image.trace) c
           → start.calls < n → Allowed n new acts c
       old_moment n some early fits c left after =
           let same = goes.before (begin + n) (omega (arith, safe.counts, early, fits)) fits in
           subst (λ (many : ℕ). IsOneOf program opening (acts_before n acts) many c) (sym size)
-          (safe.within n some early fits c (subst (λ (o : Option History). LeavesNow o c) same left) after)
+          (safe.within n some early fits c (subst (λ (o : Option Trace). LeavesNow o c) same left) after)
 
   -- an act, which no moment so far saw
   pub safe_act : (o : Op) (named : List ℕ) → ((c : Outcome) → CanLeaveAll old c → IsOneOf program opening (acts ++ recorded old.calls o named ∷ []) old.size c)
@@ -90,7 +91,7 @@ module _ {program : Program} {opening : Graph} {begin : ℕ} {start : Memory} {a
         later = omega (arith, safe.later, ap (λ (t : Told). t.calls) told);
         more = omega (arith, safe.more, same.calls);
         late = safe.late;
-        before = λ n early fits. ap (λ (t : Told). history_within n t.history) same.image ∙ safe.before n early fits;
+        before = λ n early fits. ap (λ (t : Told). trace_within n t.trace) same.image ∙ safe.before n early fits;
         within = each_same begin old new (λ n c. start.calls < n → Allowed n new acts c) same
             (λ n some few fits c left after. subst (λ (many : ℕ). IsOneOf program opening (acts_before n acts) many c) (sym size) (safe.within n some few fits c left after));
         now = now;
@@ -107,7 +108,7 @@ module _ {program : Program} {opening : Graph} {begin : ℕ} {start : Memory} {a
         later = omega (arith, safe.later, ap (λ (t : Told). t.calls) told);
         more = omega (arith, safe.more, same.calls);
         late = All-push (λ (a : Recorded). start.calls ≤ a.act.at) acts (recorded new.calls o named) safe.late (omega (arith, safe.more, same.calls));
-        before = λ n early fits. ap (λ (t : Told). history_within n t.history) same.image ∙ safe.before n early fits;
+        before = λ n early fits. ap (λ (t : Told). trace_within n t.trace) same.image ∙ safe.before n early fits;
         within = each_same begin old new (λ n c. start.calls < n → Allowed n new (acts ++ recorded new.calls o named ∷ []) c) same
             (λ n some few fits c left after.
             subst (λ (done : List Recorded). IsOneOf program opening done new.size c) (sym (before_next acts new.calls n o named (omega (arith, few, same.calls))))

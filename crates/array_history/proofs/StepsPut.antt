@@ -15,7 +15,7 @@ use Rattle.run_history.specs.declared.act.Op.{Op}
 use Rattle.run_history.specs.declared.act.Op.TheVariants as op
 use Rattle.run_history.specs.Recorded.{Recorded}
 use Rattle.run_history.specs.Worlds.{heap_after_op, heap_after}
-use Rattle.run_history.specs.Knowing.{Fate, Sure, Open, Closing, Single, Mark, Known, known_after_op, Pending, is_root, is_single, store_fate, fenced as fenced_fate, each_fate, with_sure, without_number, pending_of, next_known}
+use Rattle.run_history.specs.Knowing.{Fate, Sure, Open, Closing, Single, Mark, Knowledge, known_after_op, Pending, is_root, is_single, store_fate, fenced as fenced_fate, each_fate, with_sure, without_number, pending_of, next_known}
 use Rattle.run_history.specs.Kept.{survives}
 use Rattle.run_history.proofs.KeptLists.{kept-append, kept-each_fate, heap_after-append}
 use Rattle.plain_model.specs.First.{numbers_to}
@@ -194,7 +194,7 @@ module _ (program : Program) (opening : Graph) where
         fence = ap (λ (owed : Owes). has_number (unfenced_of owed) 0) (sym owes);
         frames = refl;
         known = λ marks stores before.
-            let next : Known = next_known (known_at program opening (Putting (Object k) put gs) None state marks stores before) (recorded at o []) in
+            let next : Knowledge = next_known (known_at program opening (Putting (Object k) put gs) None state marks stores before) (recorded at o []) in
             ap₂ (λ (is_durable : Bool) (owed : Owes). record (known_at program opening (Before gs) None state' next.marks next.stores at) {
               asked = filter (λ (p : Pending). not (nat_eq p.thread 0)) (asked_of owed);
               unfenced = (if is_single (store_fate 0 is_durable 0 false) then unfenced_of owed ++ 0 ∷ [] else unfenced_of owed);

@@ -16,7 +16,7 @@ use Rattle.graph_model.specs.Heaps.{has_number, object_at, values_of, no_object,
 use Rattle.image_meaning.specs.Arrays.{int_value}
 use Rattle.run_history.specs.declared.act.Op.TheVariants as op
 use Rattle.run_history.specs.Recorded.{Recorded}
-use Rattle.run_history.specs.Knowing.{Known, Pending, known_after_op, next_known, is_single, store_fate}
+use Rattle.run_history.specs.Knowing.{Knowledge, Pending, known_after_op, next_known, is_single, store_fate}
 use Rattle.plain_model.specs.Steps.{Step, Does, step, op_of, reply_of}
 use Rattle.plain_model.specs.Codes.{frames_after_op, answered_by}
 use Rattle.natives.specs.declared.requests.Reply.TheVariants as reply
@@ -135,7 +135,7 @@ module _ (program : Program) (opening : Graph) where
         fence = no_fence state.owes owes;
         frames = ap (λ (s : Step). answered_by (program_facts program) 0 opening (program_code program opening) frame (reply_of s) ∷ []) does;
         known = λ marks stores before.
-            let next : Known = next_known (known_at program opening frame None state marks stores before) (recorded at o []) in
+            let next : Knowledge = next_known (known_at program opening frame None state marks stores before) (recorded at o []) in
             ap₂ (λ (is_durable : Bool) (owed : Owes). record (known_at program opening (Before gs) None state' next.marks next.stores at) {
               asked = filter (λ (p : Pending). not (nat_eq p.thread 0)) (asked_of owed);
               unfenced = (if is_single (store_fate 0 is_durable 0 false) then unfenced_of owed ++ 0 ∷ [] else unfenced_of owed);

@@ -3,13 +3,13 @@ use Rattle.std.proofs.Common.{◌≡◌, ℕ, ◌<◌, ◌≤◌, Bool, true, fa
 use Rattle.std.specs.Prelude.{All, filter, max}
 use Rattle.std.proofs.lemmas.Bool.{le-leb, lt-leb}
 use Rattle.std.proofs.lemmas.List.Elements.{All-head, All-tail, All-weaker, filter-append}
-use Rattle.ap_base.specs.declared.kind.Limits.{Limits}
+use Rattle.run_types.specs.declared.limits.Limits.{Limits}
 use Rattle.graph_model.specs.declared.types.Graph.{Graph}
 use Rattle.run_history.specs.Recorded.{Recorded}
-use Rattle.run_history.specs.Knowing.{Known}
+use Rattle.run_history.specs.Knowing.{Knowledge}
 use Rattle.plain_model.specs.First.{first_heap, numbers_to}
 use Rattle.plain_model.specs.Runs.{known_of}
-use Rattle.plain_model.specs.Ends.{KeepsMemory, words_taken, lines_of}
+use Rattle.plain_model.specs.Ends.{KeepsMemory, words_taken, object_lines}
 use Rattle.plain_model.proofs.Durable.{numbers_to-below}
 use Rattle.array_program.specs.declared.program.Program.{Program}
 use Rattle.array_program.specs.Facts.{program_facts}
@@ -46,10 +46,10 @@ joined_are {opening = opening} {state = state} is =
 pub keeps_memory : {program : Program} {opening : Graph} {acts : List Recorded} {frame : Frame} {uncaught : Option ℕ} {state : State} {at : ℕ}
     → IsAt program opening acts frame uncaught state at → (limits : Limits) (lines : ℕ)
     → words_taken opening state.heap ≤ max limits.heap_words (words_taken opening (first_heap (program_facts program) opening))
-    → sum_by (lines_of state.heap) state.joined ≤ lines
+    → sum_by (object_lines state.heap) state.joined ≤ lines
     → KeepsMemory (program_facts program) opening limits lines (known_of (program_facts program) 0 opening (program_code program opening) acts)
 keeps_memory {program = program} {opening = opening} {state = state} stands limits lines words image =
-    subst (λ (known : Known). KeepsMemory (program_facts program) opening limits lines known) (sym stands.known) (record {
+    subst (λ (known : Knowledge). KeepsMemory (program_facts program) opening limits lines known) (sym stands.known) (record {
       words = words;
-      image = subst (λ (joined : List ℕ). sum_by (lines_of state.heap) joined ≤ lines) (sym (joined_are stands.heap)) image;
+      image = subst (λ (joined : List ℕ). sum_by (object_lines state.heap) joined ≤ lines) (sym (joined_are stands.heap)) image;
     })

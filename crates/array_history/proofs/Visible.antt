@@ -8,7 +8,7 @@ use Rattle.run_history.specs.declared.act.Op.{Op}
 use Rattle.run_history.specs.declared.act.Op.TheVariants as op
 use Rattle.run_history.specs.Recorded.{Recorded}
 use Rattle.run_history.specs.Worlds.{World, after, heap_after}
-use Rattle.run_history.specs.Knowing.{Known, Mark, known_after_op, next_known, with_sure}
+use Rattle.run_history.specs.Knowing.{Knowledge, Mark, known_after_op, next_known, with_sure}
 use Rattle.run_history.specs.Wanted.{Wishes}
 use Rattle.plain_model.specs.Facts.{SetFacts}
 use Rattle.plain_model.specs.Requests.{PlainRequest, PlainReply}
@@ -38,7 +38,7 @@ is_simple op.Fenced = false
 is_simple o = true
 
 -- its rule is that of its step
-simple_rule : (set : SetFacts) (known : Known) (Now : Wishes) (request : Option PlainRequest) (o : Op) → is_simple o ≡ true
+simple_rule : (set : SetFacts) (known : Knowledge) (Now : Wishes) (request : Option PlainRequest) (o : Op) → is_simple o ≡ true
     → IsAbout set known request 0 o → Rule set known Now request 0 [] o
 simple_rule set known Now request (op.Stored place value) simple about = absurd (true≢false (sym simple))
 simple_rule set known Now request op.End simple about = absurd (true≢false (sym simple))
@@ -58,7 +58,7 @@ simple_fence op.Fenced simple = sym simple
 simple_fence o simple = refl
 
 -- it changes the world, and is sure
-simple_known : (known : Known) (o : Op) → is_simple o ≡ true → known_after_op known 0 [] o ≡ record known { world = after known.world 0 o; marks = with_sure known.marks o }
+simple_known : (known : Knowledge) (o : Op) → is_simple o ≡ true → known_after_op known 0 [] o ≡ record known { world = after known.world 0 o; marks = with_sure known.marks o }
 unfolding known_after_op
 simple_known known (op.Stored place value) simple = absurd (true≢false (sym simple))
 simple_known known op.End simple = absurd (true≢false (sym simple))
@@ -104,7 +104,7 @@ module _ (program : Program) (opening : Graph) where
 
   module _ (frame next : Frame) (uncaught uncaught' : Option ℕ) (state : State) (heap' : Heap) (at : ℕ) (o : Op) (answer : PlainReply)
       (steps : IsStep frame next uncaught uncaught' state.heap heap' o answer) where
-    abbrev known : List Mark → (stores before : ℕ) → Known
+    abbrev known : List Mark → (stores before : ℕ) → Knowledge
     known marks stores before = known_at program opening frame uncaught state marks stores before
 
     abbrev state' : State
@@ -114,7 +114,7 @@ module _ (program : Program) (opening : Graph) where
     step_known : (marks : List Mark) (stores before : ℕ)
         → next_known (known marks stores before) (recorded at o []) ≡ known_at program opening next uncaught' state' (with_sure marks o) stores at
     step_known marks stores before =
-        ap (λ (k : Known). record k { at = at }) (simple_known (known marks stores before) o steps.simple)
+        ap (λ (k : Knowledge). record k { at = at }) (simple_known (known marks stores before) o steps.simple)
         ∙ ap (λ (world : World). record (known_at program opening next uncaught' state' (with_sure marks o) stores at) { world = world }) steps.world
 
     pub leads_on : state.owes ≡ Nothing → (IsHeapOf program opening state → IsHeapOf program opening state')
@@ -129,9 +129,9 @@ module _ (program : Program) (opening : Graph) where
       fence = simple_fence o steps.simple ∙ no_fence state.owes owes;
       frames = simple_frames frame (world_at program opening frame uncaught state.heap) o answer steps.simple steps.does ∙ ap (λ (f : Frame). f ∷ []) steps.answered;
       known = λ marks stores before.
-          subst (λ (k : Known). k ≡ known_at program opening next uncaught' state' k.marks k.stores at) (sym (step_known marks stores before)) refl;
+          subst (λ (k : Knowledge). k ≡ known_at program opening next uncaught' state' k.marks k.stores at) (sym (step_known marks stores before)) refl;
       whole = λ first marks stores before whole.
-          subst (λ (k : Known). heap_after first (all_kept k.marks) ≡ heap') (sym (step_known marks stores before)) (
+          subst (λ (k : Knowledge). heap_after first (all_kept k.marks) ≡ heap') (sym (step_known marks stores before)) (
           kept_sure first state.heap marks o whole ∙ ap (λ (world : World). world.heap) steps.world);
       heap = heap;
     }

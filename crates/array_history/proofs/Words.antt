@@ -19,7 +19,7 @@ use Rattle.plain_model.specs.declared.throws.Throws.{Throws}
 use Rattle.plain_model.specs.declared.throws.Throws.TheVariants.{NegativeArraySize, NullPointer, ArrayIndexOutOfBounds, StringIndexOutOfBounds, ArrayStore, ClassCast, IllegalMonitorState, IllegalThreadState, IllegalState, Arithmetic}
 use Rattle.plain_model.specs.Facts.{shapes_of, thrown_class}
 use Rattle.plain_model.specs.First.{first_heap, node_object, literal_object}
-use Rattle.plain_model.specs.Ends.{words_of, words_taken, lines_of}
+use Rattle.plain_model.specs.Ends.{words_of, words_taken, object_lines}
 use Rattle.array_program.specs.declared.program.Program.{Program}
 use Rattle.array_program.specs.Facts.{program_facts, int_array_number}
 use Rattle.array_history.specs.Standing.{State, IsHeapOf, stream_of}
@@ -129,7 +129,7 @@ words_stored opening heap (Slot n i) value =
 pub lines_of_count : (count : ℕ) → (count + 8) / 8 ≡ places.lines_of count
 lines_of_count count = ap (λ (n : ℕ). n / 8) (let e : count + 8 ≡ 1 + count + 7 = omega arith in e)
 
-pub lines_same : (heap : Heap) (n : ℕ) → lines_of heap n ≡ places.lines_of (length (values_of heap n))
+pub lines_same : (heap : Heap) (n : ℕ) → object_lines heap n ≡ places.lines_of (length (values_of heap n))
 lines_same heap n = lines_of_count (length (values_of heap n))
 
 -- ---- in a run

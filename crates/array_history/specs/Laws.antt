@@ -1,15 +1,15 @@
 -- The laws of runs of programs with at most one durable array. Each is said of every program, opening graph and history.
 use Rattle.plain_model.specs.Duties.{KeepsDuties}
 use Rattle.std.specs.Prelude.{◌≡◌, ◌<◌, ◌≤◌, ◌+◌, ◌-◌, max, ℕ, ℤ, pos, List, [], ◌∷◌, ◌++◌, Option, Some, None, Ok, sum_by, true, false}
-use Rattle.ap_base.specs.declared.kind.Limits.{Limits}
+use Rattle.run_types.specs.declared.limits.Limits.{Limits}
 use Rattle.ap_base.specs.declared.place.Place.{Place}
-use Rattle.ap_base.specs.declared.fault.RunFault.TheVariants as fault
-use Rattle.ap_base.specs.declared.fault.Which.TheVariants as which
+use Rattle.run_types.specs.declared.fault.RunFault.TheVariants as fault
+use Rattle.run_types.specs.declared.fault.Which.TheVariants as which
 use Rattle.graph_model.specs.declared.types.Value.{Value}
 use Rattle.graph_model.specs.declared.types.Graph.{Graph}
 use Rattle.graph_model.specs.Heaps.{has_number}
 use Rattle.graph_model.specs.Canon.{canon_of}
-use Rattle.line_image.specs.History.{Outcome}
+use Rattle.line_image.specs.Trace.{Outcome}
 use Rattle.line_memory.specs.Memory.{Memory, CanLeaveAll, SameImage}
 use Rattle.image_meaning.specs.Meaning.{StandsFor}
 use Rattle.image_meaning.specs.Opening.{HoldsGraph}
@@ -22,7 +22,7 @@ use Rattle.run_history.specs.Recorded.{Recorded}
 use Rattle.run_history.specs.Knowing.{is_durable}
 use Rattle.plain_model.specs.First.{first_heap}
 use Rattle.plain_model.specs.Runs.{known_of}
-use Rattle.plain_model.specs.Ends.{EndsAs, Fault, Uncaught, Finished, KeepsMemory, words_taken, lines_of}
+use Rattle.plain_model.specs.Ends.{EndsAs, Fault, Uncaught, Finished, KeepsMemory, words_taken, object_lines}
 use Rattle.array_program.specs.declared.program.Group.{Group}
 use Rattle.array_program.specs.declared.program.Group.TheVariants as group
 use Rattle.array_program.specs.declared.program.Program.{Program}
@@ -103,12 +103,12 @@ ArrayFillsImage = (program : Program) (opening : Graph) (acts : List Recorded) (
     (limits : Limits) (lines : ℕ)
     → IsAt program opening acts frame uncaught state at → has_left frame ≡ false
     → state.owes ≡ Store k → has_number (durable_of opening state) k ≡ false
-    → lines - sum_by (lines_of state.heap) state.joined < lines_of state.heap k
+    → lines - sum_by (object_lines state.heap) state.joined < object_lines state.heap k
     → EndsAs (program_facts program) 0 opening (program_code program opening) limits lines acts
     (Fault (fault.Full (record {
       which = which.ImageLines;
-      need = lines_of state.heap k;
-      left = lines - sum_by (lines_of state.heap) state.joined;
+      need = object_lines state.heap k;
+      left = lines - sum_by (object_lines state.heap) state.joined;
     })))
 
 -- A run whose numbers keep within what there is takes no more: of volatile memory, and of the image's lines.
@@ -117,5 +117,5 @@ NumbersKeepMemory = (program : Program) (opening : Graph) (acts : List Recorded)
     (limits : Limits) (lines : ℕ)
     → IsAt program opening acts frame uncaught state at
     → words_taken opening state.heap ≤ max limits.heap_words (words_taken opening (first_heap (program_facts program) opening))
-    → sum_by (lines_of state.heap) state.joined ≤ lines
+    → sum_by (object_lines state.heap) state.joined ≤ lines
     → KeepsMemory (program_facts program) opening limits lines (known_of (program_facts program) 0 opening (program_code program opening) acts)

@@ -1,7 +1,7 @@
 -- What a stop may leave of a run: an image that can be opened again, and stands for a graph which the acts before it allow.
 use Rattle.std.specs.Prelude.{◌≡◌, ◌<◌, ◌≤◌, ◌-◌, ◌^◌, ℕ, List, All}
 use Rattle.graph_model.specs.declared.types.Graph.{Graph}
-use Rattle.line_image.specs.History.{Outcome, history_within}
+use Rattle.line_image.specs.Trace.{Outcome, trace_within}
 use Rattle.line_memory.specs.Memory.{Memory, CanLeaveAll}
 use Rattle.line_memory.specs.Moments.{CountsFrom, EachMoment}
 use Rattle.image_meaning.specs.Meaning.{StandsFor}
@@ -28,6 +28,6 @@ pub record IsSafe (program : Program) (opening : Graph) (begin : ℕ) (start : M
   pub more : start.calls ≤ m.calls
   pub late : All (λ (a : Recorded). start.calls ≤ a.act.at) acts
   pub before : (n : ℕ) → n ≤ start.image.calls → n < 2 ^ 64 - 1
-      → history_within n m.image.history ≡ history_within n start.image.history
+      → trace_within n m.image.trace ≡ trace_within n start.image.trace
   pub within : EachMoment begin m (λ n c. start.calls < n → IsOneOf program opening (acts_before n acts) m.size c)
   pub now : (c : Outcome) → CanLeaveAll m c → IsOneOf program opening acts m.size c

@@ -17,7 +17,7 @@ use Rattle.run_history.specs.declared.plain.Progress.{Progress}
 use Rattle.run_history.specs.declared.plain.Progress.TheVariants.{Untouched, BegunBy, Finished}
 use Rattle.run_history.specs.Recorded.{Recorded}
 use Rattle.run_history.specs.Worlds.{World, new_thread, heap_after}
-use Rattle.run_history.specs.Knowing.{Known, Mark, Pending, is_root}
+use Rattle.run_history.specs.Knowing.{Knowledge, Mark, Pending, is_root}
 use Rattle.run_history.specs.Kept.{kept}
 use Rattle.plain_model.specs.BuiltIn.{built_in_classes}
 use Rattle.plain_model.specs.Facts.{shapes_of}
@@ -140,7 +140,7 @@ world_at program opening frame uncaught heap = record {
   threads = record (new_thread None) { ended = has_left frame; uncaught = uncaught } ∷ [];
 }
 
-abbrev pub known_at : Program → Graph → Frame → Option ℕ → State → List Mark → (stores at : ℕ) → Known
+abbrev pub known_at : Program → Graph → Frame → Option ℕ → State → List Mark → (stores at : ℕ) → Knowledge
 known_at program opening frame uncaught state marks stores at = record {
   world = world_at program opening frame uncaught state.heap;
   durable = durable_of opening state;

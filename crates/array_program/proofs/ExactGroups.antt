@@ -5,7 +5,7 @@ use Rattle.std.proofs.lemmas.Option.{none-some, same_Some}
 use Rattle.std.proofs.lemmas.List.{take-append-drop, length-take-le}
 use Rattle.std.proofs.Math.Seq.{drop-append_seam, take-append_seam}
 use Rattle.const_pool.specs.Pool.{Slots}
-use Rattle.const_pool.proofs.Grammar.{bind_some}
+use Rattle.parsing.proofs.Options.{bind_some}
 use Rattle.code_form.specs.declared.ins.Plain.TheVariants as plain
 use Rattle.code_form.specs.declared.ins.Ins.{Ins}
 use Rattle.code_form.specs.declared.ins.Ins.TheVariants as ins

@@ -7,7 +7,7 @@ use Rattle.std.proofs.lemmas.Option.{none-some, same_Some}
 use Rattle.std.proofs.lemmas.Slice.Eq.{bytes_eq-Decides}
 use Rattle.const_pool.specs.declared.entry.Member.{Member}
 use Rattle.const_pool.specs.Pool.{Slots, name_and_type_at, entry_at}
-use Rattle.const_pool.proofs.Grammar.{bind_some}
+use Rattle.parsing.proofs.Options.{bind_some}
 use Rattle.code_form.specs.declared.ins.PoolUse.TheVariants as usage
 use Rattle.code_form.specs.declared.ins.Ins.{Ins}
 use Rattle.code_form.specs.declared.ins.Ins.TheVariants as ins

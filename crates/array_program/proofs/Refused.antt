@@ -9,7 +9,7 @@ use Rattle.graph_model.specs.declared.types.Heap.{Heap}
 use Rattle.graph_model.specs.Heaps.{values_of}
 use Rattle.graph_model.specs.Reach.{Reaches, here, along}
 use Rattle.run_history.specs.declared.act.Op.TheVariants as op
-use Rattle.run_history.specs.Knowing.{Known, Pending, pending_of, known_after_op, known_after}
+use Rattle.run_history.specs.Knowing.{Knowledge, Pending, pending_of, known_after_op, known_after}
 use Rattle.run_history.specs.Wanted.{Wishes, NoWish, WantsNow, WantsAfter}
 use Rattle.plain_model.specs.First.{first_world, first_heap, first_known}
 use Rattle.plain_model.specs.Steps.{step}
@@ -74,7 +74,7 @@ abbrev asks_array : Pending
 asks_array = record { thread = 0; place = Static 1; value = Object 2 }
 
 -- where object 2 alone is asked, an array of numbers, nobody wants object 0
-unwanted : (known : Known) (Before : Wishes) (u : ℕ) → known.asked ≡ asks_array ∷ [] → values_of known.world.heap 2 ≡ zeros
+unwanted : (known : Knowledge) (Before : Wishes) (u : ℕ) → known.asked ≡ asks_array ∷ [] → values_of known.world.heap 2 ≡ zeros
     → ((v m : ℕ) → Before v m → ⊥) → WantsNow known Before u 0 → ⊥
 unwanted known Before u is_asked are before_none wants =
     let now = wants_now known Before u 0 wants in

@@ -1,6 +1,6 @@
 -- What the class set of a program with at most one durable array tells.
 use Rattle.std.specs.Prelude.{ℕ, suc, true, List, [], ◌∷◌, ◌++◌, codes, Option, Some, None}
-use Rattle.ap_base.specs.declared.kind.FieldAt.{FieldAt}
+use Rattle.run_types.specs.declared.resolved.FieldAt.{FieldAt}
 use Rattle.ap_base.specs.declared.kind.Kind.TheVariants.{C, I, L}
 use Rattle.plain_model.specs.BuiltIn.{object_place, print_stream_place, system_place, string_place, built_in_classes, array_type, given_arrays, chars_number, arguments_type_number, known_classes, throwable_numbers}
 use Rattle.plain_model.specs.Facts.{ClassFacts, StaticFacts, SetFacts}

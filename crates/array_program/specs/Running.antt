@@ -3,9 +3,9 @@
 -- the thread (JVMS 2.10).
 use Rattle.std.specs.Prelude.{ℕ, suc, ℤ, List, [], ◌∷◌, ◌++◌, drop, Some, None}
 use Rattle.std.specs.Fmt.{signed_decimal}
-use Rattle.ap_base.specs.declared.kind.At.{At}
+use Rattle.run_types.specs.declared.resolved.At.{At}
 use Rattle.ap_base.specs.declared.kind.Kind.TheVariants.{I}
-use Rattle.ap_base.specs.declared.kind.Key.TheVariants as key
+use Rattle.run_types.specs.declared.key.Key.TheVariants as key
 use Rattle.graph_model.specs.declared.types.Value.{Value}
 use Rattle.graph_model.specs.declared.types.Value.TheVariants.{Int}
 use Rattle.graph_model.specs.declared.types.Graph.{Graph}

@@ -11,8 +11,6 @@ mod names;
 mod program;
 mod reading;
 mod rows;
-#[cfg(test)]
-mod tests;
 
 pub use laws::a_code_is_its_groups;
 pub use program::{Group, Program};

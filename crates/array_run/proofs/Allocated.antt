@@ -1,7 +1,7 @@
 -- A new array in volatile memory.
 use Rattle.std.proofs.Common.{◌≡◌, ◌+◌, ◌-◌, ◌<◌, ◌≤◌, ℕ, pos, List, [], ◌∷◌, length, refl, sym, subst, ap, ◌∙◌, arith, None}
 use Rattle.std.proofs.lemmas.List.Elements.{All-weaker}
-use Rattle.ap_base.specs.declared.fault.Which.TheVariants as which_full
+use Rattle.run_types.specs.declared.fault.Which.TheVariants as which_full
 use Rattle.graph_model.specs.declared.types.Heap.{Heap}
 use Rattle.graph_model.specs.declared.types.Value.TheVariants.{Obj as Object}
 use Rattle.graph_model.specs.Heaps.{values_of, with_fresh}

@@ -10,7 +10,7 @@ use Rattle.image_meaning.specs.Checks.{Words}
 use Rattle.image_meaning.specs.Directories.{Directory}
 use Rattle.image_meaning.specs.Corresponds.{LiesAt}
 use Rattle.image_meaning.proofs.Elsewhere.{corresponds-fresh}
-use Rattle.plain_model.specs.Ends.{lines_of}
+use Rattle.plain_model.specs.Ends.{object_lines}
 use Rattle.array_run.proofs.Numbers.{same_sum}
 use Rattle.array_heap.specs.Holding.{Counts, InSuperblock, InDirectory, CountOfLog, RootSlot, ObjectHead, ObjectSlot, ShowsHeap, IsSettledFor}
 
@@ -51,5 +51,5 @@ settled-fresh R directory heap m shape count shows settled l w counts =
 
 -- the lines of the objects that were there
 pub sum-fresh : (heap : Heap) (shape count : ℕ) (ns : List ℕ) → All (λ n. n < length heap.objects) ns
-    → sum_by (lines_of (with_fresh heap shape count)) ns ≡ sum_by (lines_of heap) ns
+    → sum_by (object_lines (with_fresh heap shape count)) ns ≡ sum_by (object_lines heap) ns
 sum-fresh heap shape count ns there = same_sum heap (with_fresh heap shape count) ns (λ i d h. ap length (values-fresh heap shape count _ (there i d h)))

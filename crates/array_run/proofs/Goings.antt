@@ -3,7 +3,7 @@ use Rattle.std.proofs.Common.{◌≡◌, ◌-◌, ◌≤◌, ℕ, List, [], ◌�
 use Rattle.std.specs.Prelude.{sum_by}
 use Rattle.std.proofs.lemmas.List.Elements.{All-push, All-weaker}
 use Rattle.graph_model.specs.declared.types.Heap.{Heap}
-use Rattle.line_image.specs.History.{Outcome}
+use Rattle.line_image.specs.Trace.{Outcome}
 use Rattle.line_memory.specs.Memory.{Memory, shown, CanLeaveAll}
 use Rattle.line_memory.specs.Moments.{CountsFrom}
 use Rattle.run_history.specs.declared.act.Op.{Op}
@@ -14,7 +14,7 @@ use Rattle.image_meaning.specs.Laws.{told_by, SameFront}
 use Rattle.image_opening.specs.Opened.{IsOfForm}
 use Rattle.image_opening.specs.Rest.{IsAtRest}
 use Rattle.array_heap.specs.Holding.{HoldsHeap, IsImageOf}
-use Rattle.plain_model.specs.Ends.{words_taken, lines_of as lines_of_object}
+use Rattle.plain_model.specs.Ends.{words_taken, object_lines}
 use Rattle.array_program.specs.Running.{Frame}
 use Rattle.array_history.specs.Standing.{State, Owes, Nothing, IsAt, IsHeapOf, recorded, root_name, with_op}
 use Rattle.array_history.specs.Left.{IsSafe, IsOneOf}
@@ -101,7 +101,7 @@ timed_calls s acts m n timed more counts = record {
 pub keeps_tied : (s : Setting) (acts : List Recorded) (frame : Frame) (uncaught : Option ℕ) (state other : State) (at : ℕ) (objects : Objects) (m : Memory)
     → IsAt s.program s.opening acts frame uncaught other at → Ties s state objects m
     → words_taken s.opening other.heap ≡ words_taken s.opening state.heap
-    → sum_by (lines_of_object other.heap) other.joined ≡ sum_by (lines_of_object state.heap) state.joined → KeepsWithin s acts
+    → sum_by (object_lines other.heap) other.joined ≡ sum_by (object_lines state.heap) state.joined → KeepsWithin s acts
 keeps_tied s acts frame uncaught state other at objects m is ties words lines =
     keeps_memory is default_limits (s.start.size - s.free) (omega (arith, ties.few, words)) (omega (arith, ties.used, ties.within, lines))
 

@@ -1,7 +1,7 @@
 -- An image of the form whose directory has all that a root wants is laid out for it.
 use Rattle.std.proofs.Common.{◌≡◌, ◌≢◌, ⊎_elim, ℕ, List, [], ◌∷◌, length, take, refl, sym, ap, ◌∙◌, subst, arith, Option, Some, None, Result, Ok}
 use Rattle.image_meaning.specs.Checks.{Words, Bad}
-use Rattle.image_meaning.specs.Entries.{Entry}
+use Rattle.image_meaning.specs.Entries.{DirectoryEntry}
 use Rattle.image_meaning.specs.Directories.{Directory, AreEntries, directory_of, no_entries, spelled_all, with_all}
 use Rattle.image_meaning.specs.Arrays.{array_entries}
 use Rattle.image_meaning.proofs.Arrays.{shape-may_stand}
@@ -22,7 +22,7 @@ module _ (size : ℕ) (c : Words) (name : List ℕ) (told : directory_of c ≡ O
   spelling = spelled_all (wanted (Some name))
 
   -- a directory of other entries has no root
-  no_root : (used : ℕ) (entries : List Entry) → AreEntries no_entries entries → (with_all no_entries entries).roots ≡ []
+  no_root : (used : ℕ) (entries : List DirectoryEntry) → AreEntries no_entries entries → (with_all no_entries entries).roots ≡ []
       → take used spelling ≡ spelled_all entries → length (spelled_all entries) ≡ used → IsFront size c spelling used → ⊥
   no_root used entries are none is many front =
       let same = directory_same c (with_all no_entries entries) (with_all no_entries (array_entries name))

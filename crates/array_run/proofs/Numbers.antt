@@ -13,7 +13,7 @@ use Rattle.graph_model.specs.Heaps.{no_object, object_at, values_of, stored, wit
 use Rattle.ap_base.specs.declared.kind.Kind.TheVariants.{I}
 use Rattle.graph_model.specs.declared.types.Shape.{Shape}
 use Rattle.graph_model.specs.Heaps.{no_shape, shape_at}
-use Rattle.plain_model.specs.Ends.{lines_of}
+use Rattle.plain_model.specs.Ends.{object_lines}
 use Rattle.image_meaning.specs.Arrays.{int_array}
 use Rattle.image_meaning.specs.Laws.{told_by}
 use Rattle.plain_model.specs.Facts.{shapes_of}
@@ -25,13 +25,13 @@ use Rattle.array_run.specs.Going.{IsRootArray}
 -- ---- sums over objects of the same lengths
 
 pub same_sum : (heap other : Heap) (ns : List ℕ) → All (λ n. length (values_of other n) ≡ length (values_of heap n)) ns
-    → sum_by (lines_of other) ns ≡ sum_by (lines_of heap) ns
+    → sum_by (object_lines other) ns ≡ sum_by (object_lines heap) ns
 same_sum heap other [] same = refl
 same_sum heap other (n ∷ ns) same =
-    sum_by-cons (lines_of other) n ns
-    ∙ ap (λ k. (k + 8) / 8 + sum_by (lines_of other) ns) (same 0 n (omega arith))
-    ∙ ap (λ k. lines_of heap n + k) (same_sum heap other ns (λ k d h. same (suc k) d (omega (arith, h))))
-    ∙ sym (sum_by-cons (lines_of heap) n ns)
+    sum_by-cons (object_lines other) n ns
+    ∙ ap (λ k. (k + 8) / 8 + sum_by (object_lines other) ns) (same 0 n (omega arith))
+    ∙ ap (λ k. object_lines heap n + k) (same_sum heap other ns (λ k d h. same (suc k) d (omega (arith, h))))
+    ∙ sym (sum_by-cons (object_lines heap) n ns)
 
 -- ---- a store into a slot
 
@@ -53,7 +53,7 @@ length-slot heap m i n value = elim (cases_eq n m) [
     set_past (x ∷ os) zero o past = absurd (omega (arith, past))
     set_past (x ∷ os) (suc k) o past = ap (λ (rest : List Obj). x ∷ rest) (set_past os k o (omega (arith, past)))
 
-pub sum-slot : (heap : Heap) (k i : ℕ) (number : ℤ) (ns : List ℕ) → sum_by (lines_of (stored heap (Slot k i) (Int number))) ns ≡ sum_by (lines_of heap) ns
+pub sum-slot : (heap : Heap) (k i : ℕ) (number : ℤ) (ns : List ℕ) → sum_by (object_lines (stored heap (Slot k i) (Int number))) ns ≡ sum_by (object_lines heap) ns
 sum-slot heap k i number ns = same_sum heap (stored heap (Slot k i) (Int number)) ns (λ j d h. length-slot heap k i (slice_index_or ns j d) (Int number))
 
 -- ---- the root's array

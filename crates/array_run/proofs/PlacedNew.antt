@@ -5,15 +5,15 @@ use Rattle.std.proofs.lemmas.List.{length-map, length-replicate}
 use Rattle.std.proofs.lemmas.List.Sums.{sum_by_push}
 use Rattle.std.proofs.lemmas.List.Elements.{All-push}
 use Rattle.ap_base.specs.declared.kind.Kind.TheVariants.{I}
-use Rattle.ap_base.specs.declared.fault.Which.TheVariants as which_full
+use Rattle.run_types.specs.declared.fault.Which.TheVariants as which_full
 use Rattle.graph_model.specs.declared.types.Shape.{Shape}
 use Rattle.graph_model.specs.declared.types.Heap.{Heap}
 use Rattle.graph_model.specs.declared.types.Value.{Value}
 use Rattle.graph_model.specs.declared.types.Value.TheVariants.{Int, Obj as Object}
 use Rattle.graph_model.specs.Heaps.{no_shape, values_of, shape_at, fresh_values, with_fresh}
-use Rattle.line_image.specs.History.{Outcome}
+use Rattle.line_image.specs.Trace.{Outcome}
 use Rattle.line_memory.specs.Memory.{Memory, shown, IsKnown, CanLeaveAll}
-use Rattle.line_memory.proofs.Whole.{all_resident}
+use Rattle.line_memory.proofs.Residence.{every_line_is_resident}
 use Rattle.line_memory.specs.Moments.{Goes, CountsFrom}
 use Rattle.image_layout.specs.Places.{first_object_line, lines_of}
 use Rattle.image_meaning.specs.Arrays.{int_array, int_value}
@@ -26,7 +26,7 @@ use Rattle.array_heap.proofs.Held.{front-along}
 use Rattle.array_heap.proofs.Placing.{to_either, from_either}
 use Rattle.run_history.specs.declared.act.Op.TheVariants as op
 use Rattle.run_history.specs.Recorded.{Recorded}
-use Rattle.plain_model.specs.Ends.{lines_of as lines_of_object}
+use Rattle.plain_model.specs.Ends.{object_lines}
 use Rattle.array_program.specs.declared.program.Group.{Group}
 use Rattle.array_program.specs.Facts.{int_array_number}
 use Rattle.array_program.specs.Running.{Putting}
@@ -113,11 +113,11 @@ module _ (s : Setting) (array : DurableArray) (put : ℕ) (gs : List Group) (act
   count_is : length (values_of state.heap k) ≡ array.length
   count_is = ap length has.ints.values ∙ length-map zeros int_value ∙ length-replicate array.length (pos 0)
 
-  lines_are : lines_of_object state.heap k ≡ lines_of array.length
+  lines_are : object_lines state.heap k ≡ lines_of array.length
   lines_are = lines_same state.heap k ∙ ap lines_of count_is
 
-  sum_is : sum_by (lines_of_object state.heap) (state.joined ++ k ∷ []) ≡ sum_by (lines_of_object state.heap) state.joined + lines_of array.length
-  sum_is = sum_by_push (lines_of_object state.heap) state.joined k ∙ ap (λ n. sum_by (lines_of_object state.heap) state.joined + n) lines_are
+  sum_is : sum_by (object_lines state.heap) (state.joined ++ k ∷ []) ≡ sum_by (object_lines state.heap) state.joined + lines_of array.length
+  sum_is = sum_by_push (object_lines state.heap) state.joined k ∙ ap (λ n. sum_by (object_lines state.heap) state.joined + n) lines_are
 
   -- too few lines are left
   pub no_lines : (need left : ℕ) → left ≡ m1.size - objects.free → need ≡ lines_of array.length → left < need
@@ -249,7 +249,7 @@ module _ (s : Setting) (array : DurableArray) (put : ℕ) (gs : List Group) (act
       front =
           let others_m = subst (λ (j : Memory). (l w : ℕ) → IsKnown j l → ¬ IsIn array.line (lines_of array.length) l → shown n l w ≡ shown j l w) still others in
           front-along (shown s.start) (shown m) (shown n) ties.front (front-kept (told_by ties.lies) ties.directory state.heap m n ties.shows
-          (λ l w below before. others_m l w (inl (all_resident m l below)) (λ inside. omega (arith, before, inside, low))))
+          (λ l w below before. others_m l w (inl (every_line_is_resident m l below)) (λ inside. omega (arith, before, inside, low))))
 
       abbrev durable_now : State
       durable_now = record wants { joined = wants.joined ++ k ∷ [] }

@@ -12,7 +12,7 @@ use Rattle.graph_model.specs.declared.types.Value.{Value}
 use Rattle.graph_model.specs.declared.types.Value.TheVariants.{Int, Null, Obj as Object}
 use Rattle.graph_model.specs.declared.types.Graph.{Graph}
 use Rattle.graph_model.specs.Heaps.{no_shape, values_of, has_number}
-use Rattle.line_image.specs.History.{Outcome}
+use Rattle.line_image.specs.Trace.{Outcome}
 use Rattle.image_meaning.specs.Checks.{Words}
 use Rattle.image_meaning.specs.Objects.{object_slot, shape_of, kind_of}
 use Rattle.image_meaning.specs.Meaning.{root_word}

@@ -13,7 +13,7 @@ use Rattle.graph_model.specs.declared.types.Graph.{Graph}
 use Rattle.graph_model.specs.Heaps.{no_object, shape_at, values_of}
 use Rattle.line_memory.specs.Memory.{Memory, shown}
 use Rattle.line_memory.specs.Moments.{CountsFrom}
-use Rattle.line_memory.proofs.Whole.{all_resident}
+use Rattle.line_memory.proofs.Residence.{every_line_is_resident}
 use Rattle.image_layout.specs.Places.{lines_of}
 use Rattle.image_meaning.specs.Checks.{Words}
 use Rattle.image_meaning.specs.Directories.{Directory, directory_of, no_entries, with_all}
@@ -280,7 +280,7 @@ module _ (program : Program) (ints : Option (List ℤ)) (m : Memory) (found : Ho
 
 opened_found : (program : Program) (opened : Opened) (m : Memory) → (is : IsOpened program opened m) → HoldsFound m (graph_with program is.ints)
 opened_found program opened m is =
-    attached-held m (graph_with program is.ints) (λ line h. inl (all_resident m line h)) is.in_use is.unlogged
+    attached-held m (graph_with program is.ints) (λ line h. inl (every_line_is_resident m line h)) is.in_use is.unlogged
     (subst (StandsFor m.size (shown m)) is.graph is.stands)
 
 opened_laid : (program : Program) (opened : Opened) (m : Memory) → (is : IsOpened program opened m) → IsLaidOut m.size (shown m) (root_name program)

@@ -3,7 +3,8 @@ use Rattle.std.proofs.Common.{◌≡◌, ◌^◌, ℕ, ◌<◌, ◌≤◌, ◌-�
 use Rattle.std.specs.Prelude.{All}
 use Rattle.ap_base.specs.declared.place.Place.{Place}
 use Rattle.graph_model.specs.declared.types.Value.{Value}
-use Rattle.line_memory.specs.Memory.{Memory, Told, shown, CanLeaveAll, SameImage}
+use Rattle.line_image.specs.Told.{Told}
+use Rattle.line_memory.specs.Memory.{Memory, shown, CanLeaveAll, SameImage}
 use Rattle.line_memory.specs.Moments.{CountsFrom}
 use Rattle.durable_word.specs.Writes.{WritesOn}
 use Rattle.image_meaning.specs.Directories.{Directory}

@@ -1,7 +1,7 @@
 -- Where a run stands between two of its events, and what its numbers say of the heap.
 use Rattle.std.specs.Prelude.{◌≡◌, ℕ, ◌+◌, ◌-◌, ◌<◌, ◌≤◌, max, pos, Bool, true, false, List, [], ◌∷◌, length, replicate, sum_by, Option, Some, None, Result, Ok, Err, IfSome, All}
-use Rattle.ap_base.specs.declared.fault.RunFault.TheVariants as fault
-use Rattle.ap_base.specs.declared.fault.Which.TheVariants as which_full
+use Rattle.run_types.specs.declared.fault.RunFault.TheVariants as fault
+use Rattle.run_types.specs.declared.fault.Which.TheVariants as which_full
 use Rattle.graph_model.specs.declared.types.Root.{Root}
 use Rattle.graph_model.specs.declared.types.Heap.{Heap}
 use Rattle.graph_model.specs.declared.types.Value.TheVariants.{Obj as Object}
@@ -25,7 +25,7 @@ use Rattle.plain_model.specs.Facts.{thrown_class}
 use Rattle.plain_model.specs.declared.throws.Throws.{Throws}
 use Rattle.plain_model.specs.First.{first_heap}
 use Rattle.plain_model.specs.Runs.{known_of}
-use Rattle.plain_model.specs.Ends.{Fault, EndsAs, KeepsMemory, words_taken, lines_of as lines_of_object}
+use Rattle.plain_model.specs.Ends.{Fault, EndsAs, KeepsMemory, words_taken, object_lines}
 use Rattle.array_program.specs.declared.program.Group.{Group}
 use Rattle.array_program.specs.declared.program.Program.{Program}
 use Rattle.array_program.specs.Facts.{program_facts, int_array_number}
@@ -94,7 +94,7 @@ pub record Ties (s : Setting) (state : State) (objects : Objects) (m : Memory) :
   pub few : words_taken s.opening state.heap ≤ max default_limits.heap_words (words_taken s.opening (first_heap (program_facts s.program) s.opening))
   pub free : (line n : ℕ) → told_by lies line n → line + lines_of (length (values_of state.heap n)) ≤ objects.free
   pub made : All (λ n. n < length state.heap.objects) state.joined
-  pub used : sum_by (lines_of_object state.heap) state.joined + s.free ≡ objects.free
+  pub used : sum_by (object_lines state.heap) state.joined + s.free ≡ objects.free
   pub within : objects.free ≤ s.start.size
   pub array : IsRootArray lies state.heap state.array objects.array
 

@@ -1,7 +1,7 @@
 -- The memory of an image that was opened for a program.
 use Rattle.std.specs.Prelude.{◌≡◌, ◌≢◌, ℕ, ℤ, List, [], Option, Some, None, Result, Ok, Err}
-use Rattle.ap_base.specs.declared.kind.Limits.{Limits}
-use Rattle.ap_base.specs.declared.fault.RunFault.TheVariants as fault
+use Rattle.run_types.specs.declared.limits.Limits.{Limits}
+use Rattle.run_types.specs.declared.fault.RunFault.TheVariants as fault
 use Rattle.graph_model.specs.declared.types.Graph.{Graph}
 use Rattle.line_memory.specs.Memory.{Memory, shown}
 use Rattle.image_meaning.specs.Arrays.{array_entries}

@@ -8,8 +8,6 @@ mod reading;
 mod run;
 mod storing;
 mod telling;
-#[cfg(test)]
-mod tests;
 mod throwing;
 
 pub use run::{Run, RunEnd, run_program};

@@ -12,15 +12,16 @@ use crate::objects::{DurableArray, HEAD_WORDS, Objects};
 use crate::reading::ROOT;
 use crate::run::{Run, RunEnd};
 use crate::storing::set_root_to;
-use crate::telling::{joins, visible};
+use crate::telling::{joins, next_turn, visible};
 use crate::throwing::throw;
-use ap_base::{Full, Gate, Place, Sink, Which};
+use ap_base::{Gate, Place, Sink};
 use array_heap::place_zeros;
 use graph_model::Value;
 use image_layout::lines_of as lines_for;
 use line_image::Image;
 use plain_model::Throws;
 use run_history::{Op, Watcher};
+use run_types::{Full, Which};
 
 // The class of `int[]`, by its number: the program's class comes before the built-in ones, and `char[]` before it.
 const INT_ARRAY: u32 = 30;
@@ -53,6 +54,7 @@ fn allocate<I: Image, S: Sink, G: Gate, W: Watcher>(
 {
     let need = HEAD_WORDS + u64::from(count);
     if objects.words < need {
+        next_turn(run, gate);
         return Err(RunEnd::Full(Full {
             which: Which::VolatileWords,
             need,

@@ -23,13 +23,14 @@ use crate::printing::print_number;
 use crate::reading::print_element;
 use crate::storing::store_number;
 use crate::telling::visible;
-use ap_base::{Full, Gate, Sink, SinkFailed};
+use ap_base::{Gate, Sink, SinkFailed};
 use array_program::{Group, Program};
 use image_opening::Opened;
 use line_image::{Image, ImageFailed};
 use line_memory::LineMemory;
 use plain_model::Throws;
 use run_history::{Acts, Op, Stage, Watcher};
+use run_types::Full;
 use std::alloc::AllocError;
 
 /// What a run changes: its history, the memory over its image, the outside, and how many turns its thread has had.

@@ -8,11 +8,12 @@ ghost use Rattle.array_run.specs.Going.{Setting, IsToThrow, Stopped};
 
 use crate::objects::{HEAD_WORDS, Objects};
 use crate::run::{Run, RunEnd};
-use crate::telling::visible;
-use ap_base::{Full, Gate, Sink, Which};
+use crate::telling::{next_turn, visible};
+use ap_base::{Gate, Sink};
 use line_image::Image;
 use plain_model::Throws;
 use run_history::{Op, Watcher};
+use run_types::{Full, Which};
 
 // A throwable has one field, its message.
 const THROWABLE_WORDS: u64 = HEAD_WORDS + 1;
@@ -53,6 +54,7 @@ pub(crate) fn throw<I: Image, S: Sink, G: Gate, W: Watcher>(
     ensures size { run.new.memory.size ≡ run.old.memory.size }
 {
     if objects.words < THROWABLE_WORDS {
+        next_turn(run, gate);
         return RunEnd::Full(Full {
             which: Which::VolatileWords,
             need: THROWABLE_WORDS,

@@ -1,20 +1,25 @@
 -- The cause of each status.
 use Rattle.std.proofs.Common.{◌≡◌, ◌⊎◌, ℕ, List, Option, Some, None, [], Result, Ok, Err, refl, sym, ap, subst, ◌∙◌, inl, inr}
-use Rattle.std.specs.Prelude.{◌≢◌}
+use Rattle.std.specs.Prelude.{◌≢◌, IsOk, IfOk, IfErr}
+use Rattle.class_file.specs.declared.class.ClassFile.{ClassFile}
+use Rattle.autopersist.specs.declared.choice.Chosen.{Chosen}
+use Rattle.graph_model.specs.declared.types.Graph.{Graph}
+use Rattle.line_image.specs.Told.{Told}
 use Rattle.run_history.specs.Recorded.{Recorded}
 use Rattle.array_run.specs.declared.run.RunEnd.{RunEnd}
 use Rattle.array_run.specs.declared.run.RunEnd.TheVariants as end
 use Rattle.ap_base.specs.declared.source.NamedBytes.{NamedBytes}
-use Rattle.class_items.specs.Parsing.{◌>>=◌}
+use Rattle.parsing.specs.Results.{◌>>=◌}
 use Rattle.autopersist.specs.declared.status.Status.{Status}
 use Rattle.autopersist.specs.declared.status.Status.TheVariants as status
 use Rattle.autopersist.specs.Files.{class_among, built, to_run}
 use Rattle.array_program.specs.declared.program.Program.{Program}
-use Rattle.autopersist.specs.Images.{Entry, IsNotOfForm, status_of}
+use Rattle.autopersist.specs.Images.{IsNotOfForm, status_of}
 use Rattle.autopersist.specs.Reading as reading
-use Rattle.autopersist.specs.Reading.{IsFree, IsOfFiles}
-use Rattle.autopersist.specs.TopCall.{ComesTo, IsAsked, OfProgram, IsCauseOf, IsOfRun, IsOfWords, IsAfterTheFirstTurn}
+use Rattle.autopersist.specs.Reading.{HasNoCause, IsOfFiles, IsLeft}
+use Rattle.autopersist.specs.TopCall.{ComesTo, IsAsked, OfProgram, IsCauseOf, AnswersFor, RunsOver, IsOfRun, IsOfWords, IsAfterTheFirstTurn}
 use Rattle.autopersist.specs.Words.{main_class}
+use Rattle.autopersist.proofs.SourceFiles.{all_read}
 
 some_same : {A : Type 0} (a b : A) → Some a ≡ Some b → a ≡ b
 some_same a b is = cc
@@ -32,25 +37,53 @@ refused_file : (name : List ℕ) (files : List NamedBytes) (e : Status) → clas
 unfolding to_run
 refused_file name files e is = ap (λ r. r >>= built name) is
 
+-- what the words and the files come to, where the files come to a class
+comes_to : (words : List (List ℕ)) (left : Option (List NamedBytes)) (name : List ℕ) (class : Option ClassFile) (answer : Result Program Status)
+    → main_class words ≡ Some name → reading.FilesComeTo left (Ok class) → built name class ≡ answer → ComesTo words left answer
+unfolding to_run
+comes_to words left name class answer asked comes is = record {
+  name = name;
+  asked = asked;
+  files = comes.files;
+  told = comes.told;
+  is = ap (λ r. r >>= built name) comes.is ∙ is;
+}
+
+-- the program of a class, or why there is none
+pub program_asked : (words : List (List ℕ)) (left : Option (List NamedBytes)) (name : List ℕ) (class : Option ClassFile) (chosen : Result Chosen Status)
+    → main_class words ≡ Some name → reading.FilesComeTo left (Ok class) → IfOk chosen (λ found. built name class ≡ Ok found.program)
+    → IfOk chosen (λ found. IsAsked words left found.program)
+program_asked words left name class (Ok found) asked comes is = comes_to words left name class (Ok found.program) asked comes is
+program_asked words left name class (Err s) asked comes is = tt
+
+pub cause_of_choice : (words : List (List ℕ)) (left : Option (List NamedBytes)) (name : List ℕ) (class : Option ClassFile) (chosen : Result Chosen Status)
+    → main_class words ≡ Some name → reading.FilesComeTo left (Ok class)
+    → IfErr chosen (λ s. (s ≡ status.OutOfMemory) ⊎ ((s ≡ status.NotBuilt) × (built name class ≡ Err status.NotBuilt)))
+    → IfErr chosen (λ s. (start : Told) → IsCauseOf words left start [] s)
+cause_of_choice words left name class (Ok found) asked comes refused = tt
+cause_of_choice words left name class (Err s) asked comes (inl memory) = λ start. subst (λ (e : Status). IsCauseOf words left start [] e) (sym memory) tt
+cause_of_choice words left name class (Err s) asked comes (inr is) = λ start. subst (λ (e : Status). IsCauseOf words left start [] e) (sym is.0)
+    (inl (comes_to words left name class (Err status.NotBuilt) asked comes is.1))
+
 of_files : (words : List (List ℕ)) (left : Option (List NamedBytes)) (name : List ℕ) (e : Status) → main_class words ≡ Some name
     → reading.FilesComeTo left (Err e) → ComesTo words left (Err e)
 of_files words left name e asked comes = record { name = name; asked = asked; files = comes.files; told = comes.told; is = refused_file name comes.files e comes.is }
 
 -- a file that is refused
-pub cause_of_files : (words : List (List ℕ)) (left : Option (List NamedBytes)) (entry : Entry) (name : List ℕ) (e : Status) → main_class words ≡ Some name
-    → IsOfFiles e → IsFree e ⊎ reading.FilesComeTo left (Err e) → IsCauseOf words left entry [] e
-cause_of_files words left entry name status.Ok asked of cause = absurd of
-cause_of_files words left entry name (status.Uncaught thread class) asked of cause = absurd of
-cause_of_files words left entry name status.Usage asked of cause = absurd of
-cause_of_files words left entry name status.ImageFault asked of cause = absurd of
-cause_of_files words left entry name status.SinkFault asked of cause = absurd of
-cause_of_files words left entry name status.NotBuilt asked of cause = absurd of
-cause_of_files words left entry name status.SourceFault asked of cause = tt
-cause_of_files words left entry name status.OutOfMemory asked of cause = tt
-cause_of_files words left entry name (status.BadClass file refusal) asked of (inl free) = absurd free
-cause_of_files words left entry name (status.BadClass file refusal) asked of (inr comes) = of_files words left name (status.BadClass file refusal) asked comes
-cause_of_files words left entry name (status.Full full) asked of (inl free) = absurd free
-cause_of_files words left entry name (status.Full full) asked of (inr comes) = inl (of_files words left name (status.Full full) asked comes)
+pub cause_of_files : (words : List (List ℕ)) (left : Option (List NamedBytes)) (start : Told) (name : List ℕ) (e : Status) → main_class words ≡ Some name
+    → IsOfFiles e → HasNoCause e ⊎ reading.FilesComeTo left (Err e) → IsCauseOf words left start [] e
+cause_of_files words left start name status.Ok asked of cause = absurd of
+cause_of_files words left start name (status.Uncaught thread class) asked of cause = absurd of
+cause_of_files words left start name status.Usage asked of cause = absurd of
+cause_of_files words left start name status.ImageFault asked of cause = absurd of
+cause_of_files words left start name status.SinkFault asked of cause = absurd of
+cause_of_files words left start name status.NotBuilt asked of cause = absurd of
+cause_of_files words left start name status.SourceFault asked of cause = tt
+cause_of_files words left start name status.OutOfMemory asked of cause = tt
+cause_of_files words left start name (status.BadClass file refusal) asked of (inl free) = absurd free
+cause_of_files words left start name (status.BadClass file refusal) asked of (inr comes) = of_files words left name (status.BadClass file refusal) asked comes
+cause_of_files words left start name (status.Full full) asked of (inl free) = absurd free
+cause_of_files words left start name (status.Full full) asked of (inr comes) = inl (of_files words left name (status.Full full) asked comes)
 
 pub of_words : (e : Status) → IsOfFiles e → IsOfWords e
 of_words status.Ok of = absurd of
@@ -77,19 +110,58 @@ no_usage (status.BadClass file refusal) of is = absurd cc
 no_usage (status.Full full) of is = absurd cc
 
 -- a program that ran
-pub cause_of_run : (words : List (List ℕ)) (left : Option (List NamedBytes)) (entry : Entry) (program : Program) (acts : List Recorded) (s : Status)
-    → IsAsked words left program → IsOfRun s → (s ≡ status.NotBuilt → IsNotOfForm program entry) → (IsAfterTheFirstTurn s → acts ≢ [])
-    → IsCauseOf words left entry acts s
-cause_of_run words left entry program acts status.Ok asked of form begun = (begun tt, record { program = program; is_asked = asked; holds = tt })
-cause_of_run words left entry program acts (status.Uncaught thread class) asked of form begun = (begun tt, record { program = program; is_asked = asked; holds = tt })
-cause_of_run words left entry program acts status.SinkFault asked of form begun = (begun tt, record { program = program; is_asked = asked; holds = tt })
-cause_of_run words left entry program acts status.ImageFault asked of form begun = record { program = program; is_asked = asked; holds = tt }
-cause_of_run words left entry program acts status.OutOfMemory asked of form begun = tt
-cause_of_run words left entry program acts status.SourceFault asked of form begun = absurd of
-cause_of_run words left entry program acts status.Usage asked of form begun = absurd of
-cause_of_run words left entry program acts (status.BadClass file refusal) asked of form begun = absurd of
-cause_of_run words left entry program acts status.NotBuilt asked of form begun = inr (record { program = program; is_asked = asked; holds = form refl })
-cause_of_run words left entry program acts (status.Full full) asked of form begun = inr (begun tt, record { program = program; is_asked = asked; holds = tt })
+module _ (words : List (List ℕ)) (left : Option (List NamedBytes)) (program : Program) (asked : IsAsked words left program) where
+  any_program : OfProgram words left (λ p. Unit {0})
+  any_program = record { program = program; is_asked = asked; holds = tt }
+
+  pub cause_of_run : (start : Told) (opening : Graph) (acts : List Recorded) (after : Told) (s : Status) → RunsOver program start opening acts after s
+      → IsCauseOf words left start acts s
+  cause_of_run start opening acts after status.Ok ran = (ran.begun tt, any_program)
+  cause_of_run start opening acts after (status.Uncaught thread class) ran = (ran.begun tt, any_program)
+  cause_of_run start opening acts after status.SinkFault ran = (ran.begun tt, any_program)
+  cause_of_run start opening acts after status.ImageFault ran = any_program
+  cause_of_run start opening acts after status.OutOfMemory ran = tt
+  cause_of_run start opening acts after status.SourceFault ran = absurd ran.of_run
+  cause_of_run start opening acts after status.Usage ran = absurd ran.of_run
+  cause_of_run start opening acts after (status.BadClass file refusal) ran = absurd ran.of_run
+  cause_of_run start opening acts after status.NotBuilt ran = inr (record { program = program; is_asked = asked; holds = ran.not_built refl })
+  cause_of_run start opening acts after (status.Full full) ran = inr (ran.begun tt, any_program)
+
+-- files that come to a program aren't refused
+ok_before : {A B : Type 0} (r : Result A Status) (then : A → Result B Status) (b : B) → (r >>= then) ≡ Ok b → IsOk r
+ok_before (Ok a) then b is = refl
+ok_before (Err e) then b is = absurd cc
+
+are_unrefused : (name : List ℕ) (files : List NamedBytes) (program : Program) → to_run name files ≡ Ok program → IsOk (class_among files)
+unfolding to_run
+are_unrefused name files program is = ok_before (class_among files) (built name) program is
+
+filed : (left : Option (List NamedBytes)) (seen files : List NamedBytes) → reading.HadLeft left seen → left ≡ Some files → seen ≡ files
+filed left seen files had told = sym (subst (λ (l : Option (List NamedBytes)). reading.HadLeft l seen) told had)
+
+pub asked_unrefused : (words : List (List ℕ)) (left : Option (List NamedBytes)) (program : Program) → IsAsked words left program
+    → (files : List NamedBytes) → left ≡ Some files → IsOk (class_among files)
+asked_unrefused words left program asked files told =
+    subst (λ (fs : List NamedBytes). IsOk (class_among fs)) (filed left asked.files files asked.told told) (are_unrefused asked.name asked.files program asked.is)
+
+pub class_unrefused : (left : Option (List NamedBytes)) (class : Option ClassFile) → reading.FilesComeTo left (Ok class)
+    → (files : List NamedBytes) → left ≡ Some files → IsOk (class_among files)
+class_unrefused left class comes files told =
+    subst (λ (fs : List NamedBytes). IsOk (class_among fs)) (filed left comes.files files comes.told told) (rw comes.is refl)
+
+-- what is left of the source of a run that never began
+pub left_of_run : (files : List NamedBytes) → IsOk (class_among files) → (program : Program) (start : Told) (opening : Graph) (acts : List Recorded) (after : Told) (s : Status)
+    (others : Option (List NamedBytes)) → RunsOver program start opening acts after s → acts ≡ [] → others ≡ Some [] → IsLeft files s others
+left_of_run files good program start opening acts after status.Ok others ran none all = all
+left_of_run files good program start opening acts after (status.Uncaught thread class) others ran none all = all
+left_of_run files good program start opening acts after status.SinkFault others ran none all = all
+left_of_run files good program start opening acts after status.ImageFault others ran none all = all
+left_of_run files good program start opening acts after status.OutOfMemory others ran none all = all_read files others good all
+left_of_run files good program start opening acts after status.SourceFault others ran none all = absurd ran.of_run
+left_of_run files good program start opening acts after status.Usage others ran none all = absurd ran.of_run
+left_of_run files good program start opening acts after (status.BadClass file refusal) others ran none all = absurd ran.of_run
+left_of_run files good program start opening acts after status.NotBuilt others ran none all = all
+left_of_run files good program start opening acts after (status.Full full) others ran none all = absurd (ran.begun tt none)
 
 -- a run that has another answer than want of memory has begun
 pub after_first : (acts : List Recorded) (answer : Result (Unit {0}) RunEnd) → (acts ≡ [] → answer ≡ no_memory) → IsAfterTheFirstTurn (status_of answer) → acts ≢ []
@@ -103,7 +175,7 @@ same_answer words left answer name files comes asked told =
     let filed : comes.files ≡ files = sym (subst (λ (l : Option (List NamedBytes)). reading.HadLeft l comes.files) told comes.told) in
     subst (λ (n : List ℕ). to_run n files ≡ answer) named (subst (λ (fs : List NamedBytes). to_run comes.name fs ≡ answer) filed comes.is)
 
-module _ (words : List (List ℕ)) (left : Option (List NamedBytes)) (entry : Entry) (name : List ℕ) (files : List NamedBytes)
+module _ (words : List (List ℕ)) (left : Option (List NamedBytes)) (start : Told) (name : List ℕ) (files : List NamedBytes)
     (asked : main_class words ≡ Some name) (told : left ≡ Some files) where
   not_asked : (s : Status) (P : Program → Type 0) → to_run name files ≡ Err s → OfProgram words left P → ⊥
   not_asked s P is of =
@@ -113,7 +185,7 @@ module _ (words : List (List ℕ)) (left : Option (List NamedBytes)) (entry : En
   same_status : (e s : Status) → to_run name files ≡ Err s → ComesTo words left (Err e) → e ≡ s
   same_status e s is comes = err_same e s (sym (same_answer words left (Err e) name files comes asked told) ∙ is)
 
-  pub refused_by_words : (e s : Status) → IsOfWords e → IsCauseOf words left entry [] e → to_run name files ≡ Err s → IsFree e ⊎ (e ≡ s)
+  refused_by_words : (e s : Status) → IsOfWords e → IsCauseOf words left start [] e → to_run name files ≡ Err s → HasNoCause e ⊎ (e ≡ s)
   refused_by_words status.Ok s of cause is = absurd of
   refused_by_words (status.Uncaught thread class) s of cause is = absurd of
   refused_by_words status.ImageFault s of cause is = absurd of
@@ -125,14 +197,14 @@ module _ (words : List (List ℕ)) (left : Option (List NamedBytes)) (entry : En
   refused_by_words (status.Full full) s of (inl comes) is = inr (same_status (status.Full full) s is comes)
   refused_by_words (status.Full full) s of (inr begun) is = absurd (begun.0 refl)
   refused_by_words status.NotBuilt s of (inl comes) is = inr (same_status status.NotBuilt s is comes)
-  refused_by_words status.NotBuilt s of (inr program) is = absurd (not_asked s (λ p. IsNotOfForm p entry) is program)
+  refused_by_words status.NotBuilt s of (inr program) is = absurd (not_asked s (λ p. IsNotOfForm p start) is program)
 
   not_refused : (e : Status) (program : Program) → to_run name files ≡ Ok program → ComesTo words left (Err e) → ⊥
   not_refused e program is comes =
       let other : Ok program ≡ Err e = sym is ∙ same_answer words left (Err e) name files comes asked told in
       cc
 
-  pub runs_by_words : (e : Status) (program : Program) → IsOfWords e → IsCauseOf words left entry [] e → to_run name files ≡ Ok program → IsFree e ⊎ IsOfRun e
+  runs_by_words : (e : Status) (program : Program) → IsOfWords e → IsCauseOf words left start [] e → to_run name files ≡ Ok program → HasNoCause e ⊎ IsOfRun e
   runs_by_words status.Ok program of cause is = absurd of
   runs_by_words (status.Uncaught thread class) program of cause is = absurd of
   runs_by_words status.ImageFault program of cause is = absurd of
@@ -143,3 +215,20 @@ module _ (words : List (List ℕ)) (left : Option (List NamedBytes)) (entry : En
   runs_by_words (status.BadClass file refusal) program of cause is = absurd (not_refused (status.BadClass file refusal) program is cause)
   runs_by_words (status.Full full) program of cause is = inr tt
   runs_by_words status.NotBuilt program of cause is = inr tt
+
+-- the answer before an image is opened is that of the words and files
+pub answers_by_words : (words : List (List ℕ)) (left : Option (List NamedBytes)) (start : Told) (e : Status) → IsOfWords e
+    → IsCauseOf words left start [] e → AnswersFor words left e
+answers_by_words words left start e of cause = record {
+  refused = λ name files s asked told is. refused_by_words words left start name files asked told e s of cause is;
+  runs = λ name files program asked told is. runs_by_words words left start name files asked told e program of cause is;
+}
+
+-- so is one of a run of the program for which they ask
+pub answers_by_run : (words : List (List ℕ)) (left : Option (List NamedBytes)) (start : Told) (program : Program) (s : Status)
+    → IsAsked words left program → IsOfRun s → AnswersFor words left s
+answers_by_run words left start program s asked of = record {
+  refused = λ name files e named told is. absurd (not_asked words left start name files named told e (λ p. p ≡ program) is
+      (record { program = program; is_asked = asked; holds = refl }));
+  runs = λ name files other named told is. inr of;
+}

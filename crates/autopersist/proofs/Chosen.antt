@@ -33,9 +33,9 @@ class_read name bytes (Err refusal) class is same = absurd cc
 
 of_class : (file : NamedBytes) (class : ClassFile) → class_of file ≡ Ok class → IsClass class
 unfolding class_of
-of_class file class is = by_size (nat_lt most_bytes (length file.bytes)) refl is
+of_class file class is = by_size (nat_lt most_bytes file.size) refl is
   where
-    by_size : (large : Bool) → nat_lt most_bytes (length file.bytes) ≡ large → class_of file ≡ Ok class → IsClass class
+    by_size : (large : Bool) → nat_lt most_bytes file.size ≡ large → class_of file ≡ Ok class → IsClass class
     by_size true e is = absurd (let none = rw e at is in cc)
     by_size false e is = class_read file.name file.bytes (class_in file.bytes) class refl (rw e at is)
 

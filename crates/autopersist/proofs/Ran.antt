@@ -1,17 +1,17 @@
 -- What a run over an image comes to, by what opening it and running on it gave.
-use Rattle.std.proofs.Common.{◌≡◌, ◌⊎◌, inl, inr, ⊎_elim, ℕ, ◌+◌, ◌-◌, ◌^◌, ◌≤◌, arith, List, [], ◌∷◌, Option, Result, refl, sym, ap, ◌∙◌, subst}
-use Rattle.std.specs.Prelude.{◌≢◌, All, min}
+use Rattle.std.proofs.Common.{◌≡◌, ◌⊎◌, inl, inr, ⊎_elim, ℕ, ◌+◌, ◌-◌, ◌^◌, ◌<◌, ◌≤◌, arith, List, [], ◌∷◌, Option, Result, Ok, Err, refl, sym, ap, ◌∙◌, subst}
+use Rattle.std.specs.Prelude.{◌≢◌, ◌↔◌, All, IsErrOf, min}
 use Rattle.std.proofs.lemmas.List.Elements.{All-weaker}
 use Rattle.graph_model.specs.declared.types.Graph.{Graph}
-use Rattle.line_image.specs.History.{History, Outcome, IsSettled}
-use Rattle.line_memory.specs.Memory.{Memory, Told, shown, CanLeaveAll}
+use Rattle.line_image.specs.Trace.{IsAllFenced, LeavesNow}
+use Rattle.line_image.specs.Told.{Told}
+use Rattle.line_memory.specs.Memory.{Memory, ReadsWord, IsDurable, shown}
 use Rattle.line_memory.specs.Moments.{Goes, CountsFrom}
 use Rattle.image_layout.specs.Places.{min_lines, max_lines}
-use Rattle.image_meaning.specs.Meaning.{StandsFor}
+use Rattle.image_meaning.specs.Meaning.{StandsFor, empty_graph}
 use Rattle.image_opening.specs.declared.opening.Opened.{Opened}
-use Rattle.image_opening.specs.Opened.{IsKeptOrFilled, IsOfForm, WasFound, free_behind}
-use Rattle.image_opening.specs.Rest.{StopsLeave}
-use Rattle.image_opening.specs.Wanted.{HasRoom}
+use Rattle.image_opening.specs.Opened.{IsOfForm, WasFound, free_behind}
+use Rattle.image_opening.specs.Rest.{IsAtRest}
 use Rattle.run_history.specs.Recorded.{Recorded}
 use Rattle.plain_model.specs.Runs.{known_of}
 use Rattle.plain_model.specs.Ends.{KeepsMemory}
@@ -21,153 +21,270 @@ use Rattle.array_program.specs.Running.{program_code}
 use Rattle.array_history.specs.Standing.{IsRight, root_name, IsRunOf}
 use Rattle.array_history.specs.Left.{IsSafe}
 use Rattle.array_run.specs.declared.run.RunEnd.{RunEnd}
+use Rattle.array_run.specs.declared.run.RunEnd.TheVariants as end
 use Rattle.array_run.specs.Opening.{IsOpened, EndsBy, default_limits}
-use Rattle.autopersist.specs.Attached.{IsAttached, IsOpenedOn}
-use Rattle.autopersist.specs.Images.{Entry, IsNotOfForm, IsOfFormOrUntouched, HasRun, StandsAtStops, status_of}
-use Rattle.autopersist.proofs.Kept.{IsQuiet, quiet_on, kept_quiet, kept_run}
-
-module _ (program : Program) (entry : Entry) (before m : Memory) where
-  -- the names of the root
-  pub of_root : (root : Option (List ℕ)) (opened : Opened) → root ≡ root_name program → IsOpenedOn entry root before m opened
-      → IsOpenedOn entry (root_name program) before m opened
-  of_root root opened is on = subst (λ (r : Option (List ℕ)). IsOpenedOn entry r before m opened) is on
-
-  module _ (opened : Opened) (on : IsOpenedOn entry (root_name program) before m opened) where
-    pub is_opened : IsRight program → IsOpened program opened m
-    is_opened right =
-        let ready = on.ready in
-        record {
-          right = right;
-          form = ready.form;
-          ints = on.ints;
-          graph = on.found.graph;
-          found = on.found.still;
-          free = on.found.free;
-          directory = ready.directory;
-          stands = ready.stands;
-          in_use = ready.in_use;
-          unlogged = ready.unlogged;
-        }
-
-    room_same : m.size - opened.free ≡ entry.size - free_behind opened.array
-    room_same = ap (λ (n : ℕ). n - opened.free) (on.size ∙ on.attached.size) ∙ ap (λ (n : ℕ). entry.size - n) on.found.free
-
-    abbrev pub KeepsWithin : ℕ → List Recorded → Type 0
-    KeepsWithin lines acts = KeepsMemory (program_facts program) opened.graph default_limits lines
-        (known_of (program_facts program) 0 opened.graph (program_code program opened.graph) acts)
-
-    -- each was made after the image's lines were read, and within its calls so far
-    made_within : (after : Memory) (acts : List Recorded) → CountsFrom entry.told.calls after
-        → All (λ (a : Recorded). (m.calls ≤ a.act.at) × (a.act.at ≤ after.calls)) acts
-        → All (λ (a : Recorded). (entry.size ≤ a.act.at) × (min (entry.told.calls + a.act.at) (2 ^ 64 - 1) ≤ after.image.calls)) acts
-    made_within after acts counts made =
-        let most : before.size ≤ max_lines = on.attached.most in
-        let on_from : before.calls ≤ m.calls = (on.further (omega (arith, on.attached.calls, on.attached.size, most))).0 in
-        All-weaker (λ (a : Recorded). (m.calls ≤ a.act.at) × (a.act.at ≤ after.calls))
-        (λ (a : Recorded). (entry.size ≤ a.act.at) × (min (entry.told.calls + a.act.at) (2 ^ 64 - 1) ≤ after.image.calls))
-        (λ a is. (omega (arith, is.0, on_from, on.attached.calls), omega (arith, is.1, counts))) acts made
-
-    pub has_run : (after : Memory) (acts : List Recorded) (answer : Result (Unit {0}) RunEnd) → IsRunOf program opened.graph acts
-        → EndsBy program opened.graph (m.size - opened.free) acts answer → KeepsWithin (m.size - opened.free) acts
-        → CountsFrom entry.told.calls after → All (λ (a : Recorded). (m.calls ≤ a.act.at) × (a.act.at ≤ after.calls)) acts
-        → HasRun program entry opened.graph acts after.image (status_of answer)
-    has_run after acts answer run ends within counts made = record {
-      words = shown before;
-      read = on.attached.shows;
-      array = opened.array;
-      ints = on.ints;
-      found = subst (λ (n : ℕ). WasFound n (shown before) (root_name program) opened.array on.ints) on.attached.size on.found.was;
-      graph = on.found.graph;
-      stood = on.stood;
-      stands = subst (λ (n : ℕ). StandsFor n (shown before) on.stood) on.attached.size on.stands;
-      from = on.from;
-      run = run;
-      answer = answer;
-      is = refl;
-      ends = subst (λ (n : ℕ). EndsBy program opened.graph n acts answer) room_same ends;
-      within = subst (λ (n : ℕ). KeepsWithin n acts) room_same within;
-      made = made_within after acts counts made;
-    }
-
-    quiet : IsSettled entry.told.history → IsQuiet program entry before m.image
-    quiet settled = quiet_on program entry before on.attached on.room settled m.image (on.moments (on.attached.rest settled))
-        (λ form. (on.reopens (on.attached.rest settled) form).within)
-
-    -- there was no first turn
-    pub kept_unbegun : (opening : Graph) → IsSettled entry.told.history → StandsAtStops program entry opening [] m.image
-    kept_unbegun opening settled = kept_quiet program entry before on.attached opening m.image (quiet settled)
-        (λ g stands c left. on.left (on.attached.rest settled) g stands c (λ l w. inr (left l w)))
-        (λ form c left. (on.reopens (on.attached.rest settled) form).after c (λ l w. inr (left l w)))
-
-    pub kept_begun : (after : Memory) (acts : List Recorded) → IsSettled entry.told.history → after.size ≡ m.size → acts ≢ []
-        → IsSafe program opened.graph entry.told.calls m acts after → StandsAtStops program entry opened.graph acts after.image
-    kept_begun after acts settled size begun safe = kept_run program entry before on.attached opened.graph m after acts safe on.counts
-        (size ∙ on.size ∙ on.attached.size) (quiet settled) begun
-
--- an image that wasn't opened
-pub kept_refused : (program : Program) (entry : Entry) (before m : Memory) (root : Option (List ℕ)) (opening : Graph) → root ≡ root_name program
-    → IsAttached entry before → HasRoom root → IsSettled entry.told.history
-    → ((g : Graph) → StandsFor before.size (shown before) g → Goes before.image m.image (IsKeptOrFilled before.size root g))
-    → ((g : Graph) → StandsFor before.size (shown before) g → (c : Outcome) → CanLeaveAll m c → IsKeptOrFilled before.size root g c)
-    → (IsOfForm before.size (shown before) root → StopsLeave before m (λ c. IsOfForm before.size c root))
-    → StandsAtStops program entry opening [] m.image
-kept_refused program entry before m root opening is attached room settled goes left reopens =
-    let moments = subst (λ (r : Option (List ℕ)). (g : Graph) → StandsFor before.size (shown before) g → Goes before.image m.image (IsKeptOrFilled before.size r g)) is goes in
-    let now = subst (λ (r : Option (List ℕ)). (g : Graph) → StandsFor before.size (shown before) g → (c : Outcome) → CanLeaveAll m c → IsKeptOrFilled before.size r g c) is left in
-    let again = subst (λ (r : Option (List ℕ)). IsOfForm before.size (shown before) r → StopsLeave before m (λ c. IsOfForm before.size c r)) is reopens in
-    kept_quiet program entry before attached opening m.image (quiet_on program entry before attached (subst (λ (r : Option (List ℕ)). HasRoom r) is room) settled m.image moments (λ form. (again form).within))
-    (λ g stands c could. now g stands c (λ l w. inr (could l w)))
-    (λ form c could. (again form).after c (λ l w. inr (could l w)))
-
--- an image that is attached is of a right size
-of_size : (program : Program) (entry : Entry) (before : Memory) (root : Option (List ℕ)) → root ≡ root_name program → IsAttached entry before
-    → IsOfForm before.size (shown before) root → (min_lines ≤ entry.size) × (entry.size ≤ max_lines) × IsOfForm entry.size (shown before) (root_name program)
-of_size program entry before root is attached form = (
-  omega (arith, attached.size, attached.enough),
-  omega (arith, attached.size, attached.most),
-  subst (λ (n : ℕ). IsOfForm n (shown before) (root_name program)) attached.size
-      (subst (λ (r : Option (List ℕ)). IsOfForm before.size (shown before) r) is form),
-)
-
--- an image of another form was left as it was
-pub untouched_unless : (program : Program) (entry : Entry) (before after : Memory) (root : Option (List ℕ)) → root ≡ root_name program → IsAttached entry before
-    → IsOfForm before.size (shown before) root ⊎ (after ≡ before) → IsOfFormOrUntouched program entry after.image
-untouched_unless program entry before after root is attached either = record {
-  words = shown before;
-  read = attached.shows;
-  is = ⊎_elim
-      (λ form. inl (of_size program entry before root is attached form))
-      (λ (same : after ≡ before). inr (ap (λ (m : Memory). m.image.history) same ∙ attached.history))
-      either;
-}
-
--- one of the form has been, whatever came then
-pub of_form : (program : Program) (entry : Entry) (before : Memory) (after : Told) (root : Option (List ℕ)) → root ≡ root_name program → IsAttached entry before
-    → IsOfForm before.size (shown before) root → IsOfFormOrUntouched program entry after
-of_form program entry before after root is attached form = record {
-  words = shown before;
-  read = attached.shows;
-  is = inl (of_size program entry before root is attached form);
-}
+use Rattle.autopersist.specs.Attached.{IsAttached, IsOpenedOn, IsUnopenedOn}
+use Rattle.autopersist.specs.declared.status.Status.{Status}
+use Rattle.autopersist.specs.declared.status.Status.TheVariants as status
+use Rattle.autopersist.specs.Images.{IsNotOfForm, IsOfFormOrUntouched, HasRun, StandsAtStops, status_of}
+use Rattle.autopersist.specs.TopCall.{RunsOver, IsOfRun, IsAfterTheFirstTurn}
+use Rattle.autopersist.proofs.Causes.{after_first}
+use Rattle.autopersist.proofs.Kept.{IsQuiet, quiet_on, kept_quiet, kept_run, kept_unattached, untouched_unattached}
 
 -- a list has nothing, or something
-pub none_or_some : (acts : List Recorded) → (acts ≡ []) ⊎ (acts ≢ [])
+none_or_some : (acts : List Recorded) → (acts ≡ []) ⊎ (acts ≢ [])
 none_or_some [] = inl refl
 none_or_some (a ∷ acts) = inr (λ same. cc)
 
-pub not_of_form : (program : Program) (entry : Entry) (before : Memory) (root : Option (List ℕ)) → root ≡ root_name program → IsAttached entry before
-    → (IsOfForm before.size (shown before) root → ⊥) → IsNotOfForm program entry
-not_of_form program entry before root is attached wrong =
-    inr (inr (
-      shown before,
-      attached.shows,
-      λ form. wrong (subst (λ (r : Option (List ℕ)). IsOfForm before.size (shown before) r) (sym is)
-          (subst (λ (n : ℕ). IsOfForm n (shown before) (root_name program)) (sym attached.size) form)),
-    ))
+-- ---- an image that is attached
 
-abbrev pub the_told : ℕ → Option History → Told
-the_told calls history = record { calls = calls; history = history }
+pub is_attached : (start : Told) (m : Memory) → m.size ≡ start.size → (min_lines ≤ m.size) × (m.size ≤ max_lines)
+    → ((l w : ℕ) → l < m.size → ReadsWord start.trace l w (shown m l w)) → m.image.trace ≡ start.trace → CountsFrom start.calls m → m.calls ≡ start.size
+    → Goes start m.image (LeavesNow start.trace) → (IsAllFenced start.trace → (l w : ℕ) → l < m.size → IsDurable m l w) → IsAttached start m
+is_attached start m size range shows trace counts calls moments durable = record {
+  size = size;
+  enough = range.0;
+  most = range.1;
+  shows = λ l w below. shows l w (subst (λ (n : ℕ). l < n) (sym size) below);
+  trace = trace;
+  counts = counts;
+  calls = calls;
+  moments = moments;
+  rest = λ settled. record { durable = durable settled };
+}
 
-pub told_same : (m : Memory) (calls : ℕ) (history : Option History) → calls ≡ m.image.calls → history ≡ m.image.history
-    → the_told calls history ≡ m.image
-told_same m calls history same also = rw (same, also) refl
+-- ---- the statuses of runs
+
+answers_of_run : (answer : Result (Unit {0}) RunEnd) → IsOfRun (status_of answer)
+answers_of_run (Ok done) = tt
+answers_of_run (Err (end.Uncaught class)) = tt
+answers_of_run (Err (end.Full full)) = tt
+answers_of_run (Err end.SinkFailed) = tt
+answers_of_run (Err end.ImageFailed) = tt
+answers_of_run (Err end.OutOfMemory) = tt
+
+memory_of : (answer : Result (Unit {0}) RunEnd) → status_of answer ≡ status.OutOfMemory → IsErrOf answer end.OutOfMemory
+memory_of (Ok done) is = absurd cc
+memory_of (Err (end.Uncaught class)) is = absurd cc
+memory_of (Err (end.Full full)) is = absurd cc
+memory_of (Err end.SinkFailed) is = absurd cc
+memory_of (Err end.ImageFailed) is = absurd cc
+memory_of (Err end.OutOfMemory) is = refl
+
+never_not_built : (answer : Result (Unit {0}) RunEnd) → status_of answer ≡ status.NotBuilt → ⊥
+never_not_built (Ok done) is = cc
+never_not_built (Err (end.Uncaught class)) is = cc
+never_not_built (Err (end.Full full)) is = cc
+never_not_built (Err end.SinkFailed) is = cc
+never_not_built (Err end.ImageFailed) is = cc
+never_not_built (Err end.OutOfMemory) is = cc
+
+-- an image that is attached is of a right size
+of_size : (program : Program) (start : Told) (before : Memory) → IsAttached start before → IsOfForm before.size (shown before) (root_name program)
+    → (min_lines ≤ start.size) × (start.size ≤ max_lines) × IsOfForm start.size (shown before) (root_name program)
+of_size program start before attached form = (
+  omega (arith, attached.size, attached.enough),
+  omega (arith, attached.size, attached.most),
+  subst (λ (n : ℕ). IsOfForm n (shown before) (root_name program)) attached.size form,
+)
+
+-- one of the form has been, whatever came then
+of_form : (program : Program) (start : Told) (before : Memory) (after : Told) → IsAttached start before
+    → IsOfForm before.size (shown before) (root_name program) → IsOfFormOrUntouched program start after
+of_form program start before after attached form = record {
+  words = shown before;
+  read = attached.shows;
+  is = inl (of_size program start before attached form);
+}
+
+-- ---- a run
+
+module _ (program : Program) (start : Told) (m : Memory) (opened : Opened) (on : IsOpenedOn start (root_name program) m opened) where
+  pub is_opened : IsRight program → IsOpened program opened m
+  is_opened right =
+      let ready = on.ready in
+      record {
+        right = right;
+        form = ready.form;
+        ints = on.ints;
+        graph = on.found.graph;
+        found = on.found.still;
+        free = on.found.free;
+        directory = ready.directory;
+        stands = ready.stands;
+        in_use = ready.in_use;
+        unlogged = ready.unlogged;
+      }
+
+  room_same : m.size - opened.free ≡ start.size - free_behind opened.array
+  room_same = ap (λ (n : ℕ). n - opened.free) (on.size ∙ on.attached.size) ∙ ap (λ (n : ℕ). start.size - n) on.found.free
+
+  abbrev pub KeepsWithin : ℕ → List Recorded → Type 0
+  KeepsWithin lines acts = KeepsMemory (program_facts program) opened.graph default_limits lines
+      (known_of (program_facts program) 0 opened.graph (program_code program opened.graph) acts)
+
+  -- what a run on it came to
+  pub record HasRunOn (acts : List Recorded) (after : Memory) (answer : Result (Unit {0}) RunEnd) : Type 0 where
+    pub run : IsRunOf program opened.graph acts
+    pub ends : EndsBy program opened.graph (m.size - opened.free) acts answer
+    pub within : KeepsWithin (m.size - opened.free) acts
+    pub made : All (λ (a : Recorded). (m.calls ≤ a.act.at) × (a.act.at ≤ after.calls)) acts
+    pub counts : CountsFrom start.calls after
+    pub safe : IsAtRest m → IsSafe program opened.graph start.calls m acts after
+    pub no_memory : IsErrOf answer end.OutOfMemory ↔ (acts ≡ [])
+    pub same : IsErrOf answer end.OutOfMemory → after ≡ m
+    pub size : after.size ≡ m.size
+
+  module _ (acts : List Recorded) (after : Memory) (answer : Result (Unit {0}) RunEnd) (ran : HasRunOn acts after answer) where
+    -- each was made after the image's lines were read, and within its calls so far
+    made_within : All (λ (a : Recorded). (start.size ≤ a.act.at) × (min (start.calls + a.act.at) (2 ^ 64 - 1) ≤ after.image.calls)) acts
+    made_within =
+        let most : on.before.size ≤ max_lines = on.attached.most in
+        let on_from : on.before.calls ≤ m.calls = (on.further (omega (arith, on.attached.calls, on.attached.size, most))).0 in
+        All-weaker (λ (a : Recorded). (m.calls ≤ a.act.at) × (a.act.at ≤ after.calls))
+        (λ (a : Recorded). (start.size ≤ a.act.at) × (min (start.calls + a.act.at) (2 ^ 64 - 1) ≤ after.image.calls))
+        (λ a is. (omega (arith, is.0, on_from, on.attached.calls), omega (arith, is.1, ran.counts))) acts ran.made
+
+    has_run : HasRun program start opened.graph acts after.image (status_of answer)
+    has_run = record {
+      words = shown on.before;
+      read = on.attached.shows;
+      array = opened.array;
+      ints = on.ints;
+      found = subst (λ (n : ℕ). WasFound n (shown on.before) (root_name program) opened.array on.ints) on.attached.size on.found.was;
+      graph = on.found.graph;
+      stood = on.stood;
+      stands = subst (λ (n : ℕ). StandsFor n (shown on.before) on.stood) on.attached.size on.stands;
+      from = on.from;
+      run = ran.run;
+      answer = answer;
+      is = refl;
+      ends = subst (λ (n : ℕ). EndsBy program opened.graph n acts answer) room_same ran.ends;
+      within = subst (λ (n : ℕ). KeepsWithin n acts) room_same ran.within;
+      made = made_within;
+    }
+
+    quiet : IsAllFenced start.trace → IsQuiet program start on.before m.image
+    quiet settled =
+        let rest = on.attached.rest settled in
+        quiet_on program start on.before on.attached on.room settled m.image (on.moments rest) (λ form. (on.reopens rest).within)
+
+    -- there was no first turn
+    stops_unbegun : (opening : Graph) → acts ≡ [] → IsAllFenced start.trace → StandsAtStops program start opening acts after.image
+    stops_unbegun opening none settled =
+        let rest = on.attached.rest settled in
+        subst (λ (n : Memory). StandsAtStops program start opening acts n.image) (sym (ran.same (ran.no_memory.1 none)))
+        (subst (λ (xs : List Recorded). StandsAtStops program start opening xs m.image) (sym none)
+        (kept_quiet program start on.before on.attached opening m.image (quiet settled)
+        (λ g stands c left. on.left rest g stands c (λ l w. inr (left l w)))
+        (λ form c left. (on.reopens rest).after c (λ l w. inr (left l w)))))
+
+    stops_begun : acts ≢ [] → IsAllFenced start.trace → StandsAtStops program start opened.graph acts after.image
+    stops_begun begun settled =
+        kept_run program start on.before on.attached opened.graph m after acts (ran.safe (on.rest (on.attached.rest settled))) on.counts
+        (ran.size ∙ on.size ∙ on.attached.size) (quiet settled) begun
+
+    -- with the graph and the status that are given back
+    module _ (opening : Graph) (told : Told) (graph : IsErrOf answer end.OutOfMemory ⊎ (opening ≡ opened.graph))
+        (none : IsErrOf answer end.OutOfMemory → opening ≡ empty_graph) (same : told ≡ after.image) (size : told.size ≡ after.size) where
+      same_graph : acts ≢ [] → opening ≡ opened.graph
+      same_graph begun = ⊎_elim (λ memory. absurd (begun (ran.no_memory.0 memory))) (λ (is : opening ≡ opened.graph). is) graph
+
+      run_of : acts ≢ [] → HasRun program start opening acts told (status_of answer)
+      run_of begun =
+          subst (λ (t : Told). HasRun program start opening acts t (status_of answer)) (sym same)
+          (subst (λ (g : Graph). HasRun program start g acts after.image (status_of answer)) (sym (same_graph begun)) has_run)
+
+      stops_of : IsAllFenced start.trace → StandsAtStops program start opening acts told
+      stops_of settled = subst (λ (t : Told). StandsAtStops program start opening acts t) (sym same)
+          (⊎_elim
+          (λ (nothing : acts ≡ []). stops_unbegun opening nothing settled)
+          (λ (begun : acts ≢ []). subst (λ (g : Graph). StandsAtStops program start g acts after.image) (sym (same_graph begun)) (stops_begun begun settled))
+          (none_or_some acts))
+
+      pub runs_over : RunsOver program start opening acts told (status_of answer)
+      runs_over = record {
+        of_run = answers_of_run answer;
+        size = size ∙ ran.size ∙ on.size ∙ on.attached.size;
+        unbegun = λ nothing. none (ran.no_memory.1 nothing);
+        begun = after_first acts answer ran.no_memory.1;
+        no_memory = λ is. ran.no_memory.0 (memory_of answer is);
+        not_built = λ is. absurd (never_not_built answer is);
+        run = run_of;
+        untouched = of_form program start on.before told on.attached on.form;
+        stops = stops_of;
+      }
+
+-- ---- an image that wasn't opened
+
+abbrev unopened : Program → Told → Told → Status → Type 0
+unopened program start after how = RunsOver program start empty_graph [] after how
+
+-- a run that never began
+never_begun : (program : Program) (start after : Told) (how : Status) → IsOfRun how → (IsAfterTheFirstTurn how → ⊥) → after.size ≡ start.size
+    → (how ≡ status.NotBuilt → IsNotOfForm program start) → IsOfFormOrUntouched program start after
+    → (IsAllFenced start.trace → StandsAtStops program start empty_graph [] after) → unopened program start after how
+never_begun program start after how of early size form untouched stops = record {
+  of_run = of;
+  size = size;
+  unbegun = λ none. refl;
+  begun = λ is. absurd (early is);
+  no_memory = λ is. refl;
+  not_built = form;
+  run = λ begun. absurd (begun refl);
+  untouched = untouched;
+  stops = stops;
+}
+
+-- it couldn't be attached
+pub never_attached : (program : Program) (start after : Told) (how : Status) → IsOfRun how → (IsAfterTheFirstTurn how → ⊥) → after.size ≡ start.size
+    → (how ≡ status.NotBuilt → (start.size < min_lines) ⊎ (max_lines < start.size)) → after.trace ≡ start.trace
+    → Goes start after (LeavesNow start.trace) → unopened program start after how
+never_attached program start after how of early size wrong same goes =
+    never_begun program start after how of early size
+    (λ is. ⊎_elim (λ (small : start.size < min_lines). inl small) (λ (large : max_lines < start.size). inr (inl large)) (wrong is))
+    (untouched_unattached program start after same)
+    (λ settled. kept_unattached program start empty_graph after settled same goes)
+
+module _ (program : Program) (start : Told) (m : Memory) (un : IsUnopenedOn start (root_name program) m) where
+  not_of_form : (IsOfForm un.before.size (shown un.before) (root_name program) → ⊥) → IsNotOfForm program start
+  not_of_form wrong =
+      inr (inr (
+        shown un.before,
+        un.attached.shows,
+        λ form. wrong (subst (λ (n : ℕ). IsOfForm n (shown un.before) (root_name program)) (sym un.attached.size) form),
+      ))
+
+  -- an image of another form was left as it was
+  untouched_unless : IsOfFormOrUntouched program start m.image
+  untouched_unless = record {
+    words = shown un.before;
+    read = un.attached.shows;
+    is = ⊎_elim
+        (λ form. inl (of_size program start un.before un.attached form))
+        (λ (same : m ≡ un.before). inr (ap (λ (n : Memory). n.image.trace) same ∙ un.attached.trace))
+        un.untouched;
+  }
+
+  stops_unopened : IsAllFenced start.trace → StandsAtStops program start empty_graph [] m.image
+  stops_unopened settled =
+      let rest = un.attached.rest settled in
+      kept_quiet program start un.before un.attached empty_graph m.image
+      (quiet_on program start un.before un.attached un.room settled m.image (un.moments rest) (λ form. (un.reopens rest form).within))
+      (λ g stands c could. un.left rest g stands c (λ l w. inr (could l w)))
+      (λ form c could. (un.reopens rest form).after c (λ l w. inr (could l w)))
+
+  never_opened_so : (after : Told) (how : Status) → after ≡ m.image → after.size ≡ m.size → IsOfRun how → (IsAfterTheFirstTurn how → ⊥)
+      → (how ≡ status.NotBuilt → IsOfForm un.before.size (shown un.before) (root_name program) → ⊥) → unopened program start after how
+  never_opened_so after how same size of early wrong =
+      never_begun program start after how of early (size ∙ un.size ∙ un.attached.size) (λ is. not_of_form (wrong is))
+      (subst (λ (t : Told). IsOfFormOrUntouched program start t) (sym same) untouched_unless)
+      (λ settled. subst (λ (t : Told). StandsAtStops program start empty_graph [] t) (sym same) (stops_unopened settled))
+
+-- it couldn't be opened for the root of the program
+pub never_opened : (program : Program) (start : Told) (m : Memory) (root : Option (List ℕ)) → root ≡ root_name program → (un : IsUnopenedOn start root m)
+    → (after : Told) (how : Status) → after ≡ m.image → after.size ≡ m.size → IsOfRun how → (IsAfterTheFirstTurn how → ⊥)
+    → (how ≡ status.NotBuilt → IsOfForm un.before.size (shown un.before) root → ⊥) → unopened program start after how
+never_opened program start m root names un after how same size of early wrong =
+    subst (λ (r : Option (List ℕ)). (un : IsUnopenedOn start r m) → (how ≡ status.NotBuilt → IsOfForm un.before.size (shown un.before) r → ⊥) → unopened program start after how)
+    (sym names) (λ un wrong. never_opened_so program start m un after how same size of early wrong) un wrong

@@ -1,12 +1,13 @@
 -- The files of a source, one by one.
-use Rattle.std.proofs.Common.{◌≡◌, ℕ, zero, suc, ◌+◌, ◌<◌, ◌≤◌, List, [], ◌∷◌, ◌++◌, length, take, drop, nat_lt, true, false, Option, Some, None, Ok, Err, refl, sym, ap, ◌∙◌, append_assoc, arith}
+use Rattle.std.proofs.Common.{◌≡◌, ◌⊎◌, inl, inr, ℕ, zero, suc, ◌+◌, ◌<◌, ◌≤◌, List, [], ◌∷◌, ◌++◌, length, take, drop, nat_lt, true, false, Option, Some, None, Ok, Err, refl, sym, ap, ◌∙◌, append_assoc, arith}
+use Rattle.std.specs.Prelude.{◌≢◌, IsOk}
 use Rattle.std.specs.Option.{option_or}
 use Rattle.std.specs.Result.{result_err}
 use Rattle.std.proofs.Math.Seq.{take-append-add}
 use Rattle.std.proofs.lemmas.Bool.{le-ltb, lt-ltb}
 use Rattle.std.proofs.lemmas.List.{append-nil, length-append, take_all, take_at, length_push}
 use Rattle.ap_base.specs.declared.source.NamedBytes.{NamedBytes}
-use Rattle.ap_base.specs.declared.fault.Which.TheVariants.{Files}
+use Rattle.run_types.specs.declared.fault.Which.TheVariants.{Files}
 use Rattle.ap_base.specs.Sources as source
 use Rattle.class_file.specs.declared.class.ClassFile.{ClassFile}
 use Rattle.autopersist.specs.declared.status.Status.{Status}
@@ -14,7 +15,7 @@ use Rattle.autopersist.specs.declared.status.Status.TheVariants as status
 use Rattle.autopersist.specs.declared.files.Seen.{Seen}
 use Rattle.autopersist.specs.declared.files.Seen.TheVariants as seen
 use Rattle.autopersist.specs.Files.{most_files, class_of, first_refused, only_class, class_among}
-use Rattle.autopersist.specs.Reading.{HadLeft, IsSeenOf, class_seen, FilesComeTo}
+use Rattle.autopersist.specs.Reading.{HadLeft, IsSeenOf, class_seen, FilesComeTo, HasNoCause, IsOfFiles, FailsUnrefused, StopsAtRefused, StopsAnywhere, IsLeft}
 
 -- these files were read of a source, and this is left
 abbrev pub behind : List NamedBytes → Option (List NamedBytes) → Option (List NamedBytes)
@@ -157,3 +158,132 @@ passes first left after before file has gives = record {
       (ap first_refused (take_at has.read (file ∷ rest_of left) most_files (omega (arith, has.room_left))) ∙ has.good)
       (omega (arith, has.room_left, length-append has.read (file ∷ rest_of left)));
 }
+
+-- ---- what is left
+
+are_unrefused : (read : List NamedBytes) → length read ≤ most_files → first_refused read ≡ None → IsOk (class_among read)
+are_unrefused read few good = rw (all_good read few good) refl
+
+some_files : (a b : List NamedBytes) → Some a ≡ Some b → a ≡ b
+some_files a b is = cc
+
+-- the source failed to give the next file
+fails_unrefused : (first left : Option (List NamedBytes)) (room : ℕ) (before : Seen) → HasRead first left room before
+    → (files : List NamedBytes) → first ≡ Some files → FailsUnrefused files left
+fails_unrefused first None room before has files some = absurd (let e : None ≡ Some files = sym has.told ∙ some in cc)
+fails_unrefused first (Some others) room before has files some = record {
+  read = has.read;
+  others = others;
+  whole = some_files files (has.read ++ others) (sym some ∙ has.told);
+  unrefused = are_unrefused has.read (omega (arith, has.room_left)) has.good;
+  left = refl;
+}
+
+-- the file that was read last is refused
+stops_at : (first left after : Option (List NamedBytes)) (room : ℕ) (before : Seen) (file : NamedBytes) (s : Status) (has : HasRead first left room before)
+    → source.Gives left (Some file) after → class_among (has.read ++ file ∷ []) ≡ Err s
+    → (files : List NamedBytes) → first ≡ Some files → StopsAtRefused files s after
+stops_at first None after room before file s has gives is files some = absurd (let e : None ≡ Some files = sym has.told ∙ some in cc)
+stops_at first (Some []) after room before file s has gives is files some = absurd cc
+stops_at first (Some (f ∷ others)) after room before file s has gives is files some =
+    let same : file ≡ f = cc in
+    record {
+      read = has.read;
+      file = file;
+      others = others;
+      whole = some_files files (has.read ++ file ∷ others) (sym some ∙ has.told ∙ rw same refl);
+      unrefused = are_unrefused has.read (omega (arith, has.room_left)) has.good;
+      refused = is;
+      left = gives.1;
+    }
+
+-- memory ran out before the next file
+before_file : (files : List NamedBytes) (after : Option (List NamedBytes)) → FailsUnrefused files after → StopsAnywhere files after
+before_file files after fails = record {
+  read = fails.read;
+  last = [];
+  others = fails.others;
+  whole = fails.whole ∙ ap (λ (read : List NamedBytes). read ++ fails.others) (sym (append-nil fails.read));
+  unrefused = fails.unrefused;
+  few = omega arith;
+  left = fails.left;
+}
+
+-- or once it was read
+after_file : (first left after : Option (List NamedBytes)) (room : ℕ) (before : Seen) (file : NamedBytes) → HasRead first left room before
+    → source.Gives left (Some file) after → (files : List NamedBytes) → first ≡ Some files → StopsAnywhere files after
+after_file first None after room before file has gives files some = absurd (let e : None ≡ Some files = sym has.told ∙ some in cc)
+after_file first (Some []) after room before file has gives files some = absurd cc
+after_file first (Some (f ∷ others)) after room before file has gives files some = record {
+  read = has.read;
+  last = file ∷ [];
+  others = others;
+  whole = some_files files ((has.read ++ file ∷ []) ++ others)
+      (sym some ∙ has.told ∙ read_one has.read file (Some (f ∷ others)) after gives ∙ ap (behind (has.read ++ file ∷ [])) gives.1);
+  unrefused = are_unrefused has.read (omega (arith, has.room_left)) has.good;
+  few = omega arith;
+  left = gives.1;
+}
+
+-- or behind them all
+pub all_read : (files : List NamedBytes) (after : Option (List NamedBytes)) → IsOk (class_among files) → after ≡ Some [] → StopsAnywhere files after
+all_read files after unrefused none = record {
+  read = files;
+  last = [];
+  others = [];
+  whole = sym (append-nil (files ++ []) ∙ append-nil files);
+  unrefused = unrefused;
+  few = omega arith;
+  left = none;
+}
+
+-- where the source failed, or memory ran out, before the next file
+pub left_failed : (first left : Option (List NamedBytes)) (room : ℕ) (before : Seen) (s : Status) → HasRead first left room before → HasNoCause s
+    → (files : List NamedBytes) → first ≡ Some files → IsLeft files s left
+left_failed first left room before status.SourceFault has free files some = fails_unrefused first left room before has files some
+left_failed first left room before status.OutOfMemory has free files some =
+    before_file files left (fails_unrefused first left room before has files some)
+left_failed first left room before status.Ok has free files some = absurd free
+left_failed first left room before (status.Uncaught thread class) has free files some = absurd free
+left_failed first left room before status.Usage has free files some = absurd free
+left_failed first left room before (status.BadClass file refusal) has free files some = absurd free
+left_failed first left room before (status.Full full) has free files some = absurd free
+left_failed first left room before status.ImageFault has free files some = absurd free
+left_failed first left room before status.SinkFault has free files some = absurd free
+left_failed first left room before status.NotBuilt has free files some = absurd free
+
+-- where the next file is refused, or memory ran out
+by_refusal : (files : List NamedBytes) (s : Status) (after : Option (List NamedBytes)) → IsOfFiles s → s ≢ status.SourceFault
+    → (s ≡ status.OutOfMemory) ⊎ StopsAtRefused files s after → StopsAnywhere files after → IsLeft files s after
+by_refusal files (status.BadClass file refusal) after of other (inr stops) anywhere = stops
+by_refusal files (status.Full full) after of other (inr stops) anywhere = stops
+by_refusal files (status.BadClass file refusal) after of other (inl memory) anywhere = absurd cc
+by_refusal files (status.Full full) after of other (inl memory) anywhere = absurd cc
+by_refusal files status.OutOfMemory after of other stops anywhere = anywhere
+by_refusal files status.SourceFault after of other stops anywhere = absurd (other refl)
+by_refusal files status.Ok after of other stops anywhere = absurd of
+by_refusal files (status.Uncaught thread class) after of other stops anywhere = absurd of
+by_refusal files status.Usage after of other stops anywhere = absurd of
+by_refusal files status.ImageFault after of other stops anywhere = absurd of
+by_refusal files status.SinkFault after of other stops anywhere = absurd of
+by_refusal files status.NotBuilt after of other stops anywhere = absurd of
+
+pub left_refused : (first left after : Option (List NamedBytes)) (room : ℕ) (before : Seen) (file : NamedBytes) (s : Status)
+    → HasRead first left (suc room) before → source.Gives left (Some file) after → IsOfFiles s → s ≢ status.SourceFault
+    → (s ≡ status.OutOfMemory) ⊎ (class_of file ≡ Err s) → (files : List NamedBytes) → first ≡ Some files → IsLeft files s after
+left_refused first left after room before file s has gives of other (inl memory) files some =
+    by_refusal files s after of other (inl memory) (after_file first left after (suc room) before file has gives files some)
+left_refused first left after room before file s has gives of other (inr refused) files some =
+    let is = one_refused (has.read ++ file ∷ []) s (first_behind has.read room file s [] has.room_left has.good refused) in
+    by_refusal files s after of other (inr (stops_at first left after (suc room) before file s has gives is files some))
+    (after_file first left after (suc room) before file has gives files some)
+
+-- where there is one file too many
+pub left_full : (first left after : Option (List NamedBytes)) (before : Seen) (file : NamedBytes) → HasRead first left zero before
+    → source.Gives left (Some file) after → (files : List NamedBytes) → first ≡ Some files → IsLeft files one_more after
+left_full first left after before file has gives files some =
+    stops_at first left after zero before file one_more has gives
+    (one_too_many (has.read ++ file ∷ [])
+    (ap first_refused (take_at has.read (file ∷ []) most_files (omega (arith, has.room_left))) ∙ has.good)
+    (omega (arith, has.room_left, length-append has.read (file ∷ []))))
+    files some

@@ -4,11 +4,11 @@ use Rattle.std.specs.Option.{option_or}
 use Rattle.std.specs.Result.{result_ok, result_err}
 use Rattle.std.specs.Str.{bytes_eq}
 use Rattle.ap_base.specs.declared.source.NamedBytes.{NamedBytes}
-use Rattle.ap_base.specs.declared.fault.Which.TheVariants.{Files, FileBytes}
+use Rattle.run_types.specs.declared.fault.Which.TheVariants.{Files, FileBytes}
 use Rattle.class_file.specs.declared.class.ClassFile.{ClassFile}
 use Rattle.class_file.specs.declared.refusal.ClassRefusal.{ClassRefusal}
 use Rattle.class_file.specs.Classes.{class_in}
-use Rattle.class_items.specs.Parsing.{◌>>=◌}
+use Rattle.parsing.specs.Results.{◌>>=◌}
 use Rattle.autopersist.specs.declared.status.Status.{Status}
 use Rattle.autopersist.specs.declared.status.Status.TheVariants as status
 use Rattle.array_program.specs.declared.program.Program.{Program}
@@ -29,7 +29,8 @@ or_bad_class name (Err refusal) = Err (status.BadClass name refusal)
 -- the class of a file, or why the file is refused
 unfoldable pub class_of : NamedBytes → Result ClassFile Status
 class_of file =
-    if nat_lt most_bytes (length file.bytes) then Err (status.Full (record { which = FileBytes; need = length file.bytes; left = most_bytes }))
+    if nat_lt most_bytes file.size
+    then Err (status.Full (record { which = FileBytes; need = file.size; left = most_bytes }))
     else or_bad_class file.name (class_in file.bytes)
 
 -- the refusal of the first file that is refused, if any is
@@ -42,12 +43,14 @@ abbrev pub only_class : List NamedBytes → Option ClassFile
 only_class (file ∷ []) = result_ok (class_of file)
 only_class files = None
 
--- The class of the only file, if there is just one; or why the files are refused: the first that is, of as many as a source may have, or
--- else that there are more.
+-- The class of the only file, if there is just one; or why the files are refused: the first that is, of as
+-- many as a source may have, or else that there are more.
 unfoldable pub class_among : List NamedBytes → Result (Option ClassFile) Status
 class_among files = elim (first_refused (take most_files files)) [
   | Some why ↦ Err why
-  | None ↦ if nat_lt most_files (length files) then Err (status.Full (record { which = Files; need = 1; left = 0 })) else Ok (only_class files)
+  | None ↦
+      if nat_lt most_files (length files) then Err (status.Full (record { which = Files; need = 1; left = 0 }))
+      else Ok (only_class files)
 ]
 
 -- the program has this name

@@ -1,7 +1,10 @@
--- What the top call says of the image: what it was when the program was run on it, how the run ended, and what a stop leaves.
+-- What the top call says of the image: what it was when the program was run on it, how the run ended, and
+-- what a stop leaves. `start` is what the image tells at the call's begin, and `after` what it tells at its
+-- end.
 use Rattle.std.specs.Prelude.{◌≡◌, ◌≢◌, ◌⊎◌, ℕ, ◌<◌, ◌≤◌, ◌+◌, ◌-◌, ◌^◌, min, All, ℤ, List, [], Option, Result, Ok, Err}
-use Rattle.line_image.specs.History.{Outcome, LeavesNow, LeftWithin}
-use Rattle.line_memory.specs.Memory.{Told, ReadsWord}
+use Rattle.line_image.specs.Trace.{Outcome, LeavesNow, LeftWithin}
+use Rattle.line_image.specs.Told.{Told}
+use Rattle.line_memory.specs.Memory.{ReadsWord}
 use Rattle.graph_model.specs.declared.types.Graph.{Graph}
 use Rattle.image_layout.specs.Places.{min_lines, max_lines}
 use Rattle.image_meaning.specs.Checks.{Words}
@@ -23,27 +26,24 @@ use Rattle.array_run.specs.Opening.{EndsBy, default_limits}
 use Rattle.autopersist.specs.declared.status.Status.{Status}
 use Rattle.autopersist.specs.declared.status.Status.TheVariants as status
 
--- an image at the entry of the top call: how many lines it has, and its calls and what it tells of them
-pub record Entry : Type 0 where
-  pub size : ℕ
-  pub told : Told
-
--- reads at the entry give these words
-abbrev pub AreRead : Entry → Words → Type 0
-AreRead entry words = (l w : ℕ) → l < entry.size → ReadsWord entry.told.history l w (words l w)
+-- reads give these words
+abbrev pub AreRead : Told → Words → Type 0
+AreRead start words = (l w : ℕ) → l < start.size → ReadsWord start.trace l w (words l w)
 
 -- The image has too few lines or too many, or its words aren't of the form that the program's root needs.
-abbrev pub IsNotOfForm : Program → Entry → Type 0
-IsNotOfForm program entry =
-    (entry.size < min_lines) ⊎ (max_lines < entry.size)
-    ⊎ ((words : Words) × AreRead entry words × (IsOfForm entry.size words (root_name program) → ⊥))
+abbrev pub IsNotOfForm : Program → Told → Type 0
+IsNotOfForm program start =
+    (start.size < min_lines) ⊎ (max_lines < start.size)
+    ⊎ ((words : Words) × AreRead start words × (IsOfForm start.size words (root_name program) → ⊥))
 
--- The image was of a right size and had words of the form that the program's root needs, or nothing was written to it.
-pub record IsOfFormOrUntouched (program : Program) (entry : Entry) (after : Told) : Type 0 where
+-- The image was of a right size and had words of the form that the program's root needs, or nothing was
+-- written to it.
+pub record IsOfFormOrUntouched (program : Program) (start : Told) (after : Told) : Type 0 where
   pub words : Words
-  pub read : AreRead entry words
-  pub is : ((min_lines ≤ entry.size) × (entry.size ≤ max_lines) × IsOfForm entry.size words (root_name program))
-      ⊎ (after.history ≡ entry.told.history)
+  pub read : AreRead start words
+  pub is : ((min_lines ≤ start.size) × (start.size ≤ max_lines)
+      × IsOfForm start.size words (root_name program))
+      ⊎ (after.trace ≡ start.trace)
 
 -- ---- the run
 
@@ -56,48 +56,55 @@ status_of (Err end.SinkFailed) = status.SinkFault
 status_of (Err end.ImageFailed) = status.ImageFault
 status_of (Err end.OutOfMemory) = status.OutOfMemory
 
--- The image had these words, among them the root's array with these ints, if it has one. It stood for a graph that is the opening one, or
--- that has no roots and nodes while the opening one has the root as null. The acts are a plain run of the program from the opening graph,
--- and end as the status says, where so many lines are left behind all objects. They took no more than there is, and each was made after
--- the lines of the image were read, and within the calls so far.
-pub record HasRun (program : Program) (entry : Entry) (opening : Graph) (acts : List Recorded) (after : Told) (how : Status) : Type 0 where
+-- The image had these words, among them the root's array with these ints, if it has one. It stood for a
+-- graph that is the opening one, or that has no roots and nodes while the opening one has the root as null.
+-- The acts are a plain run of the program from the opening graph, and end as the status says, where so many
+-- lines are left behind all objects. They took no more than there is, and each was made after the lines of
+-- the image were read, and within the calls so far.
+pub record HasRun (program : Program) (start : Told) (opening : Graph) (acts : List Recorded) (after : Told)
+    (how : Status) : Type 0 where
   pub words : Words
-  pub read : AreRead entry words
+  pub read : AreRead start words
   pub array : Option FoundArray
   pub ints : Option (List ℤ)
-  pub found : WasFound entry.size words (root_name program) array ints
+  pub found : WasFound start.size words (root_name program) array ints
   pub graph : opening ≡ graph_with program ints
   pub stood : Graph
-  pub stands : StandsFor entry.size words stood
+  pub stands : StandsFor start.size words stood
   pub from : IsFrom (root_name program) stood opening
   pub run : IsRunOf program opening acts
   pub answer : Result (Unit {0}) RunEnd
   pub is : how ≡ status_of answer
-  pub ends : EndsBy program opening (entry.size - free_behind array) acts answer
-  pub within : KeepsMemory (program_facts program) opening default_limits (entry.size - free_behind array)
+  pub ends : EndsBy program opening (start.size - free_behind array) acts answer
+  pub within : KeepsMemory (program_facts program) opening default_limits (start.size - free_behind array)
       (known_of (program_facts program) 0 opening (program_code program opening) acts)
-  pub made : All (λ (a : Recorded). (entry.size ≤ a.act.at) × (min (entry.told.calls + a.act.at) (2 ^ 64 - 1) ≤ after.calls)) acts
+  pub made : All (λ (a : Recorded).
+      (start.size ≤ a.act.at) × (min (start.calls + a.act.at) (2 ^ 64 - 1) ≤ after.calls)) acts
 
 -- ---- stops
 
--- An image with these words stands for the graph of the entry image, or, where that has no roots and nodes, for the one with the
--- program's root as null; and it can be opened again, if the entry image can.
+-- An image with these words stands for the graph of the image before, or, where that has no roots and nodes,
+-- for the one with the program's root as null; and it can be opened again, if the image before can.
 pub record StandsAsBefore (program : Program) (size : ℕ) (before : Words) (words : Outcome) : Type 0 where
   pub graph : (g : Graph) → StandsFor size before g → IsKeptOrFilled size (root_name program) g words
   pub form : IsOfForm size before (root_name program) → IsOfForm size words (root_name program)
 
--- It stands for a graph that these acts of all allow; or, where there are none yet, as before. Where the run never began, it stands as
--- before.
-abbrev pub StandsRightly : Program → (opening : Graph) → (all acts : List Recorded) → (size : ℕ) → (before : Words) → Outcome → Type 0
+-- It stands for a graph that these acts of all allow; or, where there are none yet, as before. Where the run
+-- never began, it stands as before.
+abbrev pub StandsRightly : Program → (opening : Graph) → (all acts : List Recorded) → (size : ℕ)
+    → (before : Words) → Outcome → Type 0
 StandsRightly program opening all acts size before words =
-    ((all ≢ []) × IsOneOf program opening acts size words) ⊎ ((acts ≡ []) × StandsAsBefore program size before words)
+    ((all ≢ []) × IsOneOf program opening acts size words)
+    ⊎ ((acts ≡ []) × StandsAsBefore program size before words)
 
--- A stop within call n of the top call leaves only images that stand rightly for the acts before that call, and a stop after the last call
--- those that do for all acts.
-pub record StandsAtStops (program : Program) (entry : Entry) (opening : Graph) (acts : List Recorded) (after : Told) : Type 0 where
+-- A stop within call n of the top call leaves only images that stand rightly for the acts before that call,
+-- and a stop after the last call those that do for all acts.
+pub record StandsAtStops (program : Program) (start : Told) (opening : Graph) (acts : List Recorded)
+    (after : Told) : Type 0 where
   pub words : Words
-  pub read : AreRead entry words
-  pub within : (n : ℕ) → 0 < n → entry.told.calls + n ≤ after.calls → entry.told.calls + n < 2 ^ 64 - 1
-      → (c : Outcome) → LeftWithin after.history (entry.told.calls + n) c
-      → StandsRightly program opening acts (acts_before n acts) entry.size words c
-  pub now : (c : Outcome) → LeavesNow after.history c → StandsRightly program opening acts acts entry.size words c
+  pub read : AreRead start words
+  pub within : (n : ℕ) → 0 < n → start.calls + n ≤ after.calls → start.calls + n < 2 ^ 64 - 1
+      → (c : Outcome) → LeftWithin after.trace (start.calls + n) c
+      → StandsRightly program opening acts (acts_before n acts) start.size words c
+  pub now : (c : Outcome) → LeavesNow after.trace c
+      → StandsRightly program opening acts acts start.size words c

@@ -1,8 +1,8 @@
 -- What was read of a source.
-use Rattle.std.specs.Prelude.{◌≡◌, ◌≤◌, List, [], ◌∷◌, length, Option, Some, None, Result, Ok}
+use Rattle.std.specs.Prelude.{◌≡◌, ◌≤◌, List, [], ◌∷◌, ◌++◌, length, Option, Some, None, Result, Ok, Err, IsOk}
 use Rattle.ap_base.specs.declared.source.NamedBytes.{NamedBytes}
 use Rattle.class_file.specs.declared.class.ClassFile.{ClassFile}
-use Rattle.class_items.specs.Parsing.{GivesUnless}
+use Rattle.parsing.specs.Results as parsing
 use Rattle.autopersist.specs.declared.status.Status.{Status}
 use Rattle.autopersist.specs.declared.status.Status.TheVariants as status
 use Rattle.autopersist.specs.declared.files.Seen.{Seen}
@@ -10,8 +10,8 @@ use Rattle.autopersist.specs.declared.files.Seen.TheVariants as seen
 use Rattle.autopersist.specs.Files.{class_of, class_among}
 
 -- what a call gave is what the definition gives, unless memory ran out
-abbrev pub Gives : {A B : Type 0} → (A → B) → Result A Status → Result B Status → Type 0
-Gives view result read = GivesUnless status.OutOfMemory view result read
+abbrev pub IsReadAs : {A B : Type 0} → (A → B) → Result A Status → Result B Status → Type 0
+IsReadAs view result read = parsing.Gives (Some status.OutOfMemory) view result read
 
 -- a source that tells what it had left had these files left
 abbrev pub HadLeft : Option (List NamedBytes) → List NamedBytes → Type 0
@@ -30,16 +30,17 @@ class_seen (seen.One class) = Some class
 class_seen other = None
 
 -- what the files of the source come to
-pub record FilesComeTo (first : Option (List NamedBytes)) (answer : Result (Option ClassFile) Status) : Type 0 where
+pub record FilesComeTo (first : Option (List NamedBytes)) (answer : Result (Option ClassFile) Status)
+    : Type 0 where
   pub files : List NamedBytes
   pub told : HadLeft first files
   pub is : class_among files ≡ answer
 
 -- the answers that have no cause among the files: want of memory, and the source's own fault
-abbrev pub IsFree : Status → Type 0
-IsFree status.OutOfMemory = Unit {0}
-IsFree status.SourceFault = Unit {0}
-IsFree other = ⊥
+abbrev pub HasNoCause : Status → Type 0
+HasNoCause status.OutOfMemory = Unit {0}
+HasNoCause status.SourceFault = Unit {0}
+HasNoCause other = ⊥
 
 -- the answers that reading a source can give
 abbrev pub IsOfFiles : Status → Type 0
@@ -48,3 +49,45 @@ IsOfFiles (status.Full full) = Unit {0}
 IsOfFiles status.OutOfMemory = Unit {0}
 IsOfFiles status.SourceFault = Unit {0}
 IsOfFiles other = ⊥
+
+-- ---- what is left of a source that had these files
+
+-- The source failed behind some files, of which none is refused: the others are left.
+pub record FailsUnrefused (files : List NamedBytes) (after : Option (List NamedBytes)) : Type 0 where
+  pub read : List NamedBytes
+  pub others : List NamedBytes
+  pub whole : files ≡ read ++ others
+  pub unrefused : IsOk (class_among read)
+  pub left : after ≡ Some others
+
+-- No file was read behind the first one that is refused: those behind it are left.
+pub record StopsAtRefused (files : List NamedBytes) (why : Status) (after : Option (List NamedBytes))
+    : Type 0 where
+  pub read : List NamedBytes
+  pub file : NamedBytes
+  pub others : List NamedBytes
+  pub whole : files ≡ read ++ file ∷ others
+  pub unrefused : IsOk (class_among read)
+  pub refused : class_among (read ++ file ∷ []) ≡ Err why
+  pub left : after ≡ Some others
+
+-- Memory ran out behind some files, of which none is refused, but maybe the last one.
+pub record StopsAnywhere (files : List NamedBytes) (after : Option (List NamedBytes)) : Type 0 where
+  pub read : List NamedBytes
+  pub last : List NamedBytes
+  pub others : List NamedBytes
+  pub whole : files ≡ read ++ last ++ others
+  pub unrefused : IsOk (class_among read)
+  pub few : length last ≤ 1
+  pub left : after ≡ Some others
+
+-- What is left, by an answer that comes before a run begins: all files, where the words are no command;
+-- those behind the first one that is refused; where the source failed, those behind some that aren't
+-- refused; where memory ran out, those behind any; otherwise none.
+abbrev pub IsLeft : List NamedBytes → Status → Option (List NamedBytes) → Type 0
+IsLeft files status.Usage after = after ≡ Some files
+IsLeft files status.SourceFault after = FailsUnrefused files after
+IsLeft files (status.BadClass file refusal) after = StopsAtRefused files (status.BadClass file refusal) after
+IsLeft files (status.Full full) after = StopsAtRefused files (status.Full full) after
+IsLeft files status.OutOfMemory after = StopsAnywhere files after
+IsLeft files other after = after ≡ Some []

@@ -1,8 +1,8 @@
 -- The number and the text of each status.
 use Rattle.std.specs.Prelude.{ℕ, List, [], ◌∷◌, ◌++◌, codes, decimal}
 use Rattle.std.specs.List.{flat_map}
-use Rattle.ap_base.specs.declared.fault.Which.{Which}
-use Rattle.ap_base.specs.declared.fault.Which.TheVariants as which
+use Rattle.run_types.specs.declared.fault.Which.{Which}
+use Rattle.run_types.specs.declared.fault.Which.TheVariants as which
 use Rattle.const_pool.specs.declared.refusal.PoolRefusal.{PoolRefusal}
 use Rattle.const_pool.specs.declared.refusal.PoolRefusal.TheVariants as pool
 use Rattle.code_form.specs.declared.refusal.CodeRefusal.{CodeRefusal}
@@ -58,7 +58,8 @@ class_text (class.BadVersion major minor) = with_numbers (codes "BadVersion") (m
 class_text (class.BadIndex offset index) = with_numbers (codes "BadIndex") (offset ∷ index ∷ [])
 class_text (class.BadDescriptor index) = with_numbers (codes "BadDescriptor") (index ∷ [])
 class_text (class.BadAttribute at) = with_numbers (codes "BadAttribute") (at ∷ [])
-class_text (class.Code method refusal) = with_numbers (codes "Code") (method ∷ []) ++ codes " " ++ code_text refusal
+class_text (class.Code method refusal) =
+    with_numbers (codes "Code") (method ∷ []) ++ codes " " ++ code_text refusal
 class_text (class.BadOperand method pc) = with_numbers (codes "BadOperand") (method ∷ pc ∷ [])
 class_text (class.RootNotReference field) = with_numbers (codes "RootNotReference") (field ∷ [])
 class_text (class.TrailingBytes at) = with_numbers (codes "TrailingBytes") (at ∷ [])

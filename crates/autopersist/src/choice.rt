@@ -1,20 +1,19 @@
 // The program that is to run.
 ghost use Rattle.std.specs.Prelude.{◌≡◌, List, [], ◌⊎◌, ◌≤◌, ◌↔◌, Some, None, Ok, Err, map, OnOk, IfOk, IfErr, IfSome, IsErrOf, IsNone};
-ghost use Rattle.std.specs.String.{string_bytes};
 ghost use Rattle.ap_base.specs.Causes.{Rose};
 ghost use Rattle.ap_base.specs.declared.source.NamedBytes.{NamedBytes as File};
 ghost use Rattle.array_program.specs.Form.{program_of};
 ghost use Rattle.array_history.specs.Standing.{IsRight, root_name};
 ghost use Rattle.image_opening.specs.Wanted.{HasRoom};
 ghost use Rattle.autopersist.specs.Files.{built, chosen, to_run};
-ghost use Rattle.autopersist.specs.Reading.{class_seen};
+ghost use Rattle.autopersist.specs.Reading.{class_seen, IsLeft};
 ghost use Rattle.autopersist.specs.TopCall.{IsAsked, IsCauseOf, IsOfWords};
-ghost use Rattle.autopersist.specs.Images.{Entry};
-ghost use Rattle.autopersist.specs.Words.{main_class, slashed};
+ghost use Rattle.line_image.specs.Told.{Told};
+ghost use Rattle.autopersist.specs.Words.{main_class, slashed, texts};
 
 use crate::Status;
 use crate::files::{Seen, read_files};
-use crate::words::{class_asked, internal_name};
+use crate::words::{internal_name, read_words};
 use ap_base::{Bytes, ClassSource};
 use array_program::{Program, read_program};
 use class_file::ClassFile;
@@ -34,31 +33,39 @@ pub(crate) fn find_program<C: ClassSource>(
     words: &[String],
     source: &mut C,
 ) -> Result<Chosen, Status>
-    ensures found { IfOk result (λ chosen. IsAsked (map string_bytes words.now) (C.left source.old) chosen.program) }
+    ensures found { IfOk result (λ chosen.
+        IsAsked (texts words.now) (C.left source.old) chosen.program) }
     ensures right { IfOk result (λ chosen. IsRight chosen.program) }
     ensures root { IfOk result (λ chosen. chosen.root ≡ root_name chosen.program) }
     ensures room { IfOk result (λ chosen. HasRoom chosen.root) }
-    ensures cause { IfErr result (λ s. (entry : Entry) → IsCauseOf (map string_bytes words.now) (C.left source.old) entry [] s) }
-    ensures usage { IsErrOf result Status.Usage ↔ (main_class (map string_bytes words.now) ≡ None) }
+    ensures cause { IfErr result (λ s. (start : Told)
+        → IsCauseOf (texts words.now) (C.left source.old) start [] s) }
+    ensures usage { IsErrOf result Status.Usage ↔ (main_class (texts words.now) ≡ None) }
     ensures of_words { IfErr result IsOfWords }
-    ensures unasked { main_class (map string_bytes words.now) ≡ None → source.new ≡ source.old }
-    ensures whole { OnOk result ((files : List File) → C.left source.old ≡ Some files → C.left source.new ≡ Some []) }
+    ensures unasked { main_class (texts words.now) ≡ None → source.new ≡ source.old }
+    ensures whole { OnOk result ((files : List File) → C.left source.old ≡ Some files
+        → C.left source.new ≡ Some []) }
+    ensures left { IfErr result (λ s. (files : List File) → C.left source.old ≡ Some files
+        → IsLeft files s (C.left source.new)) }
     ensures later { C.faults source.old ≤ C.faults source.new }
-    ensures source_fault { IsErrOf result Status.SourceFault → Rose (C.faults source.old) (C.faults source.new) }
+    ensures source_fault { IsErrOf result Status.SourceFault
+        → Rose (C.faults source.old) (C.faults source.new) }
 {
-    let Some(class) = class_asked(words) else {
+    let Some(command) = read_words(words) else {
         return Err(Status::Usage);
     };
     let seen = read_files(alloc, source)?;
-    choose(alloc, class, &seen)
+    choose(alloc, command.main, &seen)
 }
 
 // The program of this name, where its class is the only one that was read and of the form.
 fn choose(alloc: Global, class: &str, seen: &Seen) -> Result<Chosen, Status>
-    ensures found { IfOk result (λ found. built class.now (class_seen seen.now) ≡ Ok found.program) }
+    ensures found { IfOk result (λ found.
+        built class.now (class_seen seen.now) ≡ Ok found.program) }
     ensures root { IfOk result (λ found. found.root ≡ root_name found.program) }
     ensures room { IfOk result (λ found. HasRoom found.root) }
-    ensures refused { IfErr result (λ s. (s ≡ Status.OutOfMemory) ⊎ ((s ≡ Status.NotBuilt) × (built class.now (class_seen seen.now) ≡ Err Status.NotBuilt))) }
+    ensures refused { IfErr result (λ s. (s ≡ Status.OutOfMemory)
+        ⊎ ((s ≡ Status.NotBuilt) × (built class.now (class_seen seen.now) ≡ Err Status.NotBuilt))) }
 {
     let Ok(name) = internal_name(alloc, class) else {
         return Err(Status::OutOfMemory);
@@ -79,9 +86,12 @@ fn program_named(
     class: &ClassFile,
     name: &[u8],
 ) -> Result<Option<Chosen>, AllocError>
-    ensures found { IfOk result (λ found. IfSome found (λ found. chosen name.now (program_of class.now) ≡ Ok found.program)) }
-    ensures none { IfOk result (λ found. IsNone found → chosen name.now (program_of class.now) ≡ Err Status.NotBuilt) }
-    ensures root { IfOk result (λ found. IfSome found (λ found. found.root ≡ root_name found.program)) }
+    ensures found { IfOk result (λ found. IfSome found (λ found.
+        chosen name.now (program_of class.now) ≡ Ok found.program)) }
+    ensures none { IfOk result (λ found. IsNone found
+        → chosen name.now (program_of class.now) ≡ Err Status.NotBuilt) }
+    ensures root { IfOk result (λ found. IfSome found (λ found.
+        found.root ≡ root_name found.program)) }
     ensures room { IfOk result (λ found. IfSome found (λ found. HasRoom found.root)) }
 {
     let Some(program) = read_program(alloc, class)? else {

@@ -1,14 +1,15 @@
 // The files of a source, read and checked one by one.
-ghost use Rattle.std.specs.Prelude.{◌≡◌, ◌≢◌, ◌⊎◌, ◌≤◌, List, [], ◌∷◌, ◌++◌, Some, OnOk, IfOk, IfErr, IsErrOf, Ok, Err};
+ghost use Rattle.std.specs.Prelude.{◌≡◌, ◌≢◌, ◌⊎◌, ◌≤◌, List, [], ◌∷◌, ◌++◌, Some, OnOk, OnErr, IfOk, IfErr, IsErrOf, Ok, Err};
 ghost use Rattle.ap_base.specs.Causes.{Rose};
 ghost use Rattle.ap_base.specs.Sources as given;
 ghost use Rattle.ap_base.specs.declared.source.NamedBytes.{NamedBytes as File};
 ghost use Rattle.autopersist.specs.Files.{class_of};
-ghost use Rattle.autopersist.specs.Reading.{Gives, IsSeenOf, class_seen, IsFree, IsOfFiles, FilesComeTo};
+ghost use Rattle.autopersist.specs.Reading.{IsReadAs, IsSeenOf, class_seen, HasNoCause, IsOfFiles, FilesComeTo, IsLeft};
 
 use crate::Status;
-use ap_base::{Bytes, ClassSource, Full, NamedBytes, SourceError, Which};
+use ap_base::{Bytes, ClassSource, MOST_BYTES, NamedBytes, SourceError};
 use class_file::{ClassFile, ClassRefusal, read_class};
+use run_types::{Full, Which};
 use std::alloc::Global;
 
 /// The classes that were read so far: none, one, or several, which aren't kept.
@@ -22,12 +23,10 @@ pub(crate) enum Seen {
 // A source has at most so many files.
 const MOST_FILES: u32 = 4_096;
 
-// A file has at most so many bytes.
-const MOST_BYTES: usize = 1_048_576;
-
 // One more class was read.
 fn with_class(before: Seen, class: ClassFile) -> Seen
-    ensures { (files : List File) (file : File) → IsSeenOf files before → class_of file ≡ Ok class → IsSeenOf (files ++ file ∷ []) result }
+    ensures { (files : List File) (file : File) → IsSeenOf files before → class_of file ≡ Ok class
+        → IsSeenOf (files ++ file ∷ []) result }
 {
     match before {
         Seen::Nothing => Seen::One(class),
@@ -38,15 +37,14 @@ fn with_class(before: Seen, class: ClassFile) -> Seen
 // The class of a file.
 #[tactic(auto, unfolding(crate::specs::Files::class_of))]
 fn class_of(alloc: Global, file: NamedBytes) -> Result<ClassFile, Status>
-    ensures class { Gives (λ class. class) result (class_of file) }
+    ensures class { IsReadAs (λ class. class) result (class_of file) }
     ensures files { IfErr result IsOfFiles }
     ensures no_source { IfErr result (λ s. s ≢ Status.SourceFault) }
 {
-    let size = file.bytes.as_slice().len();
-    if size > MOST_BYTES {
+    if file.size > MOST_BYTES as u64 {
         return Err(Status::Full(Full {
             which: Which::FileBytes,
-            need: size as u64,
+            need: file.size,
             left: MOST_BYTES as u64,
         }));
     }
@@ -62,7 +60,7 @@ fn class_of(alloc: Global, file: NamedBytes) -> Result<ClassFile, Status>
 
 fn status_of(error: SourceError) -> Status
     ensures failed { result ≡ Status.SourceFault → error ≡ SourceError.Failed }
-    ensures free { IsFree result }
+    ensures free { HasNoCause result }
     ensures files { IsOfFiles result }
 {
     match error {
@@ -74,10 +72,12 @@ fn status_of(error: SourceError) -> Status
 // The next file.
 fn next_file<C: ClassSource>(alloc: Global, source: &mut C) -> Result<Option<NamedBytes>, Status>
     ensures file { IfOk result (λ file. given.Gives (C.left source.old) file (C.left source.new)) }
-    ensures free { IfErr result IsFree }
+    ensures kept { OnErr result (C.left source.new ≡ C.left source.old) }
+    ensures free { IfErr result HasNoCause }
     ensures files { IfErr result IsOfFiles }
     ensures later { C.faults source.old ≤ C.faults source.new }
-    ensures cause { IsErrOf result Status.SourceFault → Rose (C.faults source.old) (C.faults source.new) }
+    ensures cause { IsErrOf result Status.SourceFault
+        → Rose (C.faults source.old) (C.faults source.new) }
 {
     match source.next(alloc) {
         Ok(file) => Ok(file),
@@ -88,11 +88,15 @@ fn next_file<C: ClassSource>(alloc: Global, source: &mut C) -> Result<Option<Nam
 /// The classes of the files that the source has left, or the first file that is refused.
 pub(crate) fn read_files<C: ClassSource>(alloc: Global, source: &mut C) -> Result<Seen, Status>
     ensures seen { IfOk result (λ seen. FilesComeTo (C.left source.old) (Ok (class_seen seen))) }
-    ensures refused { IfErr result (λ s. IsFree s ⊎ FilesComeTo (C.left source.old) (Err s)) }
-    ensures whole { OnOk result ((files : List File) → C.left source.old ≡ Some files → C.left source.new ≡ Some []) }
+    ensures refused { IfErr result (λ s. HasNoCause s ⊎ FilesComeTo (C.left source.old) (Err s)) }
+    ensures whole { OnOk result ((files : List File) → C.left source.old ≡ Some files
+        → C.left source.new ≡ Some []) }
+    ensures left { IfErr result (λ s. (files : List File) → C.left source.old ≡ Some files
+        → IsLeft files s (C.left source.new)) }
     ensures files { IfErr result IsOfFiles }
     ensures later { C.faults source.old ≤ C.faults source.new }
-    ensures cause { IsErrOf result Status.SourceFault → Rose (C.faults source.old) (C.faults source.new) }
+    ensures cause { IsErrOf result Status.SourceFault
+        → Rose (C.faults source.old) (C.faults source.new) }
 {
     let mut before = Seen::Nothing;
     for _ in 0..MOST_FILES {

@@ -5,8 +5,6 @@ mod choice;
 mod files;
 mod image_run;
 mod status;
-#[cfg(test)]
-mod tests;
 mod texts;
 mod top_call;
 mod words;
@@ -14,3 +12,4 @@ mod words;
 pub use status::Status;
 pub use texts::status_text;
 pub use top_call::{Ended, autopersist};
+pub use words::{Command, read_words};

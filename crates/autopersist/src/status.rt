@@ -2,9 +2,10 @@
 ghost use Rattle.std.specs.Prelude.{◌≡◌, ◌++◌, OnOk, IfOk};
 ghost use Rattle.autopersist.specs.Statuses.{number_of, text_of};
 
-use ap_base::{Bytes, Full, ThreadNo};
+use ap_base::{Bytes, ThreadNo};
 use class_file::ClassRefusal;
 use plain_model::Throws;
+use run_types::Full;
 use std::alloc::{AllocError, Global};
 
 /// How the top call ended.

@@ -4,12 +4,13 @@ ghost use Rattle.std.specs.List.{flat_map};
 ghost use Rattle.autopersist.specs.Statuses.{spaced, with_numbers, pool_text, code_text, class_text, class_name, which_text, what_of, text_of};
 
 use crate::Status;
-use ap_base::{ThreadNo, Which};
+use ap_base::ThreadNo;
 use class_file::ClassRefusal;
 use code_form::CodeRefusal;
 use const_pool::PoolRefusal;
 use itoa::Buffer;
 use plain_model::Throws;
+use run_types::Which;
 use std::alloc::{AllocError, Global};
 
 fn put(out: &mut Vec<u8>, text: &[u8]) -> Result<(), AllocError>
@@ -38,7 +39,8 @@ fn put_with(out: &mut Vec<u8>, name: &[u8], number: u64) -> Result<(), AllocErro
 
 // A name and two numbers.
 fn put_with_two(out: &mut Vec<u8>, name: &[u8], first: u64, second: u64) -> Result<(), AllocError>
-    ensures { OnOk result (out.new.items ≡ out.old.items ++ with_numbers name.now (first ∷ second ∷ [])) }
+    ensures { OnOk result (out.new.items
+        ≡ out.old.items ++ with_numbers name.now (first ∷ second ∷ [])) }
 {
     put(out, name)?;
     put_number(out, first)?;
@@ -74,7 +76,8 @@ fn put_code(out: &mut Vec<u8>, refusal: CodeRefusal) -> Result<(), AllocError>
 }
 
 fn put_method_code(out: &mut Vec<u8>, method: u16, refusal: CodeRefusal) -> Result<(), AllocError>
-    ensures { OnOk result (out.new.items ≡ out.old.items ++ (with_numbers (codes "Code") (method ∷ []) ++ codes " " ++ code_text refusal)) }
+    ensures { OnOk result (out.new.items ≡ out.old.items
+        ++ (with_numbers (codes "Code") (method ∷ []) ++ codes " " ++ code_text refusal)) }
 {
     put_with(out, b"Code", u64::from(method))?;
     put(out, b" ")?;
@@ -147,7 +150,8 @@ fn class_name(class: Throws) -> &'static [u8]
 }
 
 fn put_uncaught(out: &mut Vec<u8>, thread: ThreadNo, class: Throws) -> Result<(), AllocError>
-    ensures { OnOk result (out.new.items ≡ out.old.items ++ (codes "uncaught" ++ spaced thread ++ codes " " ++ class_name class)) }
+    ensures { OnOk result (out.new.items ≡ out.old.items
+        ++ (codes "uncaught" ++ spaced thread ++ codes " " ++ class_name class)) }
 {
     put_with(out, b"uncaught", u64::from(thread.number()))?;
     put(out, b" ")?;

@@ -1,20 +1,34 @@
 // The words of a command, read by hand.
 ghost use Rattle.std.specs.Prelude.{◌≡◌, List, ℕ, map, IfOk};
 ghost use Rattle.std.specs.Option.{option_map};
-ghost use Rattle.std.specs.String.{string_bytes};
-ghost use Rattle.autopersist.specs.Words.{main_class, slashed};
+ghost use Rattle.autopersist.specs.Words.{Asked, asked_by, slashed, texts};
 
 use std::alloc::{AllocError, Global};
 
-/// The class that the words ask to be run: `None` exactly where they aren't `run --image F --main C DIR` behind the
-/// program's name.
-pub(crate) fn class_asked(words: &[String]) -> Option<&str>
-    ensures { option_map (λ class. class.now) result ≡ main_class (map string_bytes words.now) }
+/// What the words ask for: the class `main` of a folder's class files is to be run on the image in a file.
+#[derive(Clone, Copy)]
+pub struct Command<'a> {
+    pub image: &'a str,
+    pub main: &'a str,
+    pub folder: &'a str,
+}
+
+/// What the words ask for: `None` exactly where they aren't `run --image F --main C DIR` behind the program's name.
+pub fn read_words(words: &[String]) -> Option<Command<'_>>
+    ensures { option_map (λ command. record {
+      image = command.image.now;
+      main = command.main.now;
+      folder = command.folder.now;
+    }) result ≡ asked_by (texts words.now) }
 {
     match words {
-        [_, run, image, _, main, class, _] => {
+        [_, run, image, file, main, class, folder] => {
             if run.as_str() == "run" && image.as_str() == "--image" && main.as_str() == "--main" {
-                Some(class.as_str())
+                Some(Command {
+                    image: file.as_str(),
+                    main: class.as_str(),
+                    folder: folder.as_str(),
+                })
             } else {
                 None
             }

@@ -1,7 +1,10 @@
--- An image file tells nothing, and counts its calls.
+-- An image file counts its calls, and tells nothing of what was done in them.
 use Rattle.std.specs.Prelude.{None}
-use Rattle.line_image.specs.History.{IsCounted}
+use Rattle.line_image.specs.Told.{Told, IsCounted}
 use Rattle.autopersist_main.specs.declared.image_file.ImageFile.{ImageFile}
 
-pub in_order_always : (image : ImageFile) → IsCounted image.lines image.calls None
-in_order_always image = record { fits = image.calls_fit; told = tt }
+abbrev pub file_told : ImageFile → Told
+file_told image = record { size = image.lines; calls = image.calls; trace = None }
+
+pub in_order_always : (image : ImageFile) → IsCounted (file_told image)
+in_order_always image = record { fits = image.calls_fit; order = tt }

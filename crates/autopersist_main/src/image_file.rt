@@ -1,9 +1,12 @@
 // An image file.
-ghost use Rattle.std.specs.Prelude.{◌≡◌, ◌≤◌, ◌<◌, ◌*◌, ◌^◌, None, IfOk, OnOk, OnErr};
+ghost use Rattle.std.specs.Prelude.{◌≡◌, ◌≤◌, ◌<◌, ◌*◌, ◌^◌, ◌<ℤ◌, pos, IfOk, OnErr};
+ghost use Rattle.std.specs.Fd.{file_raw_fd};
+ghost use Rattle.std.specs.Option.{ForSome};
 
 use line_image::{Image, ImageFailed};
-use std::fs::{File, OpenFile};
-use std::io::{Read, Seek, SeekFrom, Write};
+use std::fs::File;
+use std::os::fd::{AsRawFd, RawFd};
+use std::os::unix::fs::FileExt;
 use std::rt::Files;
 use std::{fs, io};
 
@@ -11,35 +14,44 @@ const LINE_BYTES: u64 = 64;
 
 const CLOSED_LINES: u64 = 32_768;
 
-/// A file as an image: as many lines as it has whole 64 bytes. It tells nothing.
+// The highest number of a standard stream.
+const LAST_STREAM: RawFd = 2;
+
+/// A file as an image, for this process alone: as many lines as it has whole 64 bytes. It tells nothing.
 ///
-/// One that couldn't be opened shows 32,768 lines, and each call fails.
+/// Its descriptor is none of a standard stream's, so that no printed byte is written to it. One that couldn't be opened, or is
+/// open in another process, shows 32,768 lines, and each call fails.
 #[derive(Drop)]
 pub struct ImageFile {
     file: Option<File>,
     lines: u64,
     calls: u64,
     faults: u64,
+    ghost apart: { ForSome file (λ f. pos 2 <ℤ file_raw_fd f) },
     ghost places_fit: { lines * 64 < 2 ^ 64 },
     ghost calls_fit: { calls < 2 ^ 64 },
     ghost faults_fit: { faults < 2 ^ 64 },
 }
 
 fn open_file(rt: &impl Files<File = File>, path: &str) -> io::Result<(File, u64)>
-    ensures { IfOk result (λ opened. opened.1 * 64 < 2 ^ 64) }
+    ensures apart { IfOk result (λ opened. pos 2 <ℤ file_raw_fd opened.0) }
+    ensures places_fit { IfOk result (λ opened. opened.1 * 64 < 2 ^ 64) }
 {
     let file = fs::OpenOptions::new()
         .read(true)
         .write(true)
         .open(rt, path)?;
+    if file.as_raw_fd() <= LAST_STREAM {
+        return Err(closed());
+    }
+    file.try_lock()?;
     let lines = file.metadata()?.len() / LINE_BYTES;
     Ok((file, lines))
 }
 
-fn read_words(file: &mut File, at: u64) -> io::Result<[u64; 8]> {
+fn read_words(file: &File, at: u64) -> io::Result<[u64; 8]> {
     let mut bytes = [0u8; 64];
-    file.seek(SeekFrom::Start(at))?;
-    file.read_exact(&mut bytes)?;
+    file.read_exact_at(&mut bytes, at)?;
     let mut words = [0u64; 8];
     for (word, eight) in words.iter_mut().zip(bytes.chunks_exact(8)) {
         *word = u64::from_le_bytes([
@@ -49,19 +61,18 @@ fn read_words(file: &mut File, at: u64) -> io::Result<[u64; 8]> {
     Ok(words)
 }
 
-fn write_words(file: &mut File, at: u64, words: &[u64; 8]) -> io::Result<()> {
+fn write_words(file: &File, at: u64, words: &[u64; 8]) -> io::Result<()> {
     let mut bytes = [0u8; 64];
     for (word, eight) in words.iter().zip(bytes.chunks_exact_mut(8)) {
         eight.copy_from_slice(&word.to_le_bytes());
     }
-    file.seek(SeekFrom::Start(at))?;
-    file.write_all(&bytes)
+    file.write_all_at(&bytes, at)
 }
 
 impl ImageFile {
     ghost use Rattle.ap_base.specs.Causes.{HasCause, next_count};
 
-    /// Opens a file.
+    /// Opens a file, and locks it until it is closed.
     pub fn open(rt: &impl Files<File = File>, path: &str) -> ImageFile {
         match open_file(rt, path) {
             Ok((file, lines)) => ImageFile {
@@ -101,23 +112,18 @@ fn closed() -> io::Error {
 }
 
 impl Image for ImageFile {
-    ghost use Rattle.std.specs.Prelude.{None};
-    ghost use Rattle.autopersist_main.specs.Images.{in_order_always};
+    ghost use Rattle.autopersist_main.specs.Images.{file_told, in_order_always};
 
-    ghost size = { λ i. i.lines };
+    ghost told = { file_told };
 
     ghost faults = { λ i. i.faults };
-
-    ghost calls = { λ i. i.calls };
-
-    ghost history = { λ _. None };
 
     fn lines(&self) -> u64 {
         self.lines
     }
 
     fn read_line(&mut self, line: u64, into: &mut [u64; 8]) -> Result<(), ImageFailed> {
-        let read = match &mut self.file {
+        let read = match &self.file {
             Some(file) => read_words(file, line * LINE_BYTES),
             None => Err(closed()),
         };
@@ -126,7 +132,7 @@ impl Image for ImageFile {
     }
 
     fn write_line(&mut self, line: u64, words: &[u64; 8]) -> Result<(), ImageFailed> {
-        let written = match &mut self.file {
+        let written = match &self.file {
             Some(file) => write_words(file, line * LINE_BYTES, words),
             None => Err(closed()),
         };

@@ -1,12 +1,20 @@
-// Two runs of the top call on one image file.
+// Runs of the top call on an image file, and what the adapters do at the edges: a second opening, odd files.
+use crate::folder::{Folder, class_names};
+use crate::hold_streams;
 use crate::image_file::ImageFile;
-use ap_base::{Bytes, MemorySink, MemorySource, NamedBytes, NoGate};
+use ap_base::{Bytes, ClassSource, MemorySink, MemorySource, NamedBytes, NoGate, SourceError};
 use autopersist::autopersist;
+use line_image::Image;
 use run_history::NoWatch;
 use std::alloc::{AllocError, Global};
-use std::fs;
 use std::io::Write;
+use std::os::fd::AsRawFd;
+use std::os::unix::fs::symlink;
+use std::rt::Files;
+use std::sync::Wait;
 use std::test::Fail;
+use std::thread::Threads;
+use std::{fs, io};
 
 // class Main with the durable root `data`, whose main is `data = new int[3]; data[1] = 7; System.out.println(data[1])`.
 const STORES: [u8; 360] = [
@@ -61,14 +69,12 @@ const PRINTS: [u8; 347] = [
     0x2e, 0xb6, 0x00, 0x19, 0xb1, 0x00, 0x00, 0x00, 0x00, 0x00, 0x00,
 ];
 
-const IMAGE: &str = "two_runs.img";
+const IMAGE: &str = "work.img";
 
 fn source(alloc: Global, bytes: &[u8]) -> Result<MemorySource, AllocError> {
     let mut files = Vec::new(alloc);
-    files.push(NamedBytes {
-        name: Bytes::copy(alloc, b"Main.class")?,
-        bytes: Bytes::copy(alloc, bytes)?,
-    })?;
+    let name = Bytes::copy(alloc, b"Main.class")?;
+    files.push(NamedBytes::whole(name, Bytes::copy(alloc, bytes)?))?;
     Ok(MemorySource::new(files, Vec::new(alloc)))
 }
 
@@ -97,26 +103,112 @@ fn blank_file(rt: HostRuntime) -> Result<(), Fail> {
     Ok(())
 }
 
+// Runs a class on the image file: its status, and what it printed.
+fn run<R>(rt: &R, alloc: Global, class: &[u8], image: ImageFile) -> Result<(u8, Vec<u8>), Fail>
+where
+    R: Threads + Wait + Clone + Send + Sync + Drop,
+{
+    let words = words(alloc)?;
+    let sink = MemorySink::new(alloc, 100, 24, Vec::new(alloc))?;
+    let ended = autopersist(
+        rt,
+        alloc,
+        &words,
+        source(alloc, class)?,
+        image,
+        sink,
+        &NoGate,
+        NoWatch,
+    );
+    Ok((ended.status.number(), ended.sink.as_slice().to_vec(alloc)?))
+}
+
 #[test]
 fn two_runs_on_one_file(rt: HostRuntime) -> Result<(), Fail> {
     let alloc = rt.alloc();
     blank_file(rt)?;
-    let words = words(alloc)?;
     for class in [STORES.as_slice(), PRINTS.as_slice()] {
-        let image = ImageFile::open(&rt, IMAGE);
-        let sink = MemorySink::new(alloc, 100, 24, Vec::new(alloc))?;
-        let ended = autopersist(
-            &rt,
-            alloc,
-            &words,
-            source(alloc, class)?,
-            image,
-            sink,
-            &NoGate,
-            NoWatch,
-        );
-        assert_eq!(rt; ended.status.number(), 0);
-        assert_eq!(rt; ended.sink.as_slice(), b"7\n".as_slice());
+        let (status, printed) = run(&rt, alloc, class, ImageFile::open(&rt, IMAGE))?;
+        assert_eq!(rt; (status, printed.as_slice()), (0, b"7\n".as_slice()));
     }
+    Ok(())
+}
+
+// A stream that was closed takes no byte, so that a print to it is a fault of the sink.
+#[test]
+fn held_streams_take_nothing(rt: HostRuntime) -> Result<(), Fail> {
+    for held in hold_streams(&rt) {
+        let mut held = held?;
+        assert!(rt; held.write(b"7").is_err());
+    }
+    Ok(())
+}
+
+#[test]
+fn an_image_is_open_once(rt: HostRuntime) -> Result<(), Fail> {
+    blank_file(rt)?;
+    let mut first = ImageFile::open(&rt, IMAGE);
+    let mut second = ImageFile::open(&rt, IMAGE);
+    let told = (
+        first.fence().is_ok(),
+        second.fence().is_ok(),
+        second.lines(),
+    );
+    assert_eq!(rt; told, (true, false, 32_768));
+    Ok(())
+}
+
+// How many bytes of the only class file of a folder, which is a link to this, are read, and how many it has.
+fn read_through<R>(rt: R, to: &str) -> Result<Result<Option<(usize, u64)>, SourceError>, Fail>
+where
+    R: Files + AllocGlobal + Drop,
+{
+    let alloc = rt.alloc();
+    symlink(&rt, to, "links/a.class")?;
+    let mut folder = Folder::open(rt, "links");
+    let read = match folder.next(alloc) {
+        Ok(Some(file)) => Ok(Some((file.bytes.as_slice().len(), file.size))),
+        Ok(None) => Ok(None),
+        Err(error) => Err(error),
+    };
+    Ok(read)
+}
+
+#[test]
+fn only_regular_files_are_read(rt: HostRuntime) -> Result<(), Fail> {
+    let alloc = rt.alloc();
+    fs::create_dir(&rt, "links")?;
+    fs::write(&rt, "short", "abc")?;
+    fs::File::create(&rt, "sparse")?.set_len(1 << 32)?;
+    let (reader, _writer) = io::pipe(&rt)?;
+    let pipe = format!(in alloc; "/proc/self/fd/{}", reader.as_raw_fd())?;
+    for (to, want) in [
+        ("../short", Ok(Some((3, 3)))),
+        ("../sparse", Ok(Some((1_048_577, 4_294_967_296)))),
+        ("../links", Err(SourceError::Failed)),
+        ("../nothing", Err(SourceError::Failed)),
+        ("/dev/zero", Err(SourceError::Failed)),
+        (pipe.as_str(), Err(SourceError::Failed)),
+    ] {
+        let read = read_through(rt, to)?;
+        fs::remove_file(&rt, "links/a.class")?;
+        assert_eq!(rt; read, want, "at {to}");
+    }
+    Ok(())
+}
+
+#[test]
+fn names_need_not_be_text(rt: HostRuntime) -> Result<(), Fail> {
+    let list = b"\xff.txt\0Main.class\0\xff.class\0A.classes\0A.class\0";
+    let names = class_names(rt.alloc(), list.as_slice())?;
+    let mut joined = Vec::new(rt.alloc());
+    for name in &names {
+        joined.extend_from_slice(name.as_slice())?;
+        joined.push(b' ')?;
+    }
+    assert_eq!(rt;
+        joined.as_slice(),
+        b"\xff.class Main.class A.class ".as_slice()
+    );
     Ok(())
 }

@@ -3,10 +3,10 @@ pub mod FieldLists
 pub mod FieldHeads
 pub mod Codes
 pub mod MethodLists
-pub mod PoolRefusals
 pub mod SpelledFields
 pub mod SpelledMethods
 pub mod Spelled
 pub mod Written
 pub mod RootTexts
 pub mod RootFields
+pub mod Rows

@@ -1,10 +1,10 @@
 -- Methods and their attributes, that a loop reads one after the other.
-use Rattle.std.proofs.Common.{◌≡◌, ℕ, suc, Bool, ◌||◌, ◌-◌, ◌+◌, ◌≤◌, ◌<◌, List, [], ◌∷◌, ◌++◌, Result, Ok, Err, refl, sym, ap, ◌∙◌, ◌⊎◌, inl, inr, append_assoc, arith}
+use Rattle.std.proofs.Common.{◌≡◌, ℕ, suc, Bool, ◌||◌, ◌-◌, ◌+◌, ◌≤◌, ◌<◌, List, [], ◌∷◌, ◌++◌, Result, Ok, Err, refl, sym, ap, ◌∙◌, ◌⊎◌, inl, inr, arith}
 use Rattle.std.proofs.lemmas.List.{append-nil}
 use Rattle.const_pool.specs.Pool.{Slots}
-use Rattle.const_pool.specs.Reading.{Place}
-use Rattle.class_items.specs.Parsing.{◌>>=◌}
-use Rattle.class_items.proofs.Moves.{done}
+use Rattle.parsing.specs.Places.{Place}
+use Rattle.parsing.proofs.Steps.{done}
+use Rattle.parsing.proofs.Loops.{with_front, regroup}
 use Rattle.class_file.specs.declared.method.MethodAttribute.{MethodAttribute}
 use Rattle.class_file.specs.declared.method.Method.{Method}
 use Rattle.class_file.specs.declared.refusal.ClassRefusal.{ClassRefusal}
@@ -14,20 +14,15 @@ use Rattle.class_file.specs.Members.{is_code, method_attribute_at, method_attrib
 abbrev pub Read : Type 0 → Type 0
 Read X = Result (List X × Place) ClassRefusal
 
--- what was read before, and what is still read
-abbrev pub with_front : {X : Type 0} → List X → Read X → Read X
-with_front front read = read >>= λ x. Ok (front ++ x.0, x.1)
-
-regroup : {X : Type 0} (front : List X) (a : X) (read : Read X) → with_front front (read >>= λ r. Ok (a ∷ r.0, r.1)) ≡ with_front (front ++ a ∷ []) read
-regroup {X} front a (Ok r) = ap (λ (xs : List X). done ClassRefusal (xs, r.1)) (simp append_assoc)
-regroup front a (Err e) = refl
-
 -- nothing is left to read
-all_read : {X : Type 0} (front : List X) (file : Place) → with_front front (done ClassRefusal ([], file)) ≡ Ok (front, file)
+all_read : {X : Type 0} (front : List X) (file : Place)
+    → with_front front (done ClassRefusal ([], file)) ≡ Ok (front, file)
 all_read {X} front file = ap (λ (xs : List X). done ClassRefusal (xs, file)) (append-nil front)
 
-module _ (pool : Slots) (method : ℕ) (front : List MethodAttribute) (count i : ℕ) (bare : Bool) (file : Place) (total : Read MethodAttribute) where
-  pub goes_on : (a : MethodAttribute) (after : Place) → i < count → method_attribute_at pool method bare file ≡ Ok (a, after)
+module _ (pool : Slots) (method : ℕ) (front : List MethodAttribute) (count i : ℕ) (bare : Bool) (file : Place)
+    (total : Read MethodAttribute) where
+  pub goes_on : (a : MethodAttribute) (after : Place) → i < count
+      → method_attribute_at pool method bare file ≡ Ok (a, after)
       → with_front front (method_attributes_from pool method bare (count - i) file) ≡ total
       → with_front (front ++ a ∷ []) (method_attributes_from pool method (bare || is_code a) (count - (i + 1)) after) ≡ total
   unfolding method_attributes_from
@@ -37,8 +32,10 @@ module _ (pool : Slots) (method : ℕ) (front : List MethodAttribute) (count i :
       rw (k, h) (regroup front a (method_attributes_from pool method (bare || is_code a) (count - (i + 1)) after)) in
       sym one ∙ so_far
 
-  pub ends : (e : ClassRefusal) → i < count → (e ≡ OutOfMemory) ⊎ (method_attribute_at pool method bare file ≡ Err e)
-      → with_front front (method_attributes_from pool method bare (count - i) file) ≡ total → (e ≡ OutOfMemory) ⊎ (total ≡ Err e)
+  pub ends : (e : ClassRefusal) → i < count
+      → (e ≡ OutOfMemory) ⊎ (method_attribute_at pool method bare file ≡ Err e)
+      → with_front front (method_attributes_from pool method bare (count - i) file) ≡ total
+      → (e ≡ OutOfMemory) ⊎ (total ≡ Err e)
   unfolding method_attributes_from
   ends e lt (inl memory) so_far = inl memory
   ends e lt (inr h) so_far =
@@ -46,7 +43,9 @@ module _ (pool : Slots) (method : ℕ) (front : List MethodAttribute) (count i :
       let one : with_front front (method_attributes_from pool method bare (count - i) file) ≡ Err e = rw (k, h) refl in
       inr (sym so_far ∙ one)
 
-  pub is_done : count ≤ i → with_front front (method_attributes_from pool method bare (count - i) file) ≡ total → total ≡ Ok (front, file)
+  pub is_done : count ≤ i
+      → with_front front (method_attributes_from pool method bare (count - i) file) ≡ total
+      → total ≡ Ok (front, file)
   unfolding method_attributes_from
   is_done le so_far =
       let k : count - i ≡ 0 = omega arith in
@@ -73,7 +72,8 @@ module _ (pool : Slots) (front : List Method) (count i : ℕ) (file : Place) (to
       let one : with_front front (methods_from pool i (count - i) file) ≡ Err e = rw (k, h) refl in
       inr (sym so_far ∙ one)
 
-  pub methods_done : count ≤ i → with_front front (methods_from pool i (count - i) file) ≡ total → total ≡ Ok (front, file)
+  pub methods_done : count ≤ i → with_front front (methods_from pool i (count - i) file) ≡ total
+      → total ≡ Ok (front, file)
   unfolding methods_from
   methods_done le so_far =
       let k : count - i ≡ 0 = omega arith in

@@ -3,15 +3,16 @@ use Rattle.std.specs.Prelude.{◌≡◌, ℕ, ◌==◌, ◌&&◌, ◌||◌, not,
 use Rattle.std.specs.List.{flat_map, list_any}
 use Rattle.byteorder.specs.Endian.{big_bytes}
 use Rattle.const_pool.specs.declared.entry.Tag.TheVariants.{Class}
-use Rattle.const_pool.specs.Entry.{IsBytes}
+use Rattle.parsing.specs.Bytes.{IsBytes}
 use Rattle.const_pool.specs.Pool.{Slots, spelling, class_name_at}
-use Rattle.const_pool.specs.Reading.{Place, pool_in}
-use Rattle.class_items.specs.Parsing.{◌>>=◌, told, many_from}
+use Rattle.parsing.specs.Places.{Place}
+use Rattle.const_pool.specs.Reading.{pool_in}
+use Rattle.parsing.specs.Results.{◌>>=◌, placed, many_from, unless}
 use Rattle.class_items.specs.Items.{attributes_at, attributes_bytes}
 use Rattle.class_file.specs.declared.class.ClassFile.{ClassFile}
 use Rattle.class_file.specs.declared.refusal.ClassRefusal.{ClassRefusal}
 use Rattle.class_file.specs.declared.refusal.ClassRefusal.TheVariants as refusal
-use Rattle.class_file.specs.Refusals.{of_item, of_pool, unless}
+use Rattle.class_file.specs.Refusals.{of_item, of_pool}
 use Rattle.class_file.specs.Members.{number, index, fields_at, methods_at, field_bytes, method_bytes}
 
 -- CAFEBABE
@@ -57,7 +58,7 @@ behind_at pool file = do
   interfaces ← interfaces_at pool super.1
   fields ← fields_at pool interfaces.1
   methods ← methods_at pool fields.1
-  attributes ← told of_item (attributes_at pool methods.1)
+  attributes ← placed of_item (attributes_at pool methods.1)
   ended ← unless (nat_lt 0 (length attributes.1.1)) (refusal.TrailingBytes attributes.1.0)
   Ok (record {
     pool = pool;
@@ -74,7 +75,7 @@ behind_at pool file = do
 unfoldable pub class_in : List ℕ → Result ClassFile ClassRefusal
 class_in bytes = do
   head ← head_at (0, bytes)
-  pool ← told of_pool (pool_in bytes)
+  pool ← placed of_pool (pool_in bytes)
   behind_at pool.0 (pool.1, drop pool.1 bytes)
 
 -- ---- bytes

@@ -1,5 +1,6 @@
--- What the writer of a class file needs: each count and each length has the range of its field (JVMS 4.1, 4.5, 4.6, 4.7).
-use Rattle.std.specs.Prelude.{ℕ, ◌^◌, ◌<◌, length, All}
+-- What the writer of a class file needs: each count and each length has the range of its field (JVMS 4.1,
+-- 4.5, 4.6, 4.7).
+use Rattle.std.specs.Prelude.{◌^◌, ◌<◌, length, All}
 use Rattle.class_items.specs.declared.attribute.Attribute.{Attribute}
 use Rattle.code_attribute.specs.Code.{Fits as CodeFits, code_attribute_bytes}
 use Rattle.class_file.specs.declared.class.ClassFile.{ClassFile}

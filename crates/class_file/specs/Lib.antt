@@ -4,3 +4,4 @@ pub mod Classes
 pub mod FieldParts
 pub mod Fits
 pub mod RootNames
+pub mod Rows

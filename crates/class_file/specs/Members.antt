@@ -1,4 +1,5 @@
--- Fields and methods, read from front to back with the first fault that is met, and their bytes (JVMS 4.5, 4.6).
+-- Fields and methods, read from front to back with the first fault that is met, and their bytes (JVMS 4.5,
+-- 4.6).
 use Rattle.std.specs.Prelude.{ℕ, zero, suc, ◌+◌, ◌==◌, ◌||◌, not, bit_and, Bool, true, false, List, [], ◌∷◌, ◌++◌, length, codes, Option, Some, None, Result, Ok, Err, if◌then◌else◌}
 use Rattle.std.specs.List.{flat_map, list_any}
 use Rattle.std.specs.Str.{bytes_eq}
@@ -6,15 +7,14 @@ use Rattle.byteorder.specs.Endian.{big_bytes, big_number}
 use Rattle.const_pool.specs.declared.entry.Tag.{Tag}
 use Rattle.const_pool.specs.declared.entry.Tag.TheVariants.{Utf8, Integer, Long, String}
 use Rattle.const_pool.specs.Pool.{Slots, entry_at, is_tagged, utf8_at}
-use Rattle.const_pool.specs.Reading.{Place}
+use Rattle.parsing.specs.Places.{Place, number_at}
 use Rattle.class_items.specs.declared.attribute.Attribute.{Attribute}
 use Rattle.class_items.specs.declared.kinds.FieldSort.TheVariants as sort
 use Rattle.class_items.specs.declared.kinds.DescriptorKind.{DescriptorKind}
 use Rattle.class_items.specs.declared.kinds.DescriptorKind.TheVariants as kind
 use Rattle.class_items.specs.Kinds.{kind_at}
-use Rattle.class_items.specs.Parsing.{◌>>=◌, told}
-use Rattle.class_items.specs.Items.{number_at, index_at, attribute_at, attribute_bytes, attributes_bytes}
-use Rattle.annotations.specs.declared.marks.Marks.{Marks}
+use Rattle.parsing.specs.Results.{◌>>=◌, placed, unless}
+use Rattle.class_items.specs.Items.{index_at, attribute_at, attribute_bytes, attributes_bytes}
 use Rattle.annotations.specs.Annotations.{annotations_in}
 use Rattle.code_attribute.specs.declared.code.Code.{Code}
 use Rattle.code_attribute.specs.Code.{code_attribute_at, code_attribute_bytes}
@@ -27,13 +27,13 @@ use Rattle.class_file.specs.declared.method.MethodAttribute.TheVariants as attri
 use Rattle.class_file.specs.declared.method.Method.{Method}
 use Rattle.class_file.specs.declared.refusal.ClassRefusal.{ClassRefusal}
 use Rattle.class_file.specs.declared.refusal.ClassRefusal.TheVariants as refusal
-use Rattle.class_file.specs.Refusals.{of_item, of_annotations, of_code, unless}
+use Rattle.class_file.specs.Refusals.{of_cut, of_item, of_annotations, of_code}
 
 abbrev pub number : ℕ → Place → Result (ℕ × Place) ClassRefusal
-number n file = told of_item (number_at n file)
+number n file = placed of_cut (number_at n file)
 
 abbrev pub index : Slots → Tag → Place → Result (ℕ × Place) ClassRefusal
-index pool tag file = told of_item (index_at pool tag file)
+index pool tag file = placed of_item (index_at pool tag file)
 
 -- the text at this index is this one
 abbrev pub is_text : Slots → ℕ → List ℕ → Bool
@@ -56,9 +56,11 @@ is_static access = not (bit_and access 8 == 0)
 unfoldable pub fact_of : Slots → (at : ℕ) → Attribute → Result Fact ClassRefusal
 fact_of pool at a =
     if is_text pool a.name (codes "ConstantValue") then
-    (if length a.content == 2 then Ok (Constant (at + 6) (big_number 2 a.content)) else Err (refusal.BadAttribute at))
-    else (if is_text pool a.name (codes "RuntimeVisibleAnnotations") || is_text pool a.name (codes "RuntimeInvisibleAnnotations") then
-    (told (of_annotations at) (annotations_in pool (at + 6, a.content)) >>= λ marks. Ok (Marked marks))
+    (if length a.content == 2 then Ok (Constant (at + 6) (big_number 2 a.content))
+    else Err (refusal.BadAttribute at))
+    else (if is_text pool a.name (codes "RuntimeVisibleAnnotations")
+    || is_text pool a.name (codes "RuntimeInvisibleAnnotations") then
+    (placed (of_annotations at) (annotations_in pool (at + 6, a.content)) >>= λ marks. Ok (Marked marks))
     else Ok Nothing)
 
 abbrev pub no_facts : Facts
@@ -75,10 +77,11 @@ with_fact facts (Marked marks) =
 with_fact facts Nothing = facts
 
 -- so many attributes, and what they say beside what is known
-unfoldable pub field_attributes_from : Slots → ℕ → Facts → Place → Result ((List Attribute × Facts) × Place) ClassRefusal
+unfoldable pub field_attributes_from : Slots → ℕ → Facts → Place
+    → Result ((List Attribute × Facts) × Place) ClassRefusal
 field_attributes_from pool zero facts file = Ok (([], facts), file)
 field_attributes_from pool (suc count) facts file = do
-  a ← told of_item (attribute_at pool file)
+  a ← placed of_item (attribute_at pool file)
   fact ← fact_of pool file.0 a.0
   others ← field_attributes_from pool count (with_fact facts fact) a.1
   Ok ((a.0 ∷ others.0.0, others.0.1), others.1)
@@ -114,17 +117,21 @@ is_field other = false
 
 -- the text at an index is among these
 abbrev pub is_among : Slots → List ℕ → ℕ → Bool
-is_among pool names index = elim (utf8_at pool index) [ None ↦ false | Some found ↦ list_any (λ name. is_text pool name found) names ]
+is_among pool names index =
+    elim (utf8_at pool index) [ None ↦ false | Some found ↦ list_any (λ name. is_text pool name found) names ]
 
--- A durable root is static and of a reference type, and no durable root before has its name; `roots` are the indices of their names.
+-- A durable root is static and of a reference type, and no durable root before has its name; `roots` are the
+-- indices of their names.
 abbrev pub is_no_root : Slots → (roots : List ℕ) → (access name descriptor : ℕ) → Bool
 is_no_root pool roots access name descriptor =
     not (is_static access) || (not (is_reference (kind_at pool descriptor)) || is_among pool roots name)
 
 -- the constant of a field, of which the number among the fields is given
-abbrev pub judged : Slots → (roots : List ℕ) → (field access name descriptor : ℕ) → Facts → Result (Option ℕ) ClassRefusal
+abbrev pub judged : Slots → (roots : List ℕ) → (field access name descriptor : ℕ) → Facts
+    → Result (Option ℕ) ClassRefusal
 judged pool roots field access name descriptor facts =
-    if facts.root then (if is_no_root pool roots access name descriptor then Err (refusal.RootNotReference field) else Ok None)
+    if facts.root then
+    (if is_no_root pool roots access name descriptor then Err (refusal.RootNotReference field) else Ok None)
     else constant_of pool access descriptor facts.constant
 
 -- a field (JVMS 4.5)
@@ -155,7 +162,8 @@ abbrev pub with_root : List ℕ → Field → List ℕ
 with_root roots f = if f.root then roots ++ f.name ∷ [] else roots
 
 -- so many fields, from this number on
-unfoldable pub fields_from : Slots → (roots : List ℕ) → (field count : ℕ) → Place → Result (List Field × Place) ClassRefusal
+unfoldable pub fields_from : Slots → (roots : List ℕ) → (field count : ℕ) → Place
+    → Result (List Field × Place) ClassRefusal
 fields_from pool roots field zero file = Ok ([], file)
 fields_from pool roots field (suc count) file = do
   first ← field_at pool roots field file
@@ -183,19 +191,22 @@ abbrev pub has_no_code : ℕ → Bool
 has_no_code access = not (bit_and access 0x0500 == 0)
 
 -- the Code of a method, in an attribute that begins at this offset; `done` says that none may stand here
-unfoldable pub code_at : Slots → (method at : ℕ) → (done : Bool) → Attribute → Result MethodAttribute ClassRefusal
+unfoldable pub code_at : Slots → (method at : ℕ) → (done : Bool) → Attribute
+    → Result MethodAttribute ClassRefusal
 code_at pool method at done a = do
   once ← unless done (refusal.BadAttribute at)
-  code ← told (of_code method at) (code_attribute_at pool (at + 6, a.content))
+  code ← placed (of_code method at) (code_attribute_at pool (at + 6, a.content))
   Ok (attribute.Code a.name code)
 
-abbrev pub looked_into : Slots → (method at : ℕ) → (done : Bool) → Attribute → Result MethodAttribute ClassRefusal
+abbrev pub looked_into : Slots → (method at : ℕ) → (done : Bool) → Attribute
+    → Result MethodAttribute ClassRefusal
 looked_into pool method at done a =
     if is_text pool a.name (codes "Code") then code_at pool method at done a else Ok (attribute.Other a)
 
-unfoldable pub method_attribute_at : Slots → (method : ℕ) → (done : Bool) → Place → Result (MethodAttribute × Place) ClassRefusal
+unfoldable pub method_attribute_at : Slots → (method : ℕ) → (done : Bool) → Place
+    → Result (MethodAttribute × Place) ClassRefusal
 method_attribute_at pool method done file = do
-  a ← told of_item (attribute_at pool file)
+  a ← placed of_item (attribute_at pool file)
   known ← looked_into pool method file.0 done a.0
   Ok (known, a.1)
 
@@ -203,7 +214,8 @@ abbrev pub is_code : MethodAttribute → Bool
 is_code (attribute.Code name code) = true
 is_code (attribute.Other a) = false
 
-unfoldable pub method_attributes_from : Slots → (method : ℕ) → (done : Bool) → (count : ℕ) → Place → Result (List MethodAttribute × Place) ClassRefusal
+unfoldable pub method_attributes_from : Slots → (method : ℕ) → (done : Bool) → (count : ℕ) → Place
+    → Result (List MethodAttribute × Place) ClassRefusal
 method_attributes_from pool method done zero file = Ok ([], file)
 method_attributes_from pool method done (suc count) file = do
   first ← method_attribute_at pool method done file
@@ -220,7 +232,10 @@ method_at pool method file = do
   count ← number 2 descriptor.1
   attributes ← method_attributes_from pool method (has_no_code access.0) count.0 count.1
   coded ← unless (not (has_no_code access.0 || list_any is_code attributes.0)) (refusal.BadAttribute file.0)
-  Ok (record { access = access.0; name = name.0; descriptor = descriptor.0; attributes = attributes.0 }, attributes.1)
+  Ok (
+    record { access = access.0; name = name.0; descriptor = descriptor.0; attributes = attributes.0 },
+    attributes.1,
+  )
 
 -- so many methods, from this number on
 unfoldable pub methods_from : Slots → (method count : ℕ) → Place → Result (List Method × Place) ClassRefusal
@@ -238,7 +253,8 @@ methods_at pool file = do
 -- ---- bytes
 
 abbrev pub field_bytes : Field → List ℕ
-field_bytes f = big_bytes 2 f.access ++ big_bytes 2 f.name ++ big_bytes 2 f.descriptor ++ attributes_bytes f.attributes
+field_bytes f =
+    big_bytes 2 f.access ++ big_bytes 2 f.name ++ big_bytes 2 f.descriptor ++ attributes_bytes f.attributes
 
 abbrev pub method_attribute_bytes : MethodAttribute → List ℕ
 method_attribute_bytes (attribute.Code name code) =

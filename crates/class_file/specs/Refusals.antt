@@ -1,10 +1,11 @@
 -- What the parts' refusals are for a class file.
-use Rattle.std.specs.Prelude.{ℕ, Bool, Result, Ok, Err, if◌then◌else◌}
+use Rattle.std.specs.Prelude.{ℕ, Result, Some}
+use Rattle.parsing.specs.declared.cut.Cut.{Cut}
+use Rattle.parsing.specs.Results as results
 use Rattle.const_pool.specs.declared.refusal.PoolRefusal.{PoolRefusal}
 use Rattle.const_pool.specs.declared.refusal.PoolRefusal.TheVariants as pool
 use Rattle.class_items.specs.declared.refusal.ItemRefusal.{ItemRefusal}
 use Rattle.class_items.specs.declared.refusal.ItemRefusal.TheVariants as item
-use Rattle.class_items.specs.Parsing.{GivesUnless}
 use Rattle.annotations.specs.declared.refusal.AnnotationRefusal.{AnnotationRefusal}
 use Rattle.annotations.specs.declared.refusal.AnnotationRefusal.TheVariants as annotation
 use Rattle.code_attribute.specs.declared.fault.CodeFault.{CodeFault}
@@ -14,7 +15,11 @@ use Rattle.class_file.specs.declared.refusal.ClassRefusal.TheVariants as refusal
 
 -- what a call gave is what reading gives, unless memory ran out
 abbrev pub Gives : {A B : Type 0} → (A → B) → Result A ClassRefusal → Result B ClassRefusal → Type 0
-Gives view result read = GivesUnless refusal.OutOfMemory view result read
+Gives view result read = results.Gives (Some refusal.OutOfMemory) view result read
+
+-- the refusal of a field that is cut off
+abbrev pub of_cut : Cut → ClassRefusal
+of_cut cut = refusal.Truncated cut.at
 
 abbrev pub of_item : ItemRefusal → ClassRefusal
 of_item (item.Truncated at) = refusal.Truncated at
@@ -38,7 +43,3 @@ of_code method at (code.Code r) = refusal.Code method r
 of_code method at (code.BadOperand pc) = refusal.BadOperand method pc
 of_code method at (code.BadDescriptor index) = refusal.BadDescriptor index
 of_code method at code.OutOfMemory = refusal.OutOfMemory
-
--- goes on unless something is wrong
-abbrev pub unless : Bool → ClassRefusal → Result (Unit {0}) ClassRefusal
-unless wrong refusal = if wrong then Err refusal else Ok tt

@@ -7,7 +7,7 @@ use class_items::Attribute;
 use const_pool::Pool;
 
 /// A class file of version 52.0. Indices are those of its constant pool.
-#[derive(Debug, Drop)]
+#[derive(Drop)]
 pub struct ClassFile {
     pub pool: Pool,
     /// The access flags (JVMS table 4.1-B).

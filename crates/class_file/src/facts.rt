@@ -84,7 +84,8 @@ fn of_annotations(at: usize, refusal: AnnotationRefusal) -> ClassRefusal
 #[tactic(auto, unfolding(crate::specs::Members::fact_of))]
 pub(crate) fn fact_of(pool: &Pool, attribute: &RawAttribute) -> Result<Fact, ClassRefusal>
     requires { attribute.now.at + 6 + length attribute.now.content.now < 2 ^ 64 }
-    ensures { result ≡ fact_of pool.now attribute.now.at (record { name = attribute.now.name; content = attribute.now.content.now }) }
+    ensures { result ≡ fact_of pool.now attribute.now.at
+        (record { name = attribute.now.name; content = attribute.now.content.now }) }
 {
     if is_text(pool, attribute.name, b"ConstantValue") {
         if attribute.content.len() != 2 {

@@ -4,7 +4,7 @@ use ap_base::ListOf;
 use class_items::Attribute;
 
 /// A field of a class. Indices are those of the class's constant pool.
-#[derive(Debug, Drop)]
+#[derive(Drop)]
 pub struct Field {
     /// The access flags (JVMS table 4.5-A).
     pub access: u16,

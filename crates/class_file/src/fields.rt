@@ -9,13 +9,15 @@ ghost use Rattle.class_file.specs.Members.{is_static, has_byte, is_barred, no_fa
 
 use crate::facts::{Fact, Facts, fact_of};
 use crate::field::Field;
-use crate::items::{index, raw_attribute, u16};
 use crate::refusal::ClassRefusal;
 use crate::roots::note_root;
 use crate::texts::{is_text, kind_at};
 use ap_base::{Bytes, ListOf};
-use class_items::{Attribute, DescriptorKind, DescriptorKinds, FieldSort, is_tagged};
-use const_pool::{Pool, Reader, Tag};
+use class_items::{
+    Attribute, DescriptorKind, DescriptorKinds, FieldSort, index, is_tagged, raw_attribute,
+};
+use const_pool::{Pool, Tag};
+use parsing::Reader;
 use std::alloc::Global;
 use std::collections::BTreeSet;
 
@@ -33,7 +35,7 @@ fn field_head(pool: &Pool, kinds: &DescriptorKinds, file: &mut Reader) -> Result
     requires { AreKindsOf pool.now kinds.now }
     ensures { Gives (λ head. (head, file.new)) result (field_head_at pool.now file.old) }
 {
-    let access = u16(file)?;
+    let access = file.u16()?;
     let offset = file.at();
     let name = index(pool, Tag::Utf8, file)?;
     if has_barred_byte(pool, name) {
@@ -77,7 +79,8 @@ fn field_attributes(
     count: u16,
     file: &mut Reader,
 ) -> Result<(Vec<Attribute>, Facts), ClassRefusal>
-    ensures { Gives (λ x. ((x.0.items, x.1), file.new)) result (field_attributes_from pool.now count no_facts file.old) }
+    ensures { Gives (λ x. ((x.0.items, x.1), file.new)) result
+        (field_attributes_from pool.now count no_facts file.old) }
 {
     let mut attributes = Vec::new(alloc);
     let mut facts = Facts::none();
@@ -203,7 +206,8 @@ fn judged(
     facts: &Facts,
 ) -> Result<Option<u16>, ClassRefusal>
     requires { AreKindsOf pool.now kinds.now }
-    ensures { result ≡ judged pool.now [] field head.now.access head.now.name head.now.descriptor facts.now }
+    ensures { result
+        ≡ judged pool.now [] field head.now.access head.now.name head.now.descriptor facts.now }
 {
     if !facts.root {
         return constant_of(pool, kinds, head, facts.constant);
@@ -227,7 +231,7 @@ fn field_behind(
     requires { AreKindsOf pool.now kinds.now }
     ensures { Gives (λ f. (f, file.new)) result (field_behind_at pool.now [] number head file.old) }
 {
-    let count = u16(file)?;
+    let count = file.u16()?;
     let (attributes, facts) = field_attributes(alloc, pool, count, file)?;
     let constant = judged(pool, kinds, number, &head, &facts)?;
     Ok(Field {
@@ -289,7 +293,7 @@ pub(crate) fn fields(
     requires { AreKindsOf pool.now kinds.now }
     ensures { Gives (λ list. (list, file.new)) result (fields_at pool.now file.old) }
 {
-    let count = u16(file)?;
+    let count = file.u16()?;
     let fields = some_fields(alloc, pool, kinds, count, file)?;
     Ok(ListOf::from_vec(fields))
 }

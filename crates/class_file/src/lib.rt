@@ -7,7 +7,6 @@ mod class;
 mod facts;
 mod field;
 mod fields;
-mod items;
 mod laws;
 mod method;
 mod methods;
@@ -19,13 +18,10 @@ mod writing;
 
 pub use class::ClassFile;
 pub use field::Field;
-pub use laws::{what_is_read_is_written, what_is_written_is_read};
+pub use laws::{
+    small_classes_have_their_answers, what_is_read_is_written, what_is_written_is_read,
+};
 pub use method::{Method, MethodAttribute};
 pub use reading::read_class;
 pub use refusal::ClassRefusal;
 pub use writing::write_class;
-
-#[cfg(test)]
-mod compiled_tests;
-#[cfg(test)]
-mod tests;

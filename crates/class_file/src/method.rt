@@ -9,7 +9,7 @@ use class_items::Attribute;
 use code_attribute::Code;
 
 /// An attribute of a method: its code, or one whose content is not looked into.
-#[derive(Debug, Drop)]
+#[derive(Drop)]
 pub enum MethodAttribute {
     /// The index of the name `Code`, and what the attribute has.
     Code { name: u16, code: Code },
@@ -17,7 +17,7 @@ pub enum MethodAttribute {
 }
 
 /// A method of a class. Indices are those of the class's constant pool.
-#[derive(Debug, Drop)]
+#[derive(Drop)]
 pub struct Method {
     /// The access flags (JVMS table 4.6-A).
     pub access: u16,

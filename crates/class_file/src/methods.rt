@@ -3,19 +3,19 @@
 ghost use Rattle.std.specs.Prelude.{◌≡◌, ◌||◌, ◌+◌, ◌^◌, ◌<◌, length};
 ghost use Rattle.std.specs.List.{list_any};
 ghost use Rattle.class_items.specs.Kinds.{AreKindsOf};
-ghost use Rattle.class_items.specs.Parsing.{told};
+ghost use Rattle.parsing.specs.Results.{placed};
 ghost use Rattle.code_attribute.specs.Code.{code_attribute_at};
 ghost use Rattle.class_file.specs.Refusals.{Gives, of_code};
 ghost use Rattle.class_file.specs.Members.{is_method, has_no_code, code_at, looked_into, method_attribute_at, is_code, method_attributes_from, method_at, methods_from, methods_at};
 
-use crate::items::{index, raw_attribute, u16};
 use crate::method::{Method, MethodAttribute};
 use crate::refusal::ClassRefusal;
 use crate::texts::{is_text, kind_at};
 use ap_base::{Bytes, ListOf};
-use class_items::{Attribute, DescriptorKind, DescriptorKinds, RawAttribute};
+use class_items::{Attribute, DescriptorKind, DescriptorKinds, RawAttribute, index, raw_attribute};
 use code_attribute::{Code, CodeFault, read_code_attribute};
-use const_pool::{Pool, Reader, Tag};
+use const_pool::{Pool, Tag};
+use parsing::Reader;
 use std::alloc::Global;
 
 fn of_code(method: u16, at: usize, fault: CodeFault) -> ClassRefusal
@@ -42,7 +42,8 @@ fn code_content(
 ) -> Result<Code, ClassRefusal>
     requires within { raw.now.at + 6 + length raw.now.content.now < 2 ^ 64 }
     requires kinds { AreKindsOf pool.now kinds.now }
-    ensures { Gives (λ c. c) result (told (of_code method raw.now.at) (code_attribute_at pool.now (raw.now.at + 6, raw.now.content.now))) }
+    ensures { Gives (λ c. c) result (placed (of_code method raw.now.at)
+        (code_attribute_at pool.now (raw.now.at + 6, raw.now.content.now))) }
 {
     match read_code_attribute(alloc, pool, kinds, raw.at + 6, raw.content) {
         Ok(code) => Ok(code),
@@ -62,7 +63,8 @@ fn code_at(
 ) -> Result<MethodAttribute, ClassRefusal>
     requires within { raw.now.at + 6 + length raw.now.content.now < 2 ^ 64 }
     requires kinds { AreKindsOf pool.now kinds.now }
-    ensures { Gives (λ a. a) result (code_at pool.now method raw.now.at done (record { name = raw.now.name; content = raw.now.content.now })) }
+    ensures { Gives (λ a. a) result (code_at pool.now method raw.now.at done
+        (record { name = raw.now.name; content = raw.now.content.now })) }
 {
     if done {
         return Err(ClassRefusal::BadAttribute(raw.at));
@@ -84,7 +86,8 @@ fn looked_into(
 ) -> Result<MethodAttribute, ClassRefusal>
     requires within { raw.now.at + 6 + length raw.now.content.now < 2 ^ 64 }
     requires kinds { AreKindsOf pool.now kinds.now }
-    ensures { Gives (λ a. a) result (looked_into pool.now method raw.now.at done (record { name = raw.now.name; content = raw.now.content.now })) }
+    ensures { Gives (λ a. a) result (looked_into pool.now method raw.now.at done
+        (record { name = raw.now.name; content = raw.now.content.now })) }
 {
     if is_text(pool, raw.name, b"Code") {
         return code_at(alloc, pool, kinds, method, done, raw);
@@ -105,7 +108,8 @@ fn method_attribute(
     file: &mut Reader,
 ) -> Result<MethodAttribute, ClassRefusal>
     requires { AreKindsOf pool.now kinds.now }
-    ensures { Gives (λ a. (a, file.new)) result (method_attribute_at pool.now method done file.old) }
+    ensures { Gives (λ a. (a, file.new)) result
+        (method_attribute_at pool.now method done file.old) }
 {
     let raw = raw_attribute(pool, file)?;
     looked_into(alloc, pool, kinds, method, done, &raw)
@@ -135,7 +139,8 @@ fn method_attributes(
     file: &mut Reader,
 ) -> Result<Vec<MethodAttribute>, ClassRefusal>
     requires { AreKindsOf pool.now kinds.now }
-    ensures { Gives (λ v. (v.items, file.new)) result (method_attributes_from pool.now method done count file.old) }
+    ensures { Gives (λ v. (v.items, file.new)) result
+        (method_attributes_from pool.now method done count file.old) }
 {
     let mut attributes = Vec::new(alloc);
     for _ in 0..count {
@@ -183,13 +188,13 @@ fn method(
     ensures { Gives (λ m. (m, file.new)) result (method_at pool.now number file.old) }
 {
     let at = file.at();
-    let access = u16(file)?;
+    let access = file.u16()?;
     let name = index(pool, Tag::Utf8, file)?;
     let descriptor = index(pool, Tag::Utf8, file)?;
     if !is_method(kind_at(pool, kinds, descriptor)) {
         return Err(ClassRefusal::BadDescriptor(descriptor));
     }
-    let count = u16(file)?;
+    let count = file.u16()?;
     let bare = has_no_code(access);
     let attributes = method_attributes(alloc, pool, kinds, number, bare, count, file)?;
     if !bare && !has_code(attributes.as_slice()) {
@@ -232,7 +237,7 @@ pub(crate) fn methods(
     requires { AreKindsOf pool.now kinds.now }
     ensures { Gives (λ list. (list, file.new)) result (methods_at pool.now file.old) }
 {
-    let count = u16(file)?;
+    let count = file.u16()?;
     let methods = some_methods(alloc, pool, kinds, count, file)?;
     Ok(ListOf::from_vec(methods))
 }

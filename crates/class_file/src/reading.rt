@@ -6,19 +6,19 @@ ghost use Rattle.const_pool.specs.declared.entry.Tag.TheVariants as tag;
 ghost use Rattle.const_pool.specs.Pool.{class_name_at};
 ghost use Rattle.const_pool.specs.Reading.{pool_in};
 ghost use Rattle.class_items.specs.Kinds.{AreKindsOf};
-ghost use Rattle.class_items.specs.Parsing.{told, many_from};
+ghost use Rattle.parsing.specs.Results.{placed, many_from};
 ghost use Rattle.class_file.specs.Refusals.{Gives, of_pool};
 ghost use Rattle.class_file.specs.Members.{index};
 ghost use Rattle.class_file.specs.Classes.{CanBeRead, class_in, class_bytes, head_at, is_barred, is_misnamed, this_at, interfaces_at, behind_at};
 
 use crate::class::ClassFile;
 use crate::fields::fields;
-use crate::items::{attributes, index, u16, u32};
 use crate::methods::methods;
 use crate::refusal::ClassRefusal;
 use ap_base::ListOf;
-use class_items::DescriptorKinds;
-use const_pool::{Pool, Reader, Tag, read_pool};
+use class_items::{DescriptorKinds, attributes, index};
+use const_pool::{Pool, Tag, read_pool};
+use parsing::Reader;
 use std::alloc::Global;
 
 const MAGIC: u32 = 0xCAFE_BABE;
@@ -28,11 +28,11 @@ const MAGIC: u32 = 0xCAFE_BABE;
 fn head(file: &mut Reader) -> Result<(), ClassRefusal>
     ensures { Gives (λ _. file.new) result (head_at file.old) }
 {
-    if u32(file)? != MAGIC {
+    if file.u32()? != MAGIC {
         return Err(ClassRefusal::BadMagic);
     }
-    let minor = u16(file)?;
-    let major = u16(file)?;
+    let minor = file.u16()?;
+    let major = file.u16()?;
     if major != 52 || minor != 0 {
         return Err(ClassRefusal::BadVersion { major, minor });
     }
@@ -85,7 +85,8 @@ fn some_interfaces(
     count: u16,
     file: &mut Reader,
 ) -> Result<Vec<u16>, ClassRefusal>
-    ensures { Gives (λ v. (v.items, file.new)) result (many_from (index pool.now tag.Class) count file.old) }
+    ensures { Gives (λ v. (v.items, file.new)) result
+        (many_from (index pool.now tag.Class) count file.old) }
 {
     let mut interfaces = Vec::new(alloc);
     for _ in 0..count {
@@ -99,7 +100,7 @@ fn some_interfaces(
 fn interfaces(alloc: Global, pool: &Pool, file: &mut Reader) -> Result<ListOf<u16>, ClassRefusal>
     ensures { Gives (λ list. (list, file.new)) result (interfaces_at pool.now file.old) }
 {
-    let count = u16(file)?;
+    let count = file.u16()?;
     let interfaces = some_interfaces(alloc, pool, count, file)?;
     Ok(ListOf::from_vec(interfaces))
 }
@@ -115,7 +116,7 @@ fn behind(
     requires { AreKindsOf pool kinds.now }
     ensures { Gives (λ c. c) result (behind_at pool file.old) }
 {
-    let access = u16(file)?;
+    let access = file.u16()?;
     let this_class = this_class(&pool, file)?;
     let super_class = index(&pool, Tag::Class, file)?;
     let interfaces = interfaces(alloc, &pool, file)?;
@@ -137,9 +138,9 @@ fn behind(
     })
 }
 
-#[tactic(auto, using(crate::proofs::PoolRefusals::pool_err))]
+#[tactic(auto, using(crate::proofs::Codes::pool_err))]
 fn pool(alloc: Global, bytes: &[u8]) -> Result<(Pool, usize), ClassRefusal>
-    ensures { Gives (λ x. x) result (told of_pool (pool_in bytes.now)) }
+    ensures { Gives (λ x. x) result (placed of_pool (pool_in bytes.now)) }
 {
     Ok(read_pool(alloc, bytes)?)
 }
@@ -158,8 +159,8 @@ fn class(alloc: Global, bytes: &[u8]) -> Result<ClassFile, ClassRefusal>
 
 /// Reads a class file, which is all of the bytes (JVMS 4.1).
 ///
-/// The answer is the first fault, from front to back. The index of a ConstantValue, a durable root and a missing Code are judged
-/// once the member's last attribute is read. `OutOfMemory` may stand in place of any answer.
+/// The answer is the first fault, from front to back. The index of a ConstantValue, a durable root and a missing Code
+/// are judged once the member's last attribute is read. `OutOfMemory` may stand in place of any answer.
 pub fn read_class(alloc: Global, bytes: &[u8]) -> Result<ClassFile, ClassRefusal>
     // What is read is spelled so, each byte of it.
     ensures found { IfOk result (λ c. bytes.now ≡ class_bytes c) }

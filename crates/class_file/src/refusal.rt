@@ -2,11 +2,12 @@
 
 ghost use Rattle.std.specs.Prelude.{◌≡◌};
 ghost use Rattle.class_file.specs.declared.refusal.ClassRefusal.TheVariants.{OutOfMemory};
-ghost use Rattle.class_file.specs.Refusals.{of_item, of_pool};
+ghost use Rattle.class_file.specs.Refusals.{of_cut, of_item, of_pool};
 
 use class_items::ItemRefusal;
 use code_form::CodeRefusal;
 use const_pool::PoolRefusal;
+use parsing::Cut;
 use std::alloc::{AllocError, AllocFailed};
 use thiserror::Error;
 
@@ -52,6 +53,14 @@ pub enum ClassRefusal {
     /// No memory was left.
     #[error("out of memory")]
     OutOfMemory,
+}
+
+impl From<Cut> for ClassRefusal {
+    ghost from_gives = { λ cut e. e ≡ of_cut cut };
+
+    fn from(cut: Cut) -> ClassRefusal {
+        ClassRefusal::Truncated(cut.at)
+    }
 }
 
 impl From<ItemRefusal> for ClassRefusal {

@@ -2,7 +2,8 @@
 
 ghost use Rattle.std.specs.Prelude.{◌≡◌, ℕ, ◌&&◌, not, List, [], ◌∷◌, ◌++◌, IfOk, OnOk};
 ghost use Rattle.class_file.specs.declared.refusal.ClassRefusal.TheVariants as refusal;
-ghost use Rattle.class_file.specs.Refusals.{Gives, unless};
+ghost use Rattle.parsing.specs.Results.{unless};
+ghost use Rattle.class_file.specs.Refusals.{Gives};
 ghost use Rattle.class_file.specs.Members.{is_among, with_root};
 ghost use Rattle.class_file.specs.RootNames.{AreTexts};
 
@@ -18,8 +19,10 @@ fn add_text<'a>(
     texts: &mut BTreeSet<&'a [u8]>,
     index: u16,
 ) -> Result<bool, AllocError>
-    ensures new { (roots : List ℕ) → AreTexts pool.now roots texts.old → IfOk result (λ added. added ≡ not (is_among pool.now roots index)) }
-    ensures added { (roots : List ℕ) → AreTexts pool.now roots texts.old → OnOk result (AreTexts pool.now (roots ++ index ∷ []) texts.new) }
+    ensures new { (roots : List ℕ) → AreTexts pool.now roots texts.old
+        → IfOk result (λ added. added ≡ not (is_among pool.now roots index)) }
+    ensures added { (roots : List ℕ) → AreTexts pool.now roots texts.old
+        → OnOk result (AreTexts pool.now (roots ++ index ∷ []) texts.new) }
 {
     match pool.utf8(index) {
         Some(text) => Ok(texts.insert(text.as_slice())?),
@@ -35,8 +38,10 @@ pub(crate) fn note_root<'a>(
     field: &Field,
 ) -> Result<(), ClassRefusal>
     ensures own { (roots : List ℕ) → AreTexts pool.now roots texts.old
-        → Gives (λ _. tt) result (unless (field.now.root && is_among pool.now roots field.now.name) (refusal.RootNotReference number)) }
-    ensures noted { (roots : List ℕ) → AreTexts pool.now roots texts.old → OnOk result (AreTexts pool.now (with_root roots field.now) texts.new) }
+        → Gives (λ _. tt) result (unless (field.now.root && is_among pool.now roots field.now.name)
+        (refusal.RootNotReference number)) }
+    ensures noted { (roots : List ℕ) → AreTexts pool.now roots texts.old
+        → OnOk result (AreTexts pool.now (with_root roots field.now) texts.new) }
 {
     if !field.root {
         return Ok(());

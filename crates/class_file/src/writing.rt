@@ -3,7 +3,7 @@
 ghost use Rattle.std.specs.Prelude.{◌≡◌, ◌++◌, ◌^◌, ◌<◌, IfOk, OnOk, All, List, ℕ, Ok, length};
 ghost use Rattle.std.specs.List.{flat_map};
 ghost use Rattle.byteorder.specs.Endian.{big_bytes};
-ghost use Rattle.const_pool.specs.Entry.{IsBytes};
+ghost use Rattle.parsing.specs.Bytes.{IsBytes};
 ghost use Rattle.const_pool.specs.Pool.{spelling};
 ghost use Rattle.code_attribute.specs.Code.{Fits as CodeFits, code_attribute_bytes};
 ghost use Rattle.class_file.specs.Members.{field_bytes, method_attribute_bytes, method_bytes};
@@ -16,7 +16,8 @@ use crate::method::{Method, MethodAttribute};
 use ap_base::ListOf;
 use class_items::put_attributes;
 use code_attribute::{Code, put_code_attribute};
-use const_pool::{Pool, put_u16, put_u32, write_pool};
+use const_pool::{Pool, write_pool};
+use parsing::{put_u16, put_u32};
 use std::alloc::{AllocError, Global};
 
 /// What a class file begins with (JVMS 4.1).
@@ -53,7 +54,9 @@ fn put_indices(out: &mut Vec<u8>, indices: &[u16]) -> Result<(), AllocError>
 /// Appends the count of the interfaces and the index of each.
 fn put_interfaces(out: &mut Vec<u8>, interfaces: &ListOf<u16>) -> Result<(), AllocError>
     requires { length interfaces.now < 2 ^ 16 }
-    ensures { OnOk result (out.new.items ≡ out.old.items ++ big_bytes 2 (length interfaces.now) ++ flat_map (big_bytes 2) interfaces.now) }
+    ensures { OnOk result (out.new.items
+        ≡ out.old.items ++ big_bytes 2 (length interfaces.now)
+        ++ flat_map (big_bytes 2) interfaces.now) }
 {
     put_u16(out, interfaces.len() as u16)?;
     put_indices(out, interfaces.as_slice())
@@ -83,7 +86,8 @@ fn put_each_field(out: &mut Vec<u8>, fields: &[Field]) -> Result<(), AllocError>
 fn put_fields(out: &mut Vec<u8>, fields: &ListOf<Field>) -> Result<(), AllocError>
     requires count { length fields.now < 2 ^ 16 }
     requires each { All FieldFits fields.now }
-    ensures { OnOk result (out.new.items ≡ out.old.items ++ big_bytes 2 (length fields.now) ++ flat_map field_bytes fields.now) }
+    ensures { OnOk result (out.new.items
+        ≡ out.old.items ++ big_bytes 2 (length fields.now) ++ flat_map field_bytes fields.now) }
 {
     put_u16(out, fields.len() as u16)?;
     put_each_field(out, fields.as_slice())
@@ -92,7 +96,8 @@ fn put_fields(out: &mut Vec<u8>, fields: &ListOf<Field>) -> Result<(), AllocErro
 /// Appends an attribute of this content.
 fn put_content(out: &mut Vec<u8>, name: u16, content: &[u8]) -> Result<(), AllocError>
     requires { length content.now < 2 ^ 32 }
-    ensures { OnOk result (out.new.items ≡ out.old.items ++ big_bytes 2 name ++ big_bytes 4 (length content.now) ++ content.now) }
+    ensures { OnOk result (out.new.items
+        ≡ out.old.items ++ big_bytes 2 name ++ big_bytes 4 (length content.now) ++ content.now) }
 {
     put_u16(out, name)?;
     put_u32(out, content.len() as u32)?;
@@ -103,7 +108,9 @@ fn put_content(out: &mut Vec<u8>, name: u16, content: &[u8]) -> Result<(), Alloc
 fn put_code(alloc: Global, out: &mut Vec<u8>, name: u16, code: &Code) -> Result<(), AllocError>
     requires fits { CodeFits code.now }
     requires short { length (code_attribute_bytes code.now) < 2 ^ 32 }
-    ensures { let content = code_attribute_bytes code.now in OnOk result (out.new.items ≡ out.old.items ++ big_bytes 2 name ++ big_bytes 4 (length content) ++ content) }
+    ensures { let content = code_attribute_bytes code.now in
+        OnOk result (out.new.items
+        ≡ out.old.items ++ big_bytes 2 name ++ big_bytes 4 (length content) ++ content) }
 {
     let mut content = Vec::new(alloc);
     put_code_attribute(&mut content, code)?;
@@ -130,7 +137,8 @@ fn put_method_attributes(
     attributes: &[MethodAttribute],
 ) -> Result<(), AllocError>
     requires { All MethodAttributeFits attributes.now }
-    ensures { OnOk result (out.new.items ≡ out.old.items ++ flat_map method_attribute_bytes attributes.now) }
+    ensures { OnOk result (out.new.items
+        ≡ out.old.items ++ flat_map method_attribute_bytes attributes.now) }
 {
     for attribute in attributes {
         put_method_attribute(alloc, out, attribute)?;
@@ -163,7 +171,8 @@ fn put_each_method(alloc: Global, out: &mut Vec<u8>, methods: &[Method]) -> Resu
 fn put_methods(alloc: Global, out: &mut Vec<u8>, methods: &ListOf<Method>) -> Result<(), AllocError>
     requires count { length methods.now < 2 ^ 16 }
     requires each { All MethodFits methods.now }
-    ensures { OnOk result (out.new.items ≡ out.old.items ++ big_bytes 2 (length methods.now) ++ flat_map method_bytes methods.now) }
+    ensures { OnOk result (out.new.items
+        ≡ out.old.items ++ big_bytes 2 (length methods.now) ++ flat_map method_bytes methods.now) }
 {
     put_u16(out, methods.len() as u16)?;
     put_each_method(alloc, out, methods.as_slice())
@@ -189,7 +198,8 @@ pub fn write_class(alloc: Global, class: &ClassFile) -> Result<Vec<u8>, AllocErr
     requires { CanBeRead class.now }
     ensures bytes { IfOk result (λ out. out.items ≡ class_bytes class.now) }
     // The bytes from which the class was read, and no others.
-    ensures same { IfOk result (λ out. (bytes : List ℕ) → IsBytes bytes → class_in bytes ≡ Ok class.now → out.items ≡ bytes) }
+    ensures same { IfOk result (λ out. (bytes : List ℕ) → IsBytes bytes
+        → class_in bytes ≡ Ok class.now → out.items ≡ bytes) }
     // They are read as this class.
     ensures again { IfOk result (λ out. class_in out.items ≡ Ok class.now) }
 {

@@ -14,7 +14,8 @@ past_is_neither pool i le = ap (λ (e : Option Entry). kind_of_some (text_of e))
 
 -- the kinds of all indices within a pool are those of all indices
 pub each_kind : (pool : Slots) (kinds : List DescriptorKind) (n : ℕ) → length kinds ≡ n → length pool ≤ n
-    → ((i : ℕ) → i < n → slice_index_or kinds i Neither ≡ kind_at pool i) → (i : ℕ) → slice_index_or kinds i Neither ≡ kind_at pool i
+    → ((i : ℕ) → i < n → slice_index_or kinds i Neither ≡ kind_at pool i) → (i : ℕ)
+    → slice_index_or kinds i Neither ≡ kind_at pool i
 each_kind pool kinds n len le within i =
     elim (cases_lt i n) [
       | inl lt ↦ within i lt

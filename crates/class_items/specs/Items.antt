@@ -1,40 +1,36 @@
 -- The items of class files (JVMS 4.1, 4.7): how each is read, and its bytes.
-use Rattle.std.specs.Prelude.{ℕ, ◌+◌, List, ◌++◌, length, take, drop, Result, Ok, Err, nat_lt, if◌then◌else◌}
+use Rattle.std.specs.Prelude.{ℕ, List, ◌++◌, length, Result, Ok, Err, Some, if◌then◌else◌}
 use Rattle.std.specs.List.{flat_map}
-use Rattle.byteorder.specs.Endian.{big_bytes, big_number}
-use Rattle.const_pool.specs.declared.refusal.PoolRefusal.{PoolRefusal}
-use Rattle.const_pool.specs.declared.refusal.PoolRefusal.TheVariants as pool
+use Rattle.byteorder.specs.Endian.{big_bytes}
+use Rattle.parsing.specs.declared.cut.Cut.{Cut}
+use Rattle.parsing.specs.Results as results
+use Rattle.parsing.specs.Results.{◌>>=◌, placed, many_from}
+use Rattle.parsing.specs.Places as places
+use Rattle.parsing.specs.Places.{Place}
 use Rattle.const_pool.specs.declared.entry.Tag.{Tag}
 use Rattle.const_pool.specs.declared.entry.Tag.TheVariants.{Utf8}
 use Rattle.const_pool.specs.Pool.{Slots, entry_at, is_tagged}
-use Rattle.const_pool.specs.Reading.{Place}
 use Rattle.class_items.specs.declared.attribute.Attribute.{Attribute}
 use Rattle.class_items.specs.declared.refusal.ItemRefusal.{ItemRefusal}
 use Rattle.class_items.specs.declared.refusal.ItemRefusal.TheVariants.{Truncated, BadIndex, OutOfMemory}
-use Rattle.class_items.specs.Parsing.{◌>>=◌, GivesUnless, many_from}
 
 -- what a call gave is what reading gives, unless memory ran out
 abbrev pub Gives : {A B : Type 0} → (A → B) → Result A ItemRefusal → Result B ItemRefusal → Type 0
-Gives view result read = GivesUnless OutOfMemory view result read
+Gives view result read = results.Gives (Some OutOfMemory) view result read
 
--- the refusal of a field as that of an item
-abbrev pub of_field : PoolRefusal → ItemRefusal
-of_field (pool.Truncated at) = Truncated at
-of_field other = OutOfMemory
+-- the refusal of a field that is cut off
+abbrev pub of_cut : Cut → ItemRefusal
+of_cut cut = Truncated cut.at
 
--- ---- reading: a place is the offset from the file's start and the bytes from there on
+-- ---- reading
 
 -- a field of n bytes, and the file after it
-unfoldable pub field_at : ℕ → Place → Result (List ℕ × Place) ItemRefusal
-field_at n file =
-    if nat_lt (length file.1) n then Err (Truncated file.0)
-    else Ok (take n file.1, (file.0 + n, drop n file.1))
+abbrev pub field_at : ℕ → Place → Result (List ℕ × Place) ItemRefusal
+field_at n file = placed of_cut (places.field_at n file)
 
 -- a number of n bytes, the highest first
-unfoldable pub number_at : ℕ → Place → Result (ℕ × Place) ItemRefusal
-number_at n file = do
-  bytes ← field_at n file
-  Ok (big_number n bytes.0, bytes.1)
+abbrev pub number_at : ℕ → Place → Result (ℕ × Place) ItemRefusal
+number_at n file = placed of_cut (places.number_at n file)
 
 -- an index that names an entry of this kind
 unfoldable pub index_at : Slots → Tag → Place → Result (ℕ × Place) ItemRefusal

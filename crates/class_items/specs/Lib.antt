@@ -1,3 +1,2 @@
-pub mod Parsing
 pub mod Items
 pub mod Kinds

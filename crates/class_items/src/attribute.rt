@@ -2,24 +2,25 @@
 
 ghost use Rattle.std.specs.Prelude.{◌≡◌, ◌+◌, ◌++◌, ◌^◌, ◌<◌, length, IfOk, OnOk, All};
 ghost use Rattle.std.specs.List.{flat_map};
+ghost use Rattle.parsing.specs.Results.{many_from};
 ghost use Rattle.class_items.specs.declared.attribute.Attribute.{Attribute as OneAttribute};
 ghost use Rattle.class_items.specs.Items.{Gives, attribute_at, attributes_at, attribute_bytes, attributes_bytes};
-ghost use Rattle.class_items.specs.Parsing.{many_from};
 
-use crate::{ItemRefusal, field, index, u16, u32};
+use crate::{ItemRefusal, index};
 use ap_base::{Bytes, ListOf};
-use const_pool::{Pool, Reader, Tag, put_u16, put_u32};
+use const_pool::{Pool, Tag};
+use parsing::{Reader, put_u16, put_u32};
 use std::alloc::{AllocError, Global};
 
 /// An attribute as it stands in the file: the index of its name, and its content.
-#[derive(Debug, Drop)]
+#[derive(Drop)]
 pub struct Attribute {
     pub name: u16,
     pub content: Bytes,
 }
 
 /// An attribute in a file: where it begins, and what it has. Its content begins six bytes further on.
-#[derive(Clone, Copy, Debug)]
+#[derive(Clone, Copy)]
 pub struct RawAttribute<'a> {
     pub at: usize,
     pub name: u16,
@@ -34,12 +35,13 @@ pub fn raw_attribute<'a>(
 ) -> Result<RawAttribute<'a>, ItemRefusal>
     ensures start { IfOk result (λ a. a.at ≡ file.old.0) }
     ensures within { IfOk result (λ a. a.at + 6 + length a.content.now < 2 ^ 64) }
-    ensures read { Gives (λ a. (record { name = a.name; content = a.content.now }, file.new)) result (attribute_at pool.now file.old) }
+    ensures read { Gives (λ a. (record { name = a.name; content = a.content.now }, file.new)) result
+        (attribute_at pool.now file.old) }
 {
     let at = file.at();
     let name = index(pool, Tag::Utf8, file)?;
-    let size = u32(file)?;
-    let content = field(file, size as usize)?;
+    let size = file.u32()?;
+    let content = file.field(size as usize)?;
     Ok(RawAttribute { at, name, content })
 }
 
@@ -77,7 +79,7 @@ pub fn attributes(
 ) -> Result<ListOf<Attribute>, ItemRefusal>
     ensures { Gives (λ list. (list, file.new)) result (attributes_at pool.now file.old) }
 {
-    let count = u16(file)?;
+    let count = file.u16()?;
     let attributes = some_attributes(alloc, pool, count, file)?;
     Ok(ListOf::from_vec(attributes))
 }

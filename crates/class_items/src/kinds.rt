@@ -11,7 +11,7 @@ use std::alloc::{AllocError, Global};
 use std::marker::Model;
 
 /// What a place of a field's type holds (JVMS 2.3, 2.4).
-#[derive(Clone, Copy, Debug, PartialEq, Eq)]
+#[derive(Clone, Copy)]
 pub enum FieldSort {
     /// `boolean`, `byte`, `char`, `short` or `int`.
     Int,
@@ -21,7 +21,7 @@ pub enum FieldSort {
 }
 
 /// What a text is as a descriptor, without those of float and double.
-#[derive(Clone, Copy, Debug, PartialEq, Eq)]
+#[derive(Clone, Copy)]
 pub enum DescriptorKind {
     Field(FieldSort),
     Method,
@@ -31,7 +31,7 @@ pub enum DescriptorKind {
 
 /// What the text at each index of a pool is as a descriptor, so that each text is looked at once. Contracts see a
 /// list, one for each index.
-#[derive(Debug, Drop)]
+#[derive(Drop)]
 pub struct DescriptorKinds {
     kinds: Vec<DescriptorKind>,
 }

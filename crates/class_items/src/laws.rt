@@ -1,9 +1,9 @@
 //! What is read stands there.
 
 ghost use Rattle.std.specs.Prelude.{◌≡◌, ◌++◌, ◌^◌, ◌<◌, List, All, length, Ok};
-ghost use Rattle.const_pool.specs.Entry.{IsBytes};
+ghost use Rattle.parsing.specs.Bytes.{IsBytes};
+ghost use Rattle.parsing.specs.Places.{Place};
 ghost use Rattle.const_pool.specs.Pool.{Slots};
-ghost use Rattle.const_pool.specs.Reading.{Place};
 ghost use Rattle.class_items.specs.declared.attribute.Attribute.{Attribute as OneAttribute};
 ghost use Rattle.class_items.specs.Items.{attributes_at, attributes_bytes};
 

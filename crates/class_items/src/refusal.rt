@@ -2,14 +2,14 @@
 
 ghost use Rattle.std.specs.Prelude.{◌≡◌};
 ghost use Rattle.class_items.specs.declared.refusal.ItemRefusal.TheVariants.{OutOfMemory};
-ghost use Rattle.class_items.specs.Items.{of_field};
+ghost use Rattle.class_items.specs.Items.{of_cut};
 
-use const_pool::PoolRefusal;
+use parsing::Cut;
 use std::alloc::{AllocError, AllocFailed};
 use thiserror::Error;
 
 /// The first fault of an item. Offsets count from the file's start.
-#[derive(Clone, Copy, Debug, PartialEq, Eq, Error)]
+#[derive(Clone, Copy, Debug, Error)]
 pub enum ItemRefusal {
     /// The file ends within the field that begins at this offset.
     #[error("the field at offset {0} is cut off")]
@@ -27,15 +27,11 @@ pub enum ItemRefusal {
     OutOfMemory,
 }
 
-impl From<PoolRefusal> for ItemRefusal {
-    ghost from_gives = { λ given made. made ≡ of_field given };
+impl From<Cut> for ItemRefusal {
+    ghost from_gives = { λ cut e. e ≡ of_cut cut };
 
-    /// A field of numbers is refused where it is cut off, and for no other cause.
-    fn from(refusal: PoolRefusal) -> ItemRefusal {
-        match refusal {
-            PoolRefusal::Truncated(at) => ItemRefusal::Truncated(at),
-            _ => ItemRefusal::OutOfMemory,
-        }
+    fn from(cut: Cut) -> ItemRefusal {
+        ItemRefusal::Truncated(cut.at)
     }
 }
 

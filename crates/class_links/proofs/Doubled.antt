@@ -7,7 +7,7 @@ use Rattle.std.proofs.lemmas.Bool.{or_left, or_right, false≢true}
 use Rattle.std.proofs.lemmas.List.{drop_more, take_more}
 use Rattle.class_file.specs.declared.class.ClassFile.{ClassFile}
 use Rattle.class_links.specs.declared.names.Flags.{Flags}
-use Rattle.class_links.specs.Names.{Known, name_of, has_name, find_known, file_from}
+use Rattle.class_links.specs.Names.{NamedClass, name_of, has_name, find_known, file_from}
 use Rattle.class_links.specs.Links.{doubled_after}
 use Rattle.class_links.specs.Found.{flags_of}
 
@@ -47,19 +47,19 @@ has_name-none names (c ∷ cs) name m h f =
       | false ↦ λ e g. has_name-none (name_of c ∷ names) cs name (m + 1) (rw (e, h) refl) g
     ] refl f
 
-has_name-known : (ks : List Known) (name : List ℕ) → has_name (map (λ (k : Known). k.name) ks) name ≡ is_some (find_known ks name)
+has_name-known : (ks : List NamedClass) (name : List ℕ) → has_name (map (λ (k : NamedClass). k.name) ks) name ≡ is_some (find_known ks name)
 has_name-known [] name = refl
 has_name-known (k ∷ ks) name =
-    elim (bytes_eq k.name name) as (λ b. (b || has_name (map (λ (j : Known). j.name) ks) name) ≡ is_some (if b then Some k else find_known ks name))
+    elim (bytes_eq k.name name) as (λ b. (b || has_name (map (λ (j : NamedClass). j.name) ks) name) ≡ is_some (if b then Some k else find_known ks name))
     [ true ↦ refl | false ↦ has_name-known ks name ]
 
-is_some-flags : (o : Option Known) → is_some (option_map flags_of o) ≡ is_some o
+is_some-flags : (o : Option NamedClass) → is_some (option_map flags_of o) ≡ is_some o
 is_some-flags None = refl
 is_some-flags (Some k) = refl
 
 -- a name is among those of known classes exactly where flags are known by it
-pub has_name-flags : (ks : List Known) (name : List ℕ) (o : Option Flags) → o ≡ option_map flags_of (find_known ks name)
-    → has_name (map (λ (k : Known). k.name) ks) name ≡ is_some o
+pub has_name-flags : (ks : List NamedClass) (name : List ℕ) (o : Option Flags) → o ≡ option_map flags_of (find_known ks name)
+    → has_name (map (λ (k : NamedClass). k.name) ks) name ≡ is_some o
 has_name-flags ks name o e = has_name-known ks name ∙ sym (is_some-flags (find_known ks name)) ∙ ap (λ p. is_some p) (sym e)
 
 -- a name that has a number is there

@@ -1,4 +1,4 @@
--- The edges from classes to their superclasses and superinterfaces.
+-- The edges from classes to their superinterfaces and superclasses.
 use Rattle.std.proofs.Common.{◌≡◌, ◌↔◌, ℕ, ◌+◌, ◌<◌, true, false, List, [], ◌∷◌, ◌++◌, map, take, length, slice_index_or, arith, ap, sym, ◌∙◌, subst, inl, inr, if◌then◌else◌}
 use Rattle.std.specs.Prelude.{All, Contains}
 use Rattle.std.specs.List.{flat_map}
@@ -7,9 +7,9 @@ use Rattle.std.proofs.lemmas.Bool.{cases_lt}
 use Rattle.std.proofs.lemmas.List.{get_or_append_left, get_or_at, get_or_past, get_or_default, length_push, length-map, map_more}
 use Rattle.std.proofs.lemmas.List.Elements.{All-nil, All-push, All-append, All-map, All-weaker, All-contains, Contains-get_or}
 use Rattle.class_file.specs.declared.class.ClassFile.{ClassFile}
-use Rattle.class_links.specs.Names.{name_of, supers_of, file_from, super_files}
+use Rattle.class_links.specs.Names.{name_of, looked_through, file_from, super_files}
 use Rattle.class_links.specs.Links.{super_edges}
-use Rattle.class_links.specs.Circles.{next_of, HaveSameEdges}
+use Rattle.graph_walks.specs.Paths.{next_of, HaveSameEdges}
 
 -- the edges from one vertex more
 HaveSameEdges-push : (edges others : List (List ℕ)) (e o : List ℕ) → HaveSameEdges edges others
@@ -66,7 +66,7 @@ files_below files (name ∷ names) =
 super_edges-below : (files : List ClassFile) → All (λ next. All (λ (n : ℕ). n < length files) next) (super_edges files)
 super_edges-below files =
     All-map (λ next. All (λ (n : ℕ). n < length files) next) (super_files files) files
-    (λ k d l. files_below files (supers_of (slice_index_or files k d)))
+    (λ k d l. files_below files (looked_through (slice_index_or files k d)))
 
 -- edges that are the same lead to no vertices but these
 pub same_edges_below : (files : List ClassFile) (edges : List (List ℕ)) → HaveSameEdges edges (super_edges files)

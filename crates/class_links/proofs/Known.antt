@@ -9,11 +9,11 @@ use Rattle.std.specs.BTreeMap.{BTreeMap, get_by, Updates}
 use Rattle.std.proofs.lemmas.Map.Text.{is_eq-slice_cmp}
 use Rattle.std.proofs.lemmas.Slice.Eq.{bytes_eq-Decides}
 use Rattle.class_file.specs.declared.class.ClassFile.{ClassFile}
-use Rattle.class_links.specs.Names.{Known, name_of, is_interface, is_final, known_of, built_in, known_classes, find_known, file_from}
+use Rattle.class_links.specs.Names.{NamedClass, name_of, is_interface, is_final, known_of, built_in, known_classes, find_known, file_from}
 use Rattle.class_links.specs.Found.{flags_of, AreNumbers}
 
 -- where a first file has a class of the name, that class is known by it
-pub find_known-first : (ks : List Known) (name : List ℕ) (files : List ClassFile) (m n : ℕ) → file_from m files name ≡ n ∷ []
+pub find_known-first : (ks : List NamedClass) (name : List ℕ) (files : List ClassFile) (m n : ℕ) → file_from m files name ≡ n ∷ []
     → (k : ℕ) × (n ≡ m + k) × (k < length files)
     × ((d : ClassFile) → find_known (map known_of files ++ ks) name ≡ Some (known_of (slice_index_or files k d)))
 find_known-first ks name [] m n h = absurd (cc)
@@ -27,7 +27,7 @@ find_known-first ks name (c ∷ cs) m n h =
     ] h
 
 -- where none has, a class before the files is known by the name, if any
-pub find_known-none : (ks : List Known) (name : List ℕ) (files : List ClassFile) (m : ℕ) → file_from m files name ≡ []
+pub find_known-none : (ks : List NamedClass) (name : List ℕ) (files : List ClassFile) (m : ℕ) → file_from m files name ≡ []
     → find_known (map known_of files ++ ks) name ≡ find_known ks name
 find_known-none ks name [] m h = refl
 find_known-none ks name (c ∷ cs) m h =

@@ -8,13 +8,13 @@ use Rattle.std.specs.BTreeMap.{BTreeMap, get_by}
 use Rattle.class_file.specs.declared.class.ClassFile.{ClassFile}
 use Rattle.class_links.specs.declared.names.Flags.{Flags}
 use Rattle.class_links.specs.declared.built_in.BuiltIn.{BuiltIn}
-use Rattle.class_links.specs.Names.{Known, file_from}
+use Rattle.class_links.specs.Names.{NamedClass, file_from}
 
-abbrev pub flags_of : Known → Flags
+abbrev pub flags_of : NamedClass → Flags
 flags_of k = record { is_interface = k.is_interface; is_final = k.is_final }
 
 -- a row of the table of built-in classes
-abbrev pub known_row : BuiltIn → Known
+abbrev pub known_row : BuiltIn → NamedClass
 known_row row = record { name = row.name.now; is_interface = row.flags.is_interface; is_final = row.flags.is_final }
 
 -- each name of a class of the files has the number of the first file with such a class, and no other name has one

@@ -9,8 +9,8 @@ use Rattle.class_file.specs.declared.method.Method.{Method}
 use Rattle.class_file.specs.Members.{is_text, code_in}
 use Rattle.class_links.specs.declared.refusal.LinkRefusal.{LinkRefusal}
 use Rattle.class_links.specs.declared.refusal.LinkRefusal.TheVariants as refusal
-use Rattle.class_links.specs.Names.{Known, name_of, super_of, interfaces_of, supers_of, is_interface, has_name, built_in, known_classes, find_known, super_files}
-use Rattle.class_links.specs.Circles.{HasNoCircle, IsFirstOnCircle}
+use Rattle.class_links.specs.Names.{NamedClass, name_of, super_of, interfaces_of, supers_of, is_interface, has_name, built_in, known_classes, find_known, super_files}
+use Rattle.graph_walks.specs.Circles.{HasNoCircle, IsFirstOnCircle}
 
 -- ---- two classes of one name
 
@@ -21,7 +21,7 @@ doubled_after names (c ∷ cs) = if has_name names (name_of c) then Some (name_o
 
 -- the name of the first class whose name a built-in class or a class before has
 abbrev pub doubled : List ClassFile → Option (List ℕ)
-doubled files = doubled_after (map (λ (k : Known). k.name) built_in) files
+doubled files = doubled_after (map (λ (k : NamedClass). k.name) built_in) files
 
 -- ---- supers
 
@@ -31,19 +31,19 @@ first_name test [] = None
 first_name test (n ∷ ns) = if test n then Some n else first_name test ns
 
 -- a test of the class of this name; where there is none, the answer is this
-abbrev pub of_class : List Known → Bool → (Known → Bool) → List ℕ → Bool
+abbrev pub of_class : List NamedClass → Bool → (NamedClass → Bool) → List ℕ → Bool
 of_class known otherwise test name = elim (find_known known name) [ None ↦ otherwise | Some k ↦ test k ]
 
-abbrev pub missing_of : List Known → ClassFile → Option (List ℕ)
+abbrev pub missing_of : List NamedClass → ClassFile → Option (List ℕ)
 missing_of known c = first_name (of_class known true (λ k. false)) (supers_of c)
 
 -- a superclass that is an interface, or else the first superinterface that is none
-abbrev pub misplaced_of : List Known → ClassFile → Option (List ℕ)
+abbrev pub misplaced_of : List NamedClass → ClassFile → Option (List ℕ)
 misplaced_of known c =
     if of_class known false (λ k. k.is_interface) (super_of c) then Some (super_of c)
     else first_name (of_class known false (λ k. not k.is_interface)) (interfaces_of c)
 
-abbrev pub final_of : List Known → ClassFile → Option (List ℕ)
+abbrev pub final_of : List NamedClass → ClassFile → Option (List ℕ)
 final_of known c = if of_class known false (λ k. k.is_final) (super_of c) then Some (super_of c) else None
 
 -- the first class that has such a super, and that super
@@ -60,7 +60,7 @@ misplaced files = first_with (misplaced_of (known_classes files)) files
 abbrev pub final : List ClassFile → Option (List ℕ × List ℕ)
 final files = first_with (final_of (known_classes files)) files
 
--- from each class to its superclass and its superinterfaces
+-- from each class to its superinterfaces and its superclass
 abbrev pub super_edges : List ClassFile → List (List ℕ)
 super_edges files = map (super_files files) files
 

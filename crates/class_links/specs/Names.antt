@@ -34,12 +34,12 @@ is_interface c = not (bit_and c.access 0x0200 == 0)
 -- ---- the classes of a set by name
 
 -- a class that others may name as a super: one of a file, or a built-in one
-pub record Known : Type 0 where
+pub record NamedClass : Type 0 where
   pub name : List ℕ
   pub is_interface : Bool
   pub is_final : Bool
 
-abbrev pub known_of : ClassFile → Known
+abbrev pub known_of : ClassFile → NamedClass
 known_of c = record { name = name_of c; is_interface = is_interface c; is_final = is_final c }
 
 abbrev pub has_name : List (List ℕ) → List ℕ → Bool
@@ -49,18 +49,18 @@ has_name names name = list_any (λ n. bytes_eq n name) names
 abbrev pub final_names : List (List ℕ)
 final_names = codes "autopersist/Region" ∷ codes "java/lang/String" ∷ codes "java/lang/StringBuilder" ∷ codes "java/lang/System" ∷ []
 
-abbrev pub known_built_in : ClassFacts → Known
+abbrev pub known_built_in : ClassFacts → NamedClass
 known_built_in c = record { name = c.shape.name; is_interface = not c.is_made; is_final = has_name final_names c.shape.name }
 
-unfoldable pub built_in : List Known
+unfoldable pub built_in : List NamedClass
 built_in = map known_built_in (built_in_classes 0)
 
 -- the classes of the files, and the built-in ones
-abbrev pub known_classes : List ClassFile → List Known
+abbrev pub known_classes : List ClassFile → List NamedClass
 known_classes files = map known_of files ++ built_in
 
 -- the first of these classes with this name
-abbrev pub find_known : List Known → List ℕ → Option Known
+abbrev pub find_known : List NamedClass → List ℕ → Option NamedClass
 find_known [] name = None
 find_known (k ∷ ks) name = if bytes_eq k.name name then Some k else find_known ks name
 
@@ -71,6 +71,10 @@ abbrev pub file_from : ℕ → List ClassFile → List ℕ → List ℕ
 file_from n [] name = []
 file_from n (c ∷ cs) name = if bytes_eq (name_of c) name then n ∷ [] else file_from (n + 1) cs name
 
--- the files with the superclass and the superinterfaces of a class; a built-in class has none
+-- the superinterfaces in order, and then the superclass: in this order a field is looked for in them (JVMS 5.4.3.2)
+abbrev pub looked_through : ClassFile → List (List ℕ)
+looked_through c = interfaces_of c ++ super_of c ∷ []
+
+-- the files with the superinterfaces and the superclass of a class, in that order; a built-in class has none
 abbrev pub super_files : List ClassFile → ClassFile → List ℕ
-super_files files c = flat_map (file_from 0 files) (supers_of c)
+super_files files c = flat_map (file_from 0 files) (looked_through c)

@@ -5,7 +5,7 @@ ghost use Rattle.std.specs.Option.{option_map, option_to_list};
 ghost use Rattle.class_links.specs.Names.{known_classes, find_known, file_from, super_files};
 ghost use Rattle.class_links.specs.Links.{doubled, super_edges, IsBroken};
 ghost use Rattle.class_links.specs.Found.{flags_of};
-ghost use Rattle.class_links.specs.Circles.{HaveSameEdges};
+ghost use Rattle.graph_walks.specs.Paths.{HaveSameEdges};
 
 use crate::LinkRefusal;
 use crate::built_in::built_in;
@@ -85,23 +85,23 @@ impl<'a> Classes<'a> {
         }
     }
 
-    /// The numbers of the files with the superclass and the superinterfaces of a class.
+    /// The numbers of the files with the superinterfaces of a class, in order, and then with its superclass.
     fn super_files(&self, alloc: Global, file: &ClassFile) -> Result<Vec<u32>, AllocError>
         ensures { IfOk result (λ numbers. numbers.items ≡ super_files self.now file.now) }
     {
         let mut numbers = Vec::new(alloc);
-        if let Some(number) = self.file_number(super_of(file)) {
-            numbers.push(number)?;
-        }
         for index in file.interfaces.as_slice() {
             if let Some(number) = self.file_number(class_name(&file.pool, *index)) {
                 numbers.push(number)?;
             }
         }
+        if let Some(number) = self.file_number(super_of(file)) {
+            numbers.push(number)?;
+        }
         Ok(numbers)
     }
 
-    /// For each file the numbers of those with the superclass and the superinterfaces of its class, each once.
+    /// For each file the numbers of those with the superinterfaces and the superclass of its class, each once.
     pub(crate) fn super_edges(&self, alloc: Global) -> Result<Vec<ListOf<u32>>, AllocError>
         ensures { IfOk result (λ edges. HaveSameEdges edges.items (super_edges self.now)) }
     {

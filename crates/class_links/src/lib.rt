@@ -3,19 +3,14 @@
 #![tactic(auto)]
 
 mod built_in;
-mod circle;
 mod classes;
 mod interfaces;
 mod laws;
 mod linking;
 mod names;
-mod reached;
 mod refusal;
 mod supers;
 
 pub use laws::{files_that_link_break_nothing, one_refusal_only};
 pub use linking::check_links;
 pub use refusal::LinkRefusal;
-
-#[cfg(test)]
-mod tests;

@@ -2,16 +2,16 @@
 
 ghost use Rattle.std.specs.Prelude.{◌≡◌, ◌≤◌, None, length, OnOk, IfErr};
 ghost use Rattle.class_links.specs.Links.{Links, IsBroken, HasRightSupers, doubled, super_edges, with_code};
-ghost use Rattle.class_links.specs.Circles.{HasNoCircle};
+ghost use Rattle.graph_walks.specs.Circles.{HasNoCircle};
 
 use crate::LinkRefusal;
-use crate::circle::first_on_circle;
 use crate::classes::Classes;
 use crate::interfaces::first_with_code;
 use crate::names::name_of;
 use crate::supers::Fault;
 use ap_base::Bytes;
 use class_file::ClassFile;
+use graph_walks::first_on_circle;
 use std::alloc::Global;
 
 /// Checks that class files, at most 4,096, link together with the built-in classes: says the first condition that they break, if any.

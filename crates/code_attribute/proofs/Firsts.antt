@@ -17,20 +17,28 @@ stops : (fault next : Option CodeFault) (x : CodeFault) → fault ≡ Some x →
 stops None next x e = absurd cc
 stops (Some y) next x e = e
 
-module _ (pool : Slots) (code : List Placed) (i : ℕ) (first : Option CodeFault) (so_far : first_wrong_operand pool (drop i code) ≡ first) where
-  one : (p : Placed) → i < length code → p ≡ get_or code i p → or_next (fault_of pool p) (first_wrong_operand pool (drop (i + 1) code)) ≡ first
+module _ (pool : Slots) (code : List Placed) (i : ℕ) (first : Option CodeFault)
+    (so_far : first_wrong_operand pool (drop i code) ≡ first) where
+  one : (p : Placed) → i < length code → p ≡ get_or code i p
+      → or_next (fault_of pool p) (first_wrong_operand pool (drop (i + 1) code)) ≡ first
   unfolding first_wrong_operand
   one p within item =
-      let next : drop i code ≡ p ∷ drop (i + 1) code = drop_more code i p within ∙ ap (λ (q : Placed). q ∷ drop (i + 1) code) (sym item) in
+      let next : drop i code ≡ p ∷ drop (i + 1) code =
+      drop_more code i p within ∙ ap (λ (q : Placed). q ∷ drop (i + 1) code) (sym item) in
       sym (ap (first_wrong_operand pool) next) ∙ so_far
 
   -- an instruction without a fault is passed
-  pub passes : (p : Placed) → i < length code → p ≡ get_or code i p → fault_of pool p ≡ None → first_wrong_operand pool (drop (i + 1) code) ≡ first
-  passes p within item none = sym (skips (fault_of pool p) (first_wrong_operand pool (drop (i + 1) code)) none) ∙ one p within item
+  pub passes : (p : Placed) → i < length code → p ≡ get_or code i p → fault_of pool p ≡ None
+      → first_wrong_operand pool (drop (i + 1) code) ≡ first
+  passes p within item none =
+      sym (skips (fault_of pool p) (first_wrong_operand pool (drop (i + 1) code)) none) ∙ one p within item
 
   -- one with a fault is the first
-  pub finds : (p : Placed) (fault : CodeFault) → i < length code → p ≡ get_or code i p → fault_of pool p ≡ Some fault → first ≡ Some fault
-  finds p fault within item some = sym (one p within item) ∙ stops (fault_of pool p) (first_wrong_operand pool (drop (i + 1) code)) fault some
+  pub finds : (p : Placed) (fault : CodeFault) → i < length code → p ≡ get_or code i p
+      → fault_of pool p ≡ Some fault → first ≡ Some fault
+  finds p fault within item some =
+      sym (one p within item)
+      ∙ stops (fault_of pool p) (first_wrong_operand pool (drop (i + 1) code)) fault some
 
   pub ends : length code ≤ i → first ≡ None
   unfolding first_wrong_operand

@@ -1,10 +1,13 @@
--- The content of a Code attribute, read from front to back with the first fault that is met, and its bytes (JVMS 4.7.3).
-use Rattle.std.specs.Prelude.{ℕ, ◌^◌, ◌<◌, ◌&&◌, ◌||◌, ◌==◌, nat_lt, not, Bool, List, ◌++◌, length, Option, Some, None, Result, Ok, Err, if◌then◌else◌, All}
+-- The content of a Code attribute, read from front to back with the first fault that is met, and its bytes
+-- (JVMS 4.7.3).
+use Rattle.std.specs.Prelude.{ℕ, ◌^◌, ◌<◌, ◌&&◌, ◌||◌, ◌==◌, nat_lt, not, Bool, List, ◌++◌, length, Result, Ok, Err, if◌then◌else◌, All}
 use Rattle.std.specs.List.{flat_map}
 use Rattle.byteorder.specs.Endian.{big_bytes}
 use Rattle.const_pool.specs.declared.entry.Tag.TheVariants.{Class}
 use Rattle.const_pool.specs.Pool.{Slots, entry_at, is_tagged}
-use Rattle.const_pool.specs.Reading.{Place}
+use Rattle.parsing.specs.declared.cut.Cut.{Cut}
+use Rattle.parsing.specs.Results.{◌>>=◌, placed, unless, unless_found, many_from}
+use Rattle.parsing.specs.Places.{Place, field_at, number_at}
 use Rattle.code_form.specs.declared.refusal.CodeRefusal.{CodeRefusal}
 use Rattle.code_form.specs.declared.refusal.CodeRefusal.TheVariants as refusal
 use Rattle.code_form.specs.declared.ins.Placed.{Placed}
@@ -13,19 +16,17 @@ use Rattle.code_form.specs.Spelling.{longest, is_start}
 use Rattle.class_items.specs.declared.attribute.Attribute.{Attribute}
 use Rattle.class_items.specs.declared.refusal.ItemRefusal.{ItemRefusal}
 use Rattle.class_items.specs.declared.refusal.ItemRefusal.TheVariants as item
-use Rattle.class_items.specs.Parsing.{◌>>=◌, GivesUnless, told, many_from}
-use Rattle.class_items.specs.Items.{field_at, number_at, attributes_at, attributes_bytes}
+use Rattle.class_items.specs.Items.{attributes_at, attributes_bytes}
 use Rattle.code_attribute.specs.declared.code.Code.{Code}
 use Rattle.code_attribute.specs.declared.code.Handler.{Handler}
 use Rattle.code_attribute.specs.declared.fault.CodeFault.{CodeFault}
 use Rattle.code_attribute.specs.declared.fault.CodeFault.TheVariants as fault
 use Rattle.code_attribute.specs.Operands.{first_wrong_operand}
 
--- what a call gave is what reading gives, unless memory ran out
-abbrev pub Gives : {A B : Type 0} → (A → B) → Result A CodeFault → Result B CodeFault → Type 0
-Gives view result read = GivesUnless fault.OutOfMemory view result read
-
 -- within the attribute a field that is cut off is a fault of its form
+abbrev pub of_cut : Cut → CodeFault
+of_cut cut = fault.BadForm
+
 abbrev pub of_item : ItemRefusal → CodeFault
 of_item (item.Truncated at) = fault.BadForm
 of_item (item.BadIndex offset index) = fault.BadIndex offset index
@@ -36,14 +37,7 @@ of_code refusal.OutOfMemory = fault.OutOfMemory
 of_code other = fault.Code other
 
 abbrev pub number : ℕ → Place → Result (ℕ × Place) CodeFault
-number n file = told of_item (number_at n file)
-
-abbrev pub unless : Bool → CodeFault → Result (Unit {0}) CodeFault
-unless bad fault = if bad then Err fault else Ok tt
-
-abbrev pub unless_found : Option CodeFault → Result (Unit {0}) CodeFault
-unless_found (Some fault) = Err fault
-unless_found None = Ok tt
+number n file = placed of_cut (number_at n file)
 
 -- ---- the exception table
 
@@ -56,7 +50,8 @@ is_handled code size start end handler =
 unfoldable pub catch_at : Slots → Place → Result (ℕ × Place) CodeFault
 catch_at pool file = do
   index ← number 2 file
-  if index.0 == 0 || is_tagged (entry_at pool index.0) Class then Ok index else Err (fault.BadIndex file.0 index.0)
+  if index.0 == 0 || is_tagged (entry_at pool index.0) Class then Ok index
+      else Err (fault.BadIndex file.0 index.0)
 
 unfoldable pub handler_at : Slots → List Placed → (size : ℕ) → Place → Result (Handler × Place) CodeFault
 handler_at pool code size file = do
@@ -67,19 +62,24 @@ handler_at pool code size file = do
   catch ← catch_at pool handler.1
   Ok (record { start = start.0; end = end.0; handler = handler.0; catch = catch.0 }, catch.1)
 
-unfoldable pub handlers_at : Slots → List Placed → (size : ℕ) → Place → Result (List Handler × Place) CodeFault
+unfoldable pub handlers_at : Slots → List Placed → (size : ℕ) → Place
+    → Result (List Handler × Place) CodeFault
 handlers_at pool code size file = do
   count ← number 2 file
   many_from (handler_at pool code size) count.0 count.1
 
 -- ---- the attribute
 
+-- a code has a byte, and isn't longer than the longest one
+abbrev pub is_wrong_size : ℕ → Bool
+is_wrong_size size = size == 0 || nat_lt longest size
+
 -- a length, and so many bytes of code
 unfoldable pub code_bytes_at : Place → Result (List ℕ × Place) CodeFault
 code_bytes_at file = do
   size ← number 4 file
-  fits ← unless (size.0 == 0 || nat_lt longest size.0) fault.BadForm
-  told of_item (field_at size.0 size.1)
+  fits ← unless (is_wrong_size size.0) fault.BadForm
+  placed of_cut (field_at size.0 size.1)
 
 -- the content, which stands at a place of the file and is nothing more
 unfoldable pub code_attribute_at : Slots → Place → Result Code CodeFault
@@ -87,10 +87,10 @@ code_attribute_at pool file = do
   stack ← number 2 file
   locals ← number 2 stack.1
   bytes ← code_bytes_at locals.1
-  code ← told of_code (code_of bytes.0)
-  operands ← unless_found (first_wrong_operand pool code)
+  code ← placed of_code (code_of bytes.0)
+  operands ← unless_found (first_wrong_operand pool code) (λ fault. fault)
   handlers ← handlers_at pool code (length bytes.0) bytes.1
-  attributes ← told of_item (attributes_at pool handlers.1)
+  attributes ← placed of_item (attributes_at pool handlers.1)
   ended ← unless (nat_lt 0 (length attributes.1.1)) fault.BadForm
   Ok (record {
     max_stack = stack.0;

@@ -17,7 +17,8 @@ use Rattle.class_items.specs.Kinds.{kind_at}
 use Rattle.code_attribute.specs.declared.fault.CodeFault.{CodeFault}
 use Rattle.code_attribute.specs.declared.fault.CodeFault.TheVariants.{BadOperand, BadDescriptor}
 
--- the tags that an entry may have: from version 52.0 on invokespecial and invokestatic may name a method of an interface
+-- the tags that an entry may have: from version 52.0 on invokespecial and invokestatic may name a method
+-- of an interface
 abbrev pub tags_of : PoolUse → List Tag
 tags_of usage.LoadConstant = tag.Integer ∷ tag.String ∷ []
 tags_of usage.LoadLong = tag.Long ∷ []
@@ -60,17 +61,21 @@ unless_right false descriptor = Some (BadDescriptor descriptor)
 -- a member's descriptor is one of a field or of a method, as its entry says (JVMS 4.4.2)
 abbrev pub wrong_descriptor : Slots → Option Entry → Option CodeFault
 wrong_descriptor pool (Some (entry.Fieldref m)) =
-    unless_right (is_field (kind_at pool (descriptor_in (entry_at pool m.name_and_type)))) (descriptor_in (entry_at pool m.name_and_type))
+    unless_right (is_field (kind_at pool (descriptor_in (entry_at pool m.name_and_type))))
+    (descriptor_in (entry_at pool m.name_and_type))
 wrong_descriptor pool (Some (entry.Methodref m)) =
-    unless_right (is_method (kind_at pool (descriptor_in (entry_at pool m.name_and_type)))) (descriptor_in (entry_at pool m.name_and_type))
+    unless_right (is_method (kind_at pool (descriptor_in (entry_at pool m.name_and_type))))
+    (descriptor_in (entry_at pool m.name_and_type))
 wrong_descriptor pool (Some (entry.InterfaceMethodref m)) =
-    unless_right (is_method (kind_at pool (descriptor_in (entry_at pool m.name_and_type)))) (descriptor_in (entry_at pool m.name_and_type))
+    unless_right (is_method (kind_at pool (descriptor_in (entry_at pool m.name_and_type))))
+    (descriptor_in (entry_at pool m.name_and_type))
 wrong_descriptor pool other = None
 
 abbrev pub wrong_operand : Slots → ℕ → Option (ℕ × List Tag) → Option CodeFault
 wrong_operand pool pc None = None
 wrong_operand pool pc (Some operand) =
-    if list_any (is_tagged (entry_at pool operand.0)) operand.1 then wrong_descriptor pool (entry_at pool operand.0)
+    if list_any (is_tagged (entry_at pool operand.0)) operand.1 then wrong_descriptor pool
+    (entry_at pool operand.0)
     else Some (BadOperand pc)
 
 abbrev pub or_next : Option CodeFault → Option CodeFault → Option CodeFault
@@ -80,4 +85,5 @@ or_next None next = next
 -- the first instruction's fault
 unfoldable pub first_wrong_operand : Slots → List Placed → Option CodeFault
 first_wrong_operand pool [] = None
-first_wrong_operand pool (p ∷ code) = or_next (wrong_operand pool p.pc (operand_of p.ins)) (first_wrong_operand pool code)
+first_wrong_operand pool (p ∷ code) =
+    or_next (wrong_operand pool p.pc (operand_of p.ins)) (first_wrong_operand pool code)

@@ -6,7 +6,7 @@ use code_form::Placed;
 
 /// An entry of an exception table (JVMS 4.7.3): the instructions that it covers, from `start` up to `end`, the handler, and
 /// the index of the class that is caught, 0 for any. All but the last are offsets into the code.
-#[derive(Clone, Copy, Debug, PartialEq, Eq)]
+#[derive(Clone, Copy)]
 pub struct Handler {
     pub start: u16,
     pub end: u16,
@@ -15,7 +15,7 @@ pub struct Handler {
 }
 
 /// The code of a method (JVMS 4.7.3).
-#[derive(Debug, Drop)]
+#[derive(Drop)]
 pub struct Code {
     /// How many cells the operand stack has at most.
     pub max_stack: u16,

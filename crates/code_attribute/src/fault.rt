@@ -2,10 +2,11 @@
 
 ghost use Rattle.std.specs.Prelude.{◌≡◌};
 ghost use Rattle.code_attribute.specs.declared.fault.CodeFault.TheVariants.{OutOfMemory};
-ghost use Rattle.code_attribute.specs.Code.{of_item, of_code};
+ghost use Rattle.code_attribute.specs.Code.{of_cut, of_item, of_code};
 
 use class_items::ItemRefusal;
 use code_form::CodeRefusal;
+use parsing::Cut;
 use std::alloc::{AllocError, AllocFailed};
 use thiserror::Error;
 
@@ -38,10 +39,18 @@ pub enum CodeFault {
     OutOfMemory,
 }
 
+impl From<Cut> for CodeFault {
+    ghost from_gives = { λ given made. made ≡ of_cut given };
+
+    /// Within the attribute a field that is cut off is a fault of the attribute's form.
+    fn from(_cut: Cut) -> CodeFault {
+        CodeFault::BadForm
+    }
+}
+
 impl From<ItemRefusal> for CodeFault {
     ghost from_gives = { λ given made. made ≡ of_item given };
 
-    /// Within the attribute a field that is cut off is a fault of the attribute's form.
     fn from(refusal: ItemRefusal) -> CodeFault {
         match refusal {
             ItemRefusal::Truncated(_) => CodeFault::BadForm,

@@ -1,17 +1,18 @@
 //! The exception table (JVMS 4.7.3).
 
-ghost use Rattle.std.specs.Prelude.{◌≡◌, ◌++◌, ◌^◌, ◌<◌, length, OnOk};
+ghost use Rattle.std.specs.Prelude.{◌≡◌, ◌++◌, ◌^◌, ◌<◌, length, None, Some, OnOk};
 ghost use Rattle.std.specs.List.{flat_map};
-ghost use Rattle.class_items.specs.Parsing.{many_from};
-ghost use Rattle.code_attribute.specs.Code.{Gives, is_handled, catch_at, handler_at, handlers_at, handler_bytes, handlers_bytes};
+ghost use Rattle.parsing.specs.Results.{Gives, many_from};
+ghost use Rattle.code_attribute.specs.declared.fault.CodeFault.TheVariants.{OutOfMemory};
+ghost use Rattle.code_attribute.specs.Code.{is_handled, catch_at, handler_at, handlers_at, handler_bytes, handlers_bytes};
 
 use crate::code::Handler;
 use crate::fault::CodeFault;
-use crate::numbers::u16;
 use ap_base::ListOf;
 use class_items::is_tagged;
 use code_form::Starts;
-use const_pool::{Pool, Reader, Tag, put_u16};
+use const_pool::{Pool, Tag};
+use parsing::{Reader, put_u16};
 use std::alloc::{AllocError, Global};
 
 /// Whether an entry covers instructions, from one on up to another or the end, and its handler is an instruction.
@@ -27,10 +28,10 @@ fn is_handled(starts: &Starts, size: usize, start: u16, end: u16, handler: u16) 
 /// The index of a class, or 0 for any throwable.
 #[tactic(auto, unfolding(crate::specs::Code::catch_at))]
 fn catch_at(pool: &Pool, file: &mut Reader) -> Result<u16, CodeFault>
-    ensures { Gives (λ x. (x, file.new)) result (catch_at pool.now file.old) }
+    ensures { Gives None (λ x. (x, file.new)) result (catch_at pool.now file.old) }
 {
     let offset = file.at();
-    let index = u16(file)?;
+    let index = file.u16()?;
     if index == 0 || is_tagged(pool, index, Tag::Class) {
         return Ok(index);
     }
@@ -44,11 +45,12 @@ fn handler_at(
     size: usize,
     file: &mut Reader,
 ) -> Result<Handler, CodeFault>
-    ensures { Gives (λ h. (h, file.new)) result (handler_at pool.now starts.now size file.old) }
+    ensures { Gives None (λ h. (h, file.new)) result
+        (handler_at pool.now starts.now size file.old) }
 {
-    let start = u16(file)?;
-    let end = u16(file)?;
-    let handler = u16(file)?;
+    let start = file.u16()?;
+    let end = file.u16()?;
+    let handler = file.u16()?;
     if !is_handled(starts, size, start, end, handler) {
         return Err(CodeFault::BadForm);
     }
@@ -69,7 +71,8 @@ fn some_handlers(
     count: u16,
     file: &mut Reader,
 ) -> Result<Vec<Handler>, CodeFault>
-    ensures { Gives (λ v. (v.items, file.new)) result (many_from (handler_at pool.now starts.now size) count file.old) }
+    ensures { Gives (Some OutOfMemory) (λ v. (v.items, file.new)) result
+        (many_from (handler_at pool.now starts.now size) count file.old) }
 {
     let mut handlers = Vec::new(alloc);
     for _ in 0..count {
@@ -87,9 +90,10 @@ pub(crate) fn handlers_at(
     size: usize,
     file: &mut Reader,
 ) -> Result<Vec<Handler>, CodeFault>
-    ensures { Gives (λ v. (v.items, file.new)) result (handlers_at pool.now starts.now size file.old) }
+    ensures { Gives (Some OutOfMemory) (λ v. (v.items, file.new)) result
+        (handlers_at pool.now starts.now size file.old) }
 {
-    let count = u16(file)?;
+    let count = file.u16()?;
     some_handlers(alloc, pool, starts, size, count, file)
 }
 

@@ -5,7 +5,6 @@
 mod code;
 mod fault;
 mod handlers;
-mod numbers;
 mod operands;
 mod reading;
 mod writing;
@@ -14,6 +13,3 @@ pub use code::{Code, Handler};
 pub use fault::CodeFault;
 pub use reading::read_code_attribute;
 pub use writing::put_code_attribute;
-
-#[cfg(test)]
-mod tests;

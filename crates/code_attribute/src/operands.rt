@@ -88,7 +88,8 @@ fn unless_right(is_right: bool, descriptor: u16) -> Option<CodeFault>
 
 fn wrong_field(pool: &Pool, kinds: &DescriptorKinds, member: Member) -> Option<CodeFault>
     requires { AreKindsOf pool.now kinds.now }
-    ensures { let descriptor = descriptor_in (entry_at pool.now member.name_and_type) in result ≡ unless_right (is_field (kind_at pool.now descriptor)) descriptor }
+    ensures { let descriptor = descriptor_in (entry_at pool.now member.name_and_type) in result
+        ≡ unless_right (is_field (kind_at pool.now descriptor)) descriptor }
 {
     let descriptor = descriptor_in(pool, member.name_and_type);
     unless_right(is_field(kind_at(pool, kinds, descriptor)), descriptor)
@@ -96,7 +97,8 @@ fn wrong_field(pool: &Pool, kinds: &DescriptorKinds, member: Member) -> Option<C
 
 fn wrong_method(pool: &Pool, kinds: &DescriptorKinds, member: Member) -> Option<CodeFault>
     requires { AreKindsOf pool.now kinds.now }
-    ensures { let descriptor = descriptor_in (entry_at pool.now member.name_and_type) in result ≡ unless_right (is_method (kind_at pool.now descriptor)) descriptor }
+    ensures { let descriptor = descriptor_in (entry_at pool.now member.name_and_type) in result
+        ≡ unless_right (is_method (kind_at pool.now descriptor)) descriptor }
 {
     let descriptor = descriptor_in(pool, member.name_and_type);
     unless_right(is_method(kind_at(pool, kinds, descriptor)), descriptor)

@@ -1,41 +1,49 @@
 //! Reading a Code attribute's content from front to back.
 
-ghost use Rattle.std.specs.Prelude.{◌≡◌, ◌+◌, ◌^◌, ◌<◌, length, All, IfOk, Ok};
+ghost use Rattle.std.specs.Prelude.{◌≡◌, ◌+◌, ◌^◌, ◌<◌, length, All, IfOk, None, Some, Ok};
 ghost use Rattle.class_items.specs.Kinds.{AreKindsOf};
-ghost use Rattle.class_items.specs.Parsing.{told};
+ghost use Rattle.parsing.specs.Results.{Gives, placed};
 ghost use Rattle.code_form.specs.declared.ins.Placed.{Placed as OnePlaced};
 ghost use Rattle.code_form.specs.Reading.{code_of};
-ghost use Rattle.code_attribute.specs.Code.{Gives, Fits, of_code, code_bytes_at, handlers_at, code_attribute_at, code_attribute_bytes};
+ghost use Rattle.code_attribute.specs.declared.fault.CodeFault.TheVariants.{OutOfMemory};
+ghost use Rattle.code_attribute.specs.Code.{Fits, of_code, is_wrong_size, code_bytes_at, handlers_at, code_attribute_at, code_attribute_bytes};
 
 use crate::code::{Code, Handler};
 use crate::fault::CodeFault;
 use crate::handlers::handlers_at;
-use crate::numbers::{attributes, field, u16, u32};
 use crate::operands::first_wrong_operand;
 use ap_base::{Bytes, ListOf};
-use class_items::DescriptorKinds;
+use class_items::{DescriptorKinds, attributes};
 use code_form::{Placed, Starts, read_code};
-use const_pool::{Pool, Reader};
+use const_pool::Pool;
+use parsing::Reader;
 use std::alloc::Global;
 
 /// The most bytes of a code (JVMS 4.7.3).
 const LONGEST: u32 = 65535;
 
+fn is_wrong_size(size: u32) -> bool
+    ensures { result ≡ is_wrong_size size }
+{
+    size == 0 || size > LONGEST
+}
+
 /// A length, and so many bytes of code.
 #[tactic(auto, unfolding(crate::specs::Code::code_bytes_at))]
 fn code_bytes_at<'a>(file: &mut Reader<'a>) -> Result<&'a [u8], CodeFault>
-    ensures { Gives (λ x. (x.now, file.new)) result (code_bytes_at file.old) }
+    ensures { Gives None (λ x. (x.now, file.new)) result (code_bytes_at file.old) }
 {
-    let size = u32(file)?;
-    if size == 0 || size > LONGEST {
+    let size = file.u32()?;
+    if is_wrong_size(size) {
         return Err(CodeFault::BadForm);
     }
-    field(file, size as usize)
+    Ok(file.field(size as usize)?)
 }
 
 fn instructions(alloc: Global, bytes: &[u8]) -> Result<Vec<Placed>, CodeFault>
     ensures within { IfOk result (λ v. All (λ (p : OnePlaced). p.pc < length bytes.now) v.items) }
-    ensures read { Gives (λ v. v.items) result (told of_code (code_of bytes.now)) }
+    ensures read { Gives (Some OutOfMemory) (λ v. v.items) result
+        (placed of_code (code_of bytes.now)) }
 {
     Ok(read_code(alloc, bytes)?)
 }
@@ -48,7 +56,8 @@ fn handlers(
     file: &mut Reader,
 ) -> Result<Vec<Handler>, CodeFault>
     requires { All (λ (p : OnePlaced). p.pc < size) code.now }
-    ensures { Gives (λ v. (v.items, file.new)) result (handlers_at pool.now code.now size file.old) }
+    ensures { Gives (Some OutOfMemory) (λ v. (v.items, file.new)) result
+        (handlers_at pool.now code.now size file.old) }
 {
     let starts = Starts::of(alloc, code, size)?;
     handlers_at(alloc, pool, &starts, size, file)
@@ -62,10 +71,10 @@ fn code_attribute_at(
     file: &mut Reader,
 ) -> Result<Code, CodeFault>
     requires { AreKindsOf pool.now kinds.now }
-    ensures { Gives (λ c. c) result (code_attribute_at pool.now file.old) }
+    ensures { Gives (Some OutOfMemory) (λ c. c) result (code_attribute_at pool.now file.old) }
 {
-    let max_stack = u16(file)?;
-    let max_locals = u16(file)?;
+    let max_stack = file.u16()?;
+    let max_locals = file.u16()?;
     let bytes = code_bytes_at(file)?;
     let code = instructions(alloc, bytes)?;
     if let Some(fault) = first_wrong_operand(pool, kinds, &code) {
@@ -105,7 +114,8 @@ pub fn read_code_attribute(
     ensures fits { IfOk result Fits }
     ensures instructions { IfOk result (λ c. code_of c.bytes ≡ Ok c.instructions) }
     // Which answer it is.
-    ensures exact { Gives (λ c. c) result (code_attribute_at pool.now (at, content.now)) }
+    ensures exact { Gives (Some OutOfMemory) (λ c. c) result
+        (code_attribute_at pool.now (at, content.now)) }
 {
     code_attribute_at(alloc, pool, kinds, &mut Reader::new(at, content))
 }

@@ -6,7 +6,7 @@ ghost use Rattle.code_attribute.specs.Code.{Fits, code_attribute_bytes};
 use crate::code::Code;
 use crate::handlers::put_handlers;
 use class_items::put_attributes;
-use const_pool::{put_u16, put_u32};
+use parsing::{put_u16, put_u32};
 use std::alloc::AllocError;
 
 /// Appends the content of a Code attribute as it stands in a class file (JVMS 4.7.3). It fails only for want of memory.

@@ -42,7 +42,8 @@ form_within opcode within =
     ∙ ap form_of (get_or-range_with_len 0 202 opcode 0 within ∙ zero-add opcode)
 
 -- the first of a list, or what is found behind it
-first_or : {X : Type 0} (b : Bool) (y : X) (o : Option X) (x : X) → cond b (Some y) o ≡ Some x → ((b ≡ true) × (y ≡ x)) ⊎ (o ≡ Some x)
+first_or : {X : Type 0} (b : Bool) (y : X) (o : Option X) (x : X) → cond b (Some y) o ≡ Some x
+    → ((b ≡ true) × (y ≡ x)) ⊎ (o ≡ Some x)
 first_or true y o x e = inl (refl, cc)
 first_or false y o x e = inr e
 
@@ -50,10 +51,12 @@ first_or false y o x e = inr e
 find_passes : {X : Type 0} (test : X → Bool) (xs : List X) (x : X) → find test xs ≡ Some x → test x ≡ true
 find_passes test [] x e = absurd cc
 find_passes test (y ∷ ys) x e =
-    elim (first_or (test y) y (find test ys) x e) [ inl p ↦ ap test (sym p.1) ∙ p.0 | inr later ↦ find_passes test ys x later ]
+    elim (first_or (test y) y (find test ys) x e)
+    [ inl p ↦ ap test (sym p.1) ∙ p.0 | inr later ↦ find_passes test ys x later ]
 
 -- no opcode is 202 or above
-none_passes : (n opcode : ℕ) → n ≤ opcode → (fs : List Form) → list_all (λ f. ltb (opcode_of f) n) fs ≡ true → find (λ f. eqb (opcode_of f) opcode) fs ≡ None
+none_passes : (n opcode : ℕ) → n ≤ opcode → (fs : List Form) → list_all (λ f. ltb (opcode_of f) n) fs ≡ true
+    → find (λ f. eqb (opcode_of f) opcode) fs ≡ None
 none_passes n opcode above [] e = refl
 none_passes n opcode above (f ∷ fs) e =
     let p = and_parts (ltb (opcode_of f) n) (list_all (λ g. ltb (opcode_of g) n) fs) e in
@@ -69,11 +72,13 @@ form_past opcode past = none_passes 202 opcode past all_forms refl
 
 pub form_opcode : (opcode : ℕ) (form : Form) → form_of opcode ≡ Some form → opcode_of form ≡ opcode
 unfolding form_of
-form_opcode opcode form e = eqb-true (opcode_of form) opcode (find_passes (λ f. eqb (opcode_of f) opcode) all_forms form e)
+form_opcode opcode form e =
+    eqb-true (opcode_of form) opcode (find_passes (λ f. eqb (opcode_of f) opcode) all_forms form e)
 
 pub primitive_is : (code : ℕ) (p : Primitive) → primitive_of code ≡ Some p → primitive_code p ≡ code
 unfolding primitive_of
-primitive_is code p e = eqb-true (primitive_code p) code (find_passes (λ q. eqb (primitive_code q) code) all_primitives p e)
+primitive_is code p e =
+    eqb-true (primitive_code p) code (find_passes (λ q. eqb (primitive_code q) code) all_primitives p e)
 
 pub primitive_again : (p : Primitive) → primitive_of (primitive_code p) ≡ Some p
 unfolding primitive_of

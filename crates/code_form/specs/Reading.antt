@@ -1,10 +1,11 @@
 -- Reading a code from front to back, with the first fault that is met.
-use Rattle.std.specs.Prelude.{◌≡◌, ◌+◌, ◌-◌, ◌%◌, ◌^◌, ℕ, zero, suc, ℤ, ◌-ℤ◌, unsigned_abs, int_lt, not, ◌==◌, ◌||◌, nat_lt, if◌then◌else◌, ◌⊎◌, List, [], ◌∷◌, ◌++◌, length, take, drop, map, Option, Some, None, Result, Ok, Err}
+use Rattle.std.specs.Prelude.{◌+◌, ◌-◌, ◌%◌, ◌^◌, ℕ, zero, suc, ℤ, ◌-ℤ◌, unsigned_abs, int_lt, not, ◌==◌, ◌||◌, nat_lt, if◌then◌else◌, List, [], ◌∷◌, ◌++◌, length, take, drop, map, Option, Some, None, Result, Ok, Err}
 use Rattle.std.specs.List.{find, flat_map}
 use Rattle.std.specs.Int.{Width, w8, w16, w32, byte_len, cast_signed, cast_unsigned}
 use Rattle.byteorder.specs.Endian.{big_number}
+use Rattle.parsing.specs.Results.{◌>>=◌, many_from}
 use Rattle.code_form.specs.declared.refusal.CodeRefusal.{CodeRefusal}
-use Rattle.code_form.specs.declared.refusal.CodeRefusal.TheVariants.{BadOpcode, NotInProfile, BadTarget, Truncated, OutOfMemory}
+use Rattle.code_form.specs.declared.refusal.CodeRefusal.TheVariants.{BadOpcode, NotInProfile, BadTarget, Truncated}
 use Rattle.code_form.specs.declared.table.Form.{Form}
 use Rattle.code_form.specs.declared.table.Form.TheVariants as forms
 use Rattle.code_form.specs.declared.ins.Number.{Number}
@@ -163,18 +164,6 @@ form_of opcode = find (λ form. opcode_of form == opcode) all_forms
 unfoldable pub primitive_of : ℕ → Option Primitive
 primitive_of code = find (λ p. primitive_code p == code) all_primitives
 
--- ---- steps that may fail
-
-infixl 10 ◌>>=◌
-abbrev pub ◌>>=◌ : {A B : Type 0} → Result A CodeRefusal → (A → Result B CodeRefusal) → Result B CodeRefusal
-(Ok x) >>= f = f x
-(Err e) >>= f = Err e
-
--- What a call answered, seen by view, is what reading gives, unless memory ran out.
-abbrev pub Gives : {X Y : Type 0} → (X → Y) → Result X CodeRefusal → Result Y CodeRefusal → Type 0
-Gives view (Ok x) read = read ≡ Ok (view x)
-Gives view (Err e) read = (e ≡ OutOfMemory) ⊎ (read ≡ Err e)
-
 -- ---- fields
 -- Each gives a value and the bytes after it. The instruction at pc isn't whole where the bytes end before.
 
@@ -252,20 +241,11 @@ wide_at pc bytes = do
   opcode ← unsigned_at pc 1 bytes
   widened_at pc (form_of opcode.0) opcode.1
 
--- n values one after the other
-unfoldable pub many_at : {X : Type 0} → (List ℕ → Result (X × List ℕ) CodeRefusal) → ℕ → List ℕ
-    → Result (List X × List ℕ) CodeRefusal
-many_at read zero bytes = Ok ([], bytes)
-many_at read (suc n) bytes = do
-  first ← read bytes
-  others ← many_at read n first.1
-  Ok (first.0 ∷ others.0, others.1)
-
 -- a target for each key from low to high; low above high is a fault where they stand
 abbrev pub spanned_at : ℕ → ℤ → ℤ → List ℕ → Result (List ℕ × List ℕ) CodeRefusal
 spanned_at pc low high bytes =
     if int_lt high low then Err (BadTarget pc)
-    else many_at (target_at pc w32) (unsigned_abs (high -ℤ low) + 1) bytes
+    else many_from (target_at pc w32) (unsigned_abs (high -ℤ low) + 1) bytes
 
 -- JVMS 6.5, tableswitch
 unfoldable pub table_at : ℕ → List ℕ → Result (Ins × List ℕ) CodeRefusal
@@ -289,7 +269,7 @@ lookup_at pc bytes = do
   pad ← bytes_at pc (padding pc) bytes
   default ← target_at pc w32 pad.1
   count ← unsigned_at pc 4 default.1
-  cases ← if nat_lt count.0 (2 ^ 31) then many_at (case_at pc) count.0 count.1 else Err (BadTarget pc)
+  cases ← if nat_lt count.0 (2 ^ 31) then many_from (case_at pc) count.0 count.1 else Err (BadTarget pc)
   Ok (ins.LookupSwitch default.0 cases.0, cases.1)
 
 -- what stands behind the opcode (JVMS 6.5)

@@ -5,14 +5,14 @@ ghost use Rattle.std.specs.Prelude.{◌≡◌};
 use std::marker::Model;
 
 /// The type of an arithmetic instruction.
-#[derive(Clone, Copy, Debug, PartialEq, Eq)]
+#[derive(Clone, Copy)]
 pub enum Number {
     Int,
     Long,
 }
 
 /// The type of a local variable that is loaded or stored, or of a result (JVMS 2.11.1).
-#[derive(Clone, Copy, Debug, PartialEq, Eq)]
+#[derive(Clone, Copy)]
 pub enum Sort {
     Int,
     Long,
@@ -20,7 +20,7 @@ pub enum Sort {
 }
 
 /// The type of an array's elements. `Byte` is that of boolean arrays too (JVMS 6.5, baload).
-#[derive(Clone, Copy, Debug, PartialEq, Eq)]
+#[derive(Clone, Copy)]
 pub enum Element {
     Int,
     Long,
@@ -31,14 +31,14 @@ pub enum Element {
 }
 
 /// Whether a value is read or written.
-#[derive(Clone, Copy, Debug, PartialEq, Eq)]
+#[derive(Clone, Copy)]
 pub enum Access {
     Load,
     Store,
 }
 
 /// The local variable that an opcode such as `iload_0` names itself.
-#[derive(Clone, Copy, Debug, PartialEq, Eq)]
+#[derive(Clone, Copy)]
 pub enum Slot {
     Zero,
     One,
@@ -47,7 +47,7 @@ pub enum Slot {
 }
 
 /// A local variable's index, as it is written.
-#[derive(Clone, Copy, Debug, PartialEq, Eq)]
+#[derive(Clone, Copy)]
 pub enum Local {
     /// `iload_0`
     Short(Slot),
@@ -58,7 +58,7 @@ pub enum Local {
 }
 
 /// `iconst_m1` to `iconst_5`
-#[derive(Clone, Copy, Debug, PartialEq, Eq)]
+#[derive(Clone, Copy)]
 pub enum IntConstant {
     MinusOne,
     Zero,
@@ -70,14 +70,14 @@ pub enum IntConstant {
 }
 
 /// `lconst_0`, `lconst_1`
-#[derive(Clone, Copy, Debug, PartialEq, Eq)]
+#[derive(Clone, Copy)]
 pub enum LongConstant {
     Zero,
     One,
 }
 
 /// A constant that an opcode names itself.
-#[derive(Clone, Copy, Debug, PartialEq, Eq)]
+#[derive(Clone, Copy)]
 pub enum Constant {
     /// `aconst_null`
     Null,
@@ -86,7 +86,7 @@ pub enum Constant {
 }
 
 /// The instructions on the operand stack alone: `pop` to `swap`.
-#[derive(Clone, Copy, Debug, PartialEq, Eq)]
+#[derive(Clone, Copy)]
 pub enum Stack {
     Pop,
     Pop2,
@@ -100,7 +100,7 @@ pub enum Stack {
 }
 
 /// An operator of two numbers of one type.
-#[derive(Clone, Copy, Debug, PartialEq, Eq)]
+#[derive(Clone, Copy)]
 pub enum Binary {
     Add,
     Subtract,
@@ -113,7 +113,7 @@ pub enum Binary {
 }
 
 /// A shift by an int: `shl`, `shr`, `ushr`.
-#[derive(Clone, Copy, Debug, PartialEq, Eq)]
+#[derive(Clone, Copy)]
 pub enum Shift {
     Left,
     Right,
@@ -121,7 +121,7 @@ pub enum Shift {
 }
 
 /// `i2l`, `l2i`, `i2b`, `i2c`, `i2s`
-#[derive(Clone, Copy, Debug, PartialEq, Eq)]
+#[derive(Clone, Copy)]
 pub enum Conversion {
     IntToLong,
     LongToInt,
@@ -131,7 +131,7 @@ pub enum Conversion {
 }
 
 /// An instruction without operands.
-#[derive(Clone, Copy, Debug, PartialEq, Eq)]
+#[derive(Clone, Copy)]
 pub enum Plain {
     Nop,
     Constant(Constant),
@@ -156,7 +156,7 @@ pub enum Plain {
 }
 
 /// How two ints are compared, or one with 0.
-#[derive(Clone, Copy, Debug, PartialEq, Eq)]
+#[derive(Clone, Copy)]
 pub enum Condition {
     Equal,
     NotEqual,
@@ -167,14 +167,14 @@ pub enum Condition {
 }
 
 /// How two references are compared.
-#[derive(Clone, Copy, Debug, PartialEq, Eq)]
+#[derive(Clone, Copy)]
 pub enum Equality {
     Equal,
     NotEqual,
 }
 
 /// A jump whose target is written in two bytes.
-#[derive(Clone, Copy, Debug, PartialEq, Eq)]
+#[derive(Clone, Copy)]
 pub enum Branch {
     /// `ifeq` ..
     If(Condition),
@@ -188,7 +188,7 @@ pub enum Branch {
 }
 
 /// What an instruction does with an entry of the constant pool whose index is written in two bytes.
-#[derive(Clone, Copy, Debug, PartialEq, Eq)]
+#[derive(Clone, Copy)]
 pub enum PoolUse {
     /// `ldc_w`
     LoadConstant,
@@ -209,7 +209,7 @@ pub enum PoolUse {
 }
 
 /// The element type of `newarray`.
-#[derive(Clone, Copy, Debug, PartialEq, Eq)]
+#[derive(Clone, Copy)]
 pub enum Primitive {
     Boolean,
     Char,
@@ -220,7 +220,7 @@ pub enum Primitive {
 }
 
 /// The targets of a `tableswitch` for its keys in ascending order. Contracts see a list of pcs.
-#[derive(Debug, Drop)]
+#[derive(Drop)]
 pub struct Targets {
     items: Vec<u32>,
 }
@@ -256,14 +256,14 @@ impl Targets {
 }
 
 /// A key of a `lookupswitch`, and its target, a pc.
-#[derive(Clone, Copy, Debug, PartialEq, Eq)]
+#[derive(Clone, Copy)]
 pub struct Case {
     pub key: i32,
     pub target: u32,
 }
 
 /// The pairs of a `lookupswitch` in the order in which they are written. Contracts see a list.
-#[derive(Debug, Drop)]
+#[derive(Drop)]
 pub struct Cases {
     items: Vec<Case>,
 }
@@ -300,7 +300,7 @@ impl Cases {
 }
 
 /// An instruction. A target is the pc at which an instruction begins, and keeps no offset.
-#[derive(Debug, Drop)]
+#[derive(Drop)]
 pub enum Ins {
     Plain(Plain),
     /// A load or a store of a local variable: `iload_0`, `astore 4`, `wide lload 4` ..
@@ -346,7 +346,7 @@ pub enum Ins {
 }
 
 /// An instruction and where it begins, in bytes from the start of the code.
-#[derive(Debug, Drop)]
+#[derive(Drop)]
 pub struct Placed {
     pub pc: u32,
     pub ins: Ins,

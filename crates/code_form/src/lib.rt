@@ -6,6 +6,7 @@
 
 mod fields;
 mod ins;
+mod laws;
 mod opcodes;
 mod reading;
 mod refusal;
@@ -18,10 +19,8 @@ pub use ins::{
     IntConstant, Local, LongConstant, Number, Placed, Plain, PoolUse, Primitive, Shift, Slot, Sort,
     Stack, Targets,
 };
+pub use laws::{a_whole_code_is_read, each_instruction_is_read, what_is_no_code_is_refused};
 pub use reading::read_code;
 pub use refusal::CodeRefusal;
 pub use targets::Starts;
 pub use writing::write_code;
-
-#[cfg(test)]
-mod tests;

@@ -1,10 +1,12 @@
 //! Reading a code from front to back.
 
-ghost use Rattle.std.specs.Prelude.{◌≡◌, ◌+◌, ◌≤◌, ◌<◌, ◌-◌, length, List, All, IfOk, IsErr, Ok};
+ghost use Rattle.std.specs.Prelude.{◌≡◌, ◌+◌, ◌≤◌, ◌<◌, ◌-◌, length, List, All, IfOk, IsErr, None, Some, Ok};
 ghost use Rattle.std.specs.Int.{w32};
 ghost use Rattle.code_form.specs.declared.ins.Placed.{Placed as OnePlaced};
 ghost use Rattle.code_form.specs.Spelling.{longest, IsCode, Spells};
-ghost use Rattle.code_form.specs.Reading.{Gives, known_form, known_primitive, form_of, primitive_of, target_at, interface_at, new_array_at, increment_at, widened_at, wide_at, many_at, case_at, table_at, lookup_at, operands_at, ins_at, placed_at, front_of, code_of};
+ghost use Rattle.parsing.specs.Results.{Gives, many_from};
+ghost use Rattle.code_form.specs.declared.refusal.CodeRefusal.TheVariants.{OutOfMemory};
+ghost use Rattle.code_form.specs.Reading.{known_form, known_primitive, form_of, primitive_of, target_at, interface_at, new_array_at, increment_at, widened_at, wide_at, case_at, table_at, lookup_at, operands_at, ins_at, placed_at, front_of, code_of};
 
 use crate::fields::{
     bytes_at, far_target_at, i8_at, i16_at, i32_at, near_target_at, padding, u8_at, u16_at, u32_at,
@@ -56,7 +58,7 @@ fn known_primitive(pc: u32, code: u8) -> Result<Primitive, CodeRefusal>
 
 #[tactic(auto, unfolding(crate::specs::Reading::interface_at))]
 fn interface_at(pc: u32, bytes: &[u8]) -> Result<(Ins, &[u8]), CodeRefusal>
-    ensures { Gives (λ x. (x.0, x.1.now)) result (interface_at pc bytes.now) }
+    ensures { Gives None (λ x. (x.0, x.1.now)) result (interface_at pc bytes.now) }
 {
     let (index, rest) = u16_at(pc, bytes)?;
     let (count, rest) = u8_at(pc, rest)?;
@@ -66,7 +68,7 @@ fn interface_at(pc: u32, bytes: &[u8]) -> Result<(Ins, &[u8]), CodeRefusal>
 
 #[tactic(auto, unfolding(crate::specs::Reading::new_array_at))]
 fn new_array_at(pc: u32, bytes: &[u8]) -> Result<(Ins, &[u8]), CodeRefusal>
-    ensures { Gives (λ x. (x.0, x.1.now)) result (new_array_at pc bytes.now) }
+    ensures { Gives None (λ x. (x.0, x.1.now)) result (new_array_at pc bytes.now) }
 {
     let (code, rest) = u8_at(pc, bytes)?;
     Ok((Ins::NewArray(known_primitive(pc, code)?), rest))
@@ -74,7 +76,7 @@ fn new_array_at(pc: u32, bytes: &[u8]) -> Result<(Ins, &[u8]), CodeRefusal>
 
 #[tactic(auto, unfolding(crate::specs::Reading::increment_at))]
 fn increment_at(pc: u32, bytes: &[u8]) -> Result<(Ins, &[u8]), CodeRefusal>
-    ensures { Gives (λ x. (x.0, x.1.now)) result (increment_at pc bytes.now) }
+    ensures { Gives None (λ x. (x.0, x.1.now)) result (increment_at pc bytes.now) }
 {
     let (local, rest) = u8_at(pc, bytes)?;
     let (by, rest) = i8_at(pc, rest)?;
@@ -83,7 +85,7 @@ fn increment_at(pc: u32, bytes: &[u8]) -> Result<(Ins, &[u8]), CodeRefusal>
 
 #[tactic(auto, unfolding(crate::specs::Reading::widened_at))]
 fn widened_at(pc: u32, form: Option<Form>, bytes: &[u8]) -> Result<(Ins, &[u8]), CodeRefusal>
-    ensures { Gives (λ x. (x.0, x.1.now)) result (widened_at pc form bytes.now) }
+    ensures { Gives None (λ x. (x.0, x.1.now)) result (widened_at pc form bytes.now) }
 {
     match form {
         Some(Form::Variable(access, sort)) => {
@@ -101,7 +103,7 @@ fn widened_at(pc: u32, form: Option<Form>, bytes: &[u8]) -> Result<(Ins, &[u8]),
 
 #[tactic(auto, unfolding(crate::specs::Reading::wide_at))]
 fn wide_at(pc: u32, bytes: &[u8]) -> Result<(Ins, &[u8]), CodeRefusal>
-    ensures { Gives (λ x. (x.0, x.1.now)) result (wide_at pc bytes.now) }
+    ensures { Gives None (λ x. (x.0, x.1.now)) result (wide_at pc bytes.now) }
 {
     let (opcode, rest) = u8_at(pc, bytes)?;
     widened_at(pc, form_of(opcode), rest)
@@ -114,7 +116,8 @@ fn targets_at(
     count: u64,
     bytes: &[u8],
 ) -> Result<(Vec<u32>, &[u8]), CodeRefusal>
-    ensures { Gives (λ x. (x.0.items, x.1.now)) result (many_at (target_at pc w32) count bytes.now) }
+    ensures { Gives (Some OutOfMemory) (λ x. (x.0.items, x.1.now)) result
+        (many_from (target_at pc w32) count bytes.now) }
 {
     let mut targets = Vec::new(alloc);
     let mut rest = bytes;
@@ -128,7 +131,7 @@ fn targets_at(
 
 #[tactic(auto, unfolding(crate::specs::Reading::table_at))]
 fn table_at(alloc: Global, pc: u32, bytes: &[u8]) -> Result<(Ins, &[u8]), CodeRefusal>
-    ensures { Gives (λ x. (x.0, x.1.now)) result (table_at pc bytes.now) }
+    ensures { Gives (Some OutOfMemory) (λ x. (x.0, x.1.now)) result (table_at pc bytes.now) }
 {
     let (_, rest) = bytes_at(pc, padding(pc), bytes)?;
     let (default, rest) = far_target_at(pc, rest)?;
@@ -150,7 +153,7 @@ fn table_at(alloc: Global, pc: u32, bytes: &[u8]) -> Result<(Ins, &[u8]), CodeRe
 
 #[tactic(auto, unfolding(crate::specs::Reading::case_at))]
 fn case_at(pc: u32, bytes: &[u8]) -> Result<(Case, &[u8]), CodeRefusal>
-    ensures { Gives (λ x. (x.0, x.1.now)) result (case_at pc bytes.now) }
+    ensures { Gives None (λ x. (x.0, x.1.now)) result (case_at pc bytes.now) }
 {
     let (key, rest) = i32_at(pc, bytes)?;
     let (target, rest) = far_target_at(pc, rest)?;
@@ -163,7 +166,8 @@ fn cases_at(
     count: u32,
     bytes: &[u8],
 ) -> Result<(Vec<Case>, &[u8]), CodeRefusal>
-    ensures { Gives (λ x. (x.0.items, x.1.now)) result (many_at (case_at pc) count bytes.now) }
+    ensures { Gives (Some OutOfMemory) (λ x. (x.0.items, x.1.now)) result
+        (many_from (case_at pc) count bytes.now) }
 {
     let mut cases = Vec::new(alloc);
     let mut rest = bytes;
@@ -177,7 +181,7 @@ fn cases_at(
 
 #[tactic(auto, unfolding(crate::specs::Reading::lookup_at))]
 fn lookup_at(alloc: Global, pc: u32, bytes: &[u8]) -> Result<(Ins, &[u8]), CodeRefusal>
-    ensures { Gives (λ x. (x.0, x.1.now)) result (lookup_at pc bytes.now) }
+    ensures { Gives (Some OutOfMemory) (λ x. (x.0, x.1.now)) result (lookup_at pc bytes.now) }
 {
     let (_, rest) = bytes_at(pc, padding(pc), bytes)?;
     let (default, rest) = far_target_at(pc, rest)?;
@@ -198,7 +202,8 @@ fn operands_at(
     pc: u32,
     bytes: &[u8],
 ) -> Result<(Ins, &[u8]), CodeRefusal>
-    ensures { Gives (λ x. (x.0, x.1.now)) result (operands_at form pc bytes.now) }
+    ensures { Gives (Some OutOfMemory) (λ x. (x.0, x.1.now)) result
+        (operands_at form pc bytes.now) }
 {
     match form {
         Form::Plain(plain) => Ok((Ins::Plain(plain), bytes)),
@@ -245,7 +250,7 @@ fn operands_at(
 /// The instruction at `pc`, of which these are the bytes and those after it.
 #[tactic(auto, unfolding(crate::specs::Reading::ins_at))]
 fn ins_at(alloc: Global, pc: u32, bytes: &[u8]) -> Result<(Ins, &[u8]), CodeRefusal>
-    ensures { Gives (λ x. (x.0, x.1.now)) result (ins_at pc bytes.now) }
+    ensures { Gives (Some OutOfMemory) (λ x. (x.0, x.1.now)) result (ins_at pc bytes.now) }
 {
     let (opcode, rest) = u8_at(pc, bytes)?;
     operands_at(alloc, known_form(pc, opcode)?, pc, rest)
@@ -254,7 +259,8 @@ fn ins_at(alloc: Global, pc: u32, bytes: &[u8]) -> Result<(Ins, &[u8]), CodeRefu
 /// The instructions of a code, whose targets aren't checked yet.
 fn all_placed(alloc: Global, bytes: &[u8]) -> Result<Vec<Placed>, CodeRefusal>
     requires { length bytes.now ≤ longest }
-    ensures { Gives (λ v. v.items) result (placed_at (length bytes.now) (length bytes.now) bytes.now) }
+    ensures { Gives (Some OutOfMemory) (λ v. v.items) result
+        (placed_at (length bytes.now) (length bytes.now) bytes.now) }
 {
     let mut code = Vec::new(alloc);
     let mut rest = bytes;
@@ -277,7 +283,7 @@ fn front_of(bytes: &[u8]) -> &[u8]
 
 #[tactic(auto, unfolding(crate::specs::Reading::code_of))]
 fn code_of(alloc: Global, bytes: &[u8]) -> Result<Vec<Placed>, CodeRefusal>
-    ensures { Gives (λ v. v.items) result (code_of bytes.now) }
+    ensures { Gives (Some OutOfMemory) (λ v. v.items) result (code_of bytes.now) }
 {
     let front = front_of(bytes);
     let code = all_placed(alloc, front)?;
@@ -299,9 +305,10 @@ pub fn read_code(alloc: Global, bytes: &[u8]) -> Result<Vec<Placed>, CodeRefusal
     ensures long { longest < length bytes.now → IsErr result }
     ensures within { IfOk result (λ v. All (λ (p : OnePlaced). p.pc < length bytes.now) v.items) }
     // The bytes of a code give that code, unless memory runs out.
-    ensures only { (code : List OnePlaced) → IsCode code → Spells code bytes.now → Gives (λ v. v.items) result (Ok code) }
+    ensures only { (code : List OnePlaced) → IsCode code → Spells code bytes.now
+        → Gives (Some OutOfMemory) (λ v. v.items) result (Ok code) }
     // Which refusal it is: the first fault from front to back.
-    ensures exact { Gives (λ v. v.items) result (code_of bytes.now) }
+    ensures exact { Gives (Some OutOfMemory) (λ v. v.items) result (code_of bytes.now) }
 {
     code_of(alloc, bytes)
 }

@@ -9,7 +9,7 @@ use crate::ins::{
 };
 
 /// What an opcode tells of its instruction: all but the operands.
-#[derive(Clone, Copy, Debug, PartialEq, Eq)]
+#[derive(Clone, Copy)]
 pub(crate) enum Form {
     Plain(Plain),
     ShortVariable(Access, Sort, Slot),

@@ -1,9 +1,11 @@
 //! Whether the jumps of a code lead to its instructions.
 
-ghost use Rattle.std.specs.Prelude.{◌≡◌, ◌<◌, ℕ, Ok, false, length, All, IfOk};
+ghost use Rattle.std.specs.Prelude.{◌≡◌, ◌<◌, ℕ, Ok, Some, false, length, All, IfOk};
 ghost use Rattle.std.specs.List.{list_all};
 ghost use Rattle.code_form.specs.Spelling.{is_start, jumps_to_starts};
-ghost use Rattle.code_form.specs.Reading.{Gives, first_astray, unless_astray};
+ghost use Rattle.parsing.specs.Results.{Gives};
+ghost use Rattle.code_form.specs.declared.refusal.CodeRefusal.TheVariants.{OutOfMemory};
+ghost use Rattle.code_form.specs.Reading.{first_astray, unless_astray};
 ghost use Rattle.code_form.specs.Marks.{AreMarksOf};
 
 use crate::ins::{Case, Ins, Placed};
@@ -95,7 +97,8 @@ fn jumps_to_starts(starts: &Starts, placed: &Placed) -> bool
 /// Refuses a code of `len` bytes where an instruction jumps to where none begins.
 pub(crate) fn check_targets(alloc: Global, code: &[Placed], len: usize) -> Result<(), CodeRefusal>
     requires { All (λ p. p.pc < len) code.now }
-    ensures { Gives (λ _. code.now) result (unless_astray code.now (first_astray code.now)) }
+    ensures { Gives (Some OutOfMemory) (λ _. code.now) result
+        (unless_astray code.now (first_astray code.now)) }
 {
     let starts = Starts::of(alloc, code, len)?;
     for placed in code {

@@ -13,24 +13,8 @@ use crate::opcodes::{
     BIPUSH, GOTO_W, IINC, INVOKEINTERFACE, LDC, LOOKUPSWITCH, NEWARRAY, SIPUSH, TABLESWITCH, WIDE,
     branch_opcode, plain_opcode, pool_opcode, primitive_code, short_opcode, variable_opcode,
 };
-use byteorder::{BigEndian, ByteOrder};
+use parsing::{put_u16, put_u32};
 use std::alloc::{AllocError, Global};
-
-fn put_u16(out: &mut Vec<u8>, number: u16) -> Result<(), AllocError>
-    ensures { OnOk result (out.new.items ≡ out.old.items ++ big_bytes 2 number) }
-{
-    let mut bytes = [0; 2];
-    BigEndian::write_u16(&mut bytes, number);
-    out.extend_from_slice(&bytes)
-}
-
-fn put_u32(out: &mut Vec<u8>, number: u32) -> Result<(), AllocError>
-    ensures { OnOk result (out.new.items ≡ out.old.items ++ big_bytes 4 number) }
-{
-    let mut bytes = [0; 4];
-    BigEndian::write_u32(&mut bytes, number);
-    out.extend_from_slice(&bytes)
-}
 
 fn put_i8(out: &mut Vec<u8>, number: i8) -> Result<(), AllocError>
     ensures { OnOk result (out.new.items ≡ out.old.items ++ signed w8 number) }
@@ -80,12 +64,22 @@ fn put_zeros(out: &mut Vec<u8>, count: usize) -> Result<(), AllocError>
 fn put_targets(out: &mut Vec<u8>, pc: u32, targets: &[u32]) -> Result<(), AllocError>
     requires near { pc ≤ longest }
     requires reached { AllByRecursion (λ t. t ≤ longest) targets.now }
-    ensures { OnOk result (out.new.items ≡ out.old.items ++ flat_map (λ t. signed w32 (offset pc t)) targets.now) }
+    ensures { OnOk result
+        (out.new.items ≡ out.old.items ++ flat_map (λ t. signed w32 (offset pc t)) targets.now) }
 {
     for target in targets {
         put_far(out, pc, *target)?;
     }
     Ok(())
+}
+
+fn put_case(out: &mut Vec<u8>, pc: u32, case: &Case) -> Result<(), AllocError>
+    requires near { pc ≤ longest }
+    requires reached { case.now.target ≤ longest }
+    ensures { OnOk result (out.new.items ≡ out.old.items ++ case_bytes pc case.now) }
+{
+    put_i32(out, case.key)?;
+    put_far(out, pc, case.target)
 }
 
 fn put_cases(out: &mut Vec<u8>, pc: u32, cases: &[Case]) -> Result<(), AllocError>
@@ -94,8 +88,7 @@ fn put_cases(out: &mut Vec<u8>, pc: u32, cases: &[Case]) -> Result<(), AllocErro
     ensures { OnOk result (out.new.items ≡ out.old.items ++ flat_map (case_bytes pc) cases.now) }
 {
     for case in cases {
-        put_i32(out, case.key)?;
-        put_far(out, pc, case.target)?;
+        put_case(out, pc, case)?;
     }
     Ok(())
 }
@@ -104,9 +97,7 @@ fn put_cases(out: &mut Vec<u8>, pc: u32, cases: &[Case]) -> Result<(), AllocErro
 fn put_byte(out: &mut Vec<u8>, opcode: u8, byte: u8) -> Result<(), AllocError>
     ensures { OnOk result (out.new.items ≡ out.old.items ++ opcode ∷ byte ∷ []) }
 {
-    out.push(opcode)?;
-    out.push(byte)?;
-    Ok(())
+    out.extend_from_slice(&[opcode, byte])
 }
 
 /// An opcode and the two bytes behind it.
@@ -137,21 +128,24 @@ fn put_variable(
 }
 
 fn put_interface(out: &mut Vec<u8>, index: u16, count: u8) -> Result<(), AllocError>
-    ensures { OnOk result (out.new.items ≡ out.old.items ++ INVOKEINTERFACE ∷ big_bytes 2 index ++ count ∷ 0 ∷ []) }
+    ensures { OnOk result
+        (out.new.items ≡ out.old.items ++ INVOKEINTERFACE ∷ big_bytes 2 index ++ count ∷ 0 ∷ []) }
 {
     put_short(out, INVOKEINTERFACE, index)?;
     put_byte(out, count, 0)
 }
 
 fn put_increment(out: &mut Vec<u8>, local: u8, by: i8) -> Result<(), AllocError>
-    ensures { OnOk result (out.new.items ≡ out.old.items ++ IINC ∷ big_bytes 1 local ++ signed w8 by) }
+    ensures { OnOk result
+        (out.new.items ≡ out.old.items ++ IINC ∷ big_bytes 1 local ++ signed w8 by) }
 {
     put_byte(out, IINC, local)?;
     put_i8(out, by)
 }
 
 fn put_increment_wide(out: &mut Vec<u8>, local: u16, by: i16) -> Result<(), AllocError>
-    ensures { OnOk result (out.new.items ≡ out.old.items ++ WIDE ∷ IINC ∷ big_bytes 2 local ++ signed w16 by) }
+    ensures { OnOk result
+        (out.new.items ≡ out.old.items ++ WIDE ∷ IINC ∷ big_bytes 2 local ++ signed w16 by) }
 {
     put_byte(out, WIDE, IINC)?;
     put_u16(out, local)?;
@@ -160,7 +154,8 @@ fn put_increment_wide(out: &mut Vec<u8>, local: u16, by: i16) -> Result<(), Allo
 
 fn put_branch(out: &mut Vec<u8>, branch: Branch, pc: u32, target: u32) -> Result<(), AllocError>
     requires { FitsSigned w16 (offset pc target) }
-    ensures { OnOk result (out.new.items ≡ out.old.items ++ branch_opcode branch ∷ signed w16 (offset pc target)) }
+    ensures { OnOk result
+        (out.new.items ≡ out.old.items ++ branch_opcode branch ∷ signed w16 (offset pc target)) }
 {
     out.push(branch_opcode(branch))?;
     put_near(out, pc, target)
@@ -169,7 +164,8 @@ fn put_branch(out: &mut Vec<u8>, branch: Branch, pc: u32, target: u32) -> Result
 fn put_goto_wide(out: &mut Vec<u8>, pc: u32, target: u32) -> Result<(), AllocError>
     requires near { pc ≤ longest }
     requires reached { target ≤ longest }
-    ensures { OnOk result (out.new.items ≡ out.old.items ++ GOTO_W ∷ signed w32 (offset pc target)) }
+    ensures { OnOk result
+        (out.new.items ≡ out.old.items ++ GOTO_W ∷ signed w32 (offset pc target)) }
 {
     out.push(GOTO_W)?;
     put_far(out, pc, target)
@@ -179,11 +175,21 @@ fn put_goto_wide(out: &mut Vec<u8>, pc: u32, target: u32) -> Result<(), AllocErr
 fn put_switch(out: &mut Vec<u8>, opcode: u8, pc: u32, default: u32) -> Result<(), AllocError>
     requires near { pc ≤ longest }
     requires reached { default ≤ longest }
-    ensures { OnOk result (out.new.items ≡ out.old.items ++ opcode ∷ replicate (padding pc) 0 ++ signed w32 (offset pc default)) }
+    ensures { OnOk result
+        (out.new.items ≡ out.old.items ++ opcode ∷ replicate (padding pc) 0
+        ++ signed w32 (offset pc default)) }
 {
     out.push(opcode)?;
     put_zeros(out, padding(pc))?;
     put_far(out, pc, default)
+}
+
+/// The least and the greatest key of a `tableswitch`.
+fn put_range(out: &mut Vec<u8>, low: i32, high: i32) -> Result<(), AllocError>
+    ensures { OnOk result (out.new.items ≡ out.old.items ++ signed w32 low ++ signed w32 high) }
+{
+    put_i32(out, low)?;
+    put_i32(out, high)
 }
 
 fn put_table(
@@ -196,11 +202,12 @@ fn put_table(
 ) -> Result<(), AllocError>
     requires near { pc ≤ longest }
     requires reached { AllByRecursion (λ t. t ≤ longest) (default ∷ targets.now) }
-    ensures { OnOk result (out.new.items ≡ out.old.items ++ table_bytes (replicate (padding pc) 0) pc default low high targets.now) }
+    ensures { OnOk result
+        (out.new.items ≡ out.old.items
+        ++ table_bytes (replicate (padding pc) 0) pc default low high targets.now) }
 {
     put_switch(out, TABLESWITCH, pc, default)?;
-    put_i32(out, low)?;
-    put_i32(out, high)?;
+    put_range(out, low, high)?;
     put_targets(out, pc, targets)
 }
 
@@ -208,7 +215,9 @@ fn put_lookup(out: &mut Vec<u8>, pc: u32, default: u32, cases: &[Case]) -> Resul
     requires near { pc ≤ longest }
     requires few { length cases.now < 2 ^ 31 }
     requires reached { AllByRecursion (λ t. t ≤ longest) (default ∷ map (λ c. c.target) cases.now) }
-    ensures { OnOk result (out.new.items ≡ out.old.items ++ lookup_bytes (replicate (padding pc) 0) pc default cases.now) }
+    ensures { OnOk result
+        (out.new.items ≡ out.old.items
+        ++ lookup_bytes (replicate (padding pc) 0) pc default cases.now) }
 {
     put_switch(out, LOOKUPSWITCH, pc, default)?;
     put_u32(out, cases.len() as u32)?;

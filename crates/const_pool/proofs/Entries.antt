@@ -5,15 +5,20 @@ use Rattle.std.proofs.lemmas.Int.{of_z-to_z, to_z-of_z}
 use Rattle.std.proofs.Math.Facts.{sfits_to_z, Fits-of_z}
 use Rattle.std.proofs.lemmas.Bool.{cases_Bool, eqb-true, eq-eqb, ne_eqb, and_left, and_right, and_from}
 use Rattle.byteorder.specs.Endian.{big_bytes}
+use Rattle.parsing.specs.Results.{◌>>=◌}
+use Rattle.parsing.specs.Places.{Place}
+use Rattle.parsing.specs.Bytes.{IsBytes}
+use Rattle.parsing.proofs.Steps.{done, bind_ok, ok_is}
+use Rattle.parsing.proofs.Fields.{Takes, Takes-then, same_place}
 use Rattle.const_pool.specs.declared.refusal.PoolRefusal.{PoolRefusal}
 use Rattle.const_pool.specs.declared.refusal.PoolRefusal.TheVariants.{BadIndex}
 use Rattle.const_pool.specs.declared.entry.Tag.{Tag}
 use Rattle.const_pool.specs.declared.entry.Tag.TheVariants as tag
 use Rattle.const_pool.specs.declared.entry.Entry.{Entry}
 use Rattle.const_pool.specs.declared.entry.Entry.TheVariants as entry
-use Rattle.const_pool.specs.Entry.{IsBytes, Fits, tag_byte, tag_with, is_wide, tag_of, index_bytes, body_bytes, entry_bytes}
-use Rattle.const_pool.specs.Reading.{◌>>=◌, Place, number_from, field_from, name_from, member_from, body_from, or_bad_tag, tag_from, entry_from}
-use Rattle.const_pool.proofs.Fields.{bind_ok, guard_ok, done, ok_is, Takes, Takes-then, same_place, field_takes, field_again, number_takes, number_from-again, name_takes, name_again, member_takes, member_again}
+use Rattle.const_pool.specs.Entry.{Fits, tag_byte, tag_with, is_wide, tag_of, index_bytes, body_bytes, entry_bytes}
+use Rattle.const_pool.specs.Reading.{number_from, field_from, name_from, member_from, body_from, or_bad_tag, tag_from, entry_from}
+use Rattle.const_pool.proofs.Fields.{guard_ok, field_takes, field_again, number_takes, number_from-again, name_takes, name_again, member_takes, member_again}
 
 -- ---- bodies
 
@@ -24,11 +29,12 @@ pub record IsBody (file : Place) (x : Entry × Place) : Type 0 where
 
 -- a body of one field
 one_field : {A : Type 0} (file : Place) (read : Result (A × Place) PoolRefusal) (make : A → Entry) (x : Entry × Place)
-    → (read >>= λ a. Ok (make a.0, a.1)) ≡ Ok x → ((a : A × Place) → read ≡ Ok a → IsBody file (make a.0, a.1)) → IsBody file x
+    → (read >>= λ a. Ok (make a.0, a.1)) ≡ Ok x
+    → ((a : A × Place) → read ≡ Ok a → IsBody file (make a.0, a.1)) → IsBody file x
 one_field {A} file read make x e is_body =
     let a = bind_ok read (λ a. Ok (make a.0, a.1)) x e in
     let made : Entry × Place = (make a.0.0, a.0.1) in
-    subst (λ (y : Entry × Place). IsBody file y) (ok_is made x a.2) (is_body a.0 a.1)
+    subst (λ (y : Entry × Place). IsBody file y) (ok_is PoolRefusal made x a.2) (is_body a.0 a.1)
 
 index_field : (file : Place) (make : ℕ → Entry) (x : Entry × Place) → IsBytes file.1
     → ((i : ℕ) → body_bytes (make i) ≡ index_bytes i) → ((i : ℕ) → i < 2 ^ 16 → Fits (make i))
@@ -37,7 +43,8 @@ index_field file make x fits spelled fitting e = one_field file (number_from 2 f
     let n = number_takes 2 file a fits h in
     record { takes = subst (λ (text : List ℕ). Takes file text a.1) (sym (spelled a.0)) n.0; fits = fitting a.0 n.1 })
 
-pub body_takes : (t : Tag) (file : Place) (x : Entry × Place) → IsBytes file.1 → body_from t file ≡ Ok x → IsBody file x
+pub body_takes : (t : Tag) (file : Place) (x : Entry × Place) → IsBytes file.1 → body_from t file ≡ Ok x
+    → IsBody file x
 unfolding body_from
 body_takes tag.Utf8 file x fits e = one_field file (name_from file) entry.Utf8 x e (λ a h.
     let n = name_takes file a fits h in record { takes = n.0; fits = (n.1, n.2) })
@@ -79,7 +86,7 @@ one_tagged : {A : Type 0} (t : Tag) (read : Result (A × Place) PoolRefusal) (ma
 one_tagged {A} t read make x tagged e =
     let a = bind_ok read (λ a. Ok (make a.0, a.1)) x e in
     let made : Entry × Place = (make a.0.0, a.0.1) in
-    subst (λ (y : Entry × Place). tag_of y.0 ≡ t) (ok_is made x a.2) (tagged a.0.0)
+    subst (λ (y : Entry × Place). tag_of y.0 ≡ t) (ok_is PoolRefusal made x a.2) (tagged a.0.0)
 
 body_tagged : (t : Tag) (file : Place) (x : Entry × Place) → body_from t file ≡ Ok x → tag_of x.0 ≡ t
 unfolding body_from
@@ -104,8 +111,8 @@ body_tagged tag.InvokeDynamic file x e = one_tagged tag.InvokeDynamic (field_fro
 abbrev ReadsBody : Entry → Type 0
 ReadsBody e = (at : ℕ) (rest : List ℕ) → body_from (tag_of e) (at, body_bytes e ++ rest) ≡ Ok (e, (at + length (body_bytes e), rest))
 
-bytes_again : (e : Entry) (at n : ℕ) (bytes rest : List ℕ) → length bytes ≡ n → done {A = Entry × Place} (e, (at + n, rest)) ≡ done {A = Entry × Place} (e, (at + length bytes, rest))
-bytes_again e at n bytes rest len = same_place e (at + n) (at + length bytes) rest (omega arith)
+bytes_again : (e : Entry) (at n : ℕ) (bytes rest : List ℕ) → length bytes ≡ n → done {A = Entry × Place} PoolRefusal (e, (at + n, rest)) ≡ done {A = Entry × Place} PoolRefusal (e, (at + length bytes, rest))
+bytes_again e at n bytes rest len = same_place PoolRefusal e (at + n) (at + length bytes) rest (omega arith)
 
 pub body_again : (e : Entry) → Fits e → ReadsBody e
 unfolding body_from
@@ -123,17 +130,19 @@ body_again (entry.Methodref m) fits at rest = rw (member_again at m rest fits) r
 body_again (entry.InterfaceMethodref m) fits at rest = rw (member_again at m rest fits) refl
 body_again (entry.NameAndType name descriptor) fits at rest =
     let ends : at + 2 + 2 ≡ at + 4 = omega arith in
-    rw (number_from-again 2 at name (index_bytes descriptor ++ rest) fits.0, number_from-again 2 (at + 2) descriptor rest fits.1) (same_place (entry.NameAndType name descriptor) _ _ rest ends)
+    rw (number_from-again 2 at name (index_bytes descriptor ++ rest) fits.0, number_from-again 2 (at + 2) descriptor rest fits.1) (same_place PoolRefusal (entry.NameAndType name descriptor) _ _ rest ends)
 body_again (entry.MethodHandle bytes) fits at rest = rw (field_again 3 at bytes rest fits.0) (bytes_again (entry.MethodHandle bytes) at 3 bytes rest fits.0)
 body_again (entry.MethodType bytes) fits at rest = rw (field_again 2 at bytes rest fits.0) (bytes_again (entry.MethodType bytes) at 2 bytes rest fits.0)
 body_again (entry.InvokeDynamic bytes) fits at rest = rw (field_again 4 at bytes rest fits.0) (bytes_again (entry.InvokeDynamic bytes) at 4 bytes rest fits.0)
 
 -- ---- tags
 
-same_tag : (b n : ℕ) (first t : Tag) (others : Option Tag) → cond (eqb b n) (Some first) others ≡ Some t → eqb b n ≡ true → first ≡ t
+same_tag : (b n : ℕ) (first t : Tag) (others : Option Tag) → cond (eqb b n) (Some first) others ≡ Some t
+    → eqb b n ≡ true → first ≡ t
 same_tag b n first t others e equal = let h = rw equal at e in cc
 
-pick : (b n : ℕ) (first t : Tag) (others : Option Tag) → tag_byte first ≡ n → (others ≡ Some t → b ≡ tag_byte t) → cond (eqb b n) (Some first) others ≡ Some t → b ≡ tag_byte t
+pick : (b n : ℕ) (first t : Tag) (others : Option Tag) → tag_byte first ≡ n
+    → (others ≡ Some t → b ≡ tag_byte t) → cond (eqb b n) (Some first) others ≡ Some t → b ≡ tag_byte t
 pick b n first t others is_n later e =
     elim (cases_Bool (eqb b n)) [
       | inl equal ↦ eqb-true b n equal ∙ sym is_n ∙ ap tag_byte (same_tag b n first t others e equal)
@@ -207,7 +216,8 @@ room_from index count t e = λ wide same.
     let both : (is_wide t && eqb (index + 1) count) ≡ true = and_from _ _ wide (eq-eqb _ _ same) in
     absurd cc
 
-room_passes : (index count : ℕ) (t : Tag) → HasRoom index count t → (is_wide t && eqb (index + 1) count) ≡ false
+room_passes : (index count : ℕ) (t : Tag) → HasRoom index count t
+    → (is_wide t && eqb (index + 1) count) ≡ false
 room_passes index count t room =
     elim (cases_Bool (is_wide t)) [
       | inl wide ↦ and_right (is_wide t) _ (ne_eqb _ _ (room wide))
@@ -222,7 +232,8 @@ record IsTag (index count : ℕ) (file : Place) (x : Tag × Place) : Type 0 wher
   after : byte.1 ≡ x.1
   room : HasRoom index count x.0
 
-tag_read : (index count : ℕ) (file : Place) (x : Tag × Place) → tag_from index count file ≡ Ok x → IsTag index count file x
+tag_read : (index count : ℕ) (file : Place) (x : Tag × Place) → tag_from index count file ≡ Ok x
+    → IsTag index count file x
 unfolding tag_from
 tag_read index count file x e =
     let a = bind_ok (number_from 1 file) (λ byte. or_bad_tag file.0 (tag_with byte.0) >>= λ t. cond (is_wide t && eqb (index + 1) count) (Err (BadIndex index (index + 1))) (Ok (t, byte.1))) x e in
@@ -232,14 +243,16 @@ tag_read index count file x e =
     subst (λ (y : Tag × Place). IsTag index count file y) g.1
     (record { byte = a.0; read = a.1; known = byte; after = refl; room = room_from index count b.0 g.0 })
 
-tag_takes : (index count : ℕ) (file : Place) (x : Tag × Place) → IsBytes file.1 → IsTag index count file x → Takes file (tag_byte x.0 ∷ []) x.1
+tag_takes : (index count : ℕ) (file : Place) (x : Tag × Place) → IsBytes file.1 → IsTag index count file x
+    → Takes file (tag_byte x.0 ∷ []) x.1
 tag_takes index count file x fits t =
     let taken = (number_takes 1 file t.byte fits t.read).0 in
     let text : big_bytes 1 t.byte.0 ≡ tag_byte x.0 ∷ [] = ap (big_bytes 1) t.known ∙ tag_bytes x.0 in
     let named : Takes file (tag_byte x.0 ∷ []) t.byte.1 = subst (λ (y : List ℕ). Takes file y t.byte.1) text taken in
     subst (λ (after : Place). Takes file (tag_byte x.0 ∷ []) after) t.after named
 
-pub tag_again : (index count at : ℕ) (t : Tag) (rest : List ℕ) → HasRoom index count t → tag_from index count (at, tag_byte t ∷ rest) ≡ Ok (t, (at + 1, rest))
+pub tag_again : (index count at : ℕ) (t : Tag) (rest : List ℕ) → HasRoom index count t
+    → tag_from index count (at, tag_byte t ∷ rest) ≡ Ok (t, (at + 1, rest))
 unfolding tag_from
 tag_again index count at t rest room =
     let read : number_from 1 (at, tag_byte t ∷ rest) ≡ Ok (tag_byte t, (at + 1, rest)) =
@@ -248,7 +261,8 @@ tag_again index count at t rest room =
 
 -- ---- entries
 
-pub entry_room : (index count : ℕ) (file : Place) (x : Entry × Place) → entry_from index count file ≡ Ok x → HasRoom index count (tag_of x.0)
+pub entry_room : (index count : ℕ) (file : Place) (x : Entry × Place) → entry_from index count file ≡ Ok x
+    → HasRoom index count (tag_of x.0)
 unfolding entry_from
 entry_room index count file x e =
     let a = bind_ok (tag_from index count file) (λ t. body_from t.0 t.1) x e in
@@ -260,7 +274,8 @@ pub record IsEntry (file : Place) (x : Entry × Place) : Type 0 where
   pub takes : Takes file (entry_bytes x.0) x.1
   pub fits : Fits x.0
 
-pub entry_takes : (index count : ℕ) (file : Place) (x : Entry × Place) → IsBytes file.1 → entry_from index count file ≡ Ok x → IsEntry file x
+pub entry_takes : (index count : ℕ) (file : Place) (x : Entry × Place) → IsBytes file.1
+    → entry_from index count file ≡ Ok x → IsEntry file x
 unfolding entry_from
 entry_takes index count file x fits e =
     let a = bind_ok (tag_from index count file) (λ t. body_from t.0 t.1) x e in
@@ -272,8 +287,9 @@ entry_takes index count file x fits e =
       fits = b.fits;
     }
 
-pub entry_again : (index count at : ℕ) (e : Entry) (rest : List ℕ) → Fits e → HasRoom index count (tag_of e) → entry_from index count (at, entry_bytes e ++ rest) ≡ Ok (e, (at + length (entry_bytes e), rest))
+pub entry_again : (index count at : ℕ) (e : Entry) (rest : List ℕ) → Fits e → HasRoom index count (tag_of e)
+    → entry_from index count (at, entry_bytes e ++ rest) ≡ Ok (e, (at + length (entry_bytes e), rest))
 unfolding entry_from
 entry_again index count at e rest fits room =
     let ends : at + 1 + length (body_bytes e) ≡ at + length (entry_bytes e) = omega arith in
-    rw (tag_again index count at (tag_of e) (body_bytes e ++ rest) room) (body_again e fits (at + 1) rest ∙ same_place e _ _ rest ends)
+    rw (tag_again index count at (tag_of e) (body_bytes e ++ rest) room) (body_again e fits (at + 1) rest ∙ same_place PoolRefusal e _ _ rest ends)

@@ -7,6 +7,9 @@ use Rattle.std.proofs.lemmas.Bool.{cases_Bool, cond-false, eq-eqb, ne_eqb, eqb-t
 use Rattle.std.proofs.lemmas.List.{append-nil, length-append, length-replicate, nil_from_length, take_at, drop_at, take_all}
 use Rattle.std.proofs.lemmas.List.Concat.{flat_map-cons}
 use Rattle.std.proofs.lemmas.Option.{cond_some}
+use Rattle.parsing.specs.Options.{◌>>=◌}
+use Rattle.parsing.proofs.Options.{some, some_is}
+use Rattle.parsing.proofs.Options.{bind_some}
 use Rattle.const_pool.specs.declared.descriptor.BaseType.{BaseType}
 use Rattle.const_pool.specs.declared.descriptor.BaseType.TheVariants as base
 use Rattle.const_pool.specs.declared.descriptor.ElementType.{ElementType}
@@ -16,24 +19,15 @@ use Rattle.const_pool.specs.declared.descriptor.Descriptor.{Descriptor}
 use Rattle.const_pool.specs.declared.descriptor.Descriptor.TheVariants as descriptor
 use Rattle.const_pool.specs.Utf8.{IsModifiedUtf8}
 use Rattle.const_pool.specs.Descriptor.{IsNameByte, IsUnqualified, IsClassName, base_byte, element_bytes, field_bytes, result_bytes, descriptor_bytes, IsElement, IsFieldType, IsDescriptor}
-use Rattle.const_pool.specs.Parsing.{◌>>=◌, after_byte, name_len, base_of, class_at, after_front, base_at, element_at, brackets, field_at, parameters_at, only_field, is_void, result_at, method_at, descriptor_at}
+use Rattle.const_pool.specs.Parsing.{after_byte, name_len, base_of, class_at, after_front, base_at, element_at, brackets, field_at, parameters_at, only_field, is_void, result_at, method_at, descriptor_at}
 use Rattle.const_pool.proofs.Plain.{splits_well, after_replicate}
 
 -- ---- steps
 
-pub bind_some : {A B : Type 0} (o : Option A) (f : A → Option B) (y : B) → (o >>= f) ≡ Some y → (x : A) × (o ≡ Some x) × (f x ≡ Some y)
-bind_some None f y e = absurd cc
-bind_some (Some x) f y e = (x, refl, e)
-
-map_some : {A B : Type 0} (f : A → B) (o : Option A) (y : B) → option_map f o ≡ Some y → (x : A) × (o ≡ Some x) × (f x ≡ y)
+map_some : {A B : Type 0} (f : A → B) (o : Option A) (y : B) → option_map f o ≡ Some y
+    → (x : A) × (o ≡ Some x) × (f x ≡ y)
 map_some f None y e = absurd cc
 map_some f (Some x) y e = let same : f x ≡ y = cc in (x, refl, same)
-
-abbrev some : {A : Type 0} → A → Option A
-some x = Some x
-
-some_is : {A : Type 0} (x y : A) → some x ≡ some y → x ≡ y
-some_is x y e = cc
 
 guard_some : {A : Type 0} (b : Bool) (x y : A) → cond b None (Some x) ≡ Some y → (b ≡ false) × (x ≡ y)
 guard_some true x y e = absurd cc
@@ -46,12 +40,15 @@ abbrev GoesOn : Bool → ℕ → Bool → Type 0
 GoesOn fresh b true = (b ≡ 47) × (fresh ≡ false)
 GoesOn fresh b false = IsNameByte b
 
-slash_goes : (fresh : Bool) (b : ℕ) (next : Bool) → b ≡ 47 → cond fresh None (Some true) ≡ Some next → GoesOn fresh b next
+slash_goes : (fresh : Bool) (b : ℕ) (next : Bool) → b ≡ 47 → cond fresh None (Some true) ≡ Some next
+    → GoesOn fresh b next
 slash_goes true b next is e = absurd cc
 slash_goes false b true is e = (is, refl)
 slash_goes false b false is e = absurd cc
 
-byte_goes : (fresh : Bool) (b : ℕ) (next : Bool) → b ≢ 59 → b ≢ 47 → (barred : Bool) → (eqb b 46 || (eqb b 59 || eqb b 91)) ≡ barred → cond barred None (Some false) ≡ Some next → GoesOn fresh b next
+byte_goes : (fresh : Bool) (b : ℕ) (next : Bool) → b ≢ 59 → b ≢ 47 → (barred : Bool)
+    → (eqb b 46 || (eqb b 59 || eqb b 91)) ≡ barred → cond barred None (Some false) ≡ Some next
+    → GoesOn fresh b next
 byte_goes fresh b next p q true is e = absurd cc
 byte_goes fresh b true p q false is e = absurd cc
 byte_goes fresh b false p q false is e =
@@ -71,11 +68,13 @@ abbrev IsBegun : Bool → List ℕ → Type 0
 IsBegun true part = part ≡ []
 IsBegun false part = IsUnqualified part
 
-AllByRecursion-push : {X : Type 0} (P : X → Type 0) (xs : List X) (x : X) → AllByRecursion P xs → P x → AllByRecursion P (xs ++ x ∷ [])
+AllByRecursion-push : {X : Type 0} (P : X → Type 0) (xs : List X) (x : X) → AllByRecursion P xs → P x
+    → AllByRecursion P (xs ++ x ∷ [])
 AllByRecursion-push P [] x all p = (p, tt)
 AllByRecursion-push P (y ∷ ys) x all p = (all.0, AllByRecursion-push P ys x all.1 p)
 
-begun_more : (fresh : Bool) (part : List ℕ) (b : ℕ) → IsBegun fresh part → IsNameByte b → IsUnqualified (part ++ b ∷ [])
+begun_more : (fresh : Bool) (part : List ℕ) (b : ℕ) → IsBegun fresh part → IsNameByte b
+    → IsUnqualified (part ++ b ∷ [])
 begun_more true part b begun is = subst (λ (p : List ℕ). IsUnqualified (p ++ b ∷ [])) (sym begun) (omega arith, (is, tt))
 begun_more false part b begun is = (omega (arith, length-append part (b ∷ [])), AllByRecursion-push IsNameByte part b begun.1 is)
 
@@ -85,7 +84,8 @@ one_part part is = (part ∷ [], omega arith, (is, tt), refl)
 more_parts : (part name : List ℕ) → IsUnqualified part → IsClassName name → IsClassName (part ++ 47 ∷ name)
 more_parts part name is rest = joined rest.0 rest.1 rest.2 rest.3
   where
-    joined : (parts : List (List ℕ)) → 0 < length parts → AllByRecursion IsUnqualified parts → name ≡ join_with_byte 47 parts → IsClassName (part ++ 47 ∷ name)
+    joined : (parts : List (List ℕ)) → 0 < length parts → AllByRecursion IsUnqualified parts
+        → name ≡ join_with_byte 47 parts → IsClassName (part ++ 47 ∷ name)
     joined [] some all e = absurd (omega arith)
     joined (p ∷ ps) some all e = (part ∷ p ∷ ps, omega arith, (is, all), ap (λ (t : List ℕ). part ++ 47 ∷ t) e)
 
@@ -100,12 +100,14 @@ len_end part bytes n is zero' =
     subst (λ (k : ℕ). IsNameLen part (59 ∷ bytes) k) zero' whole
 
 -- the first ; ends a name
-len_semicolon : (fresh : Bool) (part rest : List ℕ) (n : ℕ) → IsBegun fresh part → cond fresh None (Some 0) ≡ Some n → IsNameLen part (59 ∷ rest) n
+len_semicolon : (fresh : Bool) (part rest : List ℕ) (n : ℕ) → IsBegun fresh part
+    → cond fresh None (Some 0) ≡ Some n → IsNameLen part (59 ∷ rest) n
 len_semicolon true part rest n begun e = absurd cc
 len_semicolon false part rest n begun e = let zero' : 0 ≡ n = cc in len_end part rest n begun zero'
 
 -- a byte goes on with a name
-len_byte : (fresh next : Bool) (part : List ℕ) (b : ℕ) (rest : List ℕ) (m : ℕ) → IsBegun fresh part → GoesOn fresh b next
+len_byte : (fresh next : Bool) (part : List ℕ) (b : ℕ) (rest : List ℕ) (m : ℕ) → IsBegun fresh part
+    → GoesOn fresh b next
     → ((from : List ℕ) → IsBegun next from → IsNameLen from rest m) → IsNameLen part (b ∷ rest) (suc m)
 len_byte fresh false part b rest m begun is later =
     let r = later (part ++ b ∷ []) (begun_more fresh part b begun is) in
@@ -142,12 +144,14 @@ len_nil : (fresh : Bool) → name_len fresh [] ≡ None
 unfolding name_len
 len_nil fresh = refl
 
-len_takes : (bytes : List ℕ) (fresh : Bool) (part : List ℕ) (n : ℕ) → IsBegun fresh part → name_len fresh bytes ≡ Some n → IsNameLen part bytes n
+len_takes : (bytes : List ℕ) (fresh : Bool) (part : List ℕ) (n : ℕ) → IsBegun fresh part
+    → name_len fresh bytes ≡ Some n → IsNameLen part bytes n
 len_takes [] fresh part n begun e = let none = len_nil fresh in absurd cc
 len_takes (b ∷ rest) fresh part n begun e = len_step fresh part b rest n begun (λ next from m is h. len_takes rest next from m is h) e
 
 -- the class name of good bytes is good
-pub name_good : (bytes : List ℕ) (len : ℕ) → IsModifiedUtf8 bytes → name_len true bytes ≡ Some len → IsModifiedUtf8 (take len bytes)
+pub name_good : (bytes : List ℕ) (len : ℕ) → IsModifiedUtf8 bytes → name_len true bytes ≡ Some len
+    → IsModifiedUtf8 (take len bytes)
 name_good bytes len good e = (splits_well bytes (take len bytes) 59 (drop (suc len) bytes) good (omega arith) (len_takes bytes true [] len refl e).parts).before
 
 -- ---- a class name is found again
@@ -165,17 +169,20 @@ suc-further : (n : ℕ) (o : Option ℕ) → option_map suc (further n o) ≡ fu
 suc-further n None = refl
 suc-further n (Some len) = let same : suc (n + len) ≡ suc n + len = omega arith in ap (λ (k : ℕ). some k) same
 
-byte_found : (fresh : Bool) (b : ℕ) (rest : List ℕ) → IsNameByte b → name_len fresh (b ∷ rest) ≡ option_map suc (name_len false rest)
+byte_found : (fresh : Bool) (b : ℕ) (rest : List ℕ) → IsNameByte b
+    → name_len fresh (b ∷ rest) ≡ option_map suc (name_len false rest)
 unfolding name_len
 byte_found fresh b rest is =
     rw (ne_eqb b 59 is.1, ne_eqb b 47 is.3, ne_eqb b 46 is.0, ne_eqb b 91 is.2) refl
 
-part_found : (part more : List ℕ) → AllByRecursion IsNameByte part → name_len false (part ++ more) ≡ further (length part) (name_len false more)
+part_found : (part more : List ℕ) → AllByRecursion IsNameByte part
+    → name_len false (part ++ more) ≡ further (length part) (name_len false more)
 part_found [] more all = sym (further-zero (name_len false more))
 part_found (b ∷ part) more all =
     byte_found false b (part ++ more) all.0 ∙ ap (option_map suc) (part_found part more all.1) ∙ suc-further (length part) (name_len false more)
 
-whole_part_found : (part more : List ℕ) → IsUnqualified part → name_len true (part ++ more) ≡ further (length part) (name_len false more)
+whole_part_found : (part more : List ℕ) → IsUnqualified part
+    → name_len true (part ++ more) ≡ further (length part) (name_len false more)
 whole_part_found [] more is = absurd (omega (arith, is.0))
 whole_part_found (b ∷ part) more is =
     byte_found true b (part ++ more) is.1.0 ∙ ap (option_map suc) (part_found part more is.1.1) ∙ suc-further (length part) (name_len false more)
@@ -188,7 +195,8 @@ slash_found : (rest : List ℕ) → name_len false (47 ∷ rest) ≡ option_map 
 unfolding name_len
 slash_found rest = refl
 
-parts_found : (parts : List (List ℕ)) (rest : List ℕ) → 0 < length parts → AllByRecursion IsUnqualified parts → name_len true (join_with_byte 47 parts ++ 59 ∷ rest) ≡ Some (length (join_with_byte 47 parts))
+parts_found : (parts : List (List ℕ)) (rest : List ℕ) → 0 < length parts → AllByRecursion IsUnqualified parts
+    → name_len true (join_with_byte 47 parts ++ 59 ∷ rest) ≡ Some (length (join_with_byte 47 parts))
 parts_found [] rest more all = absurd (omega arith)
 parts_found (part ∷ []) rest more all =
     let same : length part + 0 ≡ length part = omega arith in
@@ -213,7 +221,8 @@ record IsTaken (bytes : List ℕ) (x : ElementType × List ℕ) : Type 0 where
   is : IsElement x.0
   good : IsModifiedUtf8 x.1
 
-class_takes : (bytes : List ℕ) (x : ElementType × List ℕ) → IsModifiedUtf8 (76 ∷ bytes) → class_at bytes ≡ Some x → IsTaken (76 ∷ bytes) x
+class_takes : (bytes : List ℕ) (x : ElementType × List ℕ) → IsModifiedUtf8 (76 ∷ bytes)
+    → class_at bytes ≡ Some x → IsTaken (76 ∷ bytes) x
 unfolding class_at
 class_takes bytes x good e =
     let a = bind_some (name_len true bytes) (λ len. Some (element.Class (take len bytes), drop (len + 1) bytes)) x e in
@@ -231,7 +240,8 @@ class_takes bytes x good e =
     } in
     subst (λ (y : ElementType × List ℕ). IsTaken (76 ∷ bytes) y) (some_is made x a.2) taken
 
-pick : (b n : ℕ) (first t : BaseType) (others : Option BaseType) → base_byte first ≡ n → (others ≡ Some t → b ≡ base_byte t) → cond (eqb b n) (Some first) others ≡ Some t → b ≡ base_byte t
+pick : (b n : ℕ) (first t : BaseType) (others : Option BaseType) → base_byte first ≡ n
+    → (others ≡ Some t → b ≡ base_byte t) → cond (eqb b n) (Some first) others ≡ Some t → b ≡ base_byte t
 pick b n first t others is_n later e =
     elim (cases_Bool (eqb b n)) [
       | inl equal ↦ eqb-true b n equal ∙ sym is_n ∙ ap base_byte (some_is first t (rw equal at e))
@@ -267,10 +277,12 @@ unfolding after_front
 front_other byte b rest p = rw (ne_eqb b byte p) refl
 
 -- what stands after a low byte is good
-pub front_good : (byte : ℕ) (bytes rest : List ℕ) → byte < 128 → after_front byte bytes ≡ Some rest → IsModifiedUtf8 bytes → IsModifiedUtf8 rest
+pub front_good : (byte : ℕ) (bytes rest : List ℕ) → byte < 128 → after_front byte bytes ≡ Some rest
+    → IsModifiedUtf8 bytes → IsModifiedUtf8 rest
 front_good byte bytes rest small e good = (splits_well bytes [] byte rest good small (front_some byte bytes rest e)).after
 
-base_takes : (bytes : List ℕ) (x : ElementType × List ℕ) → IsModifiedUtf8 bytes → base_at bytes ≡ Some x → IsTaken bytes x
+base_takes : (bytes : List ℕ) (x : ElementType × List ℕ) → IsModifiedUtf8 bytes → base_at bytes ≡ Some x
+    → IsTaken bytes x
 unfolding base_at
 base_takes [] x good e = absurd cc
 base_takes (b ∷ rest) x good e =
@@ -280,17 +292,21 @@ base_takes (b ∷ rest) x good e =
     subst (λ (y : ElementType × List ℕ). IsTaken (b ∷ rest) y) m.2
     (record { parts = ap (λ (y : ℕ). y ∷ rest) is; is = tt; good = (splits_well (b ∷ rest) [] b rest good small refl).after })
 
-element_by_front : (bytes : List ℕ) (x : ElementType × List ℕ) (front : Option (List ℕ)) → IsModifiedUtf8 bytes → after_front 76 bytes ≡ front → option_map_or class_at front (base_at bytes) ≡ Some x → IsTaken bytes x
+element_by_front : (bytes : List ℕ) (x : ElementType × List ℕ) (front : Option (List ℕ))
+    → IsModifiedUtf8 bytes → after_front 76 bytes ≡ front
+    → option_map_or class_at front (base_at bytes) ≡ Some x → IsTaken bytes x
 element_by_front bytes x None good is e = base_takes bytes x good e
 element_by_front bytes x (Some rest) good is e =
     let text = front_some 76 bytes rest is in
     subst (λ (t : List ℕ). IsTaken t x) (sym text) (class_takes rest x (subst IsModifiedUtf8 text good) e)
 
-element_takes : (bytes : List ℕ) (x : ElementType × List ℕ) → IsModifiedUtf8 bytes → element_at bytes ≡ Some x → IsTaken bytes x
+element_takes : (bytes : List ℕ) (x : ElementType × List ℕ) → IsModifiedUtf8 bytes
+    → element_at bytes ≡ Some x → IsTaken bytes x
 unfolding element_at
 element_takes bytes x good e = element_by_front bytes x (after_front 76 bytes) good refl e
 
-element_found : (t : ElementType) (rest : List ℕ) → IsElement t → element_at (element_bytes t ++ rest) ≡ Some (t, rest)
+element_found : (t : ElementType) (rest : List ℕ) → IsElement t
+    → element_at (element_bytes t ++ rest) ≡ Some (t, rest)
 unfolding element_at class_at after_front base_at
 element_found (element.Base base.Byte) rest is = refl
 element_found (element.Base base.Char) rest is = refl
@@ -305,7 +321,8 @@ element_found (element.Class name) rest is =
     let back : drop (length name + 1) (name ++ 59 ∷ rest) ≡ rest = ap (drop (length name + 1)) (sym regrouped) ∙ drop_at (name ++ 59 ∷ []) rest (length name + 1) long in
     ap class_at regrouped ∙ rw (name_found name rest is.0, front, back) refl
 
-pub head_good : (byte : ℕ) (bytes : List ℕ) → IsModifiedUtf8 bytes → byte < 128 → 0 < length bytes → get_or bytes 0 0 ≡ byte → IsModifiedUtf8 (take (length bytes - 1) (drop 1 bytes))
+pub head_good : (byte : ℕ) (bytes : List ℕ) → IsModifiedUtf8 bytes → byte < 128 → 0 < length bytes
+    → get_or bytes 0 0 ≡ byte → IsModifiedUtf8 (take (length bytes - 1) (drop 1 bytes))
 head_good byte [] good small some' is = absurd (omega arith)
 head_good byte (b ∷ rest) good small some' is =
     let after = (splits_well (b ∷ rest) [] b rest good (omega arith) refl).after in
@@ -366,11 +383,13 @@ pub record IsField (bytes : List ℕ) (x : FieldType × List ℕ) : Type 0 where
 pub after_brackets : (bytes : List ℕ) → IsModifiedUtf8 bytes → IsModifiedUtf8 (drop (brackets bytes) bytes)
 after_brackets bytes good = after_replicate (brackets bytes) 91 bytes (drop (brackets bytes) bytes) good (omega arith) (brackets_front bytes)
 
-guard_bind : {A B : Type 0} (b : Bool) (o : Option A) (f : A → Option B) (y : B) → (cond b None o >>= f) ≡ Some y → (b ≡ false) × ((o >>= f) ≡ Some y)
+guard_bind : {A B : Type 0} (b : Bool) (o : Option A) (f : A → Option B) (y : B)
+    → (cond b None o >>= f) ≡ Some y → (b ≡ false) × ((o >>= f) ≡ Some y)
 guard_bind true o f y e = absurd cc
 guard_bind false o f y e = (refl, e)
 
-pub field_takes : (bytes : List ℕ) (x : FieldType × List ℕ) → IsModifiedUtf8 bytes → field_at bytes ≡ Some x → IsField bytes x
+pub field_takes : (bytes : List ℕ) (x : FieldType × List ℕ) → IsModifiedUtf8 bytes → field_at bytes ≡ Some x
+    → IsField bytes x
 unfolding field_at
 field_takes bytes x good e =
     let n = brackets bytes in
@@ -385,7 +404,8 @@ field_takes bytes x good e =
     } in
     subst (λ (y : FieldType × List ℕ). IsField bytes y) (some_is made x a.2) whole
 
-pub field_found : (t : FieldType) (rest : List ℕ) → IsFieldType t → field_at (field_bytes t ++ rest) ≡ Some (t, rest)
+pub field_found : (t : FieldType) (rest : List ℕ) → IsFieldType t
+    → field_at (field_bytes t ++ rest) ≡ Some (t, rest)
 unfolding field_at
 field_found t rest is =
     let front = replicate t.dimensions 91 in
@@ -397,10 +417,12 @@ field_found t rest is =
     ap field_at regrouped ∙ rw (count, few, after, element_found t.element rest is.1) refl
 
 -- no field type begins with a parenthesis
-pub field_first : (t : FieldType) → (b : ℕ) × (rest : List ℕ) × (field_bytes t ≡ b ∷ rest) × (b ≢ 41) × (b ≢ 40) × (b ≢ 86)
+pub field_first : (t : FieldType)
+    → (b : ℕ) × (rest : List ℕ) × (field_bytes t ≡ b ∷ rest) × (b ≢ 41) × (b ≢ 40) × (b ≢ 86)
 field_first t = first t.dimensions t.element
   where
-    first : (n : ℕ) (e : ElementType) → (b : ℕ) × (rest : List ℕ) × (replicate n 91 ++ element_bytes e ≡ b ∷ rest) × (b ≢ 41) × (b ≢ 40) × (b ≢ 86)
+    first : (n : ℕ) (e : ElementType)
+        → (b : ℕ) × (rest : List ℕ) × (replicate n 91 ++ element_bytes e ≡ b ∷ rest) × (b ≢ 41) × (b ≢ 40) × (b ≢ 86)
     first (suc n) e = (91, replicate n 91 ++ element_bytes e, refl, λ h. omega arith, λ h. omega arith, λ h. omega arith)
     first zero (element.Class name) = (76, name ++ 59 ∷ [], refl, λ h. omega arith, λ h. omega arith, λ h. omega arith)
     first zero (element.Base base.Byte) = (66, [], refl, λ h. omega arith, λ h. omega arith, λ h. omega arith)
@@ -421,7 +443,8 @@ closing_found : (steps : ℕ) (rest : List ℕ) → parameters_at (suc steps) (4
 unfolding parameters_at
 closing_found steps rest = rw (front_found 41 rest) refl
 
-pub parameter_more : (steps : ℕ) (bytes : List ℕ) → after_front 41 bytes ≡ None → parameters_at (suc steps) bytes ≡ (field_at bytes >>= λ first. parameters_at steps first.1 >>= λ others. Some (first.0 ∷ others.0, others.1))
+pub parameter_more : (steps : ℕ) (bytes : List ℕ) → after_front 41 bytes ≡ None
+    → parameters_at (suc steps) bytes ≡ (field_at bytes >>= λ first. parameters_at steps first.1 >>= λ others. Some (first.0 ∷ others.0, others.1))
 unfolding parameters_at
 parameter_more steps bytes none = rw none refl
 
@@ -430,9 +453,11 @@ closing_takes bytes rest x good is e =
     subst (λ (y : List FieldType × List ℕ). AreParameters bytes y) (some_is ([], rest) x e)
     (record { parts = front_some 41 bytes rest is; are = tt; good = front_good 41 bytes rest (omega arith) is good })
 
-more_take : (bytes : List ℕ) (x : List FieldType × List ℕ) (read : List ℕ → Option (List FieldType × List ℕ)) → IsModifiedUtf8 bytes
+more_take : (bytes : List ℕ) (x : List FieldType × List ℕ) (read : List ℕ → Option (List FieldType × List ℕ))
+    → IsModifiedUtf8 bytes
     → ((after : List ℕ) (y : List FieldType × List ℕ) → IsModifiedUtf8 after → read after ≡ Some y → AreParameters after y)
-    → (field_at bytes >>= λ first. read first.1 >>= λ others. Some (first.0 ∷ others.0, others.1)) ≡ Some x → AreParameters bytes x
+    → (field_at bytes >>= λ first. read first.1 >>= λ others. Some (first.0 ∷ others.0, others.1)) ≡ Some x
+    → AreParameters bytes x
 more_take bytes x read good later e =
     let a = bind_some (field_at bytes) (λ first. read first.1 >>= λ others. Some (first.0 ∷ others.0, others.1)) x e in
     let c = bind_some (read a.0.1) (λ others. Some (a.0.0 ∷ others.0, others.1)) x a.2 in
@@ -451,13 +476,15 @@ parameters_by_front : (bytes : List ℕ) (x : List FieldType × List ℕ) (read 
 parameters_by_front bytes x read None good later is e = more_take bytes x read good later e
 parameters_by_front bytes x read (Some rest) good later is e = closing_takes bytes rest x good is e
 
-pub parameters_take : (steps : ℕ) (bytes : List ℕ) (x : List FieldType × List ℕ) → IsModifiedUtf8 bytes → parameters_at steps bytes ≡ Some x → AreParameters bytes x
+pub parameters_take : (steps : ℕ) (bytes : List ℕ) (x : List FieldType × List ℕ) → IsModifiedUtf8 bytes
+    → parameters_at steps bytes ≡ Some x → AreParameters bytes x
 unfolding parameters_at
 parameters_take zero bytes x good e = absurd cc
 parameters_take (suc steps) bytes x good e =
     parameters_by_front bytes x (parameters_at steps) (after_front 41 bytes) good (λ after y is h. parameters_take steps after y is h) refl e
 
-pub parameters_found : (ts : List FieldType) (steps : ℕ) (rest : List ℕ) → AllByRecursion IsFieldType ts → length ts < steps → parameters_at steps (flat_map field_bytes ts ++ 41 ∷ rest) ≡ Some (ts, rest)
+pub parameters_found : (ts : List FieldType) (steps : ℕ) (rest : List ℕ) → AllByRecursion IsFieldType ts
+    → length ts < steps → parameters_at steps (flat_map field_bytes ts ++ 41 ∷ rest) ≡ Some (ts, rest)
 parameters_found ts zero rest are lt = absurd (omega arith)
 parameters_found [] (suc steps) rest are lt = closing_found steps rest
 parameters_found (t ∷ ts) (suc steps) rest are lt =
@@ -476,7 +503,8 @@ pub length-parameters : (ts : List FieldType) → length ts ≤ length (flat_map
 length-parameters [] = omega arith
 length-parameters (t ∷ ts) = omega (arith, ap length (flat_map-cons field_bytes t ts), length-append (field_bytes t) (flat_map field_bytes ts), field_long t, length-parameters ts)
 
-only_takes : (bytes : List ℕ) (t : FieldType) → IsModifiedUtf8 bytes → only_field bytes ≡ Some t → (bytes ≡ field_bytes t) × IsFieldType t
+only_takes : (bytes : List ℕ) (t : FieldType) → IsModifiedUtf8 bytes → only_field bytes ≡ Some t
+    → (bytes ≡ field_bytes t) × IsFieldType t
 unfolding only_field
 only_takes bytes t good e =
     let a = bind_some (field_at bytes) (λ x. cond (eqb (length x.1) 0) (Some x.0) None) t e in
@@ -501,7 +529,8 @@ not_void : (b : ℕ) (rest : List ℕ) → b ≢ 86 → is_void (b ∷ rest) ≡
 not_void b [] p = ne_eqb b 86 p
 not_void b (c ∷ rest) p = refl
 
-result_by_void : (bytes : List ℕ) (r : Option FieldType) (void : Bool) → IsModifiedUtf8 bytes → is_void bytes ≡ void
+result_by_void : (bytes : List ℕ) (r : Option FieldType) (void : Bool) → IsModifiedUtf8 bytes
+    → is_void bytes ≡ void
     → cond void (some {A = Option FieldType} None) (option_map (λ t. some {A = FieldType} t) (only_field bytes)) ≡ Some r → (bytes ≡ result_bytes r) × IfSome r IsFieldType
 result_by_void bytes r true good is e =
     subst (λ (s : Option FieldType). (bytes ≡ result_bytes s) × IfSome s IsFieldType) (some_is None r e) (void_is bytes is, tt)
@@ -509,11 +538,13 @@ result_by_void bytes r false good is e =
     let m = map_some (λ t. some {A = FieldType} t) (only_field bytes) r e in
     subst (λ (s : Option FieldType). (bytes ≡ result_bytes s) × IfSome s IsFieldType) m.2 (only_takes bytes m.0 good m.1)
 
-result_takes : (bytes : List ℕ) (r : Option FieldType) → IsModifiedUtf8 bytes → result_at bytes ≡ Some r → (bytes ≡ result_bytes r) × IfSome r IsFieldType
+result_takes : (bytes : List ℕ) (r : Option FieldType) → IsModifiedUtf8 bytes → result_at bytes ≡ Some r
+    → (bytes ≡ result_bytes r) × IfSome r IsFieldType
 unfolding result_at
 result_takes bytes r good e = result_by_void bytes r (is_void bytes) good refl e
 
-result_of_field : (b : ℕ) (rest : List ℕ) → b ≢ 86 → result_at (b ∷ rest) ≡ option_map (λ t. Some t) (only_field (b ∷ rest))
+result_of_field : (b : ℕ) (rest : List ℕ) → b ≢ 86
+    → result_at (b ∷ rest) ≡ option_map (λ t. Some t) (only_field (b ∷ rest))
 unfolding result_at
 result_of_field b rest p = rw (not_void b rest p) refl
 
@@ -532,7 +563,8 @@ pub record Describes (bytes : List ℕ) (d : Descriptor) : Type 0 where
   pub parts : bytes ≡ descriptor_bytes d
   pub is : IsDescriptor d
 
-method_takes : (bytes : List ℕ) (d : Descriptor) → IsModifiedUtf8 bytes → method_at bytes ≡ Some d → Describes (40 ∷ bytes) d
+method_takes : (bytes : List ℕ) (d : Descriptor) → IsModifiedUtf8 bytes → method_at bytes ≡ Some d
+    → Describes (40 ∷ bytes) d
 unfolding method_at
 method_takes bytes d good e =
     let a = bind_some (parameters_at (length bytes) bytes) (λ parameters. result_at parameters.1 >>= λ result. Some (descriptor.Method parameters.0 result)) d e in
@@ -543,8 +575,10 @@ method_takes bytes d good e =
     let parts : 40 ∷ bytes ≡ descriptor_bytes made = ap (λ (t : List ℕ). 40 ∷ t) (p.parts ∙ ap (λ (t : List ℕ). flat_map field_bytes a.0.0 ++ 41 ∷ t) r.0) in
     subst (λ (y : Descriptor). Describes (40 ∷ bytes) y) (some_is made d c.2) (record { parts = parts; is = (p.are, r.1) })
 
-descriptor_by_front : (bytes : List ℕ) (d : Descriptor) (front : Option (List ℕ)) → IsModifiedUtf8 bytes → after_front 40 bytes ≡ front
-    → option_map_or method_at front (option_map (λ t. descriptor.Field t) (only_field bytes)) ≡ Some d → Describes bytes d
+descriptor_by_front : (bytes : List ℕ) (d : Descriptor) (front : Option (List ℕ)) → IsModifiedUtf8 bytes
+    → after_front 40 bytes ≡ front
+    → option_map_or method_at front (option_map (λ t. descriptor.Field t) (only_field bytes)) ≡ Some d
+    → Describes bytes d
 descriptor_by_front bytes d None good is e =
     let m = map_some (λ t. descriptor.Field t) (only_field bytes) d e in
     let t = only_takes bytes m.0 good m.1 in
@@ -552,11 +586,13 @@ descriptor_by_front bytes d None good is e =
 descriptor_by_front bytes d (Some rest) good is e =
     subst (λ (t : List ℕ). Describes t d) (sym (front_some 40 bytes rest is)) (method_takes rest d (front_good 40 bytes rest (omega arith) is good) e)
 
-pub descriptor_takes : (bytes : List ℕ) (d : Descriptor) → IsModifiedUtf8 bytes → descriptor_at bytes ≡ Some d → Describes bytes d
+pub descriptor_takes : (bytes : List ℕ) (d : Descriptor) → IsModifiedUtf8 bytes
+    → descriptor_at bytes ≡ Some d → Describes bytes d
 unfolding descriptor_at
 descriptor_takes bytes d good e = descriptor_by_front bytes d (after_front 40 bytes) good refl e
 
-field_descriptor : (b : ℕ) (rest : List ℕ) → b ≢ 40 → descriptor_at (b ∷ rest) ≡ option_map (λ t. descriptor.Field t) (only_field (b ∷ rest))
+field_descriptor : (b : ℕ) (rest : List ℕ) → b ≢ 40
+    → descriptor_at (b ∷ rest) ≡ option_map (λ t. descriptor.Field t) (only_field (b ∷ rest))
 unfolding descriptor_at
 field_descriptor b rest p = rw (front_other 40 b rest p) refl
 
@@ -564,7 +600,9 @@ method_descriptor : (rest : List ℕ) → descriptor_at (40 ∷ rest) ≡ method
 unfolding descriptor_at
 method_descriptor rest = rw (front_found 40 rest) refl
 
-method_found : (ts : List FieldType) (r : Option FieldType) → AllByRecursion IsFieldType ts → IfSome r IsFieldType → method_at (flat_map field_bytes ts ++ 41 ∷ result_bytes r) ≡ Some (descriptor.Method ts r)
+method_found : (ts : List FieldType) (r : Option FieldType) → AllByRecursion IsFieldType ts
+    → IfSome r IsFieldType
+    → method_at (flat_map field_bytes ts ++ 41 ∷ result_bytes r) ≡ Some (descriptor.Method ts r)
 unfolding method_at
 method_found ts r are is =
     let bytes = flat_map field_bytes ts ++ 41 ∷ result_bytes r in

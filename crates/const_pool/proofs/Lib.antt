@@ -1,5 +1,4 @@
 pub mod Texts
-pub mod Numbers
 pub mod Fields
 pub mod Entries
 pub mod Slots
@@ -8,3 +7,4 @@ pub mod Lookups
 pub mod Plain
 pub mod Grammar
 pub mod Descriptors
+pub mod Rows

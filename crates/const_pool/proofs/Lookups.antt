@@ -23,20 +23,24 @@ text_there (Some (entry.Utf8 name)) named = refl
 text_there None named = absurd cc
 text_there (Some e) named = absurd cc
 
-class_there : (slots : Slots) (slot : Option Entry) → Refers slots slot → IsSome (class_name_of slots slot) ↔ IsTrue (is_tagged slot tag.Class)
+class_there : (slots : Slots) (slot : Option Entry) → Refers slots slot
+    → IsSome (class_name_of slots slot) ↔ IsTrue (is_tagged slot tag.Class)
 class_there slots (Some (entry.Class name)) named = (λ some. refl, λ tagged. text_there (entry_at slots name) named.0)
 class_there slots None named = (λ some. absurd cc, λ tagged. absurd cc)
 class_there slots (Some e) named = (λ some. absurd cc, λ tagged. absurd cc)
 
-pub class_found : (slots : Slots) (index : ℕ) → IsPool slots → IsSome (class_name_at slots index) ↔ IsTrue (is_tagged (entry_at slots index) tag.Class)
+pub class_found : (slots : Slots) (index : ℕ) → IsPool slots
+    → IsSome (class_name_at slots index) ↔ IsTrue (is_tagged (entry_at slots index) tag.Class)
 class_found slots index pool = class_there slots (entry_at slots index) (refers_at slots slots index pool.named)
 
-string_there : (slots : Slots) (slot : Option Entry) → Refers slots slot → IsSome (string_of slots slot) ↔ IsTrue (is_tagged slot tag.String)
+string_there : (slots : Slots) (slot : Option Entry) → Refers slots slot
+    → IsSome (string_of slots slot) ↔ IsTrue (is_tagged slot tag.String)
 string_there slots (Some (entry.String text)) named = (λ some. refl, λ tagged. text_there (entry_at slots text) named.0)
 string_there slots None named = (λ some. absurd cc, λ tagged. absurd cc)
 string_there slots (Some e) named = (λ some. absurd cc, λ tagged. absurd cc)
 
-pub string_found : (slots : Slots) (index : ℕ) → IsPool slots → IsSome (string_at slots index) ↔ IsTrue (is_tagged (entry_at slots index) tag.String)
+pub string_found : (slots : Slots) (index : ℕ) → IsPool slots
+    → IsSome (string_at slots index) ↔ IsTrue (is_tagged (entry_at slots index) tag.String)
 string_found slots index pool = string_there slots (entry_at slots index) (refers_at slots slots index pool.named)
 
 both_there : {A B : Type 0} (x : Option A) (y : Option B) → IsSome x → IsSome y → IsSome (both x y)
@@ -44,22 +48,26 @@ both_there None y p q = absurd cc
 both_there (Some a) None p q = absurd cc
 both_there (Some a) (Some b) p q = refl
 
-name_and_type_there : (slots : Slots) (slot : Option Entry) → Refers slots slot → IsSome (name_and_type_of slots slot) ↔ IsTrue (is_tagged slot tag.NameAndType)
+name_and_type_there : (slots : Slots) (slot : Option Entry) → Refers slots slot
+    → IsSome (name_and_type_of slots slot) ↔ IsTrue (is_tagged slot tag.NameAndType)
 name_and_type_there slots (Some (entry.NameAndType name descriptor)) named =
     (λ some. refl, λ tagged. both_there (utf8_at slots name) (utf8_at slots descriptor) (text_there (entry_at slots name) named.0) (text_there (entry_at slots descriptor) named.1.0))
 name_and_type_there slots None named = (λ some. absurd cc, λ tagged. absurd cc)
 name_and_type_there slots (Some e) named = (λ some. absurd cc, λ tagged. absurd cc)
 
-pub name_and_type_found : (slots : Slots) (index : ℕ) → IsPool slots → IsSome (name_and_type_at slots index) ↔ IsTrue (is_tagged (entry_at slots index) tag.NameAndType)
+pub name_and_type_found : (slots : Slots) (index : ℕ) → IsPool slots
+    → IsSome (name_and_type_at slots index) ↔ IsTrue (is_tagged (entry_at slots index) tag.NameAndType)
 name_and_type_found slots index pool = name_and_type_there slots (entry_at slots index) (refers_at slots slots index pool.named)
 
 -- ---- a push
 
-AllByRecursion-weaker : {X : Type 0} (P Q : X → Type 0) (xs : List X) → ((x : X) → P x → Q x) → AllByRecursion P xs → AllByRecursion Q xs
+AllByRecursion-weaker : {X : Type 0} (P Q : X → Type 0) (xs : List X) → ((x : X) → P x → Q x)
+    → AllByRecursion P xs → AllByRecursion Q xs
 AllByRecursion-weaker P Q [] f all = tt
 AllByRecursion-weaker P Q (x ∷ xs) f all = (f x all.0, AllByRecursion-weaker P Q xs f all.1)
 
-AllByRecursion-append : {X : Type 0} (P : X → Type 0) (xs ys : List X) → AllByRecursion P xs → AllByRecursion P ys → AllByRecursion P (xs ++ ys)
+AllByRecursion-append : {X : Type 0} (P : X → Type 0) (xs ys : List X) → AllByRecursion P xs
+    → AllByRecursion P ys → AllByRecursion P (xs ++ ys)
 AllByRecursion-append P [] ys p q = q
 AllByRecursion-append P (x ∷ xs) ys p q = (p.0, AllByRecursion-append P xs ys p.1 q)
 
@@ -81,7 +89,8 @@ Refers-append : (slots more : Slots) (slot : Option Entry) → Refers slots slot
 Refers-append slots more slot refers =
     AllByRecursion-weaker (Names slots) (Names (slots ++ more)) (references_in slot) (λ r named. Names-append slots more r named) refers
 
-AreSlots-append : (taken : Bool) (slots more : Slots) → AreSlots taken slots → AreSlots false more → AreSlots taken (slots ++ more)
+AreSlots-append : (taken : Bool) (slots more : Slots) → AreSlots taken slots → AreSlots false more
+    → AreSlots taken (slots ++ more)
 AreSlots-append true [] more p q = absurd p
 AreSlots-append false [] more p q = q
 AreSlots-append true (None ∷ slots) more p q = AreSlots-append false slots more p q
@@ -94,11 +103,13 @@ record EntrySlots (all : Slots) (slots : Slots) : Type 0 where
   are : AreSlots false slots
   named : AllByRecursion (Refers all) slots
 
-entry_slots : (all : Slots) (e : Entry) (wide : Bool) → is_wide (tag_of e) ≡ wide → Fits e → Refers all (Some e) → EntrySlots all (cond wide (Some e ∷ None ∷ []) (Some e ∷ []))
+entry_slots : (all : Slots) (e : Entry) (wide : Bool) → is_wide (tag_of e) ≡ wide → Fits e
+    → Refers all (Some e) → EntrySlots all (cond wide (Some e ∷ None ∷ []) (Some e ∷ []))
 entry_slots all e true is fits refers = record { are = (fits, subst (λ (w : Bool). AreSlots w (None ∷ [])) (sym is) tt); named = (refers, (tt, tt)) }
 entry_slots all e false is fits refers = record { are = (fits, subst (λ (w : Bool). AreSlots w []) (sym is) tt); named = (refers, tt) }
 
-pub IsPool-push : (slots : Slots) (e : Entry) → IsPool slots → Fits e → Refers slots (Some e) → length slots + length (slots_of e) < 2 ^ 16 → IsPool (slots ++ slots_of e)
+pub IsPool-push : (slots : Slots) (e : Entry) → IsPool slots → Fits e → Refers slots (Some e)
+    → length slots + length (slots_of e) < 2 ^ 16 → IsPool (slots ++ slots_of e)
 IsPool-push slots e pool fits refers room =
     let more = slots_of e in
     let new : EntrySlots (slots ++ more) more = entry_slots (slots ++ more) e (is_wide (tag_of e)) refl fits (Refers-append slots more (Some e) refers) in

@@ -16,7 +16,8 @@ record Peeled (high more a : List ℕ) (b : ℕ) (rest : List ℕ) : Type 0 wher
   front : a ≡ high ++ left
   parts : more ≡ left ++ b ∷ rest
 
-peel : (high more a : List ℕ) (b : ℕ) (rest : List ℕ) → AllByRecursion IsHigh high → b < 128 → high ++ more ≡ a ++ b ∷ rest → Peeled high more a b rest
+peel : (high more a : List ℕ) (b : ℕ) (rest : List ℕ) → AllByRecursion IsHigh high → b < 128
+    → high ++ more ≡ a ++ b ∷ rest → Peeled high more a b rest
 peel [] more a b rest all low e = record { left = a; front = refl; parts = e }
 peel (x ∷ high) more [] b rest all low e = let same : x ≡ b = cc in absurd (omega (arith, all.0))
 peel (x ∷ high) more (y ∷ a) b rest all low e =
@@ -44,8 +45,10 @@ pub record SplitsWell (a rest : List ℕ) : Type 0 where
 with_unit : (u : ℕ) (a : List ℕ) → IsUnit u → IsModifiedUtf8 a → IsModifiedUtf8 (unit_bytes u ++ a)
 with_unit u a is good = (u ∷ good.0, (is, good.1), ap (λ (t : List ℕ). unit_bytes u ++ t) good.2 ∙ sym (flat_map-cons unit_bytes u good.0))
 
-split_low : (u : ℕ) (more a : List ℕ) (b : ℕ) (rest : List ℕ) → IsUnit u → 0 < u → u < 128 → IsModifiedUtf8 more → b < 128
-    → ((left : List ℕ) → more ≡ left ++ b ∷ rest → SplitsWell left rest) → u ∷ more ≡ a ++ b ∷ rest → SplitsWell a rest
+split_low : (u : ℕ) (more a : List ℕ) (b : ℕ) (rest : List ℕ) → IsUnit u → 0 < u → u < 128
+    → IsModifiedUtf8 more → b < 128
+    → ((left : List ℕ) → more ≡ left ++ b ∷ rest → SplitsWell left rest) → u ∷ more ≡ a ++ b ∷ rest
+    → SplitsWell a rest
 split_low u more [] b rest is pos low good small later e = let same : more ≡ rest = cc in record { before = ([], tt, refl); after = subst IsModifiedUtf8 same good }
 split_low u more (x ∷ a) b rest is pos low good small later e =
     let same : u ≡ x = cc in
@@ -55,7 +58,8 @@ split_low u more (x ∷ a) b rest is pos low good small later e =
     record { before = subst IsModifiedUtf8 one (with_unit u a is p.before); after = p.after }
 
 split_high : (u : ℕ) (more a : List ℕ) (b : ℕ) (rest : List ℕ) → IsUnit u → (u ≡ 0) ⊎ (128 ≤ u) → b < 128
-    → ((left : List ℕ) → more ≡ left ++ b ∷ rest → SplitsWell left rest) → unit_bytes u ++ more ≡ a ++ b ∷ rest → SplitsWell a rest
+    → ((left : List ℕ) → more ≡ left ++ b ∷ rest → SplitsWell left rest)
+    → unit_bytes u ++ more ≡ a ++ b ∷ rest → SplitsWell a rest
 split_high u more a b rest is far small later e =
     let p = peel (unit_bytes u) more a b rest (high_unit u far).high small e in
     let q = later p.left p.parts in
@@ -65,7 +69,8 @@ not_nothing : (a : List ℕ) (b : ℕ) (rest : List ℕ) → [] ≡ a ++ b ∷ r
 not_nothing [] b rest e = absurd cc
 not_nothing (x ∷ a) b rest e = absurd cc
 
-split_units : (units a : List ℕ) (b : ℕ) (rest : List ℕ) → AllByRecursion IsUnit units → b < 128 → units_bytes units ≡ a ++ b ∷ rest → SplitsWell a rest
+split_units : (units a : List ℕ) (b : ℕ) (rest : List ℕ) → AllByRecursion IsUnit units → b < 128
+    → units_bytes units ≡ a ++ b ∷ rest → SplitsWell a rest
 split_units [] a b rest all small e = not_nothing a b rest e
 split_units (u ∷ units) a b rest all small e =
     let more = units_bytes units in
@@ -83,11 +88,13 @@ split_units (u ∷ units) a b rest all small e =
     ]
 
 -- the bytes around a byte below 128
-pub splits_well : (bytes a : List ℕ) (b : ℕ) (rest : List ℕ) → IsModifiedUtf8 bytes → b < 128 → bytes ≡ a ++ b ∷ rest → SplitsWell a rest
+pub splits_well : (bytes a : List ℕ) (b : ℕ) (rest : List ℕ) → IsModifiedUtf8 bytes → b < 128
+    → bytes ≡ a ++ b ∷ rest → SplitsWell a rest
 splits_well bytes a b rest good small e = split_units good.0 a b rest good.1 small (sym good.2 ∙ e)
 
 -- the bytes after some bytes below 128
-pub after_replicate : (n b : ℕ) (bytes rest : List ℕ) → IsModifiedUtf8 bytes → b < 128 → bytes ≡ replicate n b ++ rest → IsModifiedUtf8 rest
+pub after_replicate : (n b : ℕ) (bytes rest : List ℕ) → IsModifiedUtf8 bytes → b < 128
+    → bytes ≡ replicate n b ++ rest → IsModifiedUtf8 rest
 after_replicate zero b bytes rest good small e = subst IsModifiedUtf8 e good
 after_replicate (suc n) b bytes rest good small e =
     after_replicate n b (replicate n b ++ rest) rest (splits_well bytes [] b (replicate n b ++ rest) good small e).after small refl

@@ -1,46 +1,37 @@
 -- The slots of a pool: read one entry after the other, as they are spelled, and with what they name.
-use Rattle.std.proofs.Common.{◌≡◌, ◌≢◌, ℕ, zero, suc, ◌+◌, ◌-◌, ◌≤◌, ◌<◌, Bool, true, false, List, [], ◌∷◌, ◌++◌, length, get_or, drop, Option, Some, None, Result, Ok, Err, refl, sym, ap, subst, ◌∙◌, append_assoc, inl, inr, arith}
+use Rattle.std.proofs.Common.{◌≡◌, ◌≢◌, ℕ, zero, suc, ◌+◌, ◌-◌, ◌≤◌, ◌<◌, Bool, true, false, List, [], ◌∷◌, ◌++◌, length, get_or, drop, Option, Some, None, Result, Ok, Err, refl, sym, ap, subst, ◌∙◌, ◌⊎◌, append_assoc, inl, inr, arith}
 use Rattle.std.specs.List.{flat_map, AllByRecursion}
 use Rattle.std.proofs.lemmas.Bool.{cases_Bool}
 use Rattle.std.proofs.lemmas.List.{append-nil, length-append, at_drop_more, at_drop_all}
 use Rattle.std.proofs.lemmas.List.Concat.{flat_map-cons}
+use Rattle.parsing.specs.Results.{◌>>=◌}
+use Rattle.parsing.specs.Places.{Place}
+use Rattle.parsing.specs.Bytes.{IsBytes}
+use Rattle.parsing.proofs.Steps.{done, bind_ok, ok_is, refused_with}
+use Rattle.parsing.proofs.Loops.{with_front, regroup}
+use Rattle.parsing.proofs.Fields.{Takes, Takes-then, same_place}
 use Rattle.const_pool.specs.declared.refusal.PoolRefusal.{PoolRefusal}
-use Rattle.const_pool.specs.declared.refusal.PoolRefusal.TheVariants.{Truncated, BadTag, BadIndex, BadUtf8, OutOfMemory}
+use Rattle.const_pool.specs.declared.refusal.PoolRefusal.TheVariants.{OutOfMemory}
 use Rattle.const_pool.specs.declared.entry.Tag.{Tag}
 use Rattle.const_pool.specs.declared.entry.Entry.{Entry}
-use Rattle.const_pool.specs.Entry.{IsBytes, is_wide, tag_of, entry_bytes}
+use Rattle.const_pool.specs.Entry.{is_wide, tag_of, entry_bytes}
 use Rattle.const_pool.specs.Pool.{Slots, slots_of, AreSlots, entry_at, is_tagged, Names, references_in, Refers, slot_bytes}
-use Rattle.const_pool.specs.Reading.{◌>>=◌, Fails, Place, entry_from, slots_from, counted_slots, first_wrong, or_else, with_index, wrong_from}
-use Rattle.const_pool.proofs.Fields.{bind_ok, done, ok_is, Takes, Takes-then, same_place}
+use Rattle.const_pool.specs.Reading.{entry_from, slots_from, counted_slots, first_wrong, or_else, with_index, wrong_from}
 use Rattle.const_pool.proofs.Entries.{HasRoom, entry_room, entry_takes, entry_again}
 
--- what fails where another thing fails
-pub fails_with : {A B : Type 0} (e : PoolRefusal) (part : Result A PoolRefusal) (whole : Result B PoolRefusal) → Fails e part → (part ≡ Err e → whole ≡ Err e) → Fails e whole
-fails_with OutOfMemory part whole h f = tt
-fails_with (Truncated at) part whole h f = f h
-fails_with (BadTag at) part whole h f = f h
-fails_with (BadIndex entry index) part whole h f = f h
-fails_with (BadUtf8 at) part whole h f = f h
-
 -- ---- the loop over entries
-
--- what was read before, and what is still read
-abbrev pub with_front : Slots → Result (Slots × Place) PoolRefusal → Result (Slots × Place) PoolRefusal
-with_front front read = read >>= λ x. Ok (front ++ x.0, x.1)
-
-regroup : (front : Slots) (slot : Option Entry) (read : Result (Slots × Place) PoolRefusal) → with_front front (read >>= λ x. Ok (slot ∷ x.0, x.1)) ≡ with_front (front ++ slot ∷ []) read
-regroup front slot (Ok x) = ap (λ (slots : Slots). done {A = Slots × Place} (slots, x.1)) (sym (append_assoc front (slot ∷ []) x.0))
-regroup front slot (Err f) = refl
 
 nothing_before : (read : Result (Slots × Place) PoolRefusal) → with_front [] read ≡ read
 nothing_before (Ok x) = refl
 nothing_before (Err f) = refl
 
-taken_slot : (left count : ℕ) (file : Place) → slots_from true (suc left) count file ≡ (slots_from false left count file >>= λ x. Ok (None ∷ x.0, x.1))
+taken_slot : (left count : ℕ) (file : Place)
+    → slots_from true (suc left) count file ≡ (slots_from false left count file >>= λ x. Ok (None ∷ x.0, x.1))
 unfolding slots_from
 taken_slot left count file = refl
 
-free_slot : (left count : ℕ) (file : Place) → slots_from false (suc left) count file ≡ (entry_from (count - suc left) count file >>= λ first. slots_from (is_wide (tag_of first.0)) left count first.1 >>= λ others. Ok (Some first.0 ∷ others.0, others.1))
+free_slot : (left count : ℕ) (file : Place)
+    → slots_from false (suc left) count file ≡ (entry_from (count - suc left) count file >>= λ first. slots_from (is_wide (tag_of first.0)) left count first.1 >>= λ others. Ok (Some first.0 ∷ others.0, others.1))
 unfolding slots_from
 free_slot left count file = refl
 
@@ -49,7 +40,8 @@ unfolding slots_from
 no_slots taken count file = refl
 
 -- after an entry that takes one slot or two
-after_entry : (wide : Bool) (front : Slots) (e : Entry) (count i left : ℕ) (after : Place) → is_wide (tag_of e) ≡ wide → left + i + 1 ≡ count → (wide ≡ true → left ≢ 0)
+after_entry : (wide : Bool) (front : Slots) (e : Entry) (count i left : ℕ) (after : Place)
+    → is_wide (tag_of e) ≡ wide → left + i + 1 ≡ count → (wide ≡ true → left ≢ 0)
     → with_front (front ++ Some e ∷ []) (slots_from wide left count after) ≡ with_front (front ++ slots_of e) (slots_from false (count - (i + length (slots_of e))) count after)
 after_entry false front e count i left after narrow k room =
     let slots : slots_of e ≡ Some e ∷ [] = rw narrow refl in
@@ -68,7 +60,8 @@ after_entry true front e count i (suc left) after wide k room =
 
 -- the next entry
 pub goes_on : (front : Slots) (count i : ℕ) (file : Place) (e : Entry) (after : Place) (total : Result (Slots × Place) PoolRefusal) → i < count → entry_from i count file ≡ Ok (e, after)
-    → with_front front (slots_from false (count - i) count file) ≡ total → with_front (front ++ slots_of e) (slots_from false (count - (i + length (slots_of e))) count after) ≡ total
+    → with_front front (slots_from false (count - i) count file) ≡ total
+    → with_front (front ++ slots_of e) (slots_from false (count - (i + length (slots_of e))) count after) ≡ total
 goes_on front count i file e after total lt read so_far =
     let left = count - (i + 1) in
     let k : count - i ≡ suc left = omega arith in
@@ -79,9 +72,11 @@ goes_on front count i file e after total lt read so_far =
     let third = after_entry (is_wide (tag_of e)) front e count i left after refl (omega arith) (λ wide none. entry_room i count file (e, after) read wide (omega arith)) in
     sym (first ∙ second ∙ third) ∙ so_far
 
-pub ends : (e : PoolRefusal) (front : Slots) (count i : ℕ) (file : Place) (total : Result (Slots × Place) PoolRefusal) → i < count → Fails e (entry_from i count file)
-    → with_front front (slots_from false (count - i) count file) ≡ total → Fails e total
-ends e front count i file total lt fails so_far = fails_with e (entry_from i count file) total fails (λ h.
+pub ends : (e : PoolRefusal) (front : Slots) (count i : ℕ) (file : Place) (total : Result (Slots × Place) PoolRefusal) → i < count
+    → (e ≡ OutOfMemory) ⊎ (entry_from i count file ≡ Err e)
+    → with_front front (slots_from false (count - i) count file) ≡ total
+    → (e ≡ OutOfMemory) ⊎ (total ≡ Err e)
+ends e front count i file total lt refused so_far = refused_with OutOfMemory e (entry_from i count file) total refused (λ h.
     let left = count - (i + 1) in
     let k : count - i ≡ suc left = omega arith in
     let index : count - suc left ≡ i = omega arith in
@@ -89,14 +84,17 @@ ends e front count i file total lt fails so_far = fails_with e (entry_from i cou
     let one : with_front front (slots_from false (count - i) count file) ≡ Err e = rw (k, failed) refl in
     sym so_far ∙ one)
 
-pub is_done : (front : Slots) (count i : ℕ) (file : Place) (total : Result (Slots × Place) PoolRefusal) → count ≤ i → with_front front (slots_from false (count - i) count file) ≡ total → total ≡ Ok (front, file)
+pub is_done : (front : Slots) (count i : ℕ) (file : Place) (total : Result (Slots × Place) PoolRefusal)
+    → count ≤ i → with_front front (slots_from false (count - i) count file) ≡ total
+    → total ≡ Ok (front, file)
 is_done front count i file total le so_far =
     let k : count - i ≡ 0 = omega arith in
     let one : with_front front (slots_from false (count - i) count file) ≡ Ok (front, file) =
-    rw k (ap (with_front front) (no_slots false count file) ∙ ap (λ (slots : Slots). done {A = Slots × Place} (slots, file)) (append-nil front)) in
+    rw k (ap (with_front front) (no_slots false count file) ∙ ap (λ (slots : Slots). done {A = Slots × Place} PoolRefusal (slots, file)) (append-nil front)) in
     sym so_far ∙ one
 
-pub begins : (count : ℕ) (file : Place) → 0 < count → with_front (None ∷ []) (slots_from false (count - 1) count file) ≡ counted_slots count file
+pub begins : (count : ℕ) (file : Place) → 0 < count
+    → with_front (None ∷ []) (slots_from false (count - 1) count file) ≡ counted_slots count file
 unfolding counted_slots
 begins zero file lt = absurd (omega arith)
 begins (suc left) file lt =
@@ -104,7 +102,8 @@ begins (suc left) file lt =
     rw k (sym (regroup [] None (slots_from false left (suc left) file)) ∙ ap (with_front []) (sym (taken_slot left (suc left) file)) ∙ nothing_before (slots_from true (suc left) (suc left) file))
 
 -- what an entry leaves room for
-pub length-slots_of : (count i : ℕ) (file : Place) (e : Entry) (after : Place) → i < count → entry_from i count file ≡ Ok (e, after) → (0 < length (slots_of e)) × (i + length (slots_of e) ≤ count)
+pub length-slots_of : (count i : ℕ) (file : Place) (e : Entry) (after : Place) → i < count
+    → entry_from i count file ≡ Ok (e, after) → (0 < length (slots_of e)) × (i + length (slots_of e) ≤ count)
 length-slots_of count i file e after lt read =
     elim (cases_Bool (is_wide (tag_of e))) [
       | inl wide ↦
@@ -126,16 +125,18 @@ pub record IsRead (taken : Bool) (left : ℕ) (file : Place) (x : Slots × Place
   pub count : length x.0 ≡ left
   pub slots : AreSlots taken x.0
 
-pub slots_take : (taken : Bool) (left count : ℕ) (file : Place) (x : Slots × Place) → IsBytes file.1 → left ≤ count → (taken ≡ true → left ≢ 0) → slots_from taken left count file ≡ Ok x → IsRead taken left file x
+pub slots_take : (taken : Bool) (left count : ℕ) (file : Place) (x : Slots × Place) → IsBytes file.1
+    → left ≤ count → (taken ≡ true → left ≢ 0) → slots_from taken left count file ≡ Ok x
+    → IsRead taken left file x
 slots_take true zero count file x fits le room e = absurd (room refl refl)
 slots_take false zero count file x fits le room e =
-    subst (λ (y : Slots × Place). IsRead false 0 file y) (ok_is ([], file) x (sym (no_slots false count file) ∙ e))
+    subst (λ (y : Slots × Place). IsRead false 0 file y) (ok_is PoolRefusal ([], file) x (sym (no_slots false count file) ∙ e))
     (record { takes = record { parts = refl; moved = omega arith; rest_fits = fits }; count = refl; slots = tt })
 slots_take true (suc left) count file x fits le room e =
     let a = bind_ok (slots_from false left count file) (λ others. Ok (None ∷ others.0, others.1)) x (sym (taken_slot left count file) ∙ e) in
     let r = slots_take false left count file a.0 fits (omega arith) (λ no. absurd cc) a.1 in
     let made : Slots × Place = (None ∷ a.0.0, a.0.1) in
-    subst (λ (y : Slots × Place). IsRead true (suc left) file y) (ok_is made x a.2) (record { takes = r.takes; count = ap suc r.count; slots = r.slots })
+    subst (λ (y : Slots × Place). IsRead true (suc left) file y) (ok_is PoolRefusal made x a.2) (record { takes = r.takes; count = ap suc r.count; slots = r.slots })
 slots_take false (suc left) count file x fits le room e =
     let a = bind_ok (entry_from (count - suc left) count file) (λ first. slots_from (is_wide (tag_of first.0)) left count first.1 >>= λ others. Ok (Some first.0 ∷ others.0, others.1)) x (sym (free_slot left count file) ∙ e) in
     let b = bind_ok (slots_from (is_wide (tag_of a.0.0)) left count a.0.1) (λ others. Ok (Some a.0.0 ∷ others.0, others.1)) x a.2 in
@@ -143,17 +144,18 @@ slots_take false (suc left) count file x fits le room e =
     let r = slots_take (is_wide (tag_of a.0.0)) left count a.0.1 b.0 first.takes.rest_fits (omega arith) (λ wide none. entry_room (count - suc left) count file a.0 a.1 wide (omega arith)) b.1 in
     let made : Slots × Place = (Some a.0.0 ∷ b.0.0, b.0.1) in
     let both = Takes-then file (entry_bytes a.0.0) a.0.1 (flat_map slot_bytes b.0.0) b.0.1 first.takes r.takes in
-    subst (λ (y : Slots × Place). IsRead false (suc left) file y) (ok_is made x b.2)
+    subst (λ (y : Slots × Place). IsRead false (suc left) file y) (ok_is PoolRefusal made x b.2)
     (record { takes = rw (flat_map-cons slot_bytes (Some a.0.0) b.0.0) both; count = ap suc r.count; slots = (first.fits, r.slots) })
 
 not_empty : (slots : Slots) → AreSlots true slots → length slots ≢ 0
 not_empty [] are none = are
 not_empty (slot ∷ slots) are none = absurd (omega arith)
 
-pub slots_again : (slots : Slots) (taken : Bool) (count at : ℕ) (rest : List ℕ) → AreSlots taken slots → length slots ≤ count
+pub slots_again : (slots : Slots) (taken : Bool) (count at : ℕ) (rest : List ℕ) → AreSlots taken slots
+    → length slots ≤ count
     → slots_from taken (length slots) count (at, flat_map slot_bytes slots ++ rest) ≡ Ok (slots, (at + length (flat_map slot_bytes slots), rest))
 slots_again [] true count at rest are le = absurd are
-slots_again [] false count at rest are le = no_slots false count (at, rest) ∙ same_place {A = Slots} [] _ _ rest (omega arith)
+slots_again [] false count at rest are le = no_slots false count (at, rest) ∙ same_place {A = Slots} PoolRefusal [] _ _ rest (omega arith)
 slots_again (None ∷ slots) false count at rest are le = absurd are
 slots_again (Some e ∷ slots) true count at rest are le = absurd are
 slots_again (None ∷ slots) true count at rest are le =
@@ -174,11 +176,12 @@ slots_again (Some e ∷ slots) false count at rest are le =
     let moved : at + length (entry_bytes e) + length (flat_map slot_bytes slots) ≡ at + length (flat_map slot_bytes (Some e ∷ slots)) = omega arith in
     ap (λ (t : List ℕ). slots_from false (suc left) count (at, t)) text
     ∙ free_slot left count (at, entry_bytes e ++ (flat_map slot_bytes slots ++ rest))
-    ∙ rw (first, others) (same_place {A = Slots} (Some e ∷ slots) _ _ rest moved)
+    ∙ rw (first, others) (same_place {A = Slots} PoolRefusal (Some e ∷ slots) _ _ rest moved)
 
 -- ---- references
 
-wrong_or : {A : Type 0} (first second : Option A) → or_else first second ≡ None → (first ≡ None) × (second ≡ None)
+wrong_or : {A : Type 0} (first second : Option A) → or_else first second ≡ None
+    → (first ≡ None) × (second ≡ None)
 wrong_or None second e = (refl, e)
 wrong_or (Some x) second e = absurd cc
 
@@ -186,7 +189,8 @@ with_none : (index : ℕ) (o : Option ℕ) → with_index index o ≡ None → o
 with_none index None e = refl
 with_none index (Some x) e = absurd cc
 
-names_all : (slots : Slots) (rs : List (ℕ × Tag)) → first_wrong slots rs ≡ None → AllByRecursion (Names slots) rs
+names_all : (slots : Slots) (rs : List (ℕ × Tag)) → first_wrong slots rs ≡ None
+    → AllByRecursion (Names slots) rs
 names_all slots [] e = tt
 names_all slots (r ∷ rs) e =
     elim (cases_Bool (is_tagged (entry_at slots r.0) r.1)) [
@@ -194,18 +198,21 @@ names_all slots (r ∷ rs) e =
       | inr wrong ↦ let h = rw wrong at e in absurd cc
     ]
 
-names_none : (slots : Slots) (rs : List (ℕ × Tag)) → AllByRecursion (Names slots) rs → first_wrong slots rs ≡ None
+names_none : (slots : Slots) (rs : List (ℕ × Tag)) → AllByRecursion (Names slots) rs
+    → first_wrong slots rs ≡ None
 names_none slots [] all = refl
 names_none slots (r ∷ rs) all = rw all.0 (names_none slots rs all.1)
 
-pub refers_all : (all : Slots) (index : ℕ) (slots : Slots) → wrong_from all index slots ≡ None → AllByRecursion (Refers all) slots
+pub refers_all : (all : Slots) (index : ℕ) (slots : Slots) → wrong_from all index slots ≡ None
+    → AllByRecursion (Refers all) slots
 unfolding wrong_from
 refers_all all index [] e = tt
 refers_all all index (slot ∷ slots) e =
     let parts = wrong_or (with_index index (first_wrong all (references_in slot))) (wrong_from all (index + 1) slots) e in
     (names_all all (references_in slot) (with_none index (first_wrong all (references_in slot)) parts.0), refers_all all (index + 1) slots parts.1)
 
-pub refers_none : (all : Slots) (index : ℕ) (slots : Slots) → AllByRecursion (Refers all) slots → wrong_from all index slots ≡ None
+pub refers_none : (all : Slots) (index : ℕ) (slots : Slots) → AllByRecursion (Refers all) slots
+    → wrong_from all index slots ≡ None
 unfolding wrong_from
 refers_none all index [] named = refl
 refers_none all index (slot ∷ slots) named = rw (names_none all (references_in slot) named.0, refers_none all (index + 1) slots named.1) refl
@@ -218,11 +225,13 @@ wrong_here slots i slot lt is =
     at_drop_more (wrong_from slots i) slots i slot lt
     ∙ ap (λ (s : Option Entry). or_else (with_index i (first_wrong slots (references_in s))) (wrong_from slots (i + 1) (drop (i + 1) slots))) (sym is)
 
-pub wrong_passes : (slots : Slots) (i : ℕ) (slot : Option Entry) → i < length slots → slot ≡ get_or slots i slot → None ≡ first_wrong slots (references_in slot)
+pub wrong_passes : (slots : Slots) (i : ℕ) (slot : Option Entry) → i < length slots
+    → slot ≡ get_or slots i slot → None ≡ first_wrong slots (references_in slot)
     → wrong_from slots i (drop i slots) ≡ wrong_from slots (i + 1) (drop (i + 1) slots)
 wrong_passes slots i slot lt is none = wrong_here slots i slot lt is ∙ rw (← none) refl
 
-pub wrong_stops : (slots : Slots) (i : ℕ) (slot : Option Entry) (wrong : ℕ) → i < length slots → slot ≡ get_or slots i slot → Some wrong ≡ first_wrong slots (references_in slot)
+pub wrong_stops : (slots : Slots) (i : ℕ) (slot : Option Entry) (wrong : ℕ) → i < length slots
+    → slot ≡ get_or slots i slot → Some wrong ≡ first_wrong slots (references_in slot)
     → wrong_from slots i (drop i slots) ≡ Some (i, wrong)
 wrong_stops slots i slot wrong lt is some = wrong_here slots i slot lt is ∙ rw (← some) refl
 

@@ -27,7 +27,8 @@ two_form u (inr p) q =
     let pos : 0 < u = omega arith in
     rw (lt-ltb 0 u pos, le-ltb u 128 p, lt-ltb u 2048 q) refl
 
-pub three_form : (u : ℕ) → 2048 ≤ u → unit_bytes u ≡ (224 + u / 4096) ∷ (128 + u / 64 % 64) ∷ (128 + u % 64) ∷ []
+pub three_form : (u : ℕ) → 2048 ≤ u
+    → unit_bytes u ≡ (224 + u / 4096) ∷ (128 + u / 64 % 64) ∷ (128 + u % 64) ∷ []
 three_form u p =
     let pos : 0 < u = omega arith in
     let past : 128 ≤ u = omega arith in
@@ -50,7 +51,8 @@ one_sound (a ∷ rest) e =
     let form = one_form a (omega arith) (omega arith) in
     record { unit = a; is_unit = omega arith; parts = rw form refl; positive = omega arith; short = omega arith }
 
-two_bytes_unit : (u a b : ℕ) (rest : List ℕ) → (u ≡ 0) ⊎ (128 ≤ u) → u < 2048 → 192 + u / 64 ≡ a → 128 + u % 64 ≡ b → FrontUnit (a ∷ b ∷ rest) 2
+two_bytes_unit : (u a b : ℕ) (rest : List ℕ) → (u ≡ 0) ⊎ (128 ≤ u) → u < 2048 → 192 + u / 64 ≡ a
+    → 128 + u % 64 ≡ b → FrontUnit (a ∷ b ∷ rest) 2
 two_bytes_unit u a b rest far small p q =
     record { unit = u; is_unit = omega arith; parts = rw (two_form u far small, p, q) refl; positive = omega arith; short = omega arith }
 
@@ -69,7 +71,8 @@ two_sound (a ∷ b ∷ rest) e =
           two_bytes_unit ((a - 192) * 64 + (b - 128)) a b rest (inr (omega arith)) (omega arith) (omega arith) (omega arith)
     ]
 
-three_bytes_unit : (u a b c : ℕ) (rest : List ℕ) → 2048 ≤ u → u < 2 ^ 16 → 224 + u / 4096 ≡ a → 128 + u / 64 % 64 ≡ b → 128 + u % 64 ≡ c → FrontUnit (a ∷ b ∷ c ∷ rest) 3
+three_bytes_unit : (u a b c : ℕ) (rest : List ℕ) → 2048 ≤ u → u < 2 ^ 16 → 224 + u / 4096 ≡ a
+    → 128 + u / 64 % 64 ≡ b → 128 + u % 64 ≡ c → FrontUnit (a ∷ b ∷ c ∷ rest) 3
 three_bytes_unit u a b c rest far small p q r =
     record { unit = u; is_unit = small; parts = rw (three_form u far, p, q, r) refl; positive = omega arith; short = omega arith }
 
@@ -96,7 +99,8 @@ three_sound (a ∷ b ∷ c ∷ rest) e =
     let large : 2048 ≤ (a - 224) * 4096 + ((b - 128) * 64 + (c - 128)) = elim far.0 [ inl z ↦ omega arith | inr z ↦ omega arith ] in
     three_bytes_unit ((a - 224) * 4096 + ((b - 128) * 64 + (c - 128))) a b c rest large (omega arith) (omega arith) (omega arith) (omega arith)
 
-front_by_tests : (bytes : List ℕ) (one two three : Bool) (n : ℕ) → begins_one bytes ≡ one → begins_two bytes ≡ two → begins_three bytes ≡ three
+front_by_tests : (bytes : List ℕ) (one two three : Bool) (n : ℕ) → begins_one bytes ≡ one
+    → begins_two bytes ≡ two → begins_three bytes ≡ three
     → cond one (Some 1) (cond two (Some 2) (cond three (Some 3) None)) ≡ Some n → FrontUnit bytes n
 front_by_tests bytes true two three n p q r e = let k : 1 ≡ n = cc in subst (λ (m : ℕ). FrontUnit bytes m) k (one_sound bytes p)
 front_by_tests bytes false true three n p q r e = let k : 2 ≡ n = cc in subst (λ (m : ℕ). FrontUnit bytes m) k (two_sound bytes q)
@@ -112,7 +116,8 @@ front_unit bytes n e = front_by_tests bytes (begins_one bytes) (begins_two bytes
 not_within_above : (low high b : ℕ) → high < b → is_within low high b ≡ false
 not_within_above low high b p = grind (arith, nat_tests)
 
-two_begins : (u : ℕ) (rest : List ℕ) → (u ≡ 0) ⊎ (128 ≤ u) → u < 2048 → begins_two ((192 + u / 64) ∷ (128 + u % 64) ∷ rest) ≡ true
+two_begins : (u : ℕ) (rest : List ℕ) → (u ≡ 0) ⊎ (128 ≤ u) → u < 2048
+    → begins_two ((192 + u / 64) ∷ (128 + u % 64) ∷ rest) ≡ true
 two_begins u rest (inl z) q = subst (λ (v : ℕ). begins_two ((192 + v / 64) ∷ (128 + v % 64) ∷ rest) ≡ true) (sym z) refl
 two_begins u rest (inr p) q =
     let a = is_within_from 194 223 (192 + u / 64) (omega arith) (omega arith) in
@@ -124,7 +129,8 @@ three_is_not_two a b rest p =
     let other : a ≡ 192 → ⊥ = λ e. omega arith in
     or_from _ _ (and_left (eqb a 192) (eqb b 128) (ne_eqb a 192 other)) (and_left _ (is_within 128 191 b) (not_within_above 194 223 a (omega arith)))
 
-three_begins : (u : ℕ) (rest : List ℕ) → 2048 ≤ u → u < 2 ^ 16 → begins_three ((224 + u / 4096) ∷ (128 + u / 64 % 64) ∷ (128 + u % 64) ∷ rest) ≡ true
+three_begins : (u : ℕ) (rest : List ℕ) → 2048 ≤ u → u < 2 ^ 16
+    → begins_three ((224 + u / 4096) ∷ (128 + u / 64 % 64) ∷ (128 + u % 64) ∷ rest) ≡ true
 three_begins u rest p q =
     let c = is_within_from 128 191 (128 + u % 64) (omega arith) (omega arith) in
     elim (cases_lt u 4096) [
@@ -178,7 +184,8 @@ unit_found u rest fits =
 
 -- ---- the first bad place
 
-bad_inside : (bytes : List ℕ) (at inside : ℕ) → bad_place at inside bytes ≡ bad_place (at + inside) 0 (drop inside bytes)
+bad_inside : (bytes : List ℕ) (at inside : ℕ)
+    → bad_place at inside bytes ≡ bad_place (at + inside) 0 (drop inside bytes)
 unfolding bad_place
 bad_inside [] at zero = refl
 bad_inside [] at (suc inside) = refl
@@ -187,7 +194,8 @@ bad_inside (b ∷ rest) at (suc inside) =
     let moved : at + 1 + inside ≡ at + suc inside = omega arith in
     bad_inside rest (at + 1) inside ∙ ap (λ (k : ℕ). bad_place k 0 (drop inside rest)) moved
 
-bad_over : (at n : ℕ) (b : ℕ) (rest : List ℕ) → char_len (b ∷ rest) ≡ Some n → 0 < n → bad_place at 0 (b ∷ rest) ≡ bad_place (at + n) 0 (drop n (b ∷ rest))
+bad_over : (at n : ℕ) (b : ℕ) (rest : List ℕ) → char_len (b ∷ rest) ≡ Some n → 0 < n
+    → bad_place at 0 (b ∷ rest) ≡ bad_place (at + n) 0 (drop n (b ∷ rest))
 unfolding bad_place
 bad_over at zero b rest e p = absurd (omega arith)
 bad_over at (suc m) b rest e p =
@@ -197,12 +205,14 @@ bad_over at (suc m) b rest e p =
     one ∙ bad_inside rest (at + 1) m ∙ ap (λ (k : ℕ). bad_place k 0 (drop m rest)) moved
 
 -- a good unit is passed over
-pub bad_step : (at n : ℕ) (bytes : List ℕ) → char_len bytes ≡ Some n → bad_place at 0 bytes ≡ bad_place (at + n) 0 (drop n bytes)
+pub bad_step : (at n : ℕ) (bytes : List ℕ) → char_len bytes ≡ Some n
+    → bad_place at 0 bytes ≡ bad_place (at + n) 0 (drop n bytes)
 bad_step at n [] e = let f = front_unit [] n e in absurd (omega (arith, f.positive, f.short))
 bad_step at n (b ∷ rest) e = bad_over at n b rest e (front_unit (b ∷ rest) n e).positive
 
 -- where none begins is the place
-pub bad_stop : (at : ℕ) (bytes : List ℕ) → 0 < length bytes → char_len bytes ≡ None → bad_place at 0 bytes ≡ Some at
+pub bad_stop : (at : ℕ) (bytes : List ℕ) → 0 < length bytes → char_len bytes ≡ None
+    → bad_place at 0 bytes ≡ Some at
 unfolding bad_place
 bad_stop at [] p e = absurd (omega arith)
 bad_stop at (b ∷ rest) p e = rw e refl
@@ -211,7 +221,8 @@ pub bad_end : (at : ℕ) → bad_place at 0 [] ≡ None
 unfolding bad_place
 bad_end at = refl
 
-units_good : (units : List ℕ) (at : ℕ) → AllByRecursion IsUnit units → bad_place at 0 (units_bytes units) ≡ None
+units_good : (units : List ℕ) (at : ℕ) → AllByRecursion IsUnit units
+    → bad_place at 0 (units_bytes units) ≡ None
 units_good [] at fits = bad_end at
 units_good (u ∷ units) at fits =
     let s = unit_found u (units_bytes units) fits.0 in
@@ -225,11 +236,13 @@ pub good_has_none : (bytes : List ℕ) → IsModifiedUtf8 bytes → bad_place 0 
 good_has_none bytes good = ap (bad_place 0 0) good.2 ∙ units_good good.0 0 good.1
 
 -- a unit before modified UTF-8
-good_after : (bytes : List ℕ) (n : ℕ) → FrontUnit bytes n → IsModifiedUtf8 (drop n bytes) → IsModifiedUtf8 bytes
+good_after : (bytes : List ℕ) (n : ℕ) → FrontUnit bytes n → IsModifiedUtf8 (drop n bytes)
+    → IsModifiedUtf8 bytes
 good_after bytes n f good =
     (f.unit ∷ good.0, (f.is_unit, good.1), f.parts ∙ ap (λ (r : List ℕ). unit_bytes f.unit ++ r) good.2 ∙ sym (flat_map-cons unit_bytes f.unit good.0))
 
-none_step : (at : ℕ) (bytes : List ℕ) (len : Option ℕ) → 0 < length bytes → char_len bytes ≡ len → bad_place at 0 bytes ≡ None
+none_step : (at : ℕ) (bytes : List ℕ) (len : Option ℕ) → 0 < length bytes → char_len bytes ≡ len
+    → bad_place at 0 bytes ≡ None
     → ((from : ℕ) (more : List ℕ) → length more < length bytes → bad_place from 0 more ≡ None → IsModifiedUtf8 more) → IsModifiedUtf8 bytes
 none_step at bytes None long e none shorter = let stop = bad_stop at bytes long e in absurd cc
 none_step at bytes (Some n) long e none shorter =
@@ -237,7 +250,8 @@ none_step at bytes (Some n) long e none shorter =
     let less : length (drop n bytes) < length bytes = omega (arith, length-drop n bytes, f.positive) in
     good_after bytes n f (shorter (at + n) (drop n bytes) less (sym (bad_step at n bytes e) ∙ none))
 
-none_within : (fuel at : ℕ) (bytes : List ℕ) → length bytes ≤ fuel → bad_place at 0 bytes ≡ None → IsModifiedUtf8 bytes
+none_within : (fuel at : ℕ) (bytes : List ℕ) → length bytes ≤ fuel → bad_place at 0 bytes ≡ None
+    → IsModifiedUtf8 bytes
 none_within fuel at [] le none = ([], tt, refl)
 none_within zero at (b ∷ rest) le none = absurd (omega arith)
 none_within (suc fuel) at (b ∷ rest) le none =

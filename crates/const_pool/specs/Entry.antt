@@ -1,7 +1,8 @@
 -- What the entries of a constant pool are, and their bytes (JVMS 4.4).
-use Rattle.std.specs.Prelude.{◌≡◌, ℕ, ◌^◌, ◌<◌, ◌==◌, Bool, true, false, List, [], ◌∷◌, ◌++◌, length, Option, Some, None, slice_index, FitsSigned, if◌then◌else◌}
+use Rattle.std.specs.Prelude.{ℕ, ◌^◌, ◌<◌, ◌==◌, Bool, true, false, List, [], ◌∷◌, ◌++◌, length, Option, Some, None, FitsSigned, if◌then◌else◌}
 use Rattle.std.specs.Int.{w32, w64, cast_unsigned}
 use Rattle.byteorder.specs.Endian.{big_bytes}
+use Rattle.parsing.specs.Bytes.{HasBytes}
 use Rattle.const_pool.specs.declared.entry.Tag.{Tag}
 use Rattle.const_pool.specs.declared.entry.Tag.TheVariants as tag
 use Rattle.const_pool.specs.declared.entry.Member.{Member}
@@ -100,14 +101,8 @@ entry_bytes e = tag_byte (tag_of e) ∷ body_bytes e
 abbrev pub IsIndex : ℕ → Type 0
 IsIndex i = i < 2 ^ 16
 
-abbrev pub IsBytes : List ℕ → Type 0
-IsBytes bytes = (i : ℕ) → slice_index bytes i < 256
-
 abbrev pub AreIndices : Member → Type 0
 AreIndices m = IsIndex m.class × IsIndex m.name_and_type
-
-abbrev pub HasBytes : ℕ → List ℕ → Type 0
-HasBytes n bytes = (length bytes ≡ n) × IsBytes bytes
 
 abbrev pub Fits : Entry → Type 0
 Fits (entry.Utf8 name) = (length name < 2 ^ 16) × IsModifiedUtf8 name

@@ -4,3 +4,4 @@ pub mod Pool
 pub mod Reading
 pub mod Descriptor
 pub mod Parsing
+pub mod Rows

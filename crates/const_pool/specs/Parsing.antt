@@ -1,6 +1,8 @@
 -- Reading a descriptor from its front.
-use Rattle.std.specs.Prelude.{◌≡◌, ℕ, zero, suc, ◌+◌, List, [], ◌∷◌, length, take, drop, Option, Some, None, Result, Ok, Err, Bool, true, false, ◌||◌, ◌==◌, nat_lt, if◌then◌else◌}
-use Rattle.std.specs.Option.{option_map, option_map_or, option_and_then}
+use Rattle.std.specs.Prelude.{ℕ, zero, suc, ◌+◌, List, [], ◌∷◌, length, take, drop, Option, Some, None, Result, Bool, true, false, ◌||◌, ◌==◌, nat_lt, if◌then◌else◌}
+use Rattle.std.specs.Option.{option_map, option_map_or}
+use Rattle.parsing.specs.Options as options
+use Rattle.parsing.specs.Options.{◌>>=◌}
 use Rattle.const_pool.specs.declared.descriptor.BaseType.{BaseType}
 use Rattle.const_pool.specs.declared.descriptor.BaseType.TheVariants as base
 use Rattle.const_pool.specs.declared.descriptor.ElementType.{ElementType}
@@ -11,19 +13,9 @@ use Rattle.const_pool.specs.declared.descriptor.Descriptor.TheVariants as descri
 use Rattle.const_pool.specs.declared.descriptor.DescriptorRefusal.{DescriptorRefusal}
 use Rattle.const_pool.specs.declared.descriptor.DescriptorRefusal.TheVariants as refusal
 
-infixl 10 ◌>>=◌
-abbrev pub ◌>>=◌ : {A B : Type 0} → Option A → (A → Option B) → Option B
-o >>= f = option_and_then f o
-
--- A call was refused where nothing is read, unless memory ran out.
-abbrev pub Fails : {B : Type 0} → DescriptorRefusal → Option B → Type 0
-Fails refusal.OutOfMemory read = Unit {0}
-Fails refusal.Bad read = read ≡ None
-
--- What a call gave, seen by view, is what is read, unless memory ran out.
+-- what a call gave is what is read, unless memory ran out
 abbrev pub Gives : {A B : Type 0} → (A → B) → Result A DescriptorRefusal → Option B → Type 0
-Gives view (Ok x) read = read ≡ Some (view x)
-Gives view (Err e) read = Fails e read
+Gives view result read = options.Gives refusal.OutOfMemory view result read
 
 -- Whether a part of a class name begins after this byte of the name, where it is one. A part begins at the
 -- byte where `fresh` says so, and then it has no byte yet.

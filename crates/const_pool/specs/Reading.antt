@@ -1,7 +1,11 @@
 -- Reading a constant pool from front to back, with the first fault that is met.
-use Rattle.std.specs.Prelude.{◌≡◌, ℕ, zero, suc, ◌+◌, ◌-◌, List, [], ◌∷◌, length, take, drop, Option, Some, None, Result, Ok, Err, Bool, true, false, ◌&&◌, ◌==◌, nat_lt, if◌then◌else◌}
+use Rattle.std.specs.Prelude.{ℕ, zero, suc, ◌+◌, ◌-◌, List, [], ◌∷◌, drop, Option, Some, None, Result, Ok, Err, Bool, true, false, ◌&&◌, ◌==◌, if◌then◌else◌}
 use Rattle.std.specs.Int.{w32, w64, cast_signed}
-use Rattle.byteorder.specs.Endian.{big_number}
+use Rattle.parsing.specs.declared.cut.Cut.{Cut}
+use Rattle.parsing.specs.Results as results
+use Rattle.parsing.specs.Results.{◌>>=◌, placed, unless_found}
+use Rattle.parsing.specs.Places.{field_at, number_at}
+use Rattle.parsing.specs.Places.{Place}
 use Rattle.const_pool.specs.declared.refusal.PoolRefusal.{PoolRefusal}
 use Rattle.const_pool.specs.declared.refusal.PoolRefusal.TheVariants.{Truncated, BadTag, BadIndex, BadUtf8, OutOfMemory}
 use Rattle.const_pool.specs.declared.entry.Tag.{Tag}
@@ -13,44 +17,23 @@ use Rattle.const_pool.specs.Utf8.{bad_place}
 use Rattle.const_pool.specs.Entry.{tag_of, tag_with, is_wide}
 use Rattle.const_pool.specs.Pool.{Slots, entry_at, is_tagged, references_in}
 
-infixl 10 ◌>>=◌
-abbrev pub ◌>>=◌ : {A B : Type 0} → Result A PoolRefusal → (A → Result B PoolRefusal)
-    → Result B PoolRefusal
-(Ok x) >>= f = f x
-(Err e) >>= f = Err e
-
--- A call was refused as reading is, unless memory ran out.
-abbrev pub Fails : {B : Type 0} → PoolRefusal → Result B PoolRefusal → Type 0
-Fails OutOfMemory read = Unit {0}
-Fails e read = read ≡ Err e
-
--- What a call gave, seen by view, is what reading gives, unless memory ran out.
+-- what a call gave is what reading gives, unless memory ran out
 abbrev pub Gives : {A B : Type 0} → (A → B) → Result A PoolRefusal → Result B PoolRefusal → Type 0
-Gives view (Ok x) read = read ≡ Ok (view x)
-Gives view (Err e) read = Fails e read
-
--- a fault where there is one
-abbrev pub unless_found : {A : Type 0} → Option A → (A → PoolRefusal) → Result (Unit {0}) PoolRefusal
-unless_found None fault = Ok tt
-unless_found (Some x) fault = Err (fault x)
+Gives view result read = results.Gives (Some OutOfMemory) view result read
 
 -- ---- fields
 
--- the file from a place on: the place's offset from the file's start, and the bytes
-abbrev pub Place : Type 0
-Place = ℕ × List ℕ
+-- the refusal of a field that is cut off
+abbrev pub of_cut : Cut → PoolRefusal
+of_cut cut = Truncated cut.at
 
 -- a field of n bytes, and the file after it
-unfoldable pub field_from : ℕ → Place → Result (List ℕ × Place) PoolRefusal
-field_from n file =
-    if nat_lt (length file.1) n then Err (Truncated file.0)
-    else Ok (take n file.1, (file.0 + n, drop n file.1))
+abbrev pub field_from : ℕ → Place → Result (List ℕ × Place) PoolRefusal
+field_from n file = placed of_cut (field_at n file)
 
 -- a number of n bytes, the highest first
-unfoldable pub number_from : ℕ → Place → Result (ℕ × Place) PoolRefusal
-number_from n file = do
-  field ← field_from n file
-  Ok (big_number n field.0, field.1)
+abbrev pub number_from : ℕ → Place → Result (ℕ × Place) PoolRefusal
+number_from n file = placed of_cut (number_at n file)
 
 -- a length and a text of that many bytes
 unfoldable pub name_from : Place → Result (List ℕ × Place) PoolRefusal

@@ -31,7 +31,7 @@ pub enum BaseType {
 }
 
 /// A type that is no array.
-#[derive(Debug, Drop)]
+#[derive(Drop)]
 pub enum ElementType {
     /// A primitive type.
     Base(BaseType),
@@ -41,7 +41,7 @@ pub enum ElementType {
 }
 
 /// A type of a field, a parameter or a result (JVMS 4.3.2).
-#[derive(Debug, Drop)]
+#[derive(Drop)]
 pub struct FieldType {
     /// How many dimensions the array has, 0 where the type is no array.
     pub dimensions: u8,
@@ -50,7 +50,7 @@ pub struct FieldType {
 }
 
 /// The types of a method's parameters, which contracts see as a list.
-#[derive(Debug, Drop)]
+#[derive(Drop)]
 pub struct Parameters {
     types: Vec<FieldType>,
 }
@@ -81,7 +81,7 @@ impl Parameters {
 }
 
 /// A descriptor of a field or of a method.
-#[derive(Debug, Drop)]
+#[derive(Drop)]
 pub enum Descriptor {
     /// A field's type (JVMS 4.3.2).
     Field(FieldType),
@@ -95,7 +95,7 @@ pub enum Descriptor {
 }
 
 /// Why a text gave no descriptor.
-#[derive(Clone, Copy, Debug, PartialEq, Eq, Error)]
+#[derive(Clone, Copy, Debug, Error)]
 pub enum DescriptorRefusal {
     /// The text is no descriptor.
     #[error("not a descriptor")]
@@ -254,7 +254,8 @@ fn parameter_types(
     bytes: &[u8],
 ) -> Result<(Vec<FieldType>, &[u8]), DescriptorRefusal>
     requires { IsModifiedUtf8 bytes.now }
-    ensures { Gives (λ x. (x.0.items, x.1.now)) result (parameters_at (length bytes.now) bytes.now) }
+    ensures { Gives (λ x. (x.0.items, x.1.now)) result
+        (parameters_at (length bytes.now) bytes.now) }
 {
     let mut types = Vec::new(alloc);
     let mut rest = bytes;

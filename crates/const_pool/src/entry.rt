@@ -80,7 +80,7 @@ pub struct Member {
 }
 
 /// An entry of a constant pool. Its numbers of 16 bits are indices of other entries.
-#[derive(Debug, Drop)]
+#[derive(Drop)]
 pub enum Entry {
     /// A text (JVMS 4.4.7).
     Utf8(Name),

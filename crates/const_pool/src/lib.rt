@@ -3,9 +3,9 @@
 
 mod descriptor;
 mod entry;
+mod laws;
 mod name;
 mod pool;
-mod reader;
 mod reading;
 mod refusal;
 mod writing;
@@ -14,12 +14,9 @@ pub use descriptor::{
     BaseType, Descriptor, DescriptorRefusal, ElementType, FieldType, Parameters, read_descriptor,
 };
 pub use entry::{Entry, Member, Tag};
+pub use laws::{small_descriptors_are_read, small_pools_have_their_answers};
 pub use name::Name;
 pub use pool::Pool;
-pub use reader::Reader;
 pub use reading::{each_pool_is_read_back, read_pool};
 pub use refusal::{PoolRefusal, PushRefusal};
-pub use writing::{put_u16, put_u32, write_pool};
-
-#[cfg(test)]
-mod tests;
+pub use writing::write_pool;

@@ -14,7 +14,7 @@ use std::marker::Model;
 /// A constant pool of a class file. Contracts see it as the list of its slots, one for each index from 0 on:
 /// an entry, or none where the index is 0 or the second of a Long or Double before. What its entries name
 /// is there, so the pool can be written as it is.
-#[derive(Debug, Drop)]
+#[derive(Drop)]
 pub struct Pool {
     slots: Vec<Option<Entry>>,
 }
@@ -103,8 +103,10 @@ impl Pool {
 
     /// The name and the descriptor at an index, `None` exactly where it is no NameAndType entry's.
     pub fn name_and_type(&self, index: u16) -> Option<(&Name, &Name)>
-        ensures value { option_map (λ pair. (pair.0.now, pair.1.now)) result ≡ name_and_type_at self.now index }
-        ensures found { IsSome result ↔ IsTrue (is_tagged (entry_at self.now index) Tag.NameAndType) }
+        ensures value { option_map (λ pair. (pair.0.now, pair.1.now)) result
+            ≡ name_and_type_at self.now index }
+        ensures found { IsSome result
+            ↔ IsTrue (is_tagged (entry_at self.now index) Tag.NameAndType) }
     {
         name_and_type_in(self.slots(), index)
     }
@@ -124,7 +126,8 @@ impl Pool {
         ensures index { IfOk result (λ index. index ≡ length self.old) }
         ensures ok { OnOk result (self.new ≡ self.old ++ slots_of entry) }
         ensures there { IfOk result (λ index. entry_at self.new index ≡ Some entry) }
-        ensures kept { (index : ℕ) (tag : Tag) → Names self.old (index, tag) → Names self.new (index, tag) }
+        ensures kept { (index : ℕ) (tag : Tag) → Names self.old (index, tag)
+            → Names self.new (index, tag) }
         ensures full { IsErrOf result PushRefusal.Full
             ↔ (2 ^ 16 ≤ length self.old + length (slots_of entry)) }
         ensures err { OnErr result (self.new ≡ self.old) }
@@ -187,7 +190,8 @@ fn string_in(slots: &[Option<Entry>], index: u16) -> Option<&Name>
 }
 
 fn name_and_type_in(slots: &[Option<Entry>], index: u16) -> Option<(&Name, &Name)>
-    ensures value { option_map (λ pair. (pair.0.now, pair.1.now)) result ≡ name_and_type_at slots.now index }
+    ensures value { option_map (λ pair. (pair.0.now, pair.1.now)) result
+        ≡ name_and_type_at slots.now index }
     ensures variant { is_some result ≡ is_some (name_and_type_at slots.now index) }
 {
     match entry_in(slots, index) {

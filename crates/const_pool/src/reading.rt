@@ -1,14 +1,29 @@
 //! Reading a pool from a file's bytes.
 
 ghost use Rattle.std.specs.Prelude.{◌≡◌, ℕ, ◌+◌, ◌^◌, ◌<◌, List, [], ◌∷◌, ◌++◌, length, drop, vec_len, IfOk, Ok};
-ghost use Rattle.const_pool.specs.Reading.{Gives, member_from, body_from, tag_from, entry_from, counted_slots, first_wrong, wrong_from, pool_in};
+ghost use Rattle.const_pool.specs.Reading.{Gives, name_from, member_from, body_from, tag_from, entry_from, counted_slots, first_wrong, wrong_from, pool_in};
 ghost use Rattle.const_pool.specs.Entry.{references, member_references};
 ghost use Rattle.const_pool.specs.Pool.{Slots, IsPool, spelling, entry_at, is_tagged, references_in};
 
+use crate::name::first_bad;
 use crate::pool::{entry_in, push_entry};
-use crate::reader::Reader;
-use crate::{Entry, Member, Pool, PoolRefusal, Tag};
+use crate::{Entry, Member, Name, Pool, PoolRefusal, Tag};
+use parsing::Reader;
 use std::alloc::Global;
+
+/// A length of 16 bits, and a text of that many bytes.
+#[tactic(auto, unfolding(crate::specs::Reading::name_from))]
+fn name(alloc: Global, file: &mut Reader) -> Result<Name, PoolRefusal>
+    ensures { Gives (λ x. (x, file.new)) result (name_from file.old) }
+{
+    let len = file.u16()?;
+    let at = file.at();
+    let text = file.field(usize::from(len))?;
+    if let Some(place) = first_bad(text) {
+        return Err(PoolRefusal::BadUtf8(at + place));
+    }
+    Ok(Name::copy(alloc, text)?)
+}
 
 #[tactic(auto, unfolding(crate::specs::Reading::member_from))]
 fn member(file: &mut Reader) -> Result<Member, PoolRefusal>
@@ -28,7 +43,7 @@ fn body(alloc: Global, tag: Tag, file: &mut Reader) -> Result<Entry, PoolRefusal
     ensures { Gives (λ x. (x, file.new)) result (body_from tag file.old) }
 {
     match tag {
-        Tag::Utf8 => Ok(Entry::Utf8(file.name(alloc)?)),
+        Tag::Utf8 => Ok(Entry::Utf8(name(alloc, file)?)),
         Tag::Integer => Ok(Entry::Integer(file.u32()?.cast_signed())),
         Tag::Float => Ok(Entry::Float(file.u32()?)),
         Tag::Long => Ok(Entry::Long(file.u64()?.cast_signed())),
@@ -218,7 +233,8 @@ pub fn read_pool(alloc: Global, bytes: &[u8]) -> Result<(Pool, usize), PoolRefus
     ensures found { IfOk result (λ x. drop 8 bytes.now ≡ spelling x.0 ++ drop x.1 bytes.now) }
     ensures offset { IfOk result (λ x. x.1 ≡ 8 + length (spelling x.0)) }
     // What is spelled there is read, unless memory runs out.
-    ensures only { (pool : Slots) (rest : List ℕ) → IsPool pool → drop 8 bytes.now ≡ spelling pool ++ rest
+    ensures only { (pool : Slots) (rest : List ℕ) → IsPool pool
+        → drop 8 bytes.now ≡ spelling pool ++ rest
         → Gives (λ x. x) result (Ok (pool, 8 + length (spelling pool))) }
     // Which fault it is.
     ensures exact { Gives (λ x. x) result (pool_in bytes.now) }

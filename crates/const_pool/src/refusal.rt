@@ -3,7 +3,9 @@
 ghost use Rattle.std.specs.Prelude.{◌≡◌};
 ghost use Rattle.const_pool.specs.declared.refusal.PoolRefusal.TheVariants.{OutOfMemory};
 ghost use Rattle.const_pool.specs.declared.refusal.PushRefusal.TheVariants as push;
+ghost use Rattle.const_pool.specs.Reading.{of_cut};
 
+use parsing::Cut;
 use std::alloc::{AllocError, AllocFailed};
 use thiserror::Error;
 
@@ -31,6 +33,14 @@ pub enum PoolRefusal {
     /// No memory was left.
     #[error("out of memory")]
     OutOfMemory,
+}
+
+impl From<Cut> for PoolRefusal {
+    ghost from_gives = { λ cut e. e ≡ of_cut cut };
+
+    fn from(cut: Cut) -> PoolRefusal {
+        PoolRefusal::Truncated(cut.at)
+    }
 }
 
 impl From<AllocError> for PoolRefusal {

@@ -8,34 +8,8 @@ ghost use Rattle.const_pool.specs.Entry.{Fits, member_bytes, body_bytes};
 ghost use Rattle.const_pool.specs.Pool.{FitsSlot, slot_bytes, spelling};
 
 use crate::{Entry, Member, Pool};
-use byteorder::{BigEndian, ByteOrder};
+use parsing::{put_u16, put_u32, put_u64};
 use std::alloc::{AllocError, Global};
-
-/// Appends a number in two bytes, the highest first.
-pub fn put_u16(out: &mut Vec<u8>, number: u16) -> Result<(), AllocError>
-    ensures { OnOk result (out.new.items ≡ out.old.items ++ big_bytes 2 number) }
-{
-    let mut field = [0; 2];
-    BigEndian::write_u16(&mut field, number);
-    out.extend_from_slice(&field)
-}
-
-/// Appends a number in four bytes, the highest first.
-pub fn put_u32(out: &mut Vec<u8>, number: u32) -> Result<(), AllocError>
-    ensures { OnOk result (out.new.items ≡ out.old.items ++ big_bytes 4 number) }
-{
-    let mut field = [0; 4];
-    BigEndian::write_u32(&mut field, number);
-    out.extend_from_slice(&field)
-}
-
-fn put_u64(out: &mut Vec<u8>, number: u64) -> Result<(), AllocError>
-    ensures { OnOk result (out.new.items ≡ out.old.items ++ big_bytes 8 number) }
-{
-    let mut field = [0; 8];
-    BigEndian::write_u64(&mut field, number);
-    out.extend_from_slice(&field)
-}
 
 fn put_member(out: &mut Vec<u8>, member: &Member) -> Result<(), AllocError>
     ensures { OnOk result (out.new.items ≡ out.old.items ++ member_bytes member.now) }

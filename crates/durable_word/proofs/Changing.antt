@@ -3,7 +3,8 @@ use Rattle.std.proofs.Common.{◌≡◌, ◌≢◌, ◌⊎◌, inl, inr, ⊎_eli
 use Rattle.std.proofs.lemmas.Bool.{cases_eq}
 use Rattle.std.proofs.lemmas.Bool.Decides.{nat_tests}
 use Rattle.std.proofs.lemmas.List.{at_drop_more, at_drop_all}
-use Rattle.line_memory.specs.Memory.{Memory, Told, shown, IsKnown, IsTelling, IsDurable, CanLeave, CanLeaveAll, SameResident, SameImage, KeepsTelling}
+use Rattle.line_image.specs.Told.{Told}
+use Rattle.line_memory.specs.Memory.{Memory, shown, IsKnown, IsTelling, IsDurable, CanLeave, CanLeaveAll, SameResident, SameImage, KeepsTelling}
 use Rattle.line_memory.specs.Moments.{Goes, CountsFrom}
 use Rattle.line_memory.proofs.Chain.{goes_on, goes_nowhere, counts_same}
 use Rattle.durable_word.specs.declared.changes.Change.{Change}
@@ -75,7 +76,7 @@ module _ (old stored_m new : Memory) (changes : List Change)
     (leaves : LeavesOldOrGiven changes old stored_m)
     (resident : SameResident old stored_m) (same : SameImage old stored_m) (on : WritesOn stored_m new) where
   tells : KeepsTelling old stored_m
-  tells tell = subst (λ (told : Told). IsTelling told.history) (sym same.image) tell
+  tells tell = subst (λ (told : Told). IsTelling told.trace) (sym same.image) tell
 
   pub set-telling : KeepsTelling old new
   set-telling tell = on.telling (tells tell)

@@ -1,7 +1,7 @@
 -- Some words of a line memory, changed for good: stored, their lines written back (CLWB), and then a fence (SFENCE, Intel 64 and IA-32
 -- Architectures Software Developer's Manual, volume 2).
 use Rattle.std.specs.Prelude.{◌≡◌, ◌⊎◌, ℕ, List, [], ◌∷◌, Bool, ◌&&◌, ◌==◌, if◌then◌else◌, Any}
-use Rattle.line_image.specs.History.{Outcome}
+use Rattle.line_image.specs.Trace.{Outcome}
 use Rattle.line_memory.specs.Memory.{Memory, CanLeave}
 use Rattle.durable_word.specs.declared.changes.Change.{Change}
 

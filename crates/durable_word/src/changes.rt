@@ -11,7 +11,7 @@ use line_image::{Image, ImageFailed};
 use line_memory::LineMemory;
 
 /// A word of the image, and what it is to be.
-#[derive(Clone, Copy, Debug, PartialEq, Eq)]
+#[derive(Clone, Copy)]
 pub struct Change {
     pub spot: Spot,
     pub word: u64,

@@ -3,8 +3,6 @@
 
 mod changes;
 mod set;
-#[cfg(test)]
-mod tests;
 mod writes;
 
 pub use changes::{Change, set_all_for_good};

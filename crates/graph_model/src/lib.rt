@@ -7,8 +7,6 @@ mod laws;
 mod numbering;
 mod reached;
 mod shape;
-#[cfg(test)]
-mod tests;
 mod types;
 
 pub use canonical::canon;

@@ -29,14 +29,14 @@ pub struct Shape {
 }
 
 /// An object: the number of its shape, and the values of its fields or elements.
-#[derive(Drop, Debug)]
+#[derive(Drop)]
 pub struct Obj {
     pub shape: u32,
     pub values: ListOf<Value>,
 }
 
 /// A durable root: its name, class and field joined by a dot, and the number of its static field.
-#[derive(Drop, Debug)]
+#[derive(Drop)]
 pub struct Root {
     pub name: Bytes,
     pub at: u32,
@@ -44,7 +44,7 @@ pub struct Root {
 
 /// A heap of objects that never move: an object's number is its place in the list. The durable roots stand in the
 /// order of the image's directory.
-#[derive(Drop, Debug)]
+#[derive(Drop)]
 pub struct Heap {
     pub shapes: ListOf<Shape>,
     pub objects: ListOf<Obj>,

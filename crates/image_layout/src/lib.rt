@@ -19,8 +19,6 @@ mod numbers;
 mod object;
 mod places;
 mod superblock;
-#[cfg(test)]
-mod tests;
 
 pub use laws::{
     heads_tell_all, lines_are_fewest, object_words_apart, object_words_within,

@@ -13,7 +13,7 @@ use Rattle.graph_model.specs.Canon.{with_new, found_after, found_from, root_of, 
 use Rattle.graph_model.proofs.Numbers.{with_new-append}
 use Rattle.image_layout.specs.Places.{root_slots, directory_line, directory_word}
 use Rattle.image_meaning.specs.Checks.{Words}
-use Rattle.image_meaning.specs.Entries.{Entry, ShapeEntry, RootEntry, spelled, IsEntry}
+use Rattle.image_meaning.specs.Entries.{DirectoryEntry, ShapeEntry, RootEntry, spelled, IsEntry}
 use Rattle.image_meaning.specs.Directories.{Directory, no_entries, has_name, is_refused, with_entry, directory_words_of, directory_of, spelled_all, with_all, AreEntries, Spells}
 use Rattle.image_meaning.specs.Logs.{SameLogs}
 use Rattle.image_meaning.specs.Objects.{shape_number, shape_of}
@@ -27,18 +27,18 @@ use Rattle.image_meaning.proofs.Standing.{used-still}
 
 -- ---- the directory
 
-with_all-more : (directory : Directory) (entries : List Entry) (entry : Entry)
+with_all-more : (directory : Directory) (entries : List DirectoryEntry) (entry : DirectoryEntry)
     → with_all directory (entries ++ entry ∷ []) ≡ with_entry (with_all directory entries) entry
 with_all-more directory [] entry = refl
 with_all-more directory (e ∷ entries) entry = with_all-more (with_entry directory e) entries entry
 
-entries_more : (directory : Directory) (entries : List Entry) (entry : Entry) → AreEntries directory entries → IsEntry entry
+entries_more : (directory : Directory) (entries : List DirectoryEntry) (entry : DirectoryEntry) → AreEntries directory entries → IsEntry entry
     → is_refused (with_all directory entries) entry ≡ false → AreEntries directory (entries ++ entry ∷ [])
 entries_more directory [] entry are is accepted = (is, accepted, tt)
 entries_more directory (e ∷ entries) entry are is accepted =
     (are.0, are.1, entries_more (with_entry directory e) entries entry are.2 is accepted)
 
-spelled_more : (entries : List Entry) (entry : Entry) → spelled_all (entries ++ entry ∷ []) ≡ spelled_all entries ++ spelled entry
+spelled_more : (entries : List DirectoryEntry) (entry : DirectoryEntry) → spelled_all (entries ++ entry ∷ []) ≡ spelled_all entries ++ spelled entry
 spelled_more [] entry = append-nil (spelled entry)
 spelled_more (e ∷ entries) entry =
     ap (λ (l : List ℕ). spelled e ++ l) (spelled_more entries entry) ∙ sym (append_assoc (spelled e) (spelled_all entries) (spelled entry))
@@ -48,7 +48,7 @@ get_or-behind : (xs ys : List ℕ) (i : ℕ) → slice_index_or (xs ++ ys) (leng
 get_or-behind [] ys i = let e : 0 + i ≡ i = omega arith in rw e refl
 get_or-behind (x ∷ xs) ys i = let e : suc (length xs) + i ≡ suc (length xs + i) = omega arith in rw e (get_or-behind xs ys i)
 
-directory_more : (c d : Words) (directory : Directory) (entry : Entry) → directory_of c ≡ Ok directory → IsEntry entry
+directory_more : (c d : Words) (directory : Directory) (entry : DirectoryEntry) → directory_of c ≡ Ok directory → IsEntry entry
     → is_refused directory entry ≡ false → AddsEntry c d entry → directory_of d ≡ Ok (with_entry directory entry)
 unfolding directory_of
 directory_more c d directory entry opens is accepted adds =
@@ -83,7 +83,7 @@ directory_more c d directory entry opens is accepted adds =
     ∙ ap (λ (x : Directory). Ok x) (with_all-more no_entries entries entry ∙ ap (λ (x : Directory). with_entry x entry) (sym taken.3))
 
 -- the image opens with the entry too
-pub opens-more : (size : ℕ) (c d : Words) (directory : Directory) (entry : Entry) → Opens size c directory → IsEntry entry
+pub opens-more : (size : ℕ) (c d : Words) (directory : Directory) (entry : DirectoryEntry) → Opens size c directory → IsEntry entry
     → is_refused directory entry ≡ false → AddsEntry c d entry → SameLogs c d → Opens size d (with_entry directory entry)
 opens-more size c d directory entry opens is accepted adds logs = record {
   super = used-still size (c 0) (d 0) opens.used opens.super (adds.super 0 (omega arith)) (adds.super 1 (omega arith)) (adds.super 2 (omega arith)) adds.room;

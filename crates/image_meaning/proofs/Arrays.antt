@@ -12,7 +12,7 @@ use Rattle.const_pool.specs.Utf8.{bad_place, char_len}
 use Rattle.const_pool.specs.Parsing.{descriptor_at, only_field, field_at, element_at, base_at, brackets, after_front}
 use Rattle.image_layout.specs.Places.{root_slots}
 use Rattle.image_meaning.specs.Checks.{Words}
-use Rattle.image_meaning.specs.Entries.{Entry, ShapeEntry, AreBytes, IsShape, is_shape}
+use Rattle.image_meaning.specs.Entries.{DirectoryEntry, ShapeEntry, AreBytes, IsShape, is_shape}
 use Rattle.image_meaning.specs.Directories.{Directory, no_entries, with_all, AreEntries, Spells}
 use Rattle.image_meaning.specs.Objects.{shape_number, length_at, object_slot}
 use Rattle.image_meaning.specs.Meaning.{root_word, StandsFor}
@@ -82,7 +82,7 @@ null_corresponds size words directory few zeros = record {
 }
 
 -- where all root slots are 0, all roots are null
-pub null_roots-stand : (size : ℕ) (words : Words) (entries : List Entry) → IsInUse size words → AreEntries no_entries entries
+pub null_roots-stand : (size : ℕ) (words : Words) (entries : List DirectoryEntry) → IsInUse size words → AreEntries no_entries entries
     → Spells words entries → ((r : ℕ) → r < root_slots → root_word words r ≡ 0)
     → StandsFor size words (null_graph (with_all no_entries entries).roots)
 null_roots-stand size words entries is are spells zeros =

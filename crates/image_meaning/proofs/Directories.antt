@@ -4,17 +4,17 @@ use Rattle.std.proofs.lemmas.Bool.{leb-false}
 use Rattle.std.proofs.lemmas.List.FromFn.{length-map-range_with_len}
 use Rattle.image_layout.specs.Places.{root_slots, directory_line, directory_word}
 use Rattle.image_meaning.specs.Checks.{Words, Bad}
-use Rattle.image_meaning.specs.Entries.{Entry, ShapeEntry, RootEntry, entry_body, spelled, read_entry}
+use Rattle.image_meaning.specs.Entries.{DirectoryEntry, ShapeEntry, RootEntry, entry_body, spelled, read_entry}
 use Rattle.image_meaning.specs.Directories.{Directory, no_entries, has_name, is_refused, with_entry, bad_entry, with_entries, directory_words_of, directory_of, spelled_all, with_all, AreEntries, NoEntryBegins, BreaksOff, Spells}
 use Rattle.image_meaning.specs.Laws.{BadDirectoriesAreTold}
 use Rattle.image_meaning.proofs.Entries.{entry-again, entry-taken}
 use Rattle.image_meaning.proofs.Ranges.{mapped_list, mapped_same}
 
 -- a spelled entry has a first word
-spelled_first : (entry : Entry) (rest : List ℕ) → (w : ℕ) × (ws : List ℕ) × (spelled entry ++ rest ≡ w ∷ ws)
+spelled_first : (entry : DirectoryEntry) (rest : List ℕ) → (w : ℕ) × (ws : List ℕ) × (spelled entry ++ rest ≡ w ∷ ws)
 spelled_first entry rest = (_, entry_body entry ++ rest, refl)
 
-one_taken : (most at : ℕ) (directory : Directory) (words : List ℕ) (entry : Entry) (rest : List ℕ)
+one_taken : (most at : ℕ) (directory : Directory) (words : List ℕ) (entry : DirectoryEntry) (rest : List ℕ)
     → (w : ℕ) → (ws : List ℕ) → words ≡ w ∷ ws → read_entry words ≡ Some (entry, rest) → is_refused directory entry ≡ false
     → with_entries (suc most) at directory words ≡ with_entries most (at + length (spelled entry)) (with_entry directory entry) rest
 unfolding with_entries
@@ -23,7 +23,7 @@ one_taken most at directory words entry rest w ws is read accepted =
     rw (is, here, accepted) refl
 
 -- entries that may stand there are read
-pub entries-again : (entries : List Entry) (most at : ℕ) (directory : Directory) → AreEntries directory entries
+pub entries-again : (entries : List DirectoryEntry) (most at : ℕ) (directory : Directory) → AreEntries directory entries
     → length entries ≤ most → with_entries most at directory (spelled_all entries) ≡ Ok (with_all directory entries)
 unfolding with_entries
 entries-again [] zero at directory are h = refl
@@ -36,13 +36,13 @@ entries-again (entry ∷ entries) (suc most) at directory are h =
     ∙ entries-again entries most (at + length (spelled entry)) (with_entry directory entry) are.2 (omega (arith, h))
 
 -- there are no more entries than words
-entries_few : (entries : List Entry) → length entries ≤ length (spelled_all entries)
+entries_few : (entries : List DirectoryEntry) → length entries ≤ length (spelled_all entries)
 entries_few [] = omega arith
 entries_few (entry ∷ entries) =
     omega (arith, entries_few entries, length-append (spelled entry) (spelled_all entries))
 
 -- the entries that the image's directory spells are its entries
-pub directory-again : (words : Words) (entries : List Entry) → AreEntries no_entries entries → Spells words entries
+pub directory-again : (words : Words) (entries : List DirectoryEntry) → AreEntries no_entries entries → Spells words entries
     → directory_of words ≡ Ok (with_all no_entries entries)
 unfolding directory_of
 directory-again words entries are has =
@@ -61,7 +61,7 @@ true_or false = inr refl
 -- what is read are entries that may stand there, and the words spell them
 pub entries-taken : (most at : ℕ) (directory given : Directory) (words : List ℕ)
     → with_entries most at directory words ≡ Ok given
-    → (entries : List Entry) × (words ≡ spelled_all entries) × AreEntries directory entries × (given ≡ with_all directory entries)
+    → (entries : List DirectoryEntry) × (words ≡ spelled_all entries) × AreEntries directory entries × (given ≡ with_all directory entries)
 unfolding with_entries
 entries-taken most at directory given [] h = ([], refl, tt, let e : Ok directory ≡ Ok given = h in cc)
 entries-taken zero at directory given (w ∷ words) h =
@@ -100,7 +100,7 @@ not_taken (suc most) at directory (w ∷ words) more none = elim (some_or (read_
       rw (some.1, none some.0.0 some.0.1 taken.1 taken.0) refl)
 ]
 
-entries_refused : (entries : List Entry) (most at : ℕ) (directory : Directory) (rest : List ℕ) → AreEntries directory entries
+entries_refused : (entries : List DirectoryEntry) (most at : ℕ) (directory : Directory) (rest : List ℕ) → AreEntries directory entries
     → length entries ≤ most → 0 < length rest → NoEntryBegins (with_all directory entries) rest
     → with_entries most at directory (spelled_all entries ++ rest) ≡ Err (bad_entry (at + length (spelled_all entries)))
 entries_refused [] most at directory rest are h more none =
@@ -122,7 +122,7 @@ err_same bad other h = let left : Result Directory Bad = Err bad in let e : left
 -- words that are refused break off somewhere
 entries_broken : (most at : ℕ) (directory : Directory) (words : List ℕ) (bad : Bad) → length words ≤ most
     → with_entries most at directory words ≡ Err bad
-    → (entries : List Entry) × (rest : List ℕ) × BreaksOff directory words entries rest
+    → (entries : List DirectoryEntry) × (rest : List ℕ) × BreaksOff directory words entries rest
     × (bad ≡ bad_entry (at + length (spelled_all entries)))
 unfolding with_entries
 entries_broken most at directory [] bad enough h =
@@ -163,16 +163,16 @@ entries_broken (suc most) at directory (w ∷ words) bad enough h = elim (some_o
       ])
 ]
   where
-    one_entry : (words : List ℕ) (entry other : Entry) (rest behind : List ℕ) → read_entry words ≡ Some (entry, rest)
+    one_entry : (words : List ℕ) (entry other : DirectoryEntry) (rest behind : List ℕ) → read_entry words ≡ Some (entry, rest)
         → read_entry words ≡ Some (other, behind) → entry ≡ other
     one_entry words entry other rest behind a b =
         let e : Some (entry, rest) ≡ Some (other, behind) = sym a ∙ b in
         let both : (entry, rest) ≡ (other, behind) = cc in
-        ap (λ (x : Entry × List ℕ). x.0) both
+        ap (λ (x : DirectoryEntry × List ℕ). x.0) both
 
     broken_here : (at : ℕ) (directory : Directory) (words : List ℕ) (bad : Bad) → 0 < length words → NoEntryBegins directory words
         → (let left : Result Directory Bad = Err (bad_entry at) in left ≡ Err bad)
-        → (entries : List Entry) × (rest : List ℕ) × BreaksOff directory words entries rest
+        → (entries : List DirectoryEntry) × (rest : List ℕ) × BreaksOff directory words entries rest
         × (bad ≡ bad_entry (at + length (spelled_all entries)))
     broken_here at directory words bad more none h =
         let zero_on : at + 0 ≡ at = omega arith in (
@@ -195,7 +195,7 @@ bad_directories = record {
       (broken.0, broken.1, broken.2, broken.3 ∙ ap bad_entry (from_zero broken.0));
 }
   where
-    from_zero : (entries : List Entry) → 0 + length (spelled_all entries) ≡ length (spelled_all entries)
+    from_zero : (entries : List DirectoryEntry) → 0 + length (spelled_all entries) ≡ length (spelled_all entries)
     from_zero entries = omega arith
 
     in_use : (words : Words) → length (directory_words_of words (words 0 3)) ≡ words 0 3
@@ -213,7 +213,7 @@ directory-same c d used same =
     rw (used, list) refl
 
 -- no more roots than slots
-pub roots-few : (directory : Directory) (entries : List Entry) → AreEntries directory entries → length directory.roots ≤ root_slots
+pub roots-few : (directory : Directory) (entries : List DirectoryEntry) → AreEntries directory entries → length directory.roots ≤ root_slots
     → length (with_all directory entries).roots ≤ root_slots
 roots-few directory [] are few = few
 roots-few directory (ShapeEntry shape ∷ entries) are few = roots-few (with_entry directory (ShapeEntry shape)) entries are.2 few

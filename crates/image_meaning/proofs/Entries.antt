@@ -7,7 +7,7 @@ use Rattle.ap_base.specs.declared.kind.Kind.{Kind}
 use Rattle.ap_base.specs.declared.kind.Kind.TheVariants.{Z, B, C, S, I, J, L, Text}
 use Rattle.graph_model.specs.declared.types.Field.{Field}
 use Rattle.graph_model.specs.declared.types.Shape.{Shape}
-use Rattle.image_meaning.specs.Entries.{Entry, ShapeEntry, RootEntry, letter_of, word_of_bytes, words_for, some_words, name_words, fields_words, entry_body, spelled, is_shape, is_entry, AreBytes, IsField, IsShape, IsEntry, kind_of_letter, bytes_of_word, bytes_from, name_from, behind_name, fields_from, shape_named, body_from, entry_from, read_entry}
+use Rattle.image_meaning.specs.Entries.{DirectoryEntry, ShapeEntry, RootEntry, letter_of, word_of_bytes, words_for, some_words, name_words, fields_words, entry_body, spelled, is_shape, is_entry, AreBytes, IsField, IsShape, IsEntry, kind_of_letter, bytes_of_word, bytes_from, name_from, behind_name, fields_from, shape_named, body_from, entry_from, read_entry}
 
 -- ---- names
 
@@ -119,7 +119,7 @@ fields_read (field ∷ fields) rest are =
 shape_again : (shape : Shape) → IsShape shape → shape_named shape.name shape.fields ≡ shape
 shape_again shape is = rw (← is.element) refl
 
-entry_read : (entry : Entry) (rest : List ℕ) → IsEntry entry → entry_from (spelled entry ++ rest) ≡ entry
+entry_read : (entry : DirectoryEntry) (rest : List ℕ) → IsEntry entry → entry_from (spelled entry ++ rest) ≡ entry
 entry_read (ShapeEntry shape) rest is =
     let kind = low 1 (1 + length (entry_body (ShapeEntry shape))) (omega arith) in
     let a = low (length shape.name) (length shape.fields) is.short in
@@ -137,30 +137,30 @@ same_itself : (xs : List ℕ) → pointwise nat_eq xs xs ≡ true
 same_itself [] = refl
 same_itself (x ∷ xs) = rw (eq-eqb x x refl) (same_itself xs)
 
-is_entry-from : (entry : Entry) → IsEntry entry → is_entry entry ≡ true
+is_entry-from : (entry : DirectoryEntry) → IsEntry entry → is_entry entry ≡ true
 is_entry-from (ShapeEntry shape) is = is.form
 is_entry-from (RootEntry name) is = refl
 
 -- what was found in the words, if they spell it
-tested : List ℕ → Entry → Option (Entry × List ℕ)
+tested : List ℕ → DirectoryEntry → Option (DirectoryEntry × List ℕ)
 tested words entry =
     if starts_with nat_eq words (spelled entry) && is_entry entry then Some (entry, drop (length (spelled entry)) words)
     else None
 
-pick : Bool → Entry → List ℕ → Option (Entry × List ℕ)
+pick : Bool → DirectoryEntry → List ℕ → Option (DirectoryEntry × List ℕ)
 pick b entry rest = if b then Some (entry, rest) else None
 
-front_passes : (s rest : List ℕ) (entry : Entry) (b : Bool) → b ≡ true
+front_passes : (s rest : List ℕ) (entry : DirectoryEntry) (b : Bool) → b ≡ true
     → pick (pointwise nat_eq s (take (length s) (s ++ rest)) && b) entry (drop (length s) (s ++ rest)) ≡ Some (entry, rest)
 unfolding pick
 front_passes s rest entry b h = rw (take_front s rest, drop_front s rest, same_itself s, h) refl
 
-tested-front : (entry : Entry) (rest : List ℕ) → IsEntry entry → tested (spelled entry ++ rest) entry ≡ Some (entry, rest)
+tested-front : (entry : DirectoryEntry) (rest : List ℕ) → IsEntry entry → tested (spelled entry ++ rest) entry ≡ Some (entry, rest)
 unfolding tested pick
 tested-front entry rest is = front_passes (spelled entry) rest entry (is_entry entry) (is_entry-from entry is)
 
 -- What is spelled so is read.
-pub entry-again : (entry : Entry) (rest : List ℕ) → IsEntry entry → read_entry (spelled entry ++ rest) ≡ Some (entry, rest)
+pub entry-again : (entry : DirectoryEntry) (rest : List ℕ) → IsEntry entry → read_entry (spelled entry ++ rest) ≡ Some (entry, rest)
 unfolding read_entry tested
 entry-again entry rest is = ap (tested (spelled entry ++ rest)) (entry_read entry rest is) ∙ tested-front entry rest is
 
@@ -236,7 +236,7 @@ shape_from-is w words form = record {
   form = form;
 }
 
-if_entry : (b : Bool) (x y : Entry) → (is_entry x ≡ true → IsEntry x) → (is_entry y ≡ true → IsEntry y)
+if_entry : (b : Bool) (x y : DirectoryEntry) → (is_entry x ≡ true → IsEntry x) → (is_entry y ≡ true → IsEntry y)
     → is_entry (if b then x else y) ≡ true → IsEntry (if b then x else y)
 if_entry true x y f g h = f h
 if_entry false x y f g h = g h
@@ -253,7 +253,7 @@ entry_from-is [] form = tt
 entry_from-is (w ∷ words) form = body_from-is (w % 2 ^ 32) words form
 
 -- What is read is an entry, and the words spell it.
-pub entry-taken : (words : List ℕ) (entry : Entry) (rest : List ℕ) → read_entry words ≡ Some (entry, rest)
+pub entry-taken : (words : List ℕ) (entry : DirectoryEntry) (rest : List ℕ) → read_entry words ≡ Some (entry, rest)
     → (words ≡ spelled entry ++ rest) × IsEntry entry
 unfolding read_entry
 entry-taken words entry rest h =
@@ -266,7 +266,7 @@ entry-taken words entry rest h =
     sym (take_and_drop (length (spelled found)) words)
     ∙ ap (λ (l : List ℕ). l ++ drop (length (spelled found)) words) (sym front) in
     let is : IsEntry found = entry_from-is words both.1 in
-    let same : found ≡ entry = ap (λ (x : Entry × List ℕ). x.0) p.1 in (
-      all ∙ ap (λ (x : Entry × List ℕ). spelled x.0 ++ x.1) p.1,
-      subst (λ (e : Entry). IsEntry e) same is,
+    let same : found ≡ entry = ap (λ (x : DirectoryEntry × List ℕ). x.0) p.1 in (
+      all ∙ ap (λ (x : DirectoryEntry × List ℕ). spelled x.0 ++ x.1) p.1,
+      subst (λ (e : DirectoryEntry). IsEntry e) same is,
     )

@@ -6,7 +6,7 @@ use Rattle.graph_model.specs.Canon.{canon_of}
 use Rattle.image_layout.specs.Places.{root_slots, slot_line, slot_word, object_line, object_word}
 use Rattle.image_meaning.specs.Checks.{Words}
 use Rattle.image_meaning.specs.Directories.{Directory, no_entries, with_all, AreEntries, Spells}
-use Rattle.image_meaning.specs.Entries.{Entry}
+use Rattle.image_meaning.specs.Entries.{DirectoryEntry}
 use Rattle.image_meaning.specs.Logs.{put_back, SameLogs, NoneLogged}
 use Rattle.image_meaning.specs.Meaning.{root_word, meaning, StandsFor}
 use Rattle.image_meaning.specs.Corresponds.{LiesAt, Corresponds, SameWords}
@@ -68,7 +68,7 @@ stands-same R size c d directory heap opens k front logs same =
     (corresponds-same R directory size (put_back c) (put_back d) heap k (put_back-agrees R directory size c d heap logs k same))
 
 -- an image in use without counted entries
-pub opens-in_use : (size : ℕ) (words : Words) (entries : List Entry) → IsInUse size words → AreEntries no_entries entries
+pub opens-in_use : (size : ℕ) (words : Words) (entries : List DirectoryEntry) → IsInUse size words → AreEntries no_entries entries
     → Spells words entries → Opens size words (with_all no_entries entries)
 opens-in_use size words entries is are spells = record {
   super = rw (le-leb 32768 size is.enough, le-leb size 4194304 is.most, is.magic, is.version, is.lines, eq-eqb size size refl, le-leb (words 0 3) 32768 is.directory) refl;

@@ -16,7 +16,7 @@ use Rattle.graph_model.specs.Canon.{found_from, canon_of}
 use Rattle.graph_model.proofs.FoundAfter.{found_after-past}
 use Rattle.image_layout.specs.Places.{min_lines, max_lines, directory_words, log_entries, slot_line, slot_word, directory_line, directory_word, log_head_line, log_entry_line, log_entry_word, object_line, object_word}
 use Rattle.image_meaning.specs.Checks.{Words, Bad, ◌>>=◌}
-use Rattle.image_meaning.specs.Entries.{Entry, ShapeEntry, RootEntry, IsEntry}
+use Rattle.image_meaning.specs.Entries.{DirectoryEntry, ShapeEntry, RootEntry, IsEntry}
 use Rattle.image_meaning.specs.Directories.{Directory, directory_of, is_refused, with_entry}
 use Rattle.image_meaning.specs.Logs.{log_count, put_back, SameLogs}
 use Rattle.image_meaning.specs.Meaning.{roots_fault, root_values_of, walk, graph_found, graph_from, empty_graph, meaning, StandsFor}
@@ -181,7 +181,7 @@ heap_kept size c d directory graph lines k logs same =
     corresponds-same (found_at lines) directory size (put_back c) (put_back d) heap k
     (put_back-agrees (found_at lines) directory size c d heap logs k words)
 
-pub added-stands : (size : ℕ) (c d : Words) (directory : Directory) (entry : Entry) (graph : Graph) → Opens size c directory
+pub added-stands : (size : ℕ) (c d : Words) (directory : Directory) (entry : DirectoryEntry) (graph : Graph) → Opens size c directory
     → StandsFor size c graph → IsEntry entry → is_refused directory entry ≡ false → AddsEntry c d entry → SameLogs c d → SameBehind c d
     → StandsFor size d (with_entry_too graph entry)
 added-stands size c d directory (ShapeEntry shape) graph opens stand is accepted adds logs same =

@@ -7,7 +7,7 @@ use Rattle.graph_model.specs.declared.types.Graph.{Graph}
 use Rattle.graph_model.specs.Canon.{canon_of}
 use Rattle.image_layout.specs.Places.{root_slots, first_object_line, directory_words, directory_line, directory_word}
 use Rattle.image_meaning.specs.Checks.{Words}
-use Rattle.image_meaning.specs.Entries.{Entry, ShapeEntry, RootEntry, spelled, IsEntry}
+use Rattle.image_meaning.specs.Entries.{DirectoryEntry, ShapeEntry, RootEntry, spelled, IsEntry}
 use Rattle.image_meaning.specs.Directories.{Directory, is_refused, with_entry}
 use Rattle.image_meaning.specs.Logs.{SameLogs}
 use Rattle.image_meaning.specs.Meaning.{root_word, StandsFor}
@@ -16,7 +16,7 @@ use Rattle.image_meaning.specs.Arrays.{null_root}
 use Rattle.image_meaning.specs.Laws.{Opens, told_by}
 
 -- d has the directory of c in use, then an entry, and the number of its words in use is raised by those of the entry
-pub record AddsEntry (c d : Words) (entry : Entry) : Type 0 where
+pub record AddsEntry (c d : Words) (entry : DirectoryEntry) : Type 0 where
   pub super : (word : ℕ) → word < 3 → d 0 word ≡ c 0 word
   pub used : d 0 3 ≡ c 0 3 + length (spelled entry)
   pub room : d 0 3 ≤ directory_words
@@ -26,7 +26,7 @@ pub record AddsEntry (c d : Words) (entry : Entry) : Type 0 where
 
 -- The image then opens with the entry too, where it may stand there.
 abbrev pub AddedEntryOpens : Type 0
-AddedEntryOpens = (size : ℕ) (c d : Words) (directory : Directory) (entry : Entry)
+AddedEntryOpens = (size : ℕ) (c d : Words) (directory : Directory) (entry : DirectoryEntry)
     → Opens size c directory → IsEntry entry → is_refused directory entry ≡ false → AddsEntry c d entry → SameLogs c d
     → Opens size d (with_entry directory entry)
 
@@ -63,13 +63,13 @@ pub record SameBehind (c d : Words) : Type 0 where
   pub objects : (line word : ℕ) → first_object_line ≤ line → d line word ≡ c line word
 
 -- what an image stands for with this entry too
-abbrev pub with_entry_too : Graph → Entry → Graph
+abbrev pub with_entry_too : Graph → DirectoryEntry → Graph
 with_entry_too graph (ShapeEntry shape) = graph
 with_entry_too graph (RootEntry name) = with_null_root graph name
 
 -- An added shape leaves the graph as it was, and an added root comes to it as null.
 abbrev pub AddedEntryStands : Type 0
-AddedEntryStands = (size : ℕ) (c d : Words) (directory : Directory) (entry : Entry) (graph : Graph)
+AddedEntryStands = (size : ℕ) (c d : Words) (directory : Directory) (entry : DirectoryEntry) (graph : Graph)
     → Opens size c directory → StandsFor size c graph
     → IsEntry entry → is_refused directory entry ≡ false → AddsEntry c d entry → SameLogs c d → SameBehind c d
     → StandsFor size d (with_entry_too graph entry)

@@ -10,7 +10,7 @@ use Rattle.graph_model.specs.declared.types.NamedValue.{NamedValue}
 use Rattle.graph_model.specs.declared.types.Graph.{Graph}
 use Rattle.image_layout.specs.Places.{magic, version, min_lines, max_lines, directory_words, root_slots, first_object_line, lines_of, head_of}
 use Rattle.image_meaning.specs.Checks.{Words}
-use Rattle.image_meaning.specs.Entries.{Entry, ShapeEntry, RootEntry, AreBytes}
+use Rattle.image_meaning.specs.Entries.{DirectoryEntry, ShapeEntry, RootEntry, AreBytes}
 use Rattle.image_meaning.specs.Directories.{no_entries, with_all, AreEntries, Spells}
 use Rattle.image_meaning.specs.Logs.{NoneLogged}
 use Rattle.image_meaning.specs.Objects.{object_slot}
@@ -37,7 +37,7 @@ null_graph names = record { roots = map null_root names; nodes = [] }
 
 -- Where all root slots are 0, the image stands for its roots, all null.
 abbrev pub NullRootsStand : Type 0
-NullRootsStand = (size : ℕ) (words : Words) (entries : List Entry)
+NullRootsStand = (size : ℕ) (words : Words) (entries : List DirectoryEntry)
     → IsInUse size words → AreEntries no_entries entries → Spells words entries
     → ((r : ℕ) → r < root_slots → root_word words r ≡ 0)
     → StandsFor size words (null_graph (with_all no_entries entries).roots)
@@ -48,7 +48,7 @@ NullRootsStand = (size : ℕ) (words : Words) (entries : List Entry)
 abbrev pub int_array : Shape
 int_array = record { name = 91 ∷ 73 ∷ []; fields = []; element = Some I }
 
-abbrev pub array_entries : List ℕ → List Entry
+abbrev pub array_entries : List ℕ → List DirectoryEntry
 array_entries name = ShapeEntry int_array ∷ RootEntry name ∷ []
 
 -- that shape, and a root of any name

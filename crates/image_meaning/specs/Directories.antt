@@ -7,7 +7,7 @@ use Rattle.graph_model.specs.declared.types.Shape.{Shape}
 use Rattle.image_layout.specs.declared.superblock.BadReason.TheVariants as bad
 use Rattle.image_layout.specs.Places.{root_slots, directory_line, directory_word}
 use Rattle.image_meaning.specs.Checks.{Words, Bad}
-use Rattle.image_meaning.specs.Entries.{Entry, ShapeEntry, RootEntry, IsEntry, spelled, read_entry}
+use Rattle.image_meaning.specs.Entries.{DirectoryEntry, ShapeEntry, RootEntry, IsEntry, spelled, read_entry}
 
 pub record Directory : Type 0 where
   pub shapes : List Shape
@@ -20,11 +20,11 @@ abbrev pub has_name : List (List ℕ) → List ℕ → Bool
 has_name names name = list_any (bytes_eq name) names
 
 -- A name stands twice among the shapes or among the roots, or there is a root slot too few.
-abbrev pub is_refused : Directory → Entry → Bool
+abbrev pub is_refused : Directory → DirectoryEntry → Bool
 is_refused directory (ShapeEntry shape) = has_name (map (λ (s : Shape). s.name) directory.shapes) shape.name
 is_refused directory (RootEntry name) = has_name directory.roots name || nat_le root_slots (length directory.roots)
 
-abbrev pub with_entry : Directory → Entry → Directory
+abbrev pub with_entry : Directory → DirectoryEntry → Directory
 with_entry directory (ShapeEntry shape) = record directory { shapes = directory.shapes ++ shape ∷ [] }
 with_entry directory (RootEntry name) = record directory { roots = directory.roots ++ name ∷ [] }
 
@@ -33,7 +33,7 @@ abbrev pub bad_entry : ℕ → Bad
 bad_entry at = (directory_line at, bad.Entry)
 
 -- the directory with this entry too, and how far the entries then reach
-abbrev pub take_entry : (ℕ → Directory → List ℕ → Result Directory Bad) → ℕ → Directory → Option (Entry × List ℕ)
+abbrev pub take_entry : (ℕ → Directory → List ℕ → Result Directory Bad) → ℕ → Directory → Option (DirectoryEntry × List ℕ)
     → Result Directory Bad
 take_entry next at directory None = Err (bad_entry at)
 take_entry next at directory (Some (entry, rest)) =
@@ -57,34 +57,34 @@ directory_of words = with_entries (words 0 3) 0 no_entries (directory_words_of w
 
 -- ---- the grammar
 
-abbrev pub spelled_all : List Entry → List ℕ
+abbrev pub spelled_all : List DirectoryEntry → List ℕ
 spelled_all [] = []
 spelled_all (entry ∷ entries) = spelled entry ++ spelled_all entries
 
-abbrev pub with_all : Directory → List Entry → Directory
+abbrev pub with_all : Directory → List DirectoryEntry → Directory
 with_all directory [] = directory
 with_all directory (entry ∷ entries) = with_all (with_entry directory entry) entries
 
 -- each may stand in a directory after those before it
-abbrev pub AreEntries : Directory → List Entry → Type 0
+abbrev pub AreEntries : Directory → List DirectoryEntry → Type 0
 AreEntries directory [] = Unit {0}
 AreEntries directory (entry ∷ entries) =
     IsEntry entry × (is_refused directory entry ≡ false) × AreEntries (with_entry directory entry) entries
 
 -- no entry that may stand there begins these words
 abbrev pub NoEntryBegins : Directory → List ℕ → Type 0
-NoEntryBegins directory words = (entry : Entry) (rest : List ℕ) → IsEntry entry → words ≡ spelled entry ++ rest
+NoEntryBegins directory words = (entry : DirectoryEntry) (rest : List ℕ) → IsEntry entry → words ≡ spelled entry ++ rest
     → is_refused directory entry ≡ true
 
 -- The words spell these entries, and behind them stand words that no further entry begins.
-pub record BreaksOff (directory : Directory) (words : List ℕ) (entries : List Entry) (rest : List ℕ) : Type 0 where
+pub record BreaksOff (directory : Directory) (words : List ℕ) (entries : List DirectoryEntry) (rest : List ℕ) : Type 0 where
   pub spelled : words ≡ spelled_all entries ++ rest
   pub before : AreEntries directory entries
   pub more : 0 < length rest
   pub none : NoEntryBegins (with_all directory entries) rest
 
 -- The words of the image's directory spell these entries, and no more are in use.
-pub record Spells (words : Words) (entries : List Entry) : Type 0 where
+pub record Spells (words : Words) (entries : List DirectoryEntry) : Type 0 where
   pub used : words 0 3 ≡ length (spelled_all entries)
   pub spelled : (i : ℕ) → i < length (spelled_all entries)
       → words (directory_line i) (directory_word i) ≡ slice_index_or (spelled_all entries) i 0

@@ -12,9 +12,9 @@ use Rattle.graph_model.specs.declared.types.Shape.{Shape}
 use Rattle.const_pool.specs.Utf8.{bad_place}
 use Rattle.const_pool.specs.Parsing.{descriptor_at}
 
-pub data Entry : Type 0 where
-  ShapeEntry : Shape → Entry
-  RootEntry : List ℕ → Entry
+pub data DirectoryEntry : Type 0 where
+  ShapeEntry : Shape → DirectoryEntry
+  RootEntry : List ℕ → DirectoryEntry
 
 -- ---- spelling
 
@@ -54,17 +54,17 @@ fields_words [] = []
 fields_words (field ∷ fields) = field_words field ++ fields_words fields
 
 -- the words after an entry's first one
-abbrev pub entry_body : Entry → List ℕ
+abbrev pub entry_body : DirectoryEntry → List ℕ
 entry_body (ShapeEntry shape) =
     (length shape.name + 2 ^ 32 * length shape.fields) ∷ name_words shape.name ++ fields_words shape.fields
 entry_body (RootEntry name) = length name ∷ name_words name
 
-abbrev pub entry_kind : Entry → ℕ
+abbrev pub entry_kind : DirectoryEntry → ℕ
 entry_kind (ShapeEntry shape) = 1
 entry_kind (RootEntry name) = 2
 
 -- an entry's first word has its kind, and above 32 bits the number of its words
-abbrev pub spelled : Entry → List ℕ
+abbrev pub spelled : DirectoryEntry → List ℕ
 spelled entry = (entry_kind entry + 2 ^ 32 * (1 + length (entry_body entry))) ∷ entry_body entry
 
 -- ---- which entries there are
@@ -118,7 +118,7 @@ is_shape name fields =
     if is_array_name name then is_nil fields && is_descriptor name
     else (if is_string_name name then is_nil fields else true)
 
-abbrev pub is_entry : Entry → Bool
+abbrev pub is_entry : DirectoryEntry → Bool
 is_entry (ShapeEntry shape) = is_shape shape.name shape.fields
 is_entry (RootEntry name) = true
 
@@ -139,7 +139,7 @@ pub record IsShape (shape : Shape) : Type 0 where
   pub form : is_shape shape.name shape.fields ≡ true
 
 -- what the directory can have
-abbrev pub IsEntry : Entry → Type 0
+abbrev pub IsEntry : DirectoryEntry → Type 0
 IsEntry (ShapeEntry shape) = IsShape shape
 IsEntry (RootEntry name) = AreBytes name
 
@@ -174,19 +174,19 @@ abbrev pub shape_named : List ℕ → List Field → Shape
 shape_named name fields = record { name = name; fields = fields; element = element_of name }
 
 -- what the words after an entry's first one would spell, where that one's kind is this
-abbrev pub body_from : ℕ → List ℕ → Entry
+abbrev pub body_from : ℕ → List ℕ → DirectoryEntry
 body_from kind [] = RootEntry []
 body_from kind (w ∷ words) =
     if kind == 1 then
     ShapeEntry (shape_named (name_from (w % 2 ^ 32) words) (fields_from (w / 2 ^ 32) (behind_name (w % 2 ^ 32) words)))
     else RootEntry (name_from w words)
 
-abbrev pub entry_from : List ℕ → Entry
+abbrev pub entry_from : List ℕ → DirectoryEntry
 entry_from [] = RootEntry []
 entry_from (w ∷ words) = body_from (w % 2 ^ 32) words
 
 -- The entry that the words begin with, and the words behind it: there is one only where it is spelled so.
-unfoldable pub read_entry : List ℕ → Option (Entry × List ℕ)
+unfoldable pub read_entry : List ℕ → Option (DirectoryEntry × List ℕ)
 read_entry words =
     let entry = entry_from words in
     if starts_with nat_eq words (spelled entry) && is_entry entry then Some (entry, drop (length (spelled entry)) words)

@@ -9,7 +9,7 @@ use Rattle.graph_model.specs.Canon.{canon_of}
 use Rattle.image_layout.specs.declared.superblock.BadReason.{BadReason}
 use Rattle.image_layout.specs.Places.{logs, directory_line, directory_word, IsBlank, super_check}
 use Rattle.image_meaning.specs.Checks.{Words, Bad}
-use Rattle.image_meaning.specs.Entries.{Entry}
+use Rattle.image_meaning.specs.Entries.{DirectoryEntry}
 use Rattle.image_meaning.specs.Directories.{Directory, no_entries, bad_entry, directory_words_of, directory_of, with_entries, spelled_all, with_all, AreEntries, BreaksOff}
 use Rattle.image_meaning.specs.Logs.{log_count, logged_at, logs_below, logs_fault, is_place, is_log_line, put_back, put_each, SameLogs}
 use Rattle.image_meaning.specs.Objects.{shape_of, kind_of, object_slot}
@@ -66,20 +66,20 @@ pub record CountedEntriesArePutBack : Type 0 where
 
 -- A directory is read exactly where its words spell entries that may stand there, in their order.
 pub record DirectoriesAreRead : Type 0 where
-  pub again : (entries : List Entry) (most at : ℕ) (directory : Directory) → AreEntries directory entries → length entries ≤ most
+  pub again : (entries : List DirectoryEntry) (most at : ℕ) (directory : Directory) → AreEntries directory entries → length entries ≤ most
       → with_entries most at directory (spelled_all entries) ≡ Ok (with_all directory entries)
   pub taken : (most at : ℕ) (directory given : Directory) (words : List ℕ) → with_entries most at directory words ≡ Ok given
-      → (entries : List Entry) × (words ≡ spelled_all entries) × AreEntries directory entries
+      → (entries : List DirectoryEntry) × (words ≡ spelled_all entries) × AreEntries directory entries
       × (given ≡ with_all directory entries)
 
 -- A directory is bad exactly where entries that may stand there are followed by words that no further one begins. The line is that of the
 -- first of these words.
 pub record BadDirectoriesAreTold : Type 0 where
-  pub told : (words : Words) (entries : List Entry) (rest : List ℕ)
+  pub told : (words : Words) (entries : List DirectoryEntry) (rest : List ℕ)
       → BreaksOff no_entries (directory_words_of words (words 0 3)) entries rest
       → directory_of words ≡ Err (bad_entry (length (spelled_all entries)))
   pub only : (words : Words) (bad : Bad) → directory_of words ≡ Err bad
-      → (entries : List Entry) × (rest : List ℕ) × BreaksOff no_entries (directory_words_of words (words 0 3)) entries rest
+      → (entries : List DirectoryEntry) × (rest : List ℕ) × BreaksOff no_entries (directory_words_of words (words 0 3)) entries rest
       × (bad ≡ bad_entry (length (spelled_all entries)))
 
 -- ---- words that correspond to a heap

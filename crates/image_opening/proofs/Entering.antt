@@ -2,11 +2,11 @@
 use Rattle.std.proofs.Common.{◌≡◌, ◌≢◌, ◌⊎◌, inl, inr, ⊎_elim, ◌<◌, ◌≤◌, ◌+◌, ◌-◌, ℕ, List, ◌++◌, length, slice_index_or, sym, ◌∙◌, ap, subst, length-append, arith}
 use Rattle.std.proofs.lemmas.Bool.{cases_lt}
 use Rattle.std.proofs.lemmas.List.{get_or_append_left, get_or-append-add}
-use Rattle.line_image.specs.History.{Outcome}
+use Rattle.line_image.specs.Trace.{Outcome}
 use Rattle.line_memory.specs.Memory.{Memory, shown}
 use Rattle.image_layout.specs.Places.{min_lines, directory_words, slot_line, slot_word, log_head_line, directory_line, directory_word}
 use Rattle.image_meaning.specs.Checks.{Words}
-use Rattle.image_meaning.specs.Entries.{Entry}
+use Rattle.image_meaning.specs.Entries.{DirectoryEntry}
 use Rattle.image_meaning.specs.Directories.{spelled_all}
 use Rattle.image_meaning.specs.Meaning.{StandsFor}
 use Rattle.image_opening.specs.Rest.{IsAtRest, StopsLeave, OldOrPut, HasKept, ChangesOthers}
@@ -15,7 +15,7 @@ use Rattle.image_opening.proofs.Putting.{stops_then, stops_weaker}
 use Rattle.image_opening.proofs.Layouts.{only_stands}
 
 -- words that are the same outside the free part of the directory
-pub only_same : (size used : ℕ) (c d : Words) (entries : List Entry) → min_lines ≤ size → HasOnly size d entries
+pub only_same : (size used : ℕ) (c d : Words) (entries : List DirectoryEntry) → min_lines ≤ size → HasOnly size d entries
     → length (spelled_all entries) ≡ used → used ≤ directory_words
     → ((l w : ℕ) → l < size → IsOutsideFree used l w → c l w ≡ d l w) → HasOnly size c entries
 only_same size used c d entries enough has many few same =
@@ -40,7 +40,7 @@ only_same size used c d entries enough has many few same =
     }
 
 -- further words are in use once word 3 of the superblock says so
-pub raised_only : (size used : ℕ) (c d : Words) (spelling : List ℕ) (before after : List Entry) → min_lines ≤ size
+pub raised_only : (size used : ℕ) (c d : Words) (spelling : List ℕ) (before after : List DirectoryEntry) → min_lines ≤ size
     → HasOnly size d before → IsContinued used spelling before after → used + length spelling ≤ directory_words
     → StandFrom d used spelling
     → ((l w : ℕ) → l < size → (l ≡ 0 → w ≢ 3) → c l w ≡ d l w) → c 0 3 ≡ used + length spelling → HasOnly size c after
@@ -79,14 +79,14 @@ raised_only size used c d spelling before after enough has on few written same c
     }
 
 -- the entries before, or those after, and no others
-abbrev pub OneOf : ℕ → List Entry → List Entry → Outcome → Type 0
+abbrev pub OneOf : ℕ → List DirectoryEntry → List DirectoryEntry → Outcome → Type 0
 OneOf size before after c = HasOnly size c before ⊎ HasOnly size c after
 
 -- the graph of one of them
-abbrev pub Either : ℕ → List Entry → List Entry → Outcome → Type 0
+abbrev pub Either : ℕ → List DirectoryEntry → List DirectoryEntry → Outcome → Type 0
 Either size before after c = StandsFor size c (graph_of_entries before) ⊎ StandsFor size c (graph_of_entries after)
 
-pub stops_stand : (size many : ℕ) (spelling : List ℕ) (before after : List Entry) (a b : Memory)
+pub stops_stand : (size many : ℕ) (spelling : List ℕ) (before after : List DirectoryEntry) (a b : Memory)
     → IsContinued many spelling before after → StopsLeave a b (OneOf size before after) → StopsLeave a b (Either size before after)
 stops_stand size many spelling before after a b on moments =
     stops_weaker a b (OneOf size before after) (Either size before after) moments
@@ -95,7 +95,7 @@ stops_stand size many spelling before after a b on moments =
     (λ has. inr (only_stands size k after has on.are))
     either)
 
-module _ (old mid : Memory) (used : ℕ) (spelling : List ℕ) (before after : List Entry) (enough : min_lines ≤ old.size)
+module _ (old mid : Memory) (used : ℕ) (spelling : List ℕ) (before after : List DirectoryEntry) (enough : min_lines ≤ old.size)
     (has : HasOnly old.size (shown old) before) (on : IsContinued used spelling before after)
     (few : used + length spelling ≤ directory_words) (writes : ChangesOthers (IsOutsideFree used) old mid) where
   room : used ≤ directory_words

@@ -1,6 +1,7 @@
 -- The wanted entries are added to an empty directory.
-use Rattle.std.proofs.Common.{◌≡◌, ◌⊎◌, inl, ⊎_elim, ℕ, List, [], ◌∷◌, ◌++◌, take, drop, refl, sym, ◌∙◌, ap, subst}
-use Rattle.line_image.specs.History.{Outcome}
+use Rattle.std.proofs.Common.{◌≡◌, ◌⊎◌, inl, ⊎_elim, ℕ, ◌-◌, List, [], ◌∷◌, ◌++◌, length, take, drop, refl, sym, ◌∙◌, ap, subst, arith}
+use Rattle.std.proofs.lemmas.List.{take_all, length-drop}
+use Rattle.line_image.specs.Trace.{Outcome}
 use Rattle.line_memory.specs.Memory.{Memory}
 use Rattle.image_meaning.specs.Entries.{AreBytes}
 use Rattle.image_meaning.specs.Directories.{spelled_all}
@@ -34,6 +35,11 @@ root_continued name spelling some bytes is behind = record {
   were = shape-may_stand;
   are = root-may_stand name bytes;
 }
+
+pub root_continues : (name spelling : List ℕ) → AreBytes name → spelling ≡ spelled_all (array_entries name)
+    → IsContinued 3 (take (length spelling - 3) (drop 3 spelling)) shape_alone (array_entries name)
+root_continues name spelling bytes is = root_continued name spelling (take (length spelling - 3) (drop 3 spelling)) bytes is
+    (take_all (length spelling - 3) (drop 3 spelling) (omega (arith, length-drop 3 spelling)))
 
 -- no root, or the one of this name, which is null
 abbrev pub NoRootOrNull : ℕ → List ℕ → Outcome → Type 0
@@ -90,3 +96,17 @@ pub both_reopen : (size other : ℕ) (name spelling : List ℕ) (a b d : Memory)
 both_reopen size other name spelling a b d is same first second =
     stops_then a b d (λ c. IsUnfilled size c spelling) (shape_reopens size name spelling is a b first)
     (subst (λ n. StopsLeave b d (λ c. IsUnfilled n c spelling)) same (root_reopens other name spelling is b d second))
+
+-- an image of so many lines is formatted, and then its directory is filled
+module _ (lines : ℕ) (name spelling : List ℕ) (a b d : Memory) (size : b.size ≡ lines) where
+  pub laid_out : StopsLeave a b (λ c. StandsFor lines c empty_graph) → StopsLeave b d (NoRootOrNull b.size name)
+      → StopsLeave a d (NoRootOrNull lines name)
+  laid_out first second =
+      stops_then a b d (NoRootOrNull lines name) (empty_moments lines name a b first)
+      (subst (λ n. StopsLeave b d (NoRootOrNull n name)) size second)
+
+  pub laid_out_reopens : StopsLeave a b (IsBlankOrEmpty lines) → StopsLeave b d (λ c. IsUnfilled b.size c spelling)
+      → StopsLeave a d (λ c. IsUnfilled lines c spelling)
+  laid_out_reopens first second =
+      stops_then a b d (λ c. IsUnfilled lines c spelling) (blank_reopens lines spelling a b first)
+      (subst (λ n. StopsLeave b d (λ c. IsUnfilled n c spelling)) size second)

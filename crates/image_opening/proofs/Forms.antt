@@ -5,7 +5,7 @@ use Rattle.std.proofs.lemmas.List.{take_all}
 use Rattle.line_memory.specs.Memory.{Memory, shown}
 use Rattle.image_layout.specs.Places.{min_lines, directory_words, slot_line, slot_word, log_head_line, directory_line, directory_word, object_line, object_word}
 use Rattle.image_meaning.specs.Checks.{Words}
-use Rattle.image_meaning.specs.Entries.{Entry}
+use Rattle.image_meaning.specs.Entries.{DirectoryEntry}
 use Rattle.image_meaning.specs.Directories.{spelled_all}
 use Rattle.image_meaning.specs.Objects.{object_slot}
 use Rattle.image_meaning.specs.Arrays.{IsIntArray}
@@ -97,7 +97,7 @@ form_stays m root enough room rest form =
 
 -- ---- images that have only entries
 
-only_unfilled : (size : ℕ) (c : Words) (spelling : List ℕ) (entries : List Entry) → HasOnly size c entries
+only_unfilled : (size : ℕ) (c : Words) (spelling : List ℕ) (entries : List DirectoryEntry) → HasOnly size c entries
     → take (length (spelled_all entries)) spelling ≡ spelled_all entries → IsPart (length (spelled_all entries)) spelling
     → IsUnfilled size c spelling
 only_unfilled size c spelling entries has is part =
@@ -124,7 +124,7 @@ module _ (size : ℕ) (c : Words) (spelling : List ℕ) where
   pub shape_unfilled : take 3 spelling ≡ spelled_all shape_alone → HasOnly size c shape_alone → IsUnfilled size c spelling
   shape_unfilled is has = only_unfilled size c spelling shape_alone has is (inr (inl refl))
 
-  pub all_unfilled : (entries : List Entry) → spelling ≡ spelled_all entries → HasOnly size c entries → IsUnfilled size c spelling
+  pub all_unfilled : (entries : List DirectoryEntry) → spelling ≡ spelled_all entries → HasOnly size c entries → IsUnfilled size c spelling
   all_unfilled entries is has =
       only_unfilled size c spelling entries has
       (take_all (length (spelled_all entries)) spelling (omega (arith, ap length is)) ∙ is)

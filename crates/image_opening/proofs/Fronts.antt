@@ -4,7 +4,7 @@ use Rattle.std.proofs.lemmas.Bool.{cases_lt}
 use Rattle.std.proofs.lemmas.List.{take_all}
 use Rattle.image_layout.specs.Places.{min_lines, max_lines, directory_words, directory_line, directory_word}
 use Rattle.image_meaning.specs.Checks.{Words}
-use Rattle.image_meaning.specs.Entries.{Entry}
+use Rattle.image_meaning.specs.Entries.{DirectoryEntry}
 use Rattle.image_meaning.specs.Directories.{spelled_all, Spells}
 use Rattle.image_meaning.specs.Meaning.{root_word}
 use Rattle.image_meaning.specs.Arrays.{IsInUse, array_entries}
@@ -23,7 +23,7 @@ front_in_use lines c spelling used enough most front few = record {
   logs = front.logs;
 }
 
-pub front_spells : (lines : ℕ) (c : Words) (spelling : List ℕ) (used : ℕ) (entries : List Entry) → IsFront lines c spelling used
+pub front_spells : (lines : ℕ) (c : Words) (spelling : List ℕ) (used : ℕ) (entries : List DirectoryEntry) → IsFront lines c spelling used
     → take used spelling ≡ spelled_all entries → length (spelled_all entries) ≡ used → Spells c entries
 front_spells lines c spelling used entries front is many = record {
   used = front.directory.count ∙ sym many;
@@ -33,7 +33,7 @@ front_spells lines c spelling used entries front is many = record {
       ∙ ap (λ (some : List ℕ). slice_index_or some i 0) is);
 }
 
-pub front_entries : (lines : ℕ) (c : Words) (spelling : List ℕ) (used : ℕ) (entries : List Entry) → min_lines ≤ lines → lines ≤ max_lines
+pub front_entries : (lines : ℕ) (c : Words) (spelling : List ℕ) (used : ℕ) (entries : List DirectoryEntry) → min_lines ≤ lines → lines ≤ max_lines
     → IsFront lines c spelling used → root_word c 0 ≡ 0 → used ≤ directory_words
     → take used spelling ≡ spelled_all entries → length (spelled_all entries) ≡ used → HasOnly lines c entries
 front_entries lines c spelling used entries enough most front zero few is many = record {

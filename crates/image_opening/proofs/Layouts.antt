@@ -1,11 +1,11 @@
 -- Layouts of images without objects, and the stops of their writing.
 use Rattle.std.proofs.Common.{◌≡◌, ◌≢◌, inl, inr, ⊎_elim, ◌<◌, ◌≤◌, ℕ, List, [], refl, ◌∙◌, arith}
 use Rattle.std.proofs.lemmas.Bool.{le-leb}
-use Rattle.line_image.specs.History.{Outcome}
+use Rattle.line_image.specs.Trace.{Outcome}
 use Rattle.line_memory.specs.Memory.{Memory, shown}
 use Rattle.image_layout.specs.Places.{magic, version, min_lines, max_lines, root_slots, slot_line, slot_word, log_head_line}
 use Rattle.image_meaning.specs.Checks.{Words}
-use Rattle.image_meaning.specs.Entries.{Entry}
+use Rattle.image_meaning.specs.Entries.{DirectoryEntry}
 use Rattle.image_meaning.specs.Directories.{no_entries, with_all, AreEntries}
 use Rattle.image_meaning.specs.Logs.{NoneLogged}
 use Rattle.image_meaning.specs.Meaning.{root_word, empty_graph, StandsFor}
@@ -66,7 +66,7 @@ ready_magic lines size c may ready is = record {
   roots = ready.roots;
 }
 
-pub only_stands : (lines : ℕ) (c : Words) (entries : List Entry) → HasOnly lines c entries → AreEntries no_entries entries
+pub only_stands : (lines : ℕ) (c : Words) (entries : List DirectoryEntry) → HasOnly lines c entries → AreEntries no_entries entries
     → StandsFor lines c (null_graph (with_all no_entries entries).roots)
 only_stands lines c entries has are = null_roots-stand lines c entries has.in_use are has.directory has.roots
 

@@ -1,10 +1,10 @@
 -- What is found in an image that is opened.
-use Rattle.std.proofs.Common.{◌≡◌, ◌⊎◌, inl, inr, ⊎_elim, ◌≤◌, ℕ, ℤ, List, [], ◌∷◌, length, Option, Some, None, Result, Ok, Err, refl, sym, subst, arith}
+use Rattle.std.proofs.Common.{◌≡◌, ◌⊎◌, inl, inr, ⊎_elim, ◌≤◌, ◌+◌, ℕ, ℤ, List, [], ◌∷◌, length, Option, Some, None, Result, Ok, Err, refl, sym, subst, arith}
 use Rattle.std.specs.Prelude.{IfSome, IfOk, OnOk}
 use Rattle.std.proofs.lemmas.List.{take_all}
 use Rattle.graph_model.specs.declared.types.Graph.{Graph}
 use Rattle.line_memory.specs.Memory.{Memory, shown}
-use Rattle.image_layout.specs.Places.{min_lines, max_lines}
+use Rattle.image_layout.specs.Places.{min_lines, max_lines, first_object_line, lines_of}
 use Rattle.image_meaning.specs.Checks.{Words}
 use Rattle.image_meaning.specs.Entries.{AreBytes}
 use Rattle.image_meaning.specs.Directories.{spelled_all, Spells}
@@ -13,14 +13,14 @@ use Rattle.image_meaning.specs.Arrays.{array_entries, null_graph, array_graph}
 use Rattle.image_meaning.proofs.Arrays.{shape-may_stand, root-may_stand, one_array-stands}
 use Rattle.image_meaning.proofs.Directories.{directory-again}
 use Rattle.image_opening.specs.declared.finding.Found.{Found}
-use Rattle.image_opening.specs.declared.finding.Found.TheVariants.{Blank, Empty, Shape, Null}
+use Rattle.image_opening.specs.declared.finding.Found.TheVariants.{Blank, Empty, Shape, Null, Refers}
 use Rattle.image_opening.specs.declared.opening.FoundArray.{FoundArray}
 use Rattle.image_opening.specs.declared.opening.OpenFault.{OpenFault}
 use Rattle.image_opening.specs.declared.opening.Opened.{Opened}
 use Rattle.image_opening.specs.Form.{IsFront}
 use Rattle.image_opening.specs.Prepared.{IsUnfilled, IsFilled, Says}
 use Rattle.image_opening.specs.Wanted.{shape_alone, wanted, HasRoom}
-use Rattle.image_opening.specs.Opened.{opening_graph, HasArray, IsOfForm, WasFound, IsFound, IsReady, IsFrom}
+use Rattle.image_opening.specs.Opened.{opening_graph, HasArray, IsOfForm, FoundIs, WasFound, IsFound, free_behind, IsReady, IsFrom, IsKeptOrFilled}
 use Rattle.image_opening.specs.Rest.{IsAtRest, StopsLeave}
 use Rattle.image_opening.proofs.Putting.{stops_weaker}
 use Rattle.image_opening.proofs.Forms.{form_stays}
@@ -157,6 +157,13 @@ found_unfilled size c spelling found one says =
     more)
     one
 
+-- an image whose root refers to something is left as it was
+pub refers_kept : (lines : ℕ) (old new : Memory) (spelling : List ℕ) (found : Found) (word : ℕ) → found ≡ Refers word
+    → Says lines (shown old) spelling found → IsUnfilled lines (shown old) spelling ⊎ (new ≡ old) → new ≡ old
+refers_kept lines old new spelling found word is says left =
+    let refers : Says lines (shown old) spelling (Refers word) = subst (λ (f : Found). Says lines (shown old) spelling f) is says in
+    filled_left lines (shown old) spelling old new refers.0 left
+
 -- what is said of an image's lines, and of the words that spell what its root wants
 module _ (lines size : ℕ) (named root : Option (List ℕ)) (spelling : List ℕ) (many : lines ≡ size) (same : named ≡ root)
     (is : spelling ≡ spelled_all (wanted named)) where
@@ -165,6 +172,15 @@ module _ (lines size : ℕ) (named root : Option (List ℕ)) (spelling : List �
       subst (λ n. P n root (spelled_all (wanted root))) many
       (subst (λ r. P lines r (spelled_all (wanted r))) same
       (subst (λ s. P lines named s) is p))
+
+-- an image in which nothing is found to which its root refers
+pub none_found : (lines : ℕ) (old : Memory) (named root : Option (List ℕ)) (spelling : List ℕ) (found : Found) → lines ≡ old.size
+    → named ≡ root → spelling ≡ spelled_all (wanted named)
+    → (found ≡ Blank) ⊎ ((found ≡ Empty) ⊎ ((found ≡ Shape) ⊎ (found ≡ Null))) → Says lines (shown old) spelling found
+    → IsUnfilled old.size (shown old) (spelled_all (wanted root))
+none_found lines old named root spelling found many same is one says =
+    along lines old.size named root spelling many same is (λ n r s. IsUnfilled n (shown old) s)
+    (found_unfilled lines (shown old) spelling found one says)
 
 -- an image that was left as it was stands for what it stood for
 pub refers_found : (old new : Memory) (named root : Option (List ℕ)) (result : Result Opened OpenFault) → new ≡ old → named ≡ root
@@ -213,3 +229,86 @@ module _ (lines : ℕ) (old new : Memory) (named root : Option (List ℕ)) (spel
       (λ kept.
       subst (λ (m : Memory). StopsLeave old m (λ c. IsOfForm old.size c root)) (sym kept) (form_stays old root enough room rest form))
       left
+
+-- ---- stops
+
+-- what stops leave of an image of so many lines whose root is named so
+pub kept_or_filled : (lines : ℕ) (old new : Memory) (named root : Option (List ℕ)) → lines ≡ old.size → named ≡ root
+    → (IsAtRest old → (graph : Graph) → StandsFor lines (shown old) graph → StopsLeave old new (IsKeptOrFilled lines named graph))
+    → IsAtRest old → (graph : Graph) → StandsFor old.size (shown old) graph → StopsLeave old new (IsKeptOrFilled old.size root graph)
+kept_or_filled lines old new named root many same moments rest graph stand =
+    along lines old.size named root (spelled_all (wanted named)) many same refl
+    (λ n r s. StopsLeave old new (IsKeptOrFilled n r graph))
+    (moments rest graph (subst (λ n. StandsFor n (shown old) graph) (sym many) stand))
+
+-- ---- where the array lies
+
+module _ (size : ℕ) (c : Words) where
+  low_of : (array : Option FoundArray) (ints : Option (List ℤ)) → FoundIs size c array ints
+      → IfSome array (λ a. first_object_line ≤ a.line)
+  low_of None None found = tt
+  low_of None (Some ints) found = absurd found
+  low_of (Some array) None found = absurd found
+  low_of (Some array) (Some ints) found = found.has.is_array.low
+
+  high_of : (array : Option FoundArray) (ints : Option (List ℤ)) → FoundIs size c array ints
+      → IfSome array (λ a. a.line + lines_of a.length ≤ size)
+  high_of None None found = tt
+  high_of None (Some ints) found = absurd found
+  high_of (Some array) None found = absurd found
+  high_of (Some array) (Some ints) found =
+      subst (λ (n : ℕ). array.line + lines_of n ≤ size) found.count found.has.is_array.high
+
+  free_low_of : (array : Option FoundArray) → IfSome array (λ a. first_object_line ≤ a.line) → first_object_line ≤ free_behind array
+  free_low_of None low = omega arith
+  free_low_of (Some array) low = omega (arith, low)
+
+  free_high_of : (array : Option FoundArray) → first_object_line ≤ size → IfSome array (λ a. a.line + lines_of a.length ≤ size)
+      → free_behind array ≤ size
+  free_high_of None enough high = enough
+  free_high_of (Some array) enough high = high
+
+module _ (old new : Memory) (root : Option (List ℕ)) where
+  pub array_low : (result : Result Opened OpenFault) → IfOk result (λ opened. (ints : Option (List ℤ)) × IsFound root old new opened ints)
+      → IfOk result (λ opened. IfSome opened.array (λ a. first_object_line ≤ a.line))
+  array_low (Ok opened) found = low_of new.size (shown new) opened.array found.0 found.1.still
+  array_low (Err fault) found = tt
+
+  pub array_high : (result : Result Opened OpenFault) → IfOk result (λ opened. (ints : Option (List ℤ)) × IsFound root old new opened ints)
+      → IfOk result (λ opened. IfSome opened.array (λ a. a.line + lines_of a.length ≤ new.size))
+  array_high (Ok opened) found = high_of new.size (shown new) opened.array found.0 found.1.still
+  array_high (Err fault) found = tt
+
+  pub free_low : (result : Result Opened OpenFault) → IfOk result (λ opened. (ints : Option (List ℤ)) × IsFound root old new opened ints)
+      → IfOk result (λ opened. first_object_line ≤ opened.free)
+  free_low (Ok opened) found =
+      subst (λ (n : ℕ). first_object_line ≤ n) (sym found.1.free)
+      (free_low_of new.size (shown new) opened.array (low_of new.size (shown new) opened.array found.0 found.1.still))
+  free_low (Err fault) found = tt
+
+  pub free_high : min_lines ≤ new.size → (result : Result Opened OpenFault)
+      → IfOk result (λ opened. (ints : Option (List ℤ)) × IsFound root old new opened ints) → IfOk result (λ opened. opened.free ≤ new.size)
+  free_high enough (Ok opened) found =
+      subst (λ (n : ℕ). n ≤ new.size) (sym found.1.free)
+      (free_high_of new.size (shown new) opened.array (omega (arith, enough)) (high_of new.size (shown new) opened.array found.0 found.1.still))
+  free_high enough (Err fault) found = tt
+
+-- ---- images of another form
+
+refused : (root : Option (List ℕ)) (size : ℕ) (c : Words) → (IsUnfilled size c (spelled_all (wanted root)) → ⊥)
+    → (IsFilled size c (spelled_all (wanted root)) → ⊥) → IsOfForm size c root → ⊥
+refused None size c unfilled filled form = unfilled form
+refused (Some name) size c unfilled filled form = ⊎_elim (λ none. unfilled none) (λ one. filled one.2.filled) form
+
+pub refused_form : (lines : ℕ) (old : Memory) (named root : Option (List ℕ)) (spelling : List ℕ) → lines ≡ old.size → named ≡ root
+    → spelling ≡ spelled_all (wanted named) → (IsUnfilled lines (shown old) spelling → ⊥) → (IsFilled lines (shown old) spelling → ⊥)
+    → IsOfForm old.size (shown old) root → ⊥
+refused_form lines old named root spelling many same is unfilled filled =
+    let both = along lines old.size named root spelling many same is
+    (λ n r s. (IsUnfilled n (shown old) s → ⊥) × (IsFilled n (shown old) s → ⊥)) (unfilled, filled) in
+    refused root old.size (shown old) both.0 both.1
+
+pub kept_form : (old new : Memory) (named root : Option (List ℕ)) → new ≡ old → named ≡ root
+    → (IsOfForm new.size (shown new) named → ⊥) → IsOfForm old.size (shown old) root → ⊥
+kept_form old new named root kept same wrong =
+    subst (λ (m : Memory). IsOfForm m.size (shown m) root → ⊥) kept (subst (λ r. IsOfForm new.size (shown new) r → ⊥) same wrong)

@@ -2,11 +2,11 @@
 use Rattle.std.proofs.Common.{◌≡◌, ◌≢◌, inl, inr, ⊎_elim, ◌<◌, ◌≤◌, ℕ, [], ◌∷◌, Result, Ok, Err, refl, sym, ◌∙◌, subst, get_or, All, arith}
 use Rattle.std.proofs.lemmas.Bool.{cases_eq, eq-eqb}
 use Rattle.ap_base.specs.Causes.{HasCause}
-use Rattle.line_image.specs.History.{Outcome}
+use Rattle.line_image.specs.Trace.{Outcome}
 use Rattle.line_memory.specs.Memory.{Memory, shown, IsResident, IsKnown, CanLeaveAll, IsDurable}
 use Rattle.line_memory.specs.Moments.{Goes}
 use Rattle.line_memory.proofs.Chain.{goes_on, goes_nowhere}
-use Rattle.line_memory.proofs.Whole.{all_resident}
+use Rattle.line_memory.proofs.Residence.{every_line_is_resident}
 use Rattle.durable_word.specs.declared.changes.Change.{Change}
 use Rattle.durable_word.specs.Changes.{changed, IsChanged, IsGiven, OldOrGiven, LeavesOldOrGiven}
 use Rattle.image_opening.specs.Rest.{Agrees, IsAtRest, CallsGoOn, StopsLeave, OldOrPut, HasKept, ChangesOthers}
@@ -68,7 +68,7 @@ pub one_resident : (m : Memory) (change : Change) → change.spot.line < m.size
     → All (λ (some : Change). IsResident m some.spot.line) (change ∷ [])
 one_resident m change below k d low =
     let at : 0 ≡ k = omega (arith, low) in
-    subst (λ (n : ℕ). IsResident m (get_or (change ∷ []) n d).spot.line) at (all_resident m change.spot.line below)
+    subst (λ (n : ℕ). IsResident m (get_or (change ∷ []) n d).spot.line) at (every_line_is_resident m change.spot.line below)
 
 pub put_nothing : (m : Memory) (line word value : ℕ) → IsAtRest m → StopsLeave m m (OldOrPut m line word value)
 put_nothing m line word value rest =
@@ -88,12 +88,12 @@ module _ (old new : Memory) (change : Change) where
   pub put_others : ((l w : ℕ) → IsKnown old l → (IsChanged (change ∷ []) l w → ⊥) → shown new l w ≡ shown old l w)
       → (l w : ℕ) → l < old.size → (l ≡ change.spot.line → w ≢ change.spot.word) → shown new l w ≡ shown old l w
   put_others others l w below elsewhere =
-      others l w (inl (all_resident old l below)) (λ given. let at = changed_one change l w given in elsewhere at.0 at.1)
+      others l w (inl (every_line_is_resident old l below)) (λ given. let at = changed_one change l w given in elsewhere at.0 at.1)
 
   pub put_here : ((l w : ℕ) → IsKnown old l → shown new l w ≡ changed l w (change ∷ []) (shown old l w)) → change.spot.line < old.size
       → shown new change.spot.line change.spot.word ≡ change.word
   put_here shows below =
-      shows change.spot.line change.spot.word (inl (all_resident old change.spot.line below))
+      shows change.spot.line change.spot.word (inl (every_line_is_resident old change.spot.line below))
       ∙ rw (eq-eqb change.spot.line change.spot.line refl, eq-eqb change.spot.word change.spot.word refl) refl
 
   pub put_rest : IsAtRest old → new.size ≡ old.size → ((w : ℕ) → IsDurable new change.spot.line w)
@@ -104,7 +104,7 @@ module _ (old new : Memory) (change : Change) where
       | inl line ↦ subst (λ (k : ℕ). IsDurable new k w) (sym line) (durable w)
       | inr other ↦ (
           let before : l < old.size = subst (λ n. l < n) size below in
-          kept l w (inl (all_resident old l before)) (λ given. other (changed_one change l w given).0) (rest.durable l w before))
+          kept l w (inl (every_line_is_resident old l before)) (λ given. other (changed_one change l w given).0) (rest.durable l w before))
     ];
   }
 

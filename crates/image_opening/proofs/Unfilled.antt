@@ -4,7 +4,7 @@ use Rattle.graph_model.specs.declared.types.Graph.{Graph}
 use Rattle.line_memory.specs.Memory.{Memory, shown}
 use Rattle.image_layout.specs.Places.{min_lines, max_lines}
 use Rattle.image_meaning.specs.Checks.{Words, Bad}
-use Rattle.image_meaning.specs.Entries.{Entry, AreBytes}
+use Rattle.image_meaning.specs.Entries.{DirectoryEntry, AreBytes}
 use Rattle.image_meaning.specs.Directories.{directory_of, no_entries, with_all, spelled_all, AreEntries}
 use Rattle.image_meaning.specs.Meaning.{empty_graph, StandsFor}
 use Rattle.image_meaning.specs.Arrays.{array_entries, null_graph}
@@ -47,7 +47,7 @@ blank_empty size c graph enough most zero stand =
     stands_once size c graph empty_graph stand
     (first_zero-stands size size c record { is = refl; enough = enough; most = most } zero)
 
-pub only_empty : (size : ℕ) (c : Words) (graph : Graph) (entries : List Entry) → HasOnly size c entries → AreEntries no_entries entries
+pub only_empty : (size : ℕ) (c : Words) (graph : Graph) (entries : List DirectoryEntry) → HasOnly size c entries → AreEntries no_entries entries
     → null_graph (with_all no_entries entries).roots ≡ empty_graph → StandsFor size c graph → graph ≡ empty_graph
 only_empty size c graph entries has are none stand =
     stands_once size c graph (null_graph (with_all no_entries entries).roots) stand (only_stands size c entries has are) ∙ none
@@ -70,10 +70,10 @@ empty_kept size graph a b empty moments =
 
 -- ---- images that are ready
 
-pub used_if : (size : ℕ) (c : Words) (entries : List Entry) → HasOnly size c entries → c 0 0 ≢ 0
+pub used_if : (size : ℕ) (c : Words) (entries : List DirectoryEntry) → HasOnly size c entries → c 0 0 ≢ 0
 used_if size c entries has zero = omega (arith, zero, has.in_use.magic)
 
-pub none_ready : (size : ℕ) (c : Words) (entries : List Entry) → IsUnfilled size c (spelled_all shape_alone) → HasOnly size c entries
+pub none_ready : (size : ℕ) (c : Words) (entries : List DirectoryEntry) → IsUnfilled size c (spelled_all shape_alone) → HasOnly size c entries
     → AreEntries no_entries entries → null_graph (with_all no_entries entries).roots ≡ empty_graph → IsReady size c None empty_graph
 none_ready size c entries form has are none = record {
   form = form;

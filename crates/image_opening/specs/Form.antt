@@ -3,14 +3,14 @@ use Rattle.std.specs.Prelude.{◌≡◌, ◌⊎◌, ◌<◌, ◌≤◌, ◌+◌,
 use Rattle.graph_model.specs.declared.types.Graph.{Graph}
 use Rattle.image_layout.specs.Places.{magic, version, root_slots, log_head_line, directory_line, directory_word}
 use Rattle.image_meaning.specs.Checks.{Words}
-use Rattle.image_meaning.specs.Entries.{Entry}
+use Rattle.image_meaning.specs.Entries.{DirectoryEntry}
 use Rattle.image_meaning.specs.Directories.{no_entries, with_all, spelled_all, AreEntries, Spells}
 use Rattle.image_meaning.specs.Logs.{NoneLogged}
 use Rattle.image_meaning.specs.Meaning.{root_word}
 use Rattle.image_meaning.specs.Arrays.{IsInUse, null_graph}
 
 -- The image is in use, its directory spells these entries, and no root refers to anything.
-pub record HasOnly (size : ℕ) (words : Words) (entries : List Entry) : Type 0 where
+pub record HasOnly (size : ℕ) (words : Words) (entries : List DirectoryEntry) : Type 0 where
   pub in_use : IsInUse size words
   pub directory : Spells words entries
   pub roots : (r : ℕ) → r < root_slots → root_word words r ≡ 0
@@ -41,14 +41,14 @@ StandFrom words used spelling =
     (i : ℕ) → i < length spelling → words (directory_line (used + i)) (directory_word (used + i)) ≡ slice_index_or spelling i 0
 
 -- Behind the entries before, of so many words, these words spell further ones.
-pub record IsContinued (many : ℕ) (spelling : List ℕ) (before after : List Entry) : Type 0 where
+pub record IsContinued (many : ℕ) (spelling : List ℕ) (before after : List DirectoryEntry) : Type 0 where
   pub used : length (spelled_all before) ≡ many
   pub further : spelled_all after ≡ spelled_all before ++ spelling
   pub were : AreEntries no_entries before
   pub are : AreEntries no_entries after
 
 -- the graph of an image with these entries whose roots refer to nothing
-abbrev pub graph_of_entries : List Entry → Graph
+abbrev pub graph_of_entries : List DirectoryEntry → Graph
 graph_of_entries entries = null_graph (with_all no_entries entries).roots
 
 -- ---- the form that is opened

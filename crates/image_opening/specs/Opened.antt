@@ -3,7 +3,7 @@ use Rattle.std.specs.Prelude.{◌≡◌, ◌≢◌, ◌⊎◌, ℕ, ◌+◌, ◌
 use Rattle.std.specs.Int.{w32, cast_signed}
 use Rattle.std.specs.List.{range_with_len}
 use Rattle.graph_model.specs.declared.types.Graph.{Graph}
-use Rattle.line_image.specs.History.{Outcome}
+use Rattle.line_image.specs.Trace.{Outcome}
 use Rattle.line_memory.specs.Memory.{Memory, shown}
 use Rattle.image_layout.specs.Places.{first_object_line, lines_of, head_of}
 use Rattle.image_meaning.specs.Checks.{Words}

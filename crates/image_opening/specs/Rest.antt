@@ -1,7 +1,7 @@
 -- A memory at rest, and what single words that are put change of it.
 use Rattle.std.specs.Prelude.{◌≡◌, ◌⊎◌, ◌^◌, ◌<◌, ◌≤◌, ℕ}
 use Rattle.image_meaning.specs.Checks.{Words}
-use Rattle.line_image.specs.History.{Outcome}
+use Rattle.line_image.specs.Trace.{Outcome}
 use Rattle.line_memory.specs.Memory.{Memory, CanLeaveAll, IsDurable, shown}
 use Rattle.line_memory.specs.Moments.{Goes}
 

@@ -1,15 +1,15 @@
 -- The entries that a class set wants in an image's directory.
 use Rattle.std.specs.Prelude.{◌≤◌, ℕ, List, [], ◌∷◌, length, Option, Some, None}
 use Rattle.image_layout.specs.Places.{directory_words}
-use Rattle.image_meaning.specs.Entries.{Entry, ShapeEntry}
+use Rattle.image_meaning.specs.Entries.{DirectoryEntry, ShapeEntry}
 use Rattle.image_meaning.specs.Directories.{spelled_all}
 use Rattle.image_meaning.specs.Arrays.{int_array, array_entries}
 
-abbrev pub shape_alone : List Entry
+abbrev pub shape_alone : List DirectoryEntry
 shape_alone = ShapeEntry int_array ∷ []
 
 -- the shape of its arrays, and behind it the root of its name, where it has one
-abbrev pub wanted : Option (List ℕ) → List Entry
+abbrev pub wanted : Option (List ℕ) → List DirectoryEntry
 wanted None = shape_alone
 wanted (Some name) = array_entries name
 

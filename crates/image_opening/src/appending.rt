@@ -4,7 +4,7 @@ ghost use Rattle.ap_base.specs.Causes.{HasCause};
 ghost use Rattle.line_memory.specs.Memory.{shown};
 ghost use Rattle.line_memory.specs.Moments.{CountsFrom};
 ghost use Rattle.image_layout.specs.Places.{min_lines, directory_words};
-ghost use Rattle.image_meaning.specs.Entries.{Entry};
+ghost use Rattle.image_meaning.specs.Entries.{DirectoryEntry};
 ghost use Rattle.image_meaning.specs.Meaning.{StandsFor};
 ghost use Rattle.image_opening.specs.Rest.{IsAtRest, CallsGoOn, StopsLeave, ChangesOthers};
 ghost use Rattle.image_opening.specs.Form.{HasOnly, IsOutsideFree, StandFrom, IsContinued, graph_of_entries};
@@ -26,14 +26,14 @@ pub fn append_entries<I: Image>(
     requires room { used + length spelling.now ≤ directory_words }
     ensures size { memory.new.size ≡ memory.old.size }
     ensures rest { IsAtRest memory.old → OnOk result (IsAtRest memory.new) }
-    ensures appended { (before after : List Entry) → HasOnly memory.old.size (shown memory.old) before
+    ensures appended { (before after : List DirectoryEntry) → HasOnly memory.old.size (shown memory.old) before
         → IsContinued used spelling.now before after
         → OnOk result (HasOnly memory.old.size (shown memory.new) after) }
-    ensures any_moment { (before after : List Entry) → IsAtRest memory.old → HasOnly memory.old.size (shown memory.old) before
+    ensures any_moment { (before after : List DirectoryEntry) → IsAtRest memory.old → HasOnly memory.old.size (shown memory.old) before
         → IsContinued used spelling.now before after
         → StopsLeave memory.old memory.new (λ c. StandsFor memory.old.size c (graph_of_entries before)
         ⊎ StandsFor memory.old.size c (graph_of_entries after)) }
-    ensures reopens { (before after : List Entry) → IsAtRest memory.old → HasOnly memory.old.size (shown memory.old) before
+    ensures reopens { (before after : List DirectoryEntry) → IsAtRest memory.old → HasOnly memory.old.size (shown memory.old) before
         → IsContinued used spelling.now before after
         → StopsLeave memory.old memory.new (λ c. HasOnly memory.old.size c before ⊎ HasOnly memory.old.size c after) }
     ensures counts { (begin : ℕ) → CountsFrom begin memory.old → CountsFrom begin memory.new }

@@ -13,8 +13,6 @@ mod formatting;
 mod graphs;
 mod opening;
 mod preparing;
-#[cfg(test)]
-mod tests;
 mod words;
 
 pub use appending::append_entries;

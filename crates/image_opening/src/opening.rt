@@ -2,7 +2,7 @@
 ghost use Rattle.std.specs.Prelude.{◌≡◌, ◌⊎◌, ◌≤◌, ◌+◌, ℕ, ℤ, List, [], Option, Some, None, option_copied, OnOk, IfOk, IfSome, IsErrOf};
 ghost use Rattle.ap_base.specs.Causes.{Rose};
 ghost use Rattle.graph_model.specs.declared.types.Graph.{Graph};
-ghost use Rattle.line_image.specs.History.{Outcome};
+ghost use Rattle.line_image.specs.Trace.{Outcome};
 ghost use Rattle.line_memory.specs.Memory.{shown, CanLeaveAll};
 ghost use Rattle.line_memory.specs.Moments.{Goes, CountsFrom};
 ghost use Rattle.image_layout.specs.Places.{min_lines, max_lines, first_object_line, lines_of};
@@ -37,7 +37,7 @@ pub struct FoundArray {
 }
 
 /// What an image holds for a class set once it is opened.
-#[derive(Drop, Debug)]
+#[derive(Drop)]
 pub struct Opened {
     /// The graph for which the image stands.
     pub graph: Graph,

@@ -4,7 +4,7 @@ use Rattle.std.proofs.Math.Nat.{mod-add-mod, mod-one}
 use Rattle.std.proofs.lemmas.Nat.{mod_below}
 use Rattle.std.proofs.lemmas.Bool.{cases_eq}
 use Rattle.std.proofs.lemmas.Bool.Decides.{nat_tests}
-use Rattle.line_image.specs.History.{History, versions, newest}
+use Rattle.line_image.specs.Trace.{Trace, versions, newest}
 use Rattle.line_image.specs.Crash.{next_state, state_after, choice, version_word, state_past, state_at, word_left}
 
 -- the generator as the code computes it
@@ -20,15 +20,15 @@ pub state_after-one : (s n : ℕ) → state_after s (n + 1) ≡ next_state (stat
 unfolding state_after
 state_after-one s n = rw add-one refl
 
-pub state_at-zero : (pick : ℕ) (h : History) → state_at pick h 0 ≡ pick
+pub state_at-zero : (pick : ℕ) (h : Trace) → state_at pick h 0 ≡ pick
 unfolding state_at
 state_at-zero pick h = refl
 
-pub state_at-one : (pick : ℕ) (h : History) (l : ℕ) → state_at pick h (l + 1) ≡ state_past (versions h l) (state_at pick h l)
+pub state_at-one : (pick : ℕ) (h : Trace) (l : ℕ) → state_at pick h (l + 1) ≡ state_past (versions h l) (state_at pick h l)
 unfolding state_at
 state_at-one pick h l = rw add-one refl
 
-pub word_left_lem : (pick : ℕ) (h : History) (l w : ℕ) → word_left pick h l w ≡ version_word (reverse (versions h l)) pick (state_at pick h l) w
+pub word_left_lem : (pick : ℕ) (h : Trace) (l w : ℕ) → word_left pick h l w ≡ version_word (reverse (versions h l)) pick (state_at pick h l) w
 unfolding word_left
 word_left_lem pick h l w = refl
 

@@ -4,11 +4,11 @@ use Rattle.std.proofs.Math.ListN.{get_or-eq_default}
 use Rattle.std.proofs.lemmas.List.{get_or-reverse, length-reverse, get_or_append_left, get_or_push}
 use Rattle.std.proofs.lemmas.Bool.{cases_eq, cases_lt}
 use Rattle.std.proofs.lemmas.Bool.Decides.{nat_tests}
-use Rattle.line_image.specs.History.{History, LeavesNow, newest, versions, versions_from, versions_after, OneHas, is_within}
+use Rattle.line_image.specs.Trace.{Trace, LeavesNow, newest, versions, versions_from, versions_after, OneHas, is_within}
 use Rattle.line_image.specs.Crash.{choice, state_after, state_at, word_left}
-use Rattle.line_image.specs.declared.entry.Entry.{Entry}
-use Rattle.line_image.specs.declared.entry.Done.{Done}
-use Rattle.line_image.specs.declared.entry.Done.TheVariants.{Wrote, Fenced}
+use Rattle.line_image.specs.declared.effect.Effect.{Effect}
+use Rattle.line_image.specs.declared.effect.Done.{Done}
+use Rattle.line_image.specs.declared.effect.Done.TheVariants.{Wrote, Fenced}
 use Rattle.line_image.proofs.Generator.{word_left_lem, choice-below}
 
 some_after : (done : Done) (l : ℕ) (versions : List (List ℕ)) → 0 < length versions → 0 < length (versions_after done l versions)
@@ -19,9 +19,9 @@ some_after (Wrote line words) l versions some = elim (cases_eq line l) [
 some_after Fenced l versions some = omega arith
 
 -- a line has a version
-pub versions_some : (first : List ℕ) (done : List Entry) (l : ℕ) → 0 < length (versions_from first done l)
+pub versions_some : (first : List ℕ) (done : List Effect) (l : ℕ) → 0 < length (versions_from first done l)
 versions_some first [] l = omega arith
-versions_some first (entry ∷ done) l = some_after entry.done l (versions_from first done l) (versions_some first done l)
+versions_some first (effect ∷ done) l = some_after effect.done l (versions_from first done l) (versions_some first done l)
 
 -- a version by its number
 pub one_has_at : (versions : List (List ℕ)) (n w : ℕ) → n < length versions → OneHas versions w (slice_index (get_or versions n []) w)
@@ -34,7 +34,7 @@ newest_at [] = refl
 newest_at (words ∷ rest) = refl
 
 -- what a read gives
-pub newest_left : (first : List ℕ) (done : List Entry) (l w : ℕ) → OneHas (versions_from first done l) w (slice_index (newest (versions_from first done l)) w)
+pub newest_left : (first : List ℕ) (done : List Effect) (l w : ℕ) → OneHas (versions_from first done l) w (slice_index (newest (versions_from first done l)) w)
 newest_left first done l w = rw (newest_at (versions_from first done l)) (one_has_at (versions_from first done l) 0 w (versions_some first done l))
 
 past_words : (size line l w : ℕ) (words : List ℕ) → IsTrue (nat_lt line size && length words == 8) → line ≡ l → (size ≤ l) ⊎ (8 ≤ w) → slice_index words w ≡ 0
@@ -54,11 +54,11 @@ past_after size (Wrote line words) l w versions within past before = elim (cases
 ]
 past_after size Fenced l w versions within past before = before
 
-pub past_newest : (size : ℕ) (first : List ℕ) (done : List Entry) (l w : ℕ) → All (λ (entry : Entry). IsTrue (is_within size entry.done)) done → (size ≤ l) ⊎ (8 ≤ w)
+pub past_newest : (size : ℕ) (first : List ℕ) (done : List Effect) (l w : ℕ) → All (λ (effect : Effect). IsTrue (is_within size effect.done)) done → (size ≤ l) ⊎ (8 ≤ w)
     → slice_index first w ≡ 0 → slice_index (newest (versions_from first done l)) w ≡ 0
 past_newest size first [] l w within past none = none
-past_newest size first (entry ∷ done) l w within past none =
-    past_after size entry.done l w (versions_from first done l) (within 0 entry (omega arith)) past
+past_newest size first (effect ∷ done) l w within past none =
+    past_after size effect.done l w (versions_from first done l) (within 0 effect (omega arith)) past
     (past_newest size first done l w (λ k d lt. within (suc k) d (omega arith)) past none)
 
 -- the number of a version from the other end
@@ -68,7 +68,7 @@ reversed_has versions n w lt =
     subst (λ (words : List ℕ). OneHas versions w (slice_index words w)) (sym (get_or-reverse versions n [] lt)) (one_has_at versions (length versions - 1 - n) w other)
 
 -- what is picked of a line, a stop may leave
-pub picked_left : (pick : ℕ) (h : History) (l w : ℕ) → OneHas (versions h l) w (word_left pick h l w)
+pub picked_left : (pick : ℕ) (h : Trace) (l w : ℕ) → OneHas (versions h l) w (word_left pick h l w)
 picked_left pick h l w =
     let vs = versions h l in
     let state = state_at pick h l in
@@ -88,9 +88,9 @@ no_word size lines l w size_is eights past = elim (cases_lt l (length lines)) [
 ]
 
 -- lines whose words are picked are an outcome of a stop
-pub lines_left : (pick : ℕ) (h : History) (lines : List (List ℕ)) → length lines ≡ length h.first
+pub lines_left : (pick : ℕ) (h : Trace) (lines : List (List ℕ)) → length lines ≡ length h.first
     → All (λ (line : List ℕ). length line ≡ 8) h.first → All (λ (line : List ℕ). length line ≡ 8) lines
-    → All (λ (entry : Entry). IsTrue (is_within (length h.first) entry.done)) h.done
+    → All (λ (effect : Effect). IsTrue (is_within (length h.first) effect.done)) h.done
     → ((l w : ℕ) → l < length h.first → w < 8 → slice_index (get_or lines l []) w ≡ word_left pick h l w)
     → LeavesNow (Some h) (λ l w. slice_index (get_or lines l []) w)
 lines_left pick h lines size eights new_eights within picked l w = ⊎_elim

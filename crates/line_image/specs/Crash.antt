@@ -1,6 +1,6 @@
 -- The outcome of a stop that a number picks.
 use Rattle.std.specs.Prelude.{ℕ, zero, suc, ◌+◌, ◌-◌, ◌*◌, ◌/◌, ◌%◌, ◌^◌, List, [], get_or, slice_index, reverse, length, if◌then◌else◌, ◌==◌, nat_lt}
-use Rattle.line_image.specs.History.{History, versions}
+use Rattle.line_image.specs.Trace.{Trace, versions}
 
 -- the next state of the generator (Knuth, The Art of Computer Programming, volume 2, section 3.3.4, MMIX)
 unfoldable pub next_state : ℕ → ℕ
@@ -28,14 +28,14 @@ abbrev pub state_past : List (List ℕ) → ℕ → ℕ
 state_past versions state = if nat_lt 1 (length versions) then state_after state 8 else state
 
 -- where it stands before a line: it begins with the number, and takes the lines in order
-unfoldable pub state_at : ℕ → History → ℕ → ℕ
+unfoldable pub state_at : ℕ → Trace → ℕ → ℕ
 state_at pick h zero = pick
 state_at pick h (suc l) = state_past (versions h l) (state_at pick h l)
 
 -- the word that is left
-unfoldable pub word_left : ℕ → History → ℕ → ℕ → ℕ
+unfoldable pub word_left : ℕ → Trace → ℕ → ℕ → ℕ
 word_left pick h l w = version_word (reverse (versions h l)) pick (state_at pick h l) w
 
 -- a word of the lines as they were first
-abbrev pub first_word : History → ℕ → ℕ → ℕ
+abbrev pub first_word : Trace → ℕ → ℕ → ℕ
 first_word h l w = slice_index (get_or h.first l []) w

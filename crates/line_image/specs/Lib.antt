@@ -1,4 +1,5 @@
 pub mod Closed
 pub mod Crash
-pub mod History
+pub mod Trace
+pub mod Told
 pub mod Memory

@@ -1,12 +1,13 @@
 -- An image in memory, and which of its calls fail.
 use Rattle.std.specs.Prelude.{◌⊎◌, ◌≤◌, ℕ, reverse, length, Contains, Some, refl}
-use Rattle.line_image.specs.History.{History, IsCounted}
+use Rattle.line_image.specs.Trace.{Trace}
+use Rattle.line_image.specs.Told.{Told, IsCounted}
 use Rattle.line_image.specs.declared.memory.Fails.{Fails}
 use Rattle.line_image.specs.declared.memory.MemoryImage.{MemoryImage}
 
 -- its lines as they were first, and its writes and fences
-abbrev pub history_of : MemoryImage → History
-history_of image = record { first = image.first.items; done = reverse image.done.items }
+abbrev pub trace_of : MemoryImage → Trace
+trace_of image = record { first = image.first.items; done = reverse image.done.items }
 
 abbrev pub size_of : MemoryImage → ℕ
 size_of image = length image.first.items
@@ -28,6 +29,8 @@ room_of image = image.room
 abbrev pub CallFails : Fails → ℕ → Type 0
 CallFails fails call = Contains fails.calls.items call ⊎ (fails.since ≤ call)
 
-abbrev pub in_order_of : (image : MemoryImage)
-    → IsCounted (size_of image) (calls_of image) (Some (history_of image))
-in_order_of image = record { fits = image.fits; told = record { lines = refl; eights = image.eights; so_far = image.so_far } }
+abbrev pub told_of : MemoryImage → Told
+told_of image = record { size = size_of image; calls = calls_of image; trace = Some (trace_of image) }
+
+abbrev pub in_order_of : (image : MemoryImage) → IsCounted (told_of image)
+in_order_of image = record { fits = image.fits; order = record { lines = refl; eights = image.eights; so_far = image.so_far } }

@@ -4,7 +4,7 @@ ghost use Rattle.std.specs.Prelude.{◌≡◌, ◌<◌, ◌^◌, ◌⊎◌, OnOk
 use crate::{Image, ImageFailed};
 
 /// An image that couldn't be opened: it shows 32,768 lines, and each call fails. It tells nothing.
-#[derive(Drop, Debug)]
+#[derive(Drop)]
 pub struct ClosedImage {
     failures: u64,
     ghost fits: { failures < 2 ^ 64 },
@@ -32,28 +32,24 @@ impl ClosedImage {
 
 impl Image for ClosedImage {
     ghost use Rattle.ap_base.specs.Causes.{HasCause, next_count};
-    ghost use Rattle.line_image.specs.History.{Reads, did};
-    ghost use Rattle.line_image.specs.Closed.{failures_of, lines_shown, nothing_told, closed_in_order};
-    ghost use Rattle.line_image.specs.declared.entry.Done.TheVariants.{Wrote, Fenced};
+    ghost use Rattle.line_image.specs.Trace.{Reads, did};
+    ghost use Rattle.line_image.specs.Closed.{failures_of, closed_told, closed_in_order};
+    ghost use Rattle.line_image.specs.declared.effect.Done.TheVariants.{Wrote, Fenced};
 
-    ghost size = { lines_shown };
+    ghost told = { closed_told };
 
     ghost faults = { failures_of };
-
-    ghost calls = { failures_of };
-
-    ghost history = { nothing_told };
 
     fn lines(&self) -> u64 {
         32_768
     }
 
     fn read_line(&mut self, _line: u64, _into: &mut [u64; 8]) -> Result<(), ImageFailed>
-        requires { _line < lines_shown self.old }
-        ensures size { lines_shown self.new ≡ lines_shown self.old }
-        ensures counted { failures_of self.new ≡ next_count (failures_of self.old) }
-        ensures same { nothing_told self.new ≡ nothing_told self.old }
-        ensures words { OnOk result (Reads (nothing_told self.old) _line _into.new) }
+        requires { _line < (closed_told self.old).size }
+        ensures size { (closed_told self.new).size ≡ (closed_told self.old).size }
+        ensures counted { (closed_told self.new).calls ≡ next_count (closed_told self.old).calls }
+        ensures same { (closed_told self.new).trace ≡ (closed_told self.old).trace }
+        ensures words { OnOk result (Reads (closed_told self.old).trace _line _into.new) }
         ensures untouched { OnErr result (_into.new ≡ _into.old) }
         ensures cause { HasCause (failures_of self.old) (failures_of self.new) result }
         ensures fails { IsErr result }
@@ -62,14 +58,16 @@ impl Image for ClosedImage {
     }
 
     fn write_line(&mut self, _line: u64, _words: &[u64; 8]) -> Result<(), ImageFailed>
-        requires { _line < lines_shown self.old }
-        ensures size { lines_shown self.new ≡ lines_shown self.old }
-        ensures counted { failures_of self.new ≡ next_count (failures_of self.old) }
-        ensures written { OnOk result (nothing_told self.new
-            ≡ did (Wrote _line _words.now) (failures_of self.new) (nothing_told self.old)) }
-        ensures failed { OnErr result ((nothing_told self.new
-            ≡ did (Wrote _line _words.now) (failures_of self.new) (nothing_told self.old))
-            ⊎ (nothing_told self.new ≡ nothing_told self.old)) }
+        requires { _line < (closed_told self.old).size }
+        ensures size { (closed_told self.new).size ≡ (closed_told self.old).size }
+        ensures counted { (closed_told self.new).calls ≡ next_count (closed_told self.old).calls }
+        ensures written { OnOk result ((closed_told self.new).trace
+            ≡ did (Wrote _line _words.now)
+            (closed_told self.new).calls (closed_told self.old).trace) }
+        ensures failed { OnErr result (((closed_told self.new).trace
+            ≡ did (Wrote _line _words.now)
+            (closed_told self.new).calls (closed_told self.old).trace)
+            ⊎ ((closed_told self.new).trace ≡ (closed_told self.old).trace)) }
         ensures cause { HasCause (failures_of self.old) (failures_of self.new) result }
         ensures fails { IsErr result }
     {
@@ -77,11 +75,12 @@ impl Image for ClosedImage {
     }
 
     fn fence(&mut self) -> Result<(), ImageFailed>
-        ensures size { lines_shown self.new ≡ lines_shown self.old }
-        ensures counted { failures_of self.new ≡ next_count (failures_of self.old) }
-        ensures fenced { OnOk result (nothing_told self.new
-            ≡ did Fenced (failures_of self.new) (nothing_told self.old)) }
-        ensures failed { OnErr result (nothing_told self.new ≡ nothing_told self.old) }
+        ensures size { (closed_told self.new).size ≡ (closed_told self.old).size }
+        ensures counted { (closed_told self.new).calls ≡ next_count (closed_told self.old).calls }
+        ensures fenced { OnOk result ((closed_told self.new).trace
+            ≡ did Fenced (closed_told self.new).calls (closed_told self.old).trace) }
+        ensures failed { OnErr result ((closed_told self.new).trace
+            ≡ (closed_told self.old).trace) }
         ensures cause { HasCause (failures_of self.old) (failures_of self.new) result }
         ensures fails { IsErr result }
     {

@@ -1,10 +1,10 @@
 // One outcome of a stop.
 ghost use Rattle.std.specs.Prelude.{◌≡◌, ◌<◌, ◌+◌, ◌-◌, ◌*◌, ◌^◌, ℕ, [], IfOk, OnOk, IsTrue, length, get_or, slice_index, reverse, All};
-ghost use Rattle.line_image.specs.History.{newest, versions_from, versions, is_within};
+ghost use Rattle.line_image.specs.Trace.{newest, versions_from, versions, is_within};
 ghost use Rattle.line_image.specs.Crash.{next_state as state_next, state_after, state_past, choice, version_word, word_left};
-ghost use Rattle.line_image.specs.declared.entry.Entry.{Entry};
+ghost use Rattle.line_image.specs.declared.effect.Effect.{Effect};
 
-use crate::{Done, Entry};
+use crate::{Done, Effect};
 use std::alloc::{AllocError, Global};
 
 const MULTIPLIER: u64 = 6_364_136_223_846_793_005;
@@ -51,7 +51,7 @@ fn pick_words(versions: &[[u64; 8]], pick: u64, state: &mut u64) -> [u64; 8]
 fn line_versions(
     alloc: Global,
     first: [u64; 8],
-    done: &[Entry],
+    done: &[Effect],
     line: u64,
 ) -> Result<Vec<[u64; 8]>, AllocError>
     ensures some { IfOk result (λ found. 0 < length found.items) }
@@ -60,8 +60,8 @@ fn line_versions(
 {
     let mut found = Vec::new(alloc);
     found.push(first)?;
-    for entry in done {
-        match entry.done {
+    for effect in done {
+        match effect.done {
             Done::Wrote { line: at, words } => {
                 if at == line {
                     found.push(words)?;
@@ -82,7 +82,7 @@ fn line_versions(
 fn crash_line(
     alloc: Global,
     first: [u64; 8],
-    done: &[Entry],
+    done: &[Effect],
     line: u64,
     pick: u64,
     state: &mut u64,
@@ -104,18 +104,18 @@ fn crash_line(
 fn last_writes(
     alloc: Global,
     first: &[[u64; 8]],
-    done: &[Entry],
+    done: &[Effect],
 ) -> Result<(Vec<u64>, u64), AllocError>
     requires fits { length done.now < 2 ^ 63 }
-    requires within { All (λ (entry : Entry). IsTrue (is_within (length first.now) entry.done)) done.now }
+    requires within { All (λ (effect : Effect). IsTrue (is_within (length first.now) effect.done)) done.now }
     ensures size { IfOk result (λ found. length found.0.items ≡ length first.now) }
     ensures fenced { IfOk result (λ found. (l : ℕ) → get_or found.0.items l 0 < found.1
         → length (versions_from (get_or first.now l []) (reverse done.now) l) ≡ 1) }
 {
     let mut writes = vec![in alloc; 0; first.len()]?;
     let mut fences = 1u64;
-    for entry in done {
-        match entry.done {
+    for effect in done {
+        match effect.done {
             Done::Wrote { line, .. } => writes[line as usize] = fences,
             Done::Fenced => fences += 1,
         }
@@ -137,14 +137,14 @@ pub(crate) fn crash_lines(
     alloc: Global,
     first: &[[u64; 8]],
     latest: &[[u64; 8]],
-    done: &[Entry],
+    done: &[Effect],
     pick: u64,
 ) -> Result<Vec<[u64; 8]>, AllocError>
     requires fits { length done.now < 2 ^ 63 }
     requires size { length latest.now ≡ length first.now }
     requires reads { (l : ℕ) → get_or latest.now l []
         ≡ newest (versions_from (get_or first.now l []) (reverse done.now) l) }
-    requires within { All (λ (entry : Entry). IsTrue (is_within (length first.now) entry.done)) done.now }
+    requires within { All (λ (effect : Effect). IsTrue (is_within (length first.now) effect.done)) done.now }
     ensures size { IfOk result (λ lines. length lines.items ≡ length first.now) }
     ensures eights { IfOk result (λ lines. All (λ line. length line ≡ 8) lines.items) }
     ensures picked { IfOk result (λ lines. (l w : ℕ) → l < length first.now → w < 8

@@ -3,16 +3,14 @@
 
 mod closed;
 mod crash;
-mod entry;
+mod effect;
 mod image;
 mod laws;
 mod memory;
-#[cfg(test)]
-mod tests;
 mod words;
 
 pub use closed::ClosedImage;
-pub use entry::{Done, Entry};
+pub use effect::{Done, Effect};
 pub use image::{Image, ImageFailed};
 pub use laws::laws_of_stops;
 pub use memory::{Fails, MemoryImage};

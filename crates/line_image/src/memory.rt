@@ -1,16 +1,16 @@
 // An image in memory, which keeps its writes and fences.
 ghost use Rattle.std.specs.Prelude.{◌≡◌, ◌<◌, ◌≤◌, ◌+◌, ◌-◌, ◌*◌, ◌/◌, ◌^◌, ◌⊎◌, ◌↔◌, ℕ, [], Some, IfOk, OnOk, OnErr, IsErr, vec_capacity, length, get_or, slice_index, reverse, replicate, All, IsTrue};
-ghost use Rattle.line_image.specs.History.{newest, versions_from, is_within};
-ghost use Rattle.line_image.specs.declared.entry.Entry.{Entry};
+ghost use Rattle.line_image.specs.Trace.{newest, versions_from, is_within};
+ghost use Rattle.line_image.specs.declared.effect.Effect.{Effect};
 
 use crate::crash::crash_lines;
 use crate::words::lines_of;
-use crate::{Done, Entry, Image, ImageFailed};
+use crate::{Done, Effect, Image, ImageFailed};
 use std::alloc::{AllocError, Global};
 
 /// Which calls fail: those whose numbers, from 1, `calls` lists, every call from number `since` on, and every
 /// write and fence past the first `room` writes and fences. No other call fails.
-#[derive(Drop, Debug)]
+#[derive(Drop)]
 pub struct Fails {
     pub calls: Vec<u64>,
     pub since: u64,
@@ -28,11 +28,11 @@ impl Fails {
 }
 
 /// An image in memory. It keeps its writes and fences, tells them, and fails exactly by its `Fails`.
-#[derive(Drop, Debug)]
+#[derive(Drop)]
 pub struct MemoryImage {
     first: Vec<[u64; 8]>,
     latest: Vec<[u64; 8]>,
-    done: Vec<Entry>,
+    done: Vec<Effect>,
     room: u32,
     calls: u64,
     faults: u64,
@@ -43,22 +43,22 @@ pub struct MemoryImage {
         ≡ newest (versions_from (get_or first.items l []) (reverse done.items) l) },
     ghost eights: { All (λ line. length line ≡ 8) first.items },
     ghost fits: { calls < 2 ^ 64 },
-    ghost in_range: { All (λ (entry : Entry). IsTrue (is_within (length first.items) entry.done)) done.items },
-    ghost so_far: { All (λ (entry : Entry). entry.at ≤ calls) (reverse done.items) },
+    ghost in_range: { All (λ (effect : Effect). IsTrue (is_within (length first.items) effect.done)) done.items },
+    ghost so_far: { All (λ (effect : Effect). effect.at ≤ calls) (reverse done.items) },
 }
 
 impl MemoryImage {
-    ghost use Rattle.line_image.specs.Memory.{size_of, history_of, calls_of, faults_of, fails_of, room_of};
-    ghost use Rattle.line_image.specs.History.{LeavesNow, IsSettled, read_word};
+    ghost use Rattle.line_image.specs.Memory.{size_of, trace_of, calls_of, faults_of, fails_of, room_of};
+    ghost use Rattle.line_image.specs.Trace.{LeavesNow, IsAllFenced, read_word};
     ghost use Rattle.line_image.specs.Crash.{first_word, word_left};
 
     /// An image of so many lines, all zero. Takes the memory for all writes and fences that `fails` has room
     /// for.
     pub fn new(alloc: Global, lines: u64, fails: Fails) -> Result<MemoryImage, AllocError>
         ensures size { IfOk result (λ image. size_of image ≡ lines) }
-        ensures zero { IfOk result (λ image. history_of image
+        ensures zero { IfOk result (λ image. trace_of image
             ≡ record { first = replicate lines (replicate 8 0); done = [] }) }
-        ensures settled { IfOk result (λ image. IsSettled (Some (history_of image))) }
+        ensures fenced { IfOk result (λ image. IsAllFenced (Some (trace_of image))) }
         ensures uncalled { IfOk result (λ image. calls_of image ≡ 0) }
         ensures faultless { IfOk result (λ image. faults_of image ≡ 0) }
         ensures fails { IfOk result (λ image. fails_of image ≡ fails) }
@@ -73,9 +73,9 @@ impl MemoryImage {
     pub fn of_words(alloc: Global, words: &[u64], fails: Fails) -> Result<MemoryImage, AllocError>
         ensures size { IfOk result (λ image. size_of image ≡ length words.now / 8) }
         ensures words { IfOk result (λ image. (l w : ℕ) → l < length words.now / 8 → w < 8
-            → first_word (history_of image) l w ≡ slice_index words.now (8 * l + w)) }
-        ensures untouched { IfOk result (λ image. (history_of image).done ≡ []) }
-        ensures settled { IfOk result (λ image. IsSettled (Some (history_of image))) }
+            → first_word (trace_of image) l w ≡ slice_index words.now (8 * l + w)) }
+        ensures untouched { IfOk result (λ image. (trace_of image).done ≡ []) }
+        ensures fenced { IfOk result (λ image. IsAllFenced (Some (trace_of image))) }
         ensures uncalled { IfOk result (λ image. calls_of image ≡ 0) }
         ensures faultless { IfOk result (λ image. faults_of image ≡ 0) }
         ensures fails { IfOk result (λ image. fails_of image ≡ fails) }
@@ -91,11 +91,11 @@ impl MemoryImage {
     pub fn crash(&self, alloc: Global, pick: u64, fails: Fails) -> Result<MemoryImage, AllocError>
         ensures size { IfOk result (λ image. size_of image ≡ size_of self.now) }
         ensures picked { IfOk result (λ image. (l w : ℕ) → l < size_of self.now → w < 8
-            → first_word (history_of image) l w ≡ word_left pick (history_of self.now) l w) }
+            → first_word (trace_of image) l w ≡ word_left pick (trace_of self.now) l w) }
         ensures outcome { IfOk result
-            (λ image. LeavesNow (Some (history_of self.now)) (first_word (history_of image))) }
-        ensures untouched { IfOk result (λ image. (history_of image).done ≡ []) }
-        ensures settled { IfOk result (λ image. IsSettled (Some (history_of image))) }
+            (λ image. LeavesNow (Some (trace_of self.now)) (first_word (trace_of image))) }
+        ensures untouched { IfOk result (λ image. (trace_of image).done ≡ []) }
+        ensures fenced { IfOk result (λ image. IsAllFenced (Some (trace_of image))) }
         ensures uncalled { IfOk result (λ image. calls_of image ≡ 0) }
         ensures faultless { IfOk result (λ image. faults_of image ≡ 0) }
         ensures fails { IfOk result (λ image. fails_of image ≡ fails) }
@@ -111,7 +111,7 @@ impl MemoryImage {
         fails: Fails,
     ) -> Result<MemoryImage, AllocError>
         requires { All (λ line. length line ≡ 8) first.items }
-        ensures fresh { IfOk result (λ image. history_of image ≡ record { first = first.items; done = [] }) }
+        ensures fresh { IfOk result (λ image. trace_of image ≡ record { first = first.items; done = [] }) }
         ensures uncalled { IfOk result (λ image. calls_of image ≡ 0) }
         ensures faultless { IfOk result (λ image. faults_of image ≡ 0) }
         ensures fails { IfOk result (λ image. fails_of image ≡ fails) }
@@ -133,7 +133,7 @@ impl MemoryImage {
     pub fn word(&self, line: u64, word: u8) -> u64
         requires line { line < size_of self.now }
         requires word { word < 8 }
-        ensures reads { result ≡ read_word (history_of self.now) line word }
+        ensures reads { result ≡ read_word (trace_of self.now) line word }
     {
         self.latest[line as usize][word as usize]
     }
@@ -141,32 +141,28 @@ impl MemoryImage {
 
 impl Image for MemoryImage {
     ghost use Rattle.ap_base.specs.Causes.{HasCause, next_count};
-    ghost use Rattle.line_image.specs.History.{Reads, did};
-    ghost use Rattle.line_image.specs.Memory.{size_of, history_of, calls_of, faults_of, fails_of, room_of, CallFails, in_order_of};
-    ghost use Rattle.line_image.specs.declared.entry.Done.TheVariants.{Wrote, Fenced};
+    ghost use Rattle.line_image.specs.Trace.{Reads, did};
+    ghost use Rattle.line_image.specs.Memory.{told_of, faults_of, fails_of, room_of, CallFails, in_order_of};
+    ghost use Rattle.line_image.specs.declared.effect.Done.TheVariants.{Wrote, Fenced};
 
-    ghost size = { size_of };
+    ghost told = { told_of };
 
     ghost faults = { faults_of };
-
-    ghost calls = { calls_of };
-
-    ghost history = { λ image. Some (history_of image) };
 
     fn lines(&self) -> u64 {
         self.latest.len() as u64
     }
 
     fn read_line(&mut self, line: u64, into: &mut [u64; 8]) -> Result<(), ImageFailed>
-        requires { line < size_of self.old }
-        ensures size { size_of self.new ≡ size_of self.old }
-        ensures counted { calls_of self.new ≡ next_count (calls_of self.old) }
-        ensures same { Some (history_of self.new) ≡ Some (history_of self.old) }
-        ensures words { OnOk result (Reads (Some (history_of self.old)) line into.new) }
+        requires { line < (told_of self.old).size }
+        ensures size { (told_of self.new).size ≡ (told_of self.old).size }
+        ensures counted { (told_of self.new).calls ≡ next_count (told_of self.old).calls }
+        ensures same { (told_of self.new).trace ≡ (told_of self.old).trace }
+        ensures words { OnOk result (Reads (told_of self.old).trace line into.new) }
         ensures untouched { OnErr result (into.new ≡ into.old) }
         ensures cause { HasCause (faults_of self.old) (faults_of self.new) result }
 
-        ensures fails { IsErr result ↔ CallFails (fails_of self.old) (calls_of self.new) }
+        ensures fails { IsErr result ↔ CallFails (fails_of self.old) (told_of self.new).calls }
         ensures no_fault { OnOk result (faults_of self.new ≡ faults_of self.old) }
         ensures same_fails { fails_of self.new ≡ fails_of self.old }
         ensures same_room { room_of self.new ≡ room_of self.old }
@@ -181,21 +177,21 @@ impl Image for MemoryImage {
     }
 
     fn write_line(&mut self, line: u64, words: &[u64; 8]) -> Result<(), ImageFailed>
-        requires { line < size_of self.old }
-        ensures size { size_of self.new ≡ size_of self.old }
-        ensures counted { calls_of self.new ≡ next_count (calls_of self.old) }
-        ensures written { OnOk result (Some (history_of self.new)
-            ≡ did (Wrote line words.now) (calls_of self.new) (Some (history_of self.old))) }
-        ensures failed { OnErr result ((Some (history_of self.new)
-            ≡ did (Wrote line words.now) (calls_of self.new) (Some (history_of self.old)))
-            ⊎ (Some (history_of self.new) ≡ Some (history_of self.old))) }
+        requires { line < (told_of self.old).size }
+        ensures size { (told_of self.new).size ≡ (told_of self.old).size }
+        ensures counted { (told_of self.new).calls ≡ next_count (told_of self.old).calls }
+        ensures written { OnOk result ((told_of self.new).trace
+            ≡ did (Wrote line words.now) (told_of self.new).calls (told_of self.old).trace) }
+        ensures failed { OnErr result (((told_of self.new).trace
+            ≡ did (Wrote line words.now) (told_of self.new).calls (told_of self.old).trace)
+            ⊎ ((told_of self.new).trace ≡ (told_of self.old).trace)) }
         ensures cause { HasCause (faults_of self.old) (faults_of self.new) result }
 
-        ensures fails { IsErr result ↔ (CallFails (fails_of self.old) (calls_of self.new)
+        ensures fails { IsErr result ↔ (CallFails (fails_of self.old) (told_of self.new).calls
             ⊎ (room_of self.old ≡ 0)) }
-        ensures adds { 0 < room_of self.old → Some (history_of self.new)
-            ≡ did (Wrote line words.now) (calls_of self.new) (Some (history_of self.old)) }
-        ensures full { room_of self.old ≡ 0 → history_of self.new ≡ history_of self.old }
+        ensures adds { 0 < room_of self.old → (told_of self.new).trace
+            ≡ did (Wrote line words.now) (told_of self.new).calls (told_of self.old).trace }
+        ensures full { room_of self.old ≡ 0 → (told_of self.new).trace ≡ (told_of self.old).trace }
         ensures no_fault { OnOk result (faults_of self.new ≡ faults_of self.old) }
         ensures same_fails { fails_of self.new ≡ fails_of self.old }
         ensures room { room_of self.new ≡ room_of self.old - 1 }
@@ -205,7 +201,7 @@ impl Image for MemoryImage {
             self.faults = self.faults.saturating_add(1);
             return Err(ImageFailed);
         }
-        let entry = Entry {
+        let effect = Effect {
             at: self.calls,
             done: Done::Wrote {
                 line,
@@ -213,7 +209,7 @@ impl Image for MemoryImage {
             },
         };
         self.room -= 1;
-        self.done.push(entry).unwrap();
+        self.done.push(effect).unwrap();
         self.latest[line as usize] = *words;
         if self.fails.has(self.calls) {
             self.faults = self.faults.saturating_add(1);
@@ -223,14 +219,14 @@ impl Image for MemoryImage {
     }
 
     fn fence(&mut self) -> Result<(), ImageFailed>
-        ensures size { size_of self.new ≡ size_of self.old }
-        ensures counted { calls_of self.new ≡ next_count (calls_of self.old) }
-        ensures fenced { OnOk result (Some (history_of self.new)
-            ≡ did Fenced (calls_of self.new) (Some (history_of self.old))) }
-        ensures failed { OnErr result (Some (history_of self.new) ≡ Some (history_of self.old)) }
+        ensures size { (told_of self.new).size ≡ (told_of self.old).size }
+        ensures counted { (told_of self.new).calls ≡ next_count (told_of self.old).calls }
+        ensures fenced { OnOk result ((told_of self.new).trace
+            ≡ did Fenced (told_of self.new).calls (told_of self.old).trace) }
+        ensures failed { OnErr result ((told_of self.new).trace ≡ (told_of self.old).trace) }
         ensures cause { HasCause (faults_of self.old) (faults_of self.new) result }
 
-        ensures fails { IsErr result ↔ (CallFails (fails_of self.old) (calls_of self.new)
+        ensures fails { IsErr result ↔ (CallFails (fails_of self.old) (told_of self.new).calls
             ⊎ (room_of self.old ≡ 0)) }
         ensures no_fault { OnOk result (faults_of self.new ≡ faults_of self.old) }
         ensures same_fails { fails_of self.new ≡ fails_of self.old }
@@ -243,11 +239,11 @@ impl Image for MemoryImage {
             self.faults = self.faults.saturating_add(1);
             return Err(ImageFailed);
         }
-        let entry = Entry {
+        let effect = Effect {
             at: self.calls,
             done: Done::Fenced,
         };
-        self.done.push(entry).unwrap();
+        self.done.push(effect).unwrap();
         Ok(())
     }
 

@@ -1,5 +1,5 @@
 pub mod Stops
 pub mod Chain
-pub mod Whole
+pub mod Residence
 pub mod StopSets
 pub mod Reached

@@ -3,11 +3,12 @@ use Rattle.std.proofs.Common.{◌≡◌, ◌⊎◌, inl, inr, ⊎_elim, ℕ, Lis
 use Rattle.std.proofs.lemmas.Bool.{cases_eq}
 use Rattle.std.proofs.lemmas.Bool.Decides.{nat_tests}
 use Rattle.ap_base.specs.Causes.{next_count}
-use Rattle.line_image.specs.History.{History, MayLeave, did}
-use Rattle.line_image.specs.declared.entry.Done.{Done}
-use Rattle.line_image.specs.declared.entry.Done.TheVariants as done
+use Rattle.line_image.specs.Trace.{Trace, MayLeave, did}
+use Rattle.line_image.specs.declared.effect.Done.{Done}
+use Rattle.line_image.specs.declared.effect.Done.TheVariants as done
 use Rattle.line_image.proofs.Versions.{newest_left}
-use Rattle.line_memory.specs.Memory.{Memory, line_shown, shown, IsResident, IsTelling, IsKnown, ReadsWord, Told}
+use Rattle.line_image.specs.Told.{Told}
+use Rattle.line_memory.specs.Memory.{Memory, line_shown, shown, IsResident, IsTelling, IsKnown, ReadsWord}
 use Rattle.line_memory.specs.Steps.{Deed, WroteBack, Fenced, Stored, Neither, Step, last, Stores, WritesBack, MakesFence, DidAs, Follows, EachFollows}
 use Rattle.line_memory.specs.StopSet.{is_fence, writes, ShownSince, InStopSet}
 use Rattle.line_memory.specs.Laws.{AddsWriteBacks, Nothing, Same, Added, NoneElseIsLeft, EachIsLeft}
@@ -40,7 +41,7 @@ called m lines d = record {
   size = m.size;
   calls = next_count m.calls;
   faults = m.faults;
-  image = record { calls = next_count m.image.calls; history = did d (next_count m.image.calls) m.image.history };
+  image = record m.image { calls = next_count m.image.calls; trace = did d (next_count m.image.calls) m.image.trace };
 }
 
 -- the memory after a call that did the same and shows the same as here
@@ -68,7 +69,7 @@ replay_alike m old step alike follows = record {
   size = replayed_size m step.deed step.after ∙ alike.size ∙ sym follows.size;
 }
 
-module _ (m old after : Memory) (alike : Alike m old) (telling : IsTelling old.image.history) (telling_after : IsTelling after.image.history) where
+module _ (m old after : Memory) (alike : Alike m old) (telling : IsTelling old.image.trace) (telling_after : IsTelling after.image.trace) where
   -- where the words were the same, they are
   shows_on : (new : Memory) (l w : ℕ) → Alike new after → shown after l w ≡ shown old l w → shown new l w ≡ shown m l w
   shows_on new l w new_alike same = same_shown new after l w new_alike ∙ same ∙ sym (same_shown m old l w alike)
@@ -96,7 +97,7 @@ module _ (m old after : Memory) (alike : Alike m old) (telling : IsTelling old.i
     count = inl (record { calls = refl; image = refl; faults = refl });
   }
 
-replay_follows : (m old : Memory) (step : Step) → Alike m old → IsTelling old.image.history → Follows old step
+replay_follows : (m old : Memory) (step : Step) → Alike m old → IsTelling old.image.trace → Follows old step
     → Follows m (record { deed = step.deed; after = replayed m step.deed step.after })
 replay_follows m old step alike telling follows = record {
   size = replayed_size m step.deed step.after;
@@ -106,20 +107,20 @@ replay_follows m old step alike telling follows = record {
 
 -- The value is left by a stop, or also read where a fence comes next.
 abbrev IsLeftOrRead : Bool → Memory → ℕ → ℕ → ℕ → Type 0
-IsLeftOrRead true m l w v = ReadsWord m.image.history l w v × IsTelling m.image.history
-IsLeftOrRead false m l w v = MayLeave m.image.history l w v
+IsLeftOrRead true m l w v = ReadsWord m.image.trace l w v × IsTelling m.image.trace
+IsLeftOrRead false m l w v = MayLeave m.image.trace l w v
 
-read_left : (o : Option History) (l w v : ℕ) → IsTelling o → ReadsWord o l w v → MayLeave o l w v
+read_left : (o : Option Trace) (l w v : ℕ) → IsTelling o → ReadsWord o l w v → MayLeave o l w v
 read_left None l w v telling reads = absurd telling
 read_left (Some h) l w v telling reads = subst (λ (x : ℕ). MayLeave (Some h) l w x) (sym reads) (newest_left (get_or h.first l []) h.done l w)
 
-fenced_left : (o : Option History) (at l w v : ℕ) → IsTelling o → ReadsWord o l w v → MayLeave (did done.Fenced at o) l w v
+fenced_left : (o : Option Trace) (at l w v : ℕ) → IsTelling o → ReadsWord o l w v → MayLeave (did done.Fenced at o) l w v
 fenced_left None at l w v telling reads = absurd telling
 fenced_left (Some h) at l w v telling reads = inl reads
 
-as_either : (b : Bool) (m : Memory) (l w v : ℕ) → IsTelling m.image.history → ReadsWord m.image.history l w v → IsLeftOrRead b m l w v
+as_either : (b : Bool) (m : Memory) (l w v : ℕ) → IsTelling m.image.trace → ReadsWord m.image.trace l w v → IsLeftOrRead b m l w v
 as_either true m l w v telling reads = (reads, telling)
-as_either false m l w v telling reads = read_left m.image.history l w v telling reads
+as_either false m l w v telling reads = read_left m.image.trace l w v telling reads
 
 -- one more call keeps it so, if it isn't a write of the line that is fenced
 replay_leaves : (b : Bool) (deed : Deed) (m after : Memory) (l w v : ℕ) → (IsTrue (b && writes l deed) → ⊥)
@@ -127,18 +128,18 @@ replay_leaves : (b : Bool) (deed : Deed) (m after : Memory) (l w v : ℕ) → (I
 replay_leaves true (WroteBack k) m after l w v other left = elim (cases_eq k l) [
   | inl same ↦ let test : nat_eq k l ≡ true = grind (arith, nat_tests) in absurd (other test)
   | inr apart ↦ (
-    reads-kept m.image.history k (next_count m.image.calls) (line_shown m k) l w v (λ (same : l ≡ k). absurd (apart (sym same))) left.0,
-    telling-did m.image.history (done.Wrote k (line_shown m k)) (next_count m.image.calls) left.1,
+    reads-kept m.image.trace k (next_count m.image.calls) (line_shown m k) l w v (λ (same : l ≡ k). absurd (apart (sym same))) left.0,
+    telling-did m.image.trace (done.Wrote k (line_shown m k)) (next_count m.image.calls) left.1,
   )
 ]
 replay_leaves true Fenced m after l w v other left = (
-  reads-fenced m.image.history (next_count m.image.calls) l w v left.0,
-  telling-did m.image.history done.Fenced (next_count m.image.calls) left.1,
+  reads-fenced m.image.trace (next_count m.image.calls) l w v left.0,
+  telling-did m.image.trace done.Fenced (next_count m.image.calls) left.1,
 )
 replay_leaves true (Stored k x y) m after l w v other left = left
 replay_leaves true Neither m after l w v other left = left
-replay_leaves false (WroteBack k) m after l w v other left = may_leave-kept m.image.history k (next_count m.image.calls) (line_shown m k) l w v left
-replay_leaves false Fenced m after l w v other left = fenced_left m.image.history (next_count m.image.calls) l w v left.1 left.0
+replay_leaves false (WroteBack k) m after l w v other left = may_leave-kept m.image.trace k (next_count m.image.calls) (line_shown m k) l w v left
+replay_leaves false Fenced m after l w v other left = fenced_left m.image.trace (next_count m.image.calls) l w v left.1 left.0
 replay_leaves false (Stored k x y) m after l w v other left = left
 replay_leaves false Neither m after l w v other left = left
 
@@ -154,7 +155,7 @@ unchanged : (steps : List Step) → AddsWriteBacks steps steps
 unchanged [] = Nothing
 unchanged (step ∷ steps) = Same step step steps steps refl (unchanged steps)
 
-telling_last : (first : Memory) (steps : List Step) → EachFollows first steps → IsTelling first.image.history → IsTelling (last first steps).image.history
+telling_last : (first : Memory) (steps : List Step) → EachFollows first steps → IsTelling first.image.trace → IsTelling (last first steps).image.trace
 telling_last first [] each telling = telling
 telling_last first (step ∷ steps) each telling = telling_on step.deed (last first steps) step.after each.0.deed (telling_last first steps each.1 telling)
 
@@ -164,7 +165,7 @@ resident_last first [] l each resident = resident
 resident_last first (step ∷ steps) l each resident = omega (arith, each.0.size, resident_last first steps l each.1 resident)
 
 -- what is shown now, by a write-back now
-written_now : (first : Memory) (steps : List Step) (l w v : ℕ) (b : Bool) → EachFollows first steps → IsTelling first.image.history → IsResident first l
+written_now : (first : Memory) (steps : List Step) (l w v : ℕ) (b : Bool) → EachFollows first steps → IsTelling first.image.trace → IsResident first l
     → v ≡ shown (last first steps) l w → Reaches first steps l w v b
 written_now first steps l w v b each telling resident is =
     let m = last first steps in
@@ -187,11 +188,11 @@ written_now first steps l w v b each telling resident is =
       );
       alike = same;
       reached = as_either b new l w v
-          (telling-did m.image.history (done.Wrote l (line_shown m l)) (next_count m.image.calls) (telling_last first steps each telling))
-          (subst (λ (x : ℕ). ReadsWord new.image.history l w x) (sym is) (reads-written m.image.history l (next_count m.image.calls) (line_shown m l) w));
+          (telling-did m.image.trace (done.Wrote l (line_shown m l)) (next_count m.image.calls) (telling_last first steps each telling))
+          (subst (λ (x : ℕ). ReadsWord new.image.trace l w x) (sym is) (reads-written m.image.trace l (next_count m.image.calls) (line_shown m l) w));
     }
 
-reaches : (first : Memory) (steps : List Step) (l w v : ℕ) (b : Bool) → EachFollows first steps → IsTelling first.image.history → IsResident first l
+reaches : (first : Memory) (steps : List Step) (l w v : ℕ) (b : Bool) → EachFollows first steps → IsTelling first.image.trace → IsResident first l
     → ShownSince first l w b steps v → Reaches first steps l w v b
 reaches first [] l w v b each telling resident is = written_now first [] l w v b each telling resident is
 reaches first (step ∷ steps) l w v b each telling resident (inl is) = written_now first (step ∷ steps) l w v b each telling resident is
@@ -213,37 +214,37 @@ each_is_left first steps l w v each telling resident (inr since) =
     let by = reaches first steps l w v false each telling resident since in
     record { more = by.more; same = by.same; follows = by.follows; left = by.reached }
 
-telling-undone : (o : Option History) (d : Done) (at : ℕ) → IsTelling (did d at o) → IsTelling o
+telling-undone : (o : Option Trace) (d : Done) (at : ℕ) → IsTelling (did d at o) → IsTelling o
 telling-undone None d at telling = telling
 telling-undone (Some h) d at telling = tt
 
 -- an image that tells what was done told it before
-telling_back : (deed : Deed) (old new : Memory) → DidAs deed old new → IsTelling new.image.history → IsTelling old.image.history
-telling_back (WroteBack l) old new does telling = telling-undone old.image.history (done.Wrote l (line_shown old l)) new.image.calls (subst IsTelling does.wrote telling)
-telling_back Fenced old new does telling = telling-undone old.image.history done.Fenced new.image.calls (subst IsTelling does.made telling)
-telling_back (Stored l w v) old new does telling = subst (λ (t : Told). IsTelling t.history) does.same.image telling
+telling_back : (deed : Deed) (old new : Memory) → DidAs deed old new → IsTelling new.image.trace → IsTelling old.image.trace
+telling_back (WroteBack l) old new does telling = telling-undone old.image.trace (done.Wrote l (line_shown old l)) new.image.calls (subst IsTelling does.wrote telling)
+telling_back Fenced old new does telling = telling-undone old.image.trace done.Fenced new.image.calls (subst IsTelling does.made telling)
+telling_back (Stored l w v) old new does telling = subst (λ (t : Told). IsTelling t.trace) does.same.image telling
 telling_back Neither old new does telling = subst IsTelling does.nothing telling
 
 -- a read of a line that was just written
-reads-anew : (o : Option History) (line at : ℕ) (words : List ℕ) (w v : ℕ) → IsTelling o → ReadsWord (did (done.Wrote line words) at o) line w v → v ≡ slice_index words w
+reads-anew : (o : Option Trace) (line at : ℕ) (words : List ℕ) (w v : ℕ) → IsTelling o → ReadsWord (did (done.Wrote line words) at o) line w v → v ≡ slice_index words w
 reads-anew None line at words w v telling reads = absurd telling
 reads-anew (Some h) line at words w v telling reads = reads ∙ sym (reads-written (Some h) line at words w)
 
-reads-unfenced : (o : Option History) (at l w v : ℕ) → ReadsWord (did done.Fenced at o) l w v → ReadsWord o l w v
+reads-unfenced : (o : Option Trace) (at l w v : ℕ) → ReadsWord (did done.Fenced at o) l w v → ReadsWord o l w v
 reads-unfenced None at l w v reads = tt
 reads-unfenced (Some h) at l w v reads = reads
 
-left_telling : (o : Option History) (l w v : ℕ) → MayLeave o l w v → IsTelling o
+left_telling : (o : Option Trace) (l w v : ℕ) → MayLeave o l w v → IsTelling o
 left_telling None l w v left = left
 left_telling (Some h) l w v left = tt
 
 -- What the memory after the further write-backs, the first here, has of a word is in the stop set without them.
 record IsInside (m first : Memory) (steps : List Step) (l w : ℕ) : Type 0 where
   shows : shown m l w ≡ shown (last first steps) l w
-  telling : IsTelling m.image.history → IsTelling (last first steps).image.history
-  left : (v : ℕ) → MayLeave m.image.history l w v → InStopSet first steps l w v
-  read : (v : ℕ) → IsTelling m.image.history → ReadsWord m.image.history l w v
-      → ReadsWord (last first steps).image.history l w v ⊎ ShownSince first l w true steps v
+  telling : IsTelling m.image.trace → IsTelling (last first steps).image.trace
+  left : (v : ℕ) → MayLeave m.image.trace l w v → InStopSet first steps l w v
+  read : (v : ℕ) → IsTelling m.image.trace → ReadsWord m.image.trace l w v
+      → ReadsWord (last first steps).image.trace l w v ⊎ ShownSince first l w true steps v
 
 module _ (first m : Memory) (steps : List Step) (l w : ℕ) (inside : IsInside m first steps l w) where
   -- after one more write-back that the other calls lack
@@ -252,18 +253,18 @@ module _ (first m : Memory) (steps : List Step) (l w : ℕ) (inside : IsInside m
     shows = same ∙ inside.shows;
     telling = λ telling. inside.telling (telling_back (WroteBack line) m new does telling);
     left = λ v left. ⊎_elim
-        (λ (before : MayLeave m.image.history l w v). inside.left v before)
+        (λ (before : MayLeave m.image.trace l w v). inside.left v before)
         (λ (is : v ≡ shown m l w). inr (shown_now first l w false steps v (is ∙ inside.shows)))
         (leaves_on (WroteBack line) m new l w v does left);
     read = λ v telling reads. ⊎_elim
         (λ here. inr (shown_now first l w true steps v (here.1 ∙ ap (λ (k : ℕ). shown m k w) (sym here.0) ∙ inside.shows)))
         (λ before. inside.read v (telling_back (WroteBack line) m new does telling) before)
-        (reads-wrote m.image.history line new.image.calls (line_shown m line) l w v (subst (λ (o : Option History). ReadsWord o l w v) does.wrote reads));
+        (reads-wrote m.image.trace line new.image.calls (line_shown m line) l w v (subst (λ (o : Option Trace). ReadsWord o l w v) does.wrote reads));
   }
 
   -- what was in the stop set is, after a call that took nothing away
   still : (deed : Deed) (after : Memory) (v : ℕ) → is_fence deed ≡ false
-      → (MayLeave (last first steps).image.history l w v → MayLeave after.image.history l w v)
+      → (MayLeave (last first steps).image.trace l w v → MayLeave after.image.trace l w v)
       → InStopSet first steps l w v → InStopSet first (record { deed = deed; after = after } ∷ steps) l w v
   still deed after v plain keeps (inl left) = inl (keeps left)
   still deed after v plain keeps (inr since) = inr (inr (λ impossible. cc, subst (λ (b : Bool). ShownSince first l w b steps v) (sym plain) since))
@@ -273,38 +274,38 @@ module _ (first m : Memory) (steps : List Step) (l w : ℕ) (inside : IsInside m
       → IsInside new first (record { deed = WroteBack line; after = after } ∷ steps) l w
   both_wrote line new after more does same =
       let old = last first steps in
-      let told = did (done.Wrote line (line_shown m line)) new.image.calls m.image.history in
+      let told = did (done.Wrote line (line_shown m line)) new.image.calls m.image.trace in
       record {
         shows = same;
         telling = λ telling. telling_on (WroteBack line) old after does (inside.telling (telling_back (WroteBack line) m new more telling));
         left = λ v left. ⊎_elim
             (λ here. inr (inr (λ impossible. cc, shown_now first l w false steps v (here.1 ∙ ap (λ (k : ℕ). shown m k w) (sym here.0) ∙ inside.shows))))
             (λ before. still (WroteBack line) after v refl
-            (λ kept. subst (λ (o : Option History). MayLeave o l w v) (sym does.wrote) (may_leave-kept old.image.history line after.image.calls (line_shown old line) l w v kept))
+            (λ kept. subst (λ (o : Option Trace). MayLeave o l w v) (sym does.wrote) (may_leave-kept old.image.trace line after.image.calls (line_shown old line) l w v kept))
             (inside.left v before))
-            (may_leave-wrote m.image.history line new.image.calls (line_shown m line) l w v (subst (λ (o : Option History). MayLeave o l w v) more.wrote left));
+            (may_leave-wrote m.image.trace line new.image.calls (line_shown m line) l w v (subst (λ (o : Option Trace). MayLeave o l w v) more.wrote left));
         read = λ v telling reads.
             let before = telling_back (WroteBack line) m new more telling in
-            let reads_told = subst (λ (o : Option History). ReadsWord o l w v) more.wrote reads in
+            let reads_told = subst (λ (o : Option Trace). ReadsWord o l w v) more.wrote reads in
             elim (cases_eq line l) [
               | inl one ↦
-                  let anew = reads-anew m.image.history line new.image.calls (line_shown m line) w v before
+                  let anew = reads-anew m.image.trace line new.image.calls (line_shown m line) w v before
                   (subst (λ (k : ℕ). ReadsWord told k w v) (sym one) reads_told) in
                   let is : v ≡ shown old l w = anew ∙ ap (λ (k : ℕ). shown m k w) one ∙ inside.shows in
-                  inl (subst (λ (o : Option History). ReadsWord o l w v) (sym does.wrote)
-                  (subst (λ (x : ℕ). ReadsWord (did (done.Wrote line (line_shown old line)) after.image.calls old.image.history) l w x) (sym is)
-                  (subst (λ (k : ℕ). ReadsWord (did (done.Wrote line (line_shown old line)) after.image.calls old.image.history) k w (shown old k w)) one
-                  (reads-written old.image.history line after.image.calls (line_shown old line) w))))
+                  inl (subst (λ (o : Option Trace). ReadsWord o l w v) (sym does.wrote)
+                  (subst (λ (x : ℕ). ReadsWord (did (done.Wrote line (line_shown old line)) after.image.calls old.image.trace) l w x) (sym is)
+                  (subst (λ (k : ℕ). ReadsWord (did (done.Wrote line (line_shown old line)) after.image.calls old.image.trace) k w (shown old k w)) one
+                  (reads-written old.image.trace line after.image.calls (line_shown old line) w))))
               | inr apart ↦
                   let test : nat_eq line l ≡ false = grind (arith, nat_tests) in
                   ⊎_elim
                   (λ here. absurd (apart (sym here.0)))
                   (λ read. ⊎_elim
-                  (λ (still_read : ReadsWord old.image.history l w v). inl (subst (λ (o : Option History). ReadsWord o l w v) (sym does.wrote)
-                  (reads-kept old.image.history line after.image.calls (line_shown old line) l w v (λ (equal : l ≡ line). absurd (apart (sym equal))) still_read)))
+                  (λ (still_read : ReadsWord old.image.trace l w v). inl (subst (λ (o : Option Trace). ReadsWord o l w v) (sym does.wrote)
+                  (reads-kept old.image.trace line after.image.calls (line_shown old line) l w v (λ (equal : l ≡ line). absurd (apart (sym equal))) still_read)))
                   (λ (since : ShownSince first l w true steps v). inr (inr (λ (is : nat_eq line l ≡ true). cc, since)))
                   (inside.read v before read))
-                  (reads-wrote m.image.history line new.image.calls (line_shown m line) l w v reads_told)
+                  (reads-wrote m.image.trace line new.image.calls (line_shown m line) l w v reads_told)
             ];
       }
 
@@ -316,34 +317,34 @@ module _ (first m : Memory) (steps : List Step) (l w : ℕ) (inside : IsInside m
         shows = same;
         telling = λ telling. telling_on Fenced old after does (inside.telling (telling_back Fenced m new more telling));
         left = λ v left.
-            let both = may_leave-fenced m.image.history new.image.calls l w v (subst (λ (o : Option History). MayLeave o l w v) more.made left) in
-            let telling = left_telling m.image.history l w v both.1 in
+            let both = may_leave-fenced m.image.trace new.image.calls l w v (subst (λ (o : Option Trace). MayLeave o l w v) more.made left) in
+            let telling = left_telling m.image.trace l w v both.1 in
             ⊎_elim
-            (λ (read : ReadsWord old.image.history l w v). inl (subst (λ (o : Option History). MayLeave o l w v) (sym does.made)
-            (fenced_left old.image.history after.image.calls l w v (inside.telling telling) read)))
+            (λ (read : ReadsWord old.image.trace l w v). inl (subst (λ (o : Option Trace). MayLeave o l w v) (sym does.made)
+            (fenced_left old.image.trace after.image.calls l w v (inside.telling telling) read)))
             (λ (since : ShownSince first l w true steps v). inr (inr (λ impossible. cc, since)))
             (inside.read v telling both.0);
         read = λ v telling reads. ⊎_elim
-            (λ (read : ReadsWord old.image.history l w v). inl (subst (λ (o : Option History). ReadsWord o l w v) (sym does.made)
-            (reads-fenced old.image.history after.image.calls l w v read)))
+            (λ (read : ReadsWord old.image.trace l w v). inl (subst (λ (o : Option Trace). ReadsWord o l w v) (sym does.made)
+            (reads-fenced old.image.trace after.image.calls l w v read)))
             (λ (since : ShownSince first l w true steps v). inr (inr (λ impossible. cc, since)))
             (inside.read v (telling_back Fenced m new more telling)
-            (reads-unfenced m.image.history new.image.calls l w v (subst (λ (o : Option History). ReadsWord o l w v) more.made reads)));
+            (reads-unfenced m.image.trace new.image.calls l w v (subst (λ (o : Option Trace). ReadsWord o l w v) more.made reads)));
       }
 
   -- where neither changed what its image tells
   both_quiet : (deed : Deed) (new after : Memory) → is_fence deed ≡ false → writes l deed ≡ false
-      → m.image.history ≡ new.image.history → (last first steps).image.history ≡ after.image.history → shown new l w ≡ shown after l w
+      → m.image.trace ≡ new.image.trace → (last first steps).image.trace ≡ after.image.trace → shown new l w ≡ shown after l w
       → IsInside new first (record { deed = deed; after = after } ∷ steps) l w
   both_quiet deed new after plain other more does same = record {
     shows = same;
     telling = λ telling. subst IsTelling does (inside.telling (subst IsTelling (sym more) telling));
-    left = λ v left. still deed after v plain (λ kept. subst (λ (o : Option History). MayLeave o l w v) does kept)
-        (inside.left v (subst (λ (o : Option History). MayLeave o l w v) (sym more) left));
+    left = λ v left. still deed after v plain (λ kept. subst (λ (o : Option Trace). MayLeave o l w v) does kept)
+        (inside.left v (subst (λ (o : Option Trace). MayLeave o l w v) (sym more) left));
     read = λ v telling reads. ⊎_elim
-        (λ (read : ReadsWord (last first steps).image.history l w v). inl (subst (λ (o : Option History). ReadsWord o l w v) does read))
+        (λ (read : ReadsWord (last first steps).image.trace l w v). inl (subst (λ (o : Option Trace). ReadsWord o l w v) does read))
         (λ (since : ShownSince first l w true steps v). inr (inr (λ (is : writes l deed ≡ true). cc, since)))
-        (inside.read v (subst IsTelling (sym more) telling) (subst (λ (o : Option History). ReadsWord o l w v) (sym more) reads));
+        (inside.read v (subst IsTelling (sym more) telling) (subst (λ (o : Option Trace). ReadsWord o l w v) (sym more) reads));
   }
 
   both_inside : (deed : Deed) (new after : Memory) → DidAs deed m new → DidAs deed (last first steps) after → shown new l w ≡ shown after l w
@@ -351,7 +352,7 @@ module _ (first m : Memory) (steps : List Step) (l w : ℕ) (inside : IsInside m
   both_inside (WroteBack line) new after more does same = both_wrote line new after more does same
   both_inside Fenced new after more does same = both_fenced new after more does same
   both_inside (Stored k x v) new after more does same =
-      both_quiet (Stored k x v) new after refl refl (ap (λ (t : Told). t.history) (sym more.same.image)) (ap (λ (t : Told). t.history) (sym does.same.image)) same
+      both_quiet (Stored k x v) new after refl refl (ap (λ (t : Told). t.trace) (sym more.same.image)) (ap (λ (t : Told). t.trace) (sym does.same.image)) same
   both_inside Neither new after more does same = both_quiet Neither new after refl refl (sym more.nothing) (sym does.nothing) same
 
 stores_or_not : (l w : ℕ) (deed : Deed) → Stores l w deed ⊎ (Stores l w deed → ⊥)

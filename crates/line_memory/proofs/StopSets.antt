@@ -1,24 +1,25 @@
 -- Steps that follow one another, and what each does to a stop set.
 use Rattle.std.proofs.Common.{◌≡◌, ◌⊎◌, inl, inr, ⊎_elim, ℕ, suc, List, [], ◌∷◌, ◌++◌, Bool, true, false, ◌||◌, nat_eq, Option, Some, None, refl, sym, ◌∙◌, ap, subst, arith}
 use Rattle.std.proofs.lemmas.Bool.Decides.{nat_tests}
-use Rattle.line_image.specs.History.{History, MayLeave, did}
-use Rattle.line_image.specs.declared.entry.Done.{Done}
-use Rattle.line_image.specs.declared.entry.Done.TheVariants as done
-use Rattle.line_memory.specs.Memory.{Memory, Told, line_shown, shown, IsResident, IsTelling, IsKnown, ReadsWord, CanLeave, IsWritten, IsDurable}
+use Rattle.line_image.specs.Trace.{Trace, MayLeave, did}
+use Rattle.line_image.specs.declared.effect.Done.{Done}
+use Rattle.line_image.specs.declared.effect.Done.TheVariants as done
+use Rattle.line_image.specs.Told.{Told}
+use Rattle.line_memory.specs.Memory.{Memory, line_shown, shown, IsResident, IsTelling, IsKnown, ReadsWord, CanLeave, IsWritten, IsDurable}
 use Rattle.line_memory.specs.Steps.{Deed, WroteBack, Fenced, Stored, Neither, Step, Stores, last, DidAs, Follows, EachFollows}
 use Rattle.line_memory.specs.StopSet.{is_fence, ShownSince, InStopSet}
 use Rattle.line_memory.specs.Laws.{NoneStores, StopsStayInside, AddsWhatIsShown, StoresAloneAdd, FencedStandsAlone, write_and_fence}
 use Rattle.line_memory.proofs.Stops.{may_leave-wrote, may_leave-fenced, reads_once, reads-kept, reads-written}
 
-pub telling-did : (o : Option History) (d : Done) (at : ℕ) → IsTelling o → IsTelling (did d at o)
+pub telling-did : (o : Option Trace) (d : Done) (at : ℕ) → IsTelling o → IsTelling (did d at o)
 telling-did None d at telling = telling
 telling-did (Some h) d at telling = tt
 
 -- an image goes on telling
-pub telling_on : (deed : Deed) (old new : Memory) → DidAs deed old new → IsTelling old.image.history → IsTelling new.image.history
-telling_on (WroteBack l) old new follows telling = subst IsTelling (sym follows.wrote) (telling-did old.image.history (done.Wrote l (line_shown old l)) new.image.calls telling)
-telling_on Fenced old new follows telling = subst IsTelling (sym follows.made) (telling-did old.image.history done.Fenced new.image.calls telling)
-telling_on (Stored l w v) old new follows telling = subst (λ (t : Told). IsTelling t.history) (sym follows.same.image) telling
+pub telling_on : (deed : Deed) (old new : Memory) → DidAs deed old new → IsTelling old.image.trace → IsTelling new.image.trace
+telling_on (WroteBack l) old new follows telling = subst IsTelling (sym follows.wrote) (telling-did old.image.trace (done.Wrote l (line_shown old l)) new.image.calls telling)
+telling_on Fenced old new follows telling = subst IsTelling (sym follows.made) (telling-did old.image.trace done.Fenced new.image.calls telling)
+telling_on (Stored l w v) old new follows telling = subst (λ (t : Told). IsTelling t.trace) (sym follows.same.image) telling
 telling_on Neither old new follows telling = subst IsTelling (sym follows.nothing) telling
 
 -- what is known stays known
@@ -38,28 +39,28 @@ same_word : (old : Memory) (step : Step) (l w : ℕ) → Follows old step → Is
 same_word old step l w follows known other = same_deed step.deed old step.after l w follows.deed known (known_on old step l follows known) other
 
 -- A stop leaves what it left before, or what the word showed.
-pub leaves_on : (deed : Deed) (old new : Memory) (l w v : ℕ) → DidAs deed old new → MayLeave new.image.history l w v → MayLeave old.image.history l w v ⊎ (v ≡ shown old l w)
+pub leaves_on : (deed : Deed) (old new : Memory) (l w v : ℕ) → DidAs deed old new → MayLeave new.image.trace l w v → MayLeave old.image.trace l w v ⊎ (v ≡ shown old l w)
 leaves_on (WroteBack line) old new l w v follows left = ⊎_elim
     (λ here. inr (here.1 ∙ ap (λ (k : ℕ). shown old k w) (sym here.0)))
     (λ before. inl before)
-    (may_leave-wrote old.image.history line new.image.calls (line_shown old line) l w v (subst (λ (o : Option History). MayLeave o l w v) follows.wrote left))
+    (may_leave-wrote old.image.trace line new.image.calls (line_shown old line) l w v (subst (λ (o : Option Trace). MayLeave o l w v) follows.wrote left))
 leaves_on Fenced old new l w v follows left =
-    inl (may_leave-fenced old.image.history new.image.calls l w v (subst (λ (o : Option History). MayLeave o l w v) follows.made left)).1
-leaves_on (Stored line word x) old new l w v follows left = inl (subst (λ (t : Told). MayLeave t.history l w v) follows.same.image left)
-leaves_on Neither old new l w v follows left = inl (subst (λ (o : Option History). MayLeave o l w v) follows.nothing left)
+    inl (may_leave-fenced old.image.trace new.image.calls l w v (subst (λ (o : Option Trace). MayLeave o l w v) follows.made left)).1
+leaves_on (Stored line word x) old new l w v follows left = inl (subst (λ (t : Told). MayLeave t.trace l w v) follows.same.image left)
+leaves_on Neither old new l w v follows left = inl (subst (λ (o : Option Trace). MayLeave o l w v) follows.nothing left)
 
-pub reads-fenced : (o : Option History) (at l w v : ℕ) → ReadsWord o l w v → ReadsWord (did done.Fenced at o) l w v
+pub reads-fenced : (o : Option Trace) (at l w v : ℕ) → ReadsWord o l w v → ReadsWord (did done.Fenced at o) l w v
 reads-fenced None at l w v reads = tt
 reads-fenced (Some h) at l w v reads = reads
 
 -- A read gives what it gave, if that is what the word showed.
-reads_on : (deed : Deed) (old new : Memory) (l w : ℕ) → DidAs deed old new → IsWritten old l w → ReadsWord new.image.history l w (shown old l w)
-reads_on (WroteBack line) old new l w follows reads = subst (λ (o : Option History). ReadsWord o l w (shown old l w)) (sym follows.wrote)
-    (reads-kept old.image.history line new.image.calls (line_shown old line) l w (shown old l w) (λ same. ap (λ (k : ℕ). shown old k w) same) reads)
-reads_on Fenced old new l w follows reads = subst (λ (o : Option History). ReadsWord o l w (shown old l w)) (sym follows.made)
-    (reads-fenced old.image.history new.image.calls l w (shown old l w) reads)
-reads_on (Stored line word x) old new l w follows reads = subst (λ (t : Told). ReadsWord t.history l w (shown old l w)) (sym follows.same.image) reads
-reads_on Neither old new l w follows reads = subst (λ (o : Option History). ReadsWord o l w (shown old l w)) (sym follows.nothing) reads
+reads_on : (deed : Deed) (old new : Memory) (l w : ℕ) → DidAs deed old new → IsWritten old l w → ReadsWord new.image.trace l w (shown old l w)
+reads_on (WroteBack line) old new l w follows reads = subst (λ (o : Option Trace). ReadsWord o l w (shown old l w)) (sym follows.wrote)
+    (reads-kept old.image.trace line new.image.calls (line_shown old line) l w (shown old l w) (λ same. ap (λ (k : ℕ). shown old k w) same) reads)
+reads_on Fenced old new l w follows reads = subst (λ (o : Option Trace). ReadsWord o l w (shown old l w)) (sym follows.made)
+    (reads-fenced old.image.trace new.image.calls l w (shown old l w) reads)
+reads_on (Stored line word x) old new l w follows reads = subst (λ (t : Told). ReadsWord t.trace l w (shown old l w)) (sym follows.same.image) reads
+reads_on Neither old new l w follows reads = subst (λ (o : Option Trace). ReadsWord o l w (shown old l w)) (sym follows.nothing) reads
 
 -- The first of some steps, and the rest.
 first_none : (l w : ℕ) (step : Step) (steps : List Step) → NoneStores l w (step ∷ steps) → ¬ Stores l w step.deed
@@ -106,7 +107,7 @@ in_stop_set first steps l w v (inr left) = inl left
 
 pub one_more : AddsWhatIsShown
 one_more first step steps l w v follows (inl left) = ⊎_elim
-    (λ (before : MayLeave (last first steps).image.history l w v). inl (inl before))
+    (λ (before : MayLeave (last first steps).image.trace l w v). inl (inl before))
     (λ (is : v ≡ shown (last first steps) l w). inl (inr (shown_now first l w false steps v is)))
     (leaves_on step.deed (last first steps) step.after l w v follows.deed left)
 one_more first step steps l w v follows (inr (inl is)) = inr is
@@ -138,23 +139,23 @@ durable_on l w old step follows known other durable v (inr left) =
     ∙ sym (same_word old step l w follows known other)
 
 written_on : (l w : ℕ) (old : Memory) (step : Step) → Follows old step → IsKnown old l → ¬ Stores l w step.deed → IsWritten old l w → IsWritten step.after l w
-written_on l w old step follows known other written = subst (λ (v : ℕ). ReadsWord step.after.image.history l w v)
+written_on l w old step follows known other written = subst (λ (v : ℕ). ReadsWord step.after.image.trace l w v)
     (sym (same_word old step l w follows known other)) (reads_on step.deed old step.after l w follows.deed written)
 
 -- a write-back writes what is shown
 written_back : (l w : ℕ) (old new : Memory) → Follows old (record { deed = WroteBack l; after = new }) → IsKnown old l → IsWritten new l w
 written_back l w old new follows known =
     let same = same_word old (record { deed = WroteBack l; after = new }) l w follows known (λ impossible. impossible) in
-    subst (λ (o : Option History). ReadsWord o l w (shown new l w)) (sym follows.deed.wrote)
-    (subst (λ (v : ℕ). ReadsWord (did (done.Wrote l (line_shown old l)) new.image.calls old.image.history) l w v) (sym same)
-    (reads-written old.image.history l new.image.calls (line_shown old l) w))
+    subst (λ (o : Option Trace). ReadsWord o l w (shown new l w)) (sym follows.deed.wrote)
+    (subst (λ (v : ℕ). ReadsWord (did (done.Wrote l (line_shown old l)) new.image.calls old.image.trace) l w v) (sym same)
+    (reads-written old.image.trace l new.image.calls (line_shown old l) w))
 
 -- a fence makes it durable
 made_durable : (l w : ℕ) (old new : Memory) → Follows old (record { deed = Fenced; after = new }) → IsKnown old l → IsWritten old l w → IsDurable new l w
 made_durable l w old new follows known is_written v (inl is) = is
 made_durable l w old new follows known is_written v (inr left) =
-    let both = may_leave-fenced old.image.history new.image.calls l w v (subst (λ (o : Option History). MayLeave o l w v) follows.deed.made left) in
-    reads_once old.image.history l w v (shown old l w) v both.1 both.0 is_written
+    let both = may_leave-fenced old.image.trace new.image.calls l w v (subst (λ (o : Option Trace). MayLeave o l w v) follows.deed.made left) in
+    reads_once old.image.trace l w v (shown old l w) v both.1 both.0 is_written
     ∙ sym (same_word old (record { deed = Fenced; after = new }) l w follows known (λ impossible. impossible))
 
 or_true : (b : Bool) → (b || true) ≡ true

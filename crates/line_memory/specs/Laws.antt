@@ -4,7 +4,7 @@
 -- fence followed takes all else away (Raad, Wickerson, Neiger and Vafeiadis, "Persistency semantics of the
 -- Intel-x86 architecture", POPL 2020).
 use Rattle.std.specs.Prelude.{◌≡◌, ◌⊎◌, ◌↔◌, ℕ, List, [], ◌∷◌, ◌++◌, All}
-use Rattle.line_image.specs.History.{MayLeave}
+use Rattle.line_image.specs.Trace.{MayLeave}
 use Rattle.line_memory.specs.Memory.{Memory, shown, IsResident, IsKnown, IsTelling, CanLeave}
 use Rattle.line_memory.specs.Steps.{Step, WroteBack, Fenced, Stores, last, Follows, EachFollows}
 use Rattle.line_memory.specs.StopSet.{InStopSet}
@@ -59,7 +59,7 @@ pub record IsLeftByWriteBacks (first : Memory) (steps : List Step) (l w v : ℕ)
   pub more : List Step
   pub same : AddsWriteBacks steps more
   pub follows : EachFollows first more
-  pub left : MayLeave (last first more).image.history l w v
+  pub left : MayLeave (last first more).image.trace l w v
 
 -- Whichever lines are written back at further moments, a stop leaves nothing that isn't in the stop set.
 abbrev pub NoneElseIsLeft : Type 0
@@ -70,5 +70,5 @@ NoneElseIsLeft = (first : Memory) (steps : List Step) (l w v : ℕ)
 -- And each value that is in it might be left so.
 abbrev pub EachIsLeft : Type 0
 EachIsLeft = (first : Memory) (steps : List Step) (l w v : ℕ)
-    → EachFollows first steps → IsTelling first.image.history → IsResident first l
+    → EachFollows first steps → IsTelling first.image.trace → IsResident first l
     → InStopSet first steps l w v → IsLeftByWriteBacks first steps l w v

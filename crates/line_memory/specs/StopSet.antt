@@ -4,7 +4,7 @@
 -- fence (SFENCE) followed (Raad, Wickerson, Neiger and Vafeiadis, "Persistency semantics of the Intel-x86
 -- architecture", POPL 2020).
 use Rattle.std.specs.Prelude.{◌≡◌, ◌⊎◌, ℕ, List, [], ◌∷◌, Bool, true, false, ◌&&◌, ◌||◌, ◌==◌, IsTrue}
-use Rattle.line_image.specs.History.{MayLeave}
+use Rattle.line_image.specs.Trace.{MayLeave}
 use Rattle.line_memory.specs.Memory.{Memory, shown}
 use Rattle.line_memory.specs.Steps.{Deed, WroteBack, Fenced, Stored, Neither, Step, last}
 
@@ -31,5 +31,5 @@ ShownSince first l w fenced (step ∷ steps) v =
 
 -- what is fenced of the word or was written to it since, and what it showed since
 abbrev pub InStopSet : Memory → List Step → ℕ → ℕ → ℕ → Type 0
-InStopSet first steps l w v = MayLeave (last first steps).image.history l w v
+InStopSet first steps l w v = MayLeave (last first steps).image.trace l w v
     ⊎ ShownSince first l w false steps v

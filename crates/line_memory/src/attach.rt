@@ -1,7 +1,7 @@
 // Reads all lines of an image.
 ghost use Rattle.std.specs.Prelude.{◌≡◌, ◌+◌, ◌-◌, ◌^◌, min, ◌<◌, ◌≤◌, ℕ, [], length, get_or, OnOk, IfOk, IsErrOf};
 ghost use Rattle.ap_base.specs.Causes.{Rose};
-ghost use Rattle.line_image.specs.History.{Reads};
+ghost use Rattle.line_image.specs.Trace.{Reads};
 ghost use Rattle.line_memory.specs.declared.attach.AttachFault.TheVariants.{OutOfMemory as NoMemory, ImageFailed as Failed};
 
 use line_image::{Image, ImageFailed};
@@ -49,14 +49,15 @@ pub(crate) fn read_lines<I: Image>(
     image: &mut I,
     count: u64,
 ) -> Result<Vec<[u64; 8]>, AttachFault>
-    requires { count ≡ I.size image.old }
-    ensures size { I.size image.new ≡ I.size image.old }
-    ensures same { I.history image.new ≡ I.history image.old }
+    requires { count ≡ (I.told image.old).size }
+    ensures size { (I.told image.new).size ≡ (I.told image.old).size }
+    ensures same { (I.told image.new).trace ≡ (I.told image.old).trace }
     ensures length { IfOk result (λ lines. length lines.items ≡ count) }
     ensures reads { IfOk result (λ lines. (k : ℕ) → k < count
-        → Reads (I.history image.old) k (get_or lines.items k [])) }
-    ensures calls { OnOk result (I.calls image.new ≡ min (I.calls image.old + count) (2 ^ 64 - 1)) }
-    ensures calls_later { I.calls image.old ≤ I.calls image.new }
+        → Reads (I.told image.old).trace k (get_or lines.items k [])) }
+    ensures calls { OnOk result ((I.told image.new).calls
+        ≡ min ((I.told image.old).calls + count) (2 ^ 64 - 1)) }
+    ensures calls_later { (I.told image.old).calls ≤ (I.told image.new).calls }
     ensures later { I.faults image.old ≤ I.faults image.new }
     ensures cause { IsErrOf result AttachFault.ImageFailed → Rose (I.faults image.old) (I.faults image.new) }
     ensures never { IsErrOf result AttachFault.Size → ⊥ }

@@ -4,8 +4,6 @@
 mod attach;
 mod laws;
 mod memory;
-#[cfg(test)]
-mod tests;
 
 pub use attach::AttachFault;
 pub use laws::{

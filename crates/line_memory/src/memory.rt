@@ -1,7 +1,7 @@
 // The lines of an image, kept in memory.
 ghost use Rattle.std.specs.Prelude.{◌≡◌, ◌≢◌, ◌⊎◌, ◌<◌, ◌≤◌, ℕ, ◌↔◌, IsTrue, OnOk, OnErr, IfOk, IfErr, Ok};
 ghost use Rattle.ap_base.specs.Causes.{HasCause, Rose};
-ghost use Rattle.line_image.specs.History.{LeavesNow, IsSettled};
+ghost use Rattle.line_image.specs.Trace.{LeavesNow, IsAllFenced};
 ghost use Rattle.line_memory.specs.Memory.{Memory, shown, IsResident, IsAwaited, IsKnown, ReadsWord, CanLeave, CanLeaveAll, IsWritten, IsDurable, SameShown, SameResident, KeepsTelling, Narrows, ReadsOrShows, LeavesNoMore, SameReads, OneCall, SameImage, WroteLine, MadeFence, DidNothing};
 ghost use Rattle.line_memory.specs.Moments.{Goes, CountsFrom};
 
@@ -20,7 +20,7 @@ pub enum Touch {
 
 /// The lines of an image, kept in memory as a cache keeps them. Stores change what is shown here; a
 /// write-back writes a line to the image, and a fence makes the written lines durable.
-#[derive(Drop, Debug)]
+#[derive(Drop)]
 pub struct LineMemory<I: Image> {
     image: I,
     lines: Vec<[u64; 8]>,
@@ -35,13 +35,13 @@ impl<I: Image> Model for LineMemory<I> {
 
     ghost view = { λ m. record {
       lines = m.lines.items;
-      size = I.size m.image;
+      size = (I.told m.image).size;
       calls = m.calls;
       faults = I.faults m.image;
-      image = record { calls = I.calls m.image; history = I.history m.image };
+      image = I.told m.image;
     } };
 
-    ghost invariant = { λ m. length m.lines.items ≡ I.size m.image };
+    ghost invariant = { λ m. length m.lines.items ≡ (I.told m.image).size };
 }
 
 /// The fewest lines of an image that can be attached.
@@ -55,29 +55,28 @@ impl<I: Image> LineMemory<I> {
     /// Reads every line of an image. Gives the image back with the fault: `Size` exactly where it has fewer
     /// than 32,768 or more than 4,194,304 lines.
     pub fn attach(alloc: Global, mut image: I) -> Result<LineMemory<I>, (AttachFault, I)>
-        ensures size { IfOk result (λ m. m.size ≡ I.size image) }
+        ensures size { IfOk result (λ m. m.size ≡ (I.told image).size) }
         ensures range { IfOk result (λ m. (32768 ≤ m.size) × (m.size ≤ 4194304)) }
         ensures known { IfOk result (λ m. (l : ℕ) → l < m.size → IsKnown m l) }
         ensures shows { IfOk result (λ m. (l w : ℕ) → l < m.size
-            → ReadsWord (I.history image) l w (shown m l w)) }
-        ensures durable { IfOk result (λ m. IsSettled (I.history image) → (l w : ℕ) → l < m.size
-            → IsDurable m l w) }
-        ensures history { IfOk result (λ m. m.image.history ≡ I.history image) }
-        ensures calls { IfOk result (λ m. m.calls ≡ I.size image) }
-        ensures counts { IfOk result (CountsFrom (I.calls image)) }
-        ensures any_moment { IfOk result (λ m. Goes
-            (record { calls = I.calls image; history = I.history image }) m.image (LeavesNow (I.history image))) }
+            → ReadsWord (I.told image).trace l w (shown m l w)) }
+        ensures durable { IfOk result (λ m. IsAllFenced (I.told image).trace
+            → (l w : ℕ) → l < m.size → IsDurable m l w) }
+        ensures trace { IfOk result (λ m. m.image.trace ≡ (I.told image).trace) }
+        ensures calls { IfOk result (λ m. m.calls ≡ (I.told image).size) }
+        ensures counts { IfOk result (CountsFrom (I.told image).calls) }
+        ensures any_moment { IfOk result (λ m.
+            Goes (I.told image) m.image (LeavesNow (I.told image).trace)) }
         ensures later { IfOk result (λ m. I.faults image ≤ m.faults) }
 
         ensures size_fault { IfErr result (λ e. e.0 ≡ AttachFault.Size
-            ↔ ((I.size image < 32768) ⊎ (4194304 < I.size image))) }
+            ↔ (((I.told image).size < 32768) ⊎ (4194304 < (I.told image).size))) }
         ensures cause { IfErr result (λ e. e.0 ≡ AttachFault.ImageFailed
             → Rose (I.faults image) (I.faults e.1)) }
-        ensures same_size { IfErr result (λ e. I.size e.1 ≡ I.size image) }
-        ensures same_history { IfErr result (λ e. I.history e.1 ≡ I.history image) }
+        ensures same_size { IfErr result (λ e. (I.told e.1).size ≡ (I.told image).size) }
+        ensures same_trace { IfErr result (λ e. (I.told e.1).trace ≡ (I.told image).trace) }
         ensures any_moment_of_fault { IfErr result (λ e.
-            Goes (record { calls = I.calls image; history = I.history image })
-            (record { calls = I.calls e.1; history = I.history e.1 }) (LeavesNow (I.history image))) }
+            Goes (I.told image) (I.told e.1) (LeavesNow (I.told image).trace)) }
         ensures later_of_fault { IfErr result (λ e. I.faults image ≤ I.faults e.1) }
     {
         let count = image.lines();
@@ -96,10 +95,9 @@ impl<I: Image> LineMemory<I> {
 
     /// Gives the image back. What is shown and not written is lost.
     pub fn into_image(self) -> I
-        ensures size { I.size result ≡ self.size }
+        ensures size { (I.told result).size ≡ self.size }
         ensures faults { I.faults result ≡ self.faults }
-        ensures calls { I.calls result ≡ self.image.calls }
-        ensures history { I.history result ≡ self.image.history }
+        ensures told { I.told result ≡ self.image }
     {
         self.image
     }
@@ -189,7 +187,7 @@ impl<I: Image> LineMemory<I> {
         ensures durable { OnOk result ((l w : ℕ) → IsWritten self.old l w → IsDurable self.new l w) }
         ensures unwritten { LeavesNoMore self.old self.new }
         ensures same_reads { SameReads self.old self.new }
-        ensures within { Goes self.old.image self.new.image (LeavesNow self.old.image.history) }
+        ensures within { Goes self.old.image self.new.image (LeavesNow self.old.image.trace) }
 
         ensures size { self.new.size ≡ self.old.size }
         ensures resident { SameResident self.old self.new }

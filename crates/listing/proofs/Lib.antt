@@ -1,1 +1,2 @@
 pub mod NewIndices
+pub mod Rows

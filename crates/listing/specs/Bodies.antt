@@ -1,6 +1,7 @@
--- The lines of methods, each with a constant pool of its own: what is bad about one whatever else its class has.
+-- The lines of methods, each with a constant pool of its own: what is bad about one whatever else its class
+-- has.
 use Rattle.std.specs.Prelude.{ℕ, List, [], ◌∷◌, Result, Ok, if◌then◌else◌}
-use Rattle.class_items.specs.Parsing.{◌>>=◌, told}
+use Rattle.parsing.specs.Results.{◌>>=◌, placed}
 use Rattle.listing_lines.specs.declared.refusal.LineRefusal.{LineRefusal}
 use Rattle.listing_lines.specs.declared.lines.Line.{Line}
 use Rattle.listing_lines.specs.declared.lines.Line.TheVariants as line
@@ -15,10 +16,11 @@ abbrev pub line_alone : (marks : List Mark) → (size pc passed : ℕ) → Line 
 line_alone marks size pc passed l = line_code marks size pc passed l [] >>= λ found. Ok tt
 
 -- the first bad line of a method from a place of its code on, up to its end
-unfoldable pub body_from : (marks : List Mark) → (size number pc passed : ℕ) → List Line → Result (Unit {0}) ListingError
+unfoldable pub body_from : (marks : List Mark) → (size number pc passed : ℕ) → List Line
+    → Result (Unit {0}) ListingError
 body_from marks size number pc passed [] = Ok tt
 body_from marks size number pc passed (l ∷ rest) = if is_end l then Ok tt else (do
-  alone ← told (at number) (line_alone marks size pc passed l)
+  alone ← placed (at number) (line_alone marks size pc passed l)
   body_from marks size (next_number number) (place_after pc l) (passed_after passed l) rest)
 
 -- the first bad line of all methods

@@ -2,7 +2,7 @@
 use Rattle.std.specs.Prelude.{ℕ, nat_lt, List, [], ◌∷◌, ◌++◌, Result, Ok, Err, if◌then◌else◌}
 use Rattle.std.specs.List.{flat_map}
 use Rattle.byteorder.specs.Endian.{big_bytes}
-use Rattle.class_items.specs.Parsing.{◌>>=◌, told}
+use Rattle.parsing.specs.Results.{◌>>=◌, placed}
 use Rattle.class_file.specs.declared.class.ClassFile.{ClassFile}
 use Rattle.class_file.specs.declared.refusal.ClassRefusal.{ClassRefusal}
 use Rattle.class_file.specs.declared.refusal.ClassRefusal.TheVariants as refusal
@@ -10,7 +10,7 @@ use Rattle.class_file.specs.Classes.{class_in, head_bytes}
 use Rattle.listing_lines.specs.declared.refusal.ListingFault.TheVariants.{Syntax}
 use Rattle.listing_lines.specs.declared.lines.Line.{Line}
 use Rattle.listing_lines.specs.declared.lines.Line.TheVariants as line
-use Rattle.listing_lines.specs.Lines.{lines_of}
+use Rattle.listing_lines.specs.Lines.{listing_lines}
 use Rattle.listing.specs.declared.error.ListingError.{ListingError}
 use Rattle.listing.specs.declared.error.ListingError.TheVariants as error
 use Rattle.listing.specs.declared.classes.ClassBytes.{ClassBytes}
@@ -38,8 +38,9 @@ listed found = big_bytes 2 found.0 ++ found.1
 -- the bytes of a class, of which the line with this number is the first
 unfoldable pub class_bytes : (number access : ℕ) → (name : List ℕ) → List Line → Result (List ℕ) ListingError
 class_bytes number access name rest = do
-  this ← told (at number) (with_text 7 name [])
-  super ← told (at (super_from (next_number number) rest).0) (with_text 7 (super_from (next_number number) rest).1 this.1)
+  this ← placed (at number) (with_text 7 name [])
+  super ← placed (at (super_from (next_number number) rest).0)
+      (with_text 7 (super_from (next_number number) rest).1 this.1)
   interfaces ← section_from section.Interfaces (next_number number) 0 rest super.1
   fields ← section_from section.Fields (next_number number) 0 rest interfaces.2
   methods ← section_from section.Methods (next_number number) 0 rest fields.2
@@ -64,26 +65,29 @@ refused number other = error.Fault number Syntax
 unfoldable pub classes_in : List ClassBytes → Result (List ClassFile) ListingError
 classes_in [] = Ok []
 classes_in (file ∷ files) = do
-  first ← told (refused file.line) (class_in file.bytes)
+  first ← placed (refused file.line) (class_in file.bytes)
   others ← classes_in files
   Ok (first ∷ others)
 
 -- the fault of the lower line, the first of two at one line
 abbrev pub lower : ListingError → ListingError → ListingError
-lower (error.Fault m first) (error.Fault n second) = if nat_lt n m then error.Fault n second else error.Fault m first
+lower (error.Fault m first) (error.Fault n second) =
+    if nat_lt n m then error.Fault n second else error.Fault m first
 lower first second = error.OutOfMemory
 
 -- what two readings give together
-abbrev pub both : {A : Type 0} → Result (Unit {0}) ListingError → Result A ListingError → Result A ListingError
+abbrev pub both : {A : Type 0} → Result (Unit {0}) ListingError → Result A ListingError
+    → Result A ListingError
 both (Ok none) read = read
 both (Err e) (Ok found) = Err e
 both (Err e) (Err f) = Err (lower e f)
 
--- the first line that is bad whatever its class's constant pool has: by itself, where it stands, by a root's name or in its method
+-- the first line that is bad whatever its class's constant pool has: by itself, where it stands, by a
+-- root's name or in its method
 unfoldable pub judged : List Line → Result (Unit {0}) ListingError
 judged lines = both (structure lines) (both (roots_from 1 [] lines) (bodies_from 1 lines))
 
--- The class files of a listing, or its first bad line and why. What makes the bytes too large for a class file is met in their order.
--- A class is judged as a whole only where no line is bad.
+-- The class files of a listing, or its first bad line and why. What makes the bytes too large for a class
+-- file is met in their order. A class is judged as a whole only where no line is bad.
 unfoldable pub assembled : List ℕ → Result (List ClassFile) ListingError
-assembled text = both (judged (lines_of text)) (files_from 1 (lines_of text)) >>= classes_in
+assembled text = both (judged (listing_lines text)) (files_from 1 (listing_lines text)) >>= classes_in

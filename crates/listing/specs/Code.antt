@@ -2,7 +2,7 @@
 use Rattle.std.specs.Prelude.{ℕ, ◌&&◌, not, nat_lt, Bool, ℤ, pos, negsuc, ◌-ℤ◌, int_le, List, [], ◌∷◌, ◌++◌, length, replicate, Result, Ok}
 use Rattle.std.specs.Int.{w16, w32, cast_unsigned}
 use Rattle.byteorder.specs.Endian.{big_bytes}
-use Rattle.class_items.specs.Parsing.{◌>>=◌}
+use Rattle.parsing.specs.Results.{◌>>=◌}
 use Rattle.listing_lines.specs.declared.refusal.ListingFault.TheVariants.{FarJump, TooLarge}
 use Rattle.listing_lines.specs.declared.refusal.LineRefusal.{LineRefusal}
 use Rattle.listing_lines.specs.declared.lines.Instruction.{Instruction}
@@ -53,14 +53,17 @@ cases marks size pc (first ∷ rest) = do
   Ok (big_bytes 4 (cast_unsigned w32 first.key) ++ to ++ others)
 
 -- JVMS 6.5, tableswitch
-unfoldable pub table_bytes : (marks : List Mark) → (size pc : ℕ) → (low high : ℤ) → (default : List ℕ) → (labels : List (List ℕ)) → Bytes
+unfoldable pub table_bytes : (marks : List Mark) → (size pc : ℕ) → (low high : ℤ) → (default : List ℕ)
+    → (labels : List (List ℕ)) → Bytes
 table_bytes marks size pc low high default labels = do
   otherwise ← far_offset marks size pc default
   each ← offsets marks size pc labels
-  Ok (170 ∷ replicate (padding pc) 0 ++ otherwise ++ big_bytes 4 (cast_unsigned w32 low) ++ big_bytes 4 (cast_unsigned w32 high) ++ each)
+  Ok (170 ∷ replicate (padding pc) 0 ++ otherwise ++ big_bytes 4 (cast_unsigned w32 low)
+      ++ big_bytes 4 (cast_unsigned w32 high) ++ each)
 
 -- JVMS 6.5, lookupswitch
-unfoldable pub lookup_bytes : (marks : List Mark) → (size pc : ℕ) → (default : List ℕ) → (pairs : List KeyLabel) → Bytes
+unfoldable pub lookup_bytes : (marks : List Mark) → (size pc : ℕ) → (default : List ℕ)
+    → (pairs : List KeyLabel) → Bytes
 lookup_bytes marks size pc default pairs = do
   few ← unless (nat_lt 65535 (length pairs)) TooLarge
   otherwise ← far_offset marks size pc default
@@ -88,11 +91,14 @@ interface_bytes m count entries = do
   Ok (with_index 185 index.0 (count ∷ 0 ∷ []), index.1)
 
 -- the bytes of an instruction at a place of its code, and the entries of the constant pool with its own
-abbrev pub instruction_bytes : (marks : List Mark) → (size pc : ℕ) → Instruction → Entries → Result (List ℕ × Entries) LineRefusal
+abbrev pub instruction_bytes : (marks : List Mark) → (size pc : ℕ) → Instruction → Entries
+    → Result (List ℕ × Entries) LineRefusal
 instruction_bytes marks size pc (instruction.Whole bytes) entries = Ok (bytes, entries)
 instruction_bytes marks size pc (instruction.Jump opcode label) entries =
     kept entries (jump_bytes marks size pc opcode label)
-instruction_bytes marks size pc (instruction.Table low high default labels) entries = kept entries (table_bytes marks size pc low high default labels)
-instruction_bytes marks size pc (instruction.Lookup default pairs) entries = kept entries (lookup_bytes marks size pc default pairs)
+instruction_bytes marks size pc (instruction.Table low high default labels) entries =
+    kept entries (table_bytes marks size pc low high default labels)
+instruction_bytes marks size pc (instruction.Lookup default pairs) entries =
+    kept entries (lookup_bytes marks size pc default pairs)
 instruction_bytes marks size pc (instruction.Entry opcode entry) entries = entry_bytes opcode entry entries
 instruction_bytes marks size pc (instruction.Interface m count) entries = interface_bytes m count entries

@@ -10,4 +10,5 @@ Map S = HashMap (Vec ℕ Global) ℕ S
 
 -- of the entries, and of no others
 abbrev pub AreIndices : {S : Type 0} → Entries → Map S → Type 0
-AreIndices entries indices = (text : List ℕ) → get_by (λ k. bytes_eq text k.items) indices ≡ index_from 1 entries text
+AreIndices entries indices = (text : List ℕ)
+    → get_by (λ k. bytes_eq text k.items) indices ≡ index_from 1 entries text

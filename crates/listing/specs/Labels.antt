@@ -1,7 +1,7 @@
 -- Where the labels of a method stand in its code.
 use Rattle.std.specs.Prelude.{ℕ, ◌+◌, ◌-◌, ◌*◌, ◌%◌, nat_lt, not, min, Bool, true, false, List, [], ◌∷◌, ◌++◌, length, Option, Some, None, Result, Ok, if◌then◌else◌}
 use Rattle.std.specs.Str.{bytes_eq}
-use Rattle.class_items.specs.Parsing.{◌>>=◌}
+use Rattle.parsing.specs.Results.{◌>>=◌}
 use Rattle.listing_lines.specs.declared.refusal.ListingFault.TheVariants.{Syntax, UnknownLabel}
 use Rattle.listing_lines.specs.declared.refusal.LineRefusal.{LineRefusal}
 use Rattle.listing_lines.specs.declared.lines.Instruction.{Instruction}
@@ -55,7 +55,10 @@ unfoldable pub marks_from : (pc : ℕ) → List Line → List Mark × ℕ
 marks_from pc [] = ([], pc)
 marks_from pc (l ∷ rest) =
     if is_end l then ([], pc)
-    else (mark_at pc (label_in l) ++ (marks_from (place_after pc l) rest).0, (marks_from (place_after pc l) rest).1)
+    else (
+      mark_at pc (label_in l) ++ (marks_from (place_after pc l) rest).0,
+      (marks_from (place_after pc l) rest).1,
+    )
 
 -- where the first label of a name stands
 unfoldable pub pc_of : List ℕ → List Mark → Option ℕ

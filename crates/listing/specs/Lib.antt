@@ -7,3 +7,4 @@ pub mod Roots
 pub mod Members
 pub mod Bodies
 pub mod Classes
+pub mod Rows

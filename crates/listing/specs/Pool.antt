@@ -1,10 +1,10 @@
--- A constant pool under construction: its entries in order, each by its bytes. An entry is added at its first need, its parts
--- before it, and equal ones once (JVMS 4.4).
+-- A constant pool under construction: its entries in order, each by its bytes. An entry is added at its
+-- first need, its parts before it, and equal ones once (JVMS 4.4).
 use Rattle.std.specs.Prelude.{ℕ, ◌+◌, ◌==◌, nat_lt, List, [], ◌∷◌, ◌++◌, length, Option, Some, None, Result, Ok, Err, if◌then◌else◌, sum_by}
 use Rattle.std.specs.Int.{w32, w64, cast_unsigned}
 use Rattle.std.specs.Str.{bytes_eq}
 use Rattle.byteorder.specs.Endian.{big_bytes}
-use Rattle.class_items.specs.Parsing.{◌>>=◌}
+use Rattle.parsing.specs.Results.{◌>>=◌}
 use Rattle.listing_lines.specs.declared.refusal.ListingFault.TheVariants.{TooLarge}
 use Rattle.listing_lines.specs.declared.refusal.LineRefusal.{LineRefusal}
 use Rattle.listing_lines.specs.declared.refusal.LineRefusal.TheVariants as refusal
@@ -29,7 +29,8 @@ free_index entries = 1 + sum_by width entries
 -- the index of an entry among those from an index on
 unfoldable pub index_from : ℕ → Entries → List ℕ → Option ℕ
 index_from index [] entry = None
-index_from index (first ∷ rest) entry = if bytes_eq first entry then Some index else index_from (index + width first) rest entry
+index_from index (first ∷ rest) entry =
+    if bytes_eq first entry then Some index else index_from (index + width first) rest entry
 
 abbrev pub Read : Type 0
 Read = Result (ℕ × Entries) LineRefusal

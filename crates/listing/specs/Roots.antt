@@ -2,7 +2,7 @@
 use Rattle.std.specs.Prelude.{ℕ, ◌&&◌, Bool, true, false, List, [], ◌∷◌, ◌++◌, Result, Ok}
 use Rattle.std.specs.List.{list_any}
 use Rattle.std.specs.Str.{bytes_eq}
-use Rattle.class_items.specs.Parsing.{◌>>=◌, told}
+use Rattle.parsing.specs.Results.{◌>>=◌, placed}
 use Rattle.listing_lines.specs.declared.refusal.ListingFault.TheVariants.{Syntax}
 use Rattle.listing_lines.specs.declared.lines.Line.{Line}
 use Rattle.listing_lines.specs.declared.lines.Line.TheVariants as line
@@ -22,8 +22,9 @@ roots_after roots (line.Field access name descriptor true) = roots ++ name ∷ [
 roots_after roots other = roots
 
 -- the first line that is such a root
-unfoldable pub roots_from : (number : ℕ) → (roots : List (List ℕ)) → List Line → Result (Unit {0}) ListingError
+unfoldable pub roots_from : (number : ℕ) → (roots : List (List ℕ)) → List Line
+    → Result (Unit {0}) ListingError
 roots_from number roots [] = Ok tt
 roots_from number roots (l ∷ rest) = do
-  once ← told (at number) (unless (is_root_again roots l) Syntax)
+  once ← placed (at number) (unless (is_root_again roots l) Syntax)
   roots_from (next_number number) (roots_after roots l) rest

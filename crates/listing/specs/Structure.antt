@@ -1,6 +1,7 @@
 -- Which lines may follow one another, and which line is bad.
 use Rattle.std.specs.Prelude.{ℕ, ◌+◌, ◌||◌, nat_lt, min, Bool, true, false, List, [], ◌∷◌, length, Some, Result, Ok, Err, if◌then◌else◌}
-use Rattle.class_items.specs.Parsing.{◌>>=◌, GivesUnless, told}
+use Rattle.parsing.specs.Results.{◌>>=◌, placed}
+use Rattle.parsing.specs.Results as results
 use Rattle.listing_lines.specs.declared.refusal.ListingFault.TheVariants.{Syntax, TooLarge}
 use Rattle.listing_lines.specs.declared.refusal.LineRefusal.{LineRefusal}
 use Rattle.listing_lines.specs.declared.refusal.LineRefusal.TheVariants as refusal
@@ -14,7 +15,7 @@ use Rattle.listing.specs.declared.structure.Place.TheVariants as place
 
 -- what a call gave is what the definition gives, unless memory ran out
 abbrev pub Gives : {A B : Type 0} → (A → B) → Result A ListingError → Result B ListingError → Type 0
-Gives view result read = GivesUnless error.OutOfMemory view result read
+Gives view result read = results.Gives (Some error.OutOfMemory) view result read
 
 abbrev pub at : (number : ℕ) → LineRefusal → ListingError
 at number (refusal.Fault kind) = error.Fault number kind
@@ -44,7 +45,8 @@ abbrev pub inside : Line → Next
 inside (line.Class access name) = Ok place.Begun
 inside (line.Implements name) = Ok place.Inside
 inside (line.Field access name descriptor root) = Ok place.Inside
-inside (line.Method access name descriptor stack locals is_abstract) = Ok (if is_abstract then place.Abstract else place.Body false)
+inside (line.Method access name descriptor stack locals is_abstract) =
+    Ok (if is_abstract then place.Abstract else place.Body false)
 inside other = syntax
 
 -- within a method, of which an instruction has been or not
@@ -82,7 +84,8 @@ has_long_text (line.Class access name) = is_long name
 has_long_text (line.Super name) = is_long name
 has_long_text (line.Implements name) = is_long name
 has_long_text (line.Field access name descriptor root) = is_long name || is_long descriptor
-has_long_text (line.Method access name descriptor stack locals is_abstract) = is_long name || is_long descriptor
+has_long_text (line.Method access name descriptor stack locals is_abstract) =
+    is_long name || is_long descriptor
 has_long_text (line.Catch (Some class) start end handler) = is_long class
 has_long_text other = false
 
@@ -103,7 +106,7 @@ may_end other = false
 unfoldable pub structure_from : (number : ℕ) → Place → List Line → Result (Unit {0}) ListingError
 structure_from number before [] = if may_end before then Ok tt else Err (error.Fault number Syntax)
 structure_from number before (l ∷ rest) = do
-  behind ← told (at number) (place_behind before l)
+  behind ← placed (at number) (place_behind before l)
   structure_from (next_number number) behind rest
 
 abbrev pub structure : List Line → Result (Unit {0}) ListingError

@@ -5,7 +5,7 @@ ghost use Rattle.std.specs.Option.{is_some};
 ghost use Rattle.listing_lines.specs.Reading.{Gives as LineGives};
 ghost use Rattle.listing.specs.Labels.{past, pc_of, marks_from};
 ghost use Rattle.listing.specs.Structure.{Gives, at as at_line};
-ghost use Rattle.class_items.specs.Parsing.{told};
+ghost use Rattle.parsing.specs.Results.{placed};
 ghost use Rattle.listing.specs.Members.{passed_after, line_code, code_from};
 ghost use Rattle.listing.specs.Bodies.{line_alone, body_from, bodies_from};
 
@@ -48,7 +48,8 @@ fn line_code(
     line: &Line,
 ) -> Result<Vec<u8>, LineRefusal>
     requires { pc ≤ past }
-    ensures { LineGives (λ v. (v.items, entries.new)) result (line_code marks.now.marks.items marks.now.size pc passed line.now entries.old) }
+    ensures { LineGives (λ v. (v.items, entries.new)) result
+        (line_code marks.now.marks.items marks.now.size pc passed line.now entries.old) }
 {
     match line {
         Line::Label(name) => {
@@ -86,7 +87,8 @@ pub(crate) fn code(
     number: u32,
     lines: &[Line],
 ) -> Result<Vec<u8>, ListingError>
-    ensures { Gives (λ v. (v.items, entries.new)) result (code_from marks.now.marks.items marks.now.size number 0 0 lines.now entries.old) }
+    ensures { Gives (λ v. (v.items, entries.new)) result
+        (code_from marks.now.marks.items marks.now.size number 0 0 lines.now entries.old) }
 {
     let mut code = Vec::new(alloc);
     let mut number = number;
@@ -124,7 +126,9 @@ fn line_alone(
     line: &Line,
 ) -> Result<(), ListingError>
     requires { pc ≤ past }
-    ensures { Gives (λ none. none) result (told (at_line number) (line_alone marks.now.marks.items marks.now.size pc passed line.now)) }
+    ensures { Gives (λ none. none) result
+        (placed (at_line number)
+        (line_alone marks.now.marks.items marks.now.size pc passed line.now)) }
 {
     let mut entries = Entries::new(alloc);
     match line_code(alloc, &mut entries, marks, pc, passed, line) {
@@ -136,7 +140,8 @@ fn line_alone(
 /// The first bad line of a method, of which these are the lines behind its first.
 #[tactic(auto, unfolding(crate::specs::Bodies::body_from))]
 fn body(alloc: Global, marks: &Marks, number: u32, lines: &[Line]) -> Result<(), ListingError>
-    ensures { Gives (λ none. none) result (body_from marks.now.marks.items marks.now.size number 0 0 lines.now) }
+    ensures { Gives (λ none. none) result
+        (body_from marks.now.marks.items marks.now.size number 0 0 lines.now) }
 {
     let mut number = number;
     let mut pc = 0;

@@ -4,8 +4,8 @@ ghost use Rattle.std.specs.Prelude.{◌≡◌, ◌++◌, [], ◌∷◌, IfOk, On
 ghost use Rattle.std.specs.List.{flat_map};
 ghost use Rattle.byteorder.specs.Endian.{big_bytes};
 ghost use Rattle.class_file.specs.Classes.{CanBeRead, class_in};
-ghost use Rattle.class_items.specs.Parsing.{told};
-ghost use Rattle.listing_lines.specs.Lines.{lines_of};
+ghost use Rattle.parsing.specs.Results.{placed};
+ghost use Rattle.listing_lines.specs.Lines.{listing_lines};
 ghost use Rattle.listing.specs.Pool.{with_text};
 ghost use Rattle.listing.specs.Structure.{Gives, at as at_line};
 ghost use Rattle.listing.specs.Classes.{super_from, front_bytes, class_bytes, files_from, refused, classes_in, lower, both, judged, assembled};
@@ -19,8 +19,8 @@ use crate::roots::roots;
 use crate::structure::structure;
 use ap_base::Bytes;
 use class_file::{ClassFile, ClassRefusal, read_class};
-use const_pool::{put_u16, put_u32};
 use listing_lines::{Line, ListingFault, read_lines};
+use parsing::{put_u16, put_u32};
 use std::alloc::{AllocError, Global};
 
 /// The bytes of a class, and the number of its first line.
@@ -72,7 +72,8 @@ fn front(alloc: Global, entries: &Entries) -> Result<Vec<u8>, AllocError>
 }
 
 fn put_listed(out: &mut Vec<u8>, found: &Listed) -> Result<(), AllocError>
-    ensures { OnOk result (out.new.items ≡ out.old.items ++ (big_bytes 2 found.now.count ++ found.now.bytes.items)) }
+    ensures { OnOk result
+        (out.new.items ≡ out.old.items ++ (big_bytes 2 found.now.count ++ found.now.bytes.items)) }
 {
     put_u16(out, found.count)?;
     out.extend_from_slice(&found.bytes)
@@ -85,7 +86,8 @@ fn class_index(
     number: u32,
     name: &[u8],
 ) -> Result<u16, ListingError>
-    ensures { Gives (λ index. (index, entries.new)) result (told (at_line number) (with_text 7 name.now entries.old)) }
+    ensures { Gives (λ index. (index, entries.new)) result
+        (placed (at_line number) (with_text 7 name.now entries.old)) }
 {
     match entries.text(alloc, 7, name) {
         Ok(index) => Ok(index),
@@ -166,7 +168,8 @@ fn refused(number: u32, refusal: ClassRefusal) -> ListingError
 /// The class that these bytes are.
 fn class_in(alloc: Global, file: &ClassBytes) -> Result<ClassFile, ListingError>
     ensures readable { IfOk result CanBeRead }
-    ensures exact { Gives (λ c. c) result (told (refused file.now.line) (class_in file.now.bytes)) }
+    ensures exact { Gives (λ c. c) result
+        (placed (refused file.now.line) (class_in file.now.bytes)) }
 {
     match read_class(alloc, file.bytes.as_slice()) {
         Ok(class) => Ok(class),

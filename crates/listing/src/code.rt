@@ -2,7 +2,7 @@
 
 ghost use Rattle.std.specs.Prelude.{◌≡◌, ◌≤◌, ◌∷◌, replicate, IfOk};
 ghost use Rattle.byteorder.specs.Endian.{big_bytes};
-ghost use Rattle.listing_lines.specs.Reading.{Gives};
+ghost use Rattle.listing_lines.specs.Reading.{Answers, Gives};
 ghost use Rattle.listing.specs.Labels.{past, padding};
 ghost use Rattle.listing.specs.Code.{near_offset, far_offset, offsets, cases, table_bytes, lookup_bytes, with_index, entry_bytes, interface_bytes, jump_bytes, instruction_bytes};
 
@@ -10,8 +10,8 @@ use crate::labels::{padding, target};
 use crate::marks::Marks;
 use crate::pool::Entries;
 use ap_base::Bytes;
-use const_pool::{put_u16, put_u32};
 use listing_lines::{Instruction, KeyLabel, LineRefusal, ListingFault, MemberName, Wanted};
+use parsing::{put_u16, put_u32};
 use std::alloc::{AllocError, Global};
 
 const TABLESWITCH: u8 = 170;
@@ -24,7 +24,8 @@ const INVOKEINTERFACE: u8 = 185;
 #[tactic(auto, unfolding(crate::specs::Code::near_offset))]
 fn near_offset(marks: &Marks, pc: u32, label: &[u8]) -> Result<u16, LineRefusal>
     requires { pc ≤ past }
-    ensures { Gives (λ offset. big_bytes 2 offset) result (near_offset marks.now.marks.items marks.now.size pc label.now) }
+    ensures { Answers (λ offset. big_bytes 2 offset) result
+        (near_offset marks.now.marks.items marks.now.size pc label.now) }
 {
     let offset = i64::from(target(marks, label)?) - i64::from(pc);
     if -32_768 <= offset && offset <= 32_767 {
@@ -38,7 +39,8 @@ fn near_offset(marks: &Marks, pc: u32, label: &[u8]) -> Result<u16, LineRefusal>
 #[tactic(auto, unfolding(crate::specs::Code::far_offset))]
 fn far_offset(marks: &Marks, pc: u32, label: &[u8]) -> Result<u32, LineRefusal>
     requires { pc ≤ past }
-    ensures { Gives (λ offset. big_bytes 4 offset) result (far_offset marks.now.marks.items marks.now.size pc label.now) }
+    ensures { Answers (λ offset. big_bytes 4 offset) result
+        (far_offset marks.now.marks.items marks.now.size pc label.now) }
 {
     let offset = i64::from(target(marks, label)?) - i64::from(pc);
     Ok((offset as i32).cast_unsigned())
@@ -47,7 +49,8 @@ fn far_offset(marks: &Marks, pc: u32, label: &[u8]) -> Result<u32, LineRefusal>
 #[tactic(auto, unfolding(crate::specs::Code::offsets))]
 fn offsets(alloc: Global, marks: &Marks, pc: u32, labels: &[Bytes]) -> Result<Vec<u8>, LineRefusal>
     requires { pc ≤ past }
-    ensures { Gives (λ v. v.items) result (offsets marks.now.marks.items marks.now.size pc labels.now) }
+    ensures { Gives (λ v. v.items) result
+        (offsets marks.now.marks.items marks.now.size pc labels.now) }
 {
     let mut out = Vec::new(alloc);
     let mut rest = labels;
@@ -65,7 +68,8 @@ fn offsets(alloc: Global, marks: &Marks, pc: u32, labels: &[Bytes]) -> Result<Ve
 #[tactic(auto, unfolding(crate::specs::Code::cases))]
 fn cases(alloc: Global, marks: &Marks, pc: u32, pairs: &[KeyLabel]) -> Result<Vec<u8>, LineRefusal>
     requires { pc ≤ past }
-    ensures { Gives (λ v. v.items) result (cases marks.now.marks.items marks.now.size pc pairs.now) }
+    ensures { Gives (λ v. v.items) result
+        (cases marks.now.marks.items marks.now.size pc pairs.now) }
 {
     let mut out = Vec::new(alloc);
     let mut rest = pairs;
@@ -102,7 +106,8 @@ fn table_bytes(
     labels: &[Bytes],
 ) -> Result<Vec<u8>, LineRefusal>
     requires { pc ≤ past }
-    ensures { Gives (λ v. v.items) result (table_bytes marks.now.marks.items marks.now.size pc keys.0 keys.1 default.now labels.now) }
+    ensures { Gives (λ v. v.items) result
+        (table_bytes marks.now.marks.items marks.now.size pc keys.0 keys.1 default.now labels.now) }
 {
     let default = far_offset(marks, pc, default)?;
     let each = offsets(alloc, marks, pc, labels)?;
@@ -124,7 +129,8 @@ fn lookup_bytes(
     pairs: &[KeyLabel],
 ) -> Result<Vec<u8>, LineRefusal>
     requires { pc ≤ past }
-    ensures { Gives (λ v. v.items) result (lookup_bytes marks.now.marks.items marks.now.size pc default.now pairs.now) }
+    ensures { Gives (λ v. v.items) result
+        (lookup_bytes marks.now.marks.items marks.now.size pc default.now pairs.now) }
 {
     if pairs.len() > 65_535 {
         return Err(LineRefusal::Fault(ListingFault::TooLarge));
@@ -156,7 +162,8 @@ fn entry_bytes(
     opcode: u8,
     entry: &Wanted,
 ) -> Result<Vec<u8>, LineRefusal>
-    ensures { Gives (λ v. (v.items, entries.new)) result (entry_bytes opcode entry.now entries.old) }
+    ensures { Gives (λ v. (v.items, entries.new)) result
+        (entry_bytes opcode entry.now entries.old) }
 {
     let index = entries.wanted(alloc, entry)?;
     Ok(with_index(alloc, opcode, index, &[])?)
@@ -169,7 +176,8 @@ fn interface_bytes(
     method: &MemberName,
     count: u8,
 ) -> Result<Vec<u8>, LineRefusal>
-    ensures { Gives (λ v. (v.items, entries.new)) result (interface_bytes method.now count entries.old) }
+    ensures { Gives (λ v. (v.items, entries.new)) result
+        (interface_bytes method.now count entries.old) }
 {
     let index = entries.member(alloc, method)?;
     Ok(with_index(alloc, INVOKEINTERFACE, index, &[count, 0])?)
@@ -183,7 +191,8 @@ fn jump_bytes(
     label: &[u8],
 ) -> Result<Vec<u8>, LineRefusal>
     requires { pc ≤ past }
-    ensures { Gives (λ v. v.items) result (jump_bytes marks.now.marks.items marks.now.size pc opcode label.now) }
+    ensures { Gives (λ v. v.items) result
+        (jump_bytes marks.now.marks.items marks.now.size pc opcode label.now) }
 {
     let offset = near_offset(marks, pc, label)?;
     let mut out = Vec::new(alloc);
@@ -201,7 +210,8 @@ pub(crate) fn instruction_bytes(
     instruction: &Instruction,
 ) -> Result<Vec<u8>, LineRefusal>
     requires { pc ≤ past }
-    ensures { Gives (λ v. (v.items, entries.new)) result (instruction_bytes marks.now.marks.items marks.now.size pc instruction.now entries.old) }
+    ensures { Gives (λ v. (v.items, entries.new)) result
+        (instruction_bytes marks.now.marks.items marks.now.size pc instruction.now entries.old) }
 {
     match instruction {
         Instruction::Whole(bytes) => Ok(bytes.as_slice().to_vec(alloc)?),

@@ -2,7 +2,7 @@
 
 ghost use Rattle.std.specs.Prelude.{◌≡◌, ◌<◌, ◌++◌, Some, IfOk, OnOk};
 ghost use Rattle.std.specs.Option.{option_map};
-ghost use Rattle.listing_lines.specs.Reading.{Gives as LineGives};
+ghost use Rattle.listing_lines.specs.Reading.{Answers, Gives as LineGives};
 ghost use Rattle.listing.specs.Structure.{Gives};
 ghost use Rattle.listing.specs.Members.{handler_places, catch_index, handler_bytes, handler_item, counted, item_bytes, handlers_from};
 
@@ -11,8 +11,8 @@ use crate::labels::{is_end, pc_of, target};
 use crate::marks::Marks;
 use crate::pool::Entries;
 use ap_base::Bytes;
-use const_pool::put_u16;
 use listing_lines::{Line, LineRefusal, ListingFault};
+use parsing::put_u16;
 use std::alloc::{AllocError, Global};
 
 const UNKNOWN_LABEL: LineRefusal = LineRefusal::Fault(ListingFault::UnknownLabel);
@@ -33,7 +33,8 @@ pub(crate) fn handler_places(
     handler: &[u8],
 ) -> Result<(u32, u32, u32), LineRefusal>
     ensures order { IfOk result (λ places. places.0 < places.1) }
-    ensures places { LineGives (λ places. places) result (handler_places marks.now.marks.items marks.now.size start.now end.now handler.now) }
+    ensures places { Answers (λ places. places) result
+        (handler_places marks.now.marks.items marks.now.size start.now end.now handler.now) }
 {
     let first = pc_of(start, &marks.marks).ok_or(UNKNOWN_LABEL)?;
     let past = pc_of(end, &marks.marks).ok_or(UNKNOWN_LABEL)?;
@@ -69,7 +70,9 @@ fn handler_bytes(
     end: &[u8],
     handler: &[u8],
 ) -> Result<Vec<u8>, LineRefusal>
-    ensures { LineGives (λ v. (Some v.items, entries.new)) result (handler_bytes marks.now.marks.items marks.now.size class.now start.now end.now handler.now entries.old) }
+    ensures { LineGives (λ v. (Some v.items, entries.new)) result
+        (handler_bytes marks.now.marks.items marks.now.size class.now start.now end.now handler.now
+        entries.old) }
 {
     let (start, end, handler) = handler_places(marks, start, end, handler)?;
     if end > 65_535 || handler > 65_535 {
@@ -91,7 +94,8 @@ fn handler_item(
     marks: &Marks,
     line: &Line,
 ) -> Result<Option<Vec<u8>>, LineRefusal>
-    ensures { LineGives (λ item. (option_map (λ v. v.items) item, entries.new)) result (handler_item marks.now.marks.items marks.now.size line.now entries.old) }
+    ensures { LineGives (λ item. (option_map (λ v. v.items) item, entries.new)) result
+        (handler_item marks.now.marks.items marks.now.size line.now entries.old) }
 {
     match line {
         Line::Catch {
@@ -126,7 +130,8 @@ pub(crate) fn counted(count: u16, item: &Option<Vec<u8>>) -> Result<u16, LineRef
 
 /// Appends an item, if it is one.
 pub(crate) fn put_item(out: &mut Vec<u8>, item: &Option<Vec<u8>>) -> Result<(), AllocError>
-    ensures { OnOk result (out.new.items ≡ out.old.items ++ item_bytes (option_map (λ v. v.items) item.now)) }
+    ensures { OnOk result
+        (out.new.items ≡ out.old.items ++ item_bytes (option_map (λ v. v.items) item.now)) }
 {
     match item {
         None => Ok(()),
@@ -143,7 +148,8 @@ pub(crate) fn handlers(
     number: u32,
     lines: &[Line],
 ) -> Result<Listed, ListingError>
-    ensures { Gives (λ l. (l.count, l.bytes.items, entries.new)) result (handlers_from marks.now.marks.items marks.now.size number 0 lines.now entries.old) }
+    ensures { Gives (λ l. (l.count, l.bytes.items, entries.new)) result
+        (handlers_from marks.now.marks.items marks.now.size number 0 lines.now entries.old) }
 {
     let mut count = 0;
     let mut bytes = Vec::new(alloc);

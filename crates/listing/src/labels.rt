@@ -2,7 +2,7 @@
 
 ghost use Rattle.std.specs.Prelude.{◌≡◌, ◌≤◌, ◌<◌, ◌+◌, ◌*◌, ◌++◌, min, IfOk, OnOk};
 ghost use Rattle.std.specs.Option.{option_map};
-ghost use Rattle.listing_lines.specs.Reading.{Gives};
+ghost use Rattle.listing_lines.specs.Reading.{Answers};
 ghost use Rattle.listing.specs.Labels.{past, padding, size_at, after, place_after, label_in, is_end, mark_at, marks_from, pc_of, target};
 
 use crate::marks::{Mark, Marks};
@@ -145,7 +145,8 @@ pub(crate) fn pc_of(name: &[u8], marks: &[Mark]) -> Option<u32>
 /// the end.
 #[tactic(auto, unfolding(crate::specs::Labels::target))]
 pub(crate) fn target(marks: &Marks, name: &[u8]) -> Result<u32, LineRefusal>
-    ensures target { Gives (λ pc. pc) result (target marks.now.marks.items marks.now.size name.now) }
+    ensures target { Answers (λ pc. pc) result
+        (target marks.now.marks.items marks.now.size name.now) }
     ensures near { IfOk result (λ pc. pc < past) }
 {
     let pc = pc_of(name, &marks.marks).ok_or(LineRefusal::Fault(ListingFault::UnknownLabel))?;

@@ -10,6 +10,7 @@ mod code;
 mod error;
 mod handlers;
 mod labels;
+mod laws;
 mod marks;
 mod members;
 mod pool;
@@ -18,6 +19,7 @@ mod structure;
 
 pub use classes::assemble;
 pub use error::ListingError;
-
-#[cfg(test)]
-mod tests;
+pub use laws::{
+    bad_listings_are_refused, codes_are_assembled, tables_and_roots_are_assembled,
+    the_smallest_class_is_assembled,
+};

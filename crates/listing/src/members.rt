@@ -3,7 +3,7 @@
 ghost use Rattle.std.specs.Prelude.{◌≡◌, ◌≤◌, length, codes, IfOk};
 ghost use Rattle.byteorder.specs.Endian.{big_bytes};
 ghost use Rattle.std.specs.Option.{option_map};
-ghost use Rattle.class_items.specs.Parsing.{told};
+ghost use Rattle.parsing.specs.Results.{placed};
 ghost use Rattle.listing_lines.specs.Reading.{Gives as LineGives};
 ghost use Rattle.listing.specs.Structure.{Gives, at as at_line};
 ghost use Rattle.listing.specs.Pool.{with_utf8};
@@ -14,8 +14,8 @@ use crate::error::{ListingError, at, next_number};
 use crate::handlers::{Listed, counted, handlers, put_item};
 use crate::labels::marks;
 use crate::pool::Entries;
-use const_pool::{put_u16, put_u32};
 use listing_lines::{Line, LineRefusal, ListingFault};
+use parsing::{put_u16, put_u32};
 use std::alloc::{AllocError, Global};
 
 /// What a class file lists behind a count.
@@ -35,7 +35,8 @@ fn member_head(
     name: &[u8],
     descriptor: &[u8],
 ) -> Result<Vec<u8>, LineRefusal>
-    ensures { LineGives (λ v. (v.items, entries.new)) result (member_head access name.now descriptor.now entries.old) }
+    ensures { LineGives (λ v. (v.items, entries.new)) result
+        (member_head access name.now descriptor.now entries.old) }
 {
     let name = entries.utf8(alloc, name)?;
     let descriptor = entries.utf8(alloc, descriptor)?;
@@ -115,7 +116,8 @@ fn field_bytes(
     descriptor: &[u8],
     root: bool,
 ) -> Result<Vec<u8>, LineRefusal>
-    ensures { LineGives (λ v. (v.items, entries.new)) result (field_bytes access name.now descriptor.now root entries.old) }
+    ensures { LineGives (λ v. (v.items, entries.new)) result
+        (field_bytes access name.now descriptor.now root entries.old) }
 {
     let mut out = member_head(alloc, entries, access, name, descriptor)?;
     let attributes = field_attributes(alloc, entries, root)?;
@@ -132,7 +134,9 @@ fn code_content(
     handlers: &Listed,
 ) -> Result<Vec<u8>, AllocError>
     requires { length code.now ≤ 65535 }
-    ensures { IfOk result (λ v. v.items ≡ code_content stack locals code.now handlers.now.count handlers.now.bytes.items) }
+    ensures { IfOk result
+        (λ v. v.items ≡ code_content stack locals code.now handlers.now.count
+        handlers.now.bytes.items) }
 {
     let mut out = Vec::new(alloc);
     put_u16(&mut out, stack)?;
@@ -163,7 +167,8 @@ fn attribute_bytes(alloc: Global, name: u16, content: &[u8]) -> Result<Vec<u8>, 
 
 /// The index of the name of a Code attribute.
 fn code_name(alloc: Global, entries: &mut Entries, number: u32) -> Result<u16, ListingError>
-    ensures { Gives (λ index. (index, entries.new)) result (told (at_line number) (with_utf8 (codes "Code") entries.old)) }
+    ensures { Gives (λ index. (index, entries.new)) result
+        (placed (at_line number) (with_utf8 (codes "Code") entries.old)) }
 {
     match entries.utf8(alloc, b"Code") {
         Ok(index) => Ok(index),
@@ -181,7 +186,8 @@ fn code_attribute(
     locals: u16,
     rest: &[Line],
 ) -> Result<Vec<u8>, ListingError>
-    ensures { Gives (λ v. (v.items, entries.new)) result (code_attribute number stack locals rest.now entries.old) }
+    ensures { Gives (λ v. (v.items, entries.new)) result
+        (code_attribute number stack locals rest.now entries.old) }
 {
     let name = code_name(alloc, entries, number)?;
     let marks = marks(alloc, rest)?;
@@ -205,7 +211,8 @@ fn method_attributes(
     sizes: (u16, u16),
     rest: &[Line],
 ) -> Result<Vec<u8>, ListingError>
-    ensures { Gives (λ v. (v.items, entries.new)) result (method_attributes is_abstract number sizes.0 sizes.1 rest.now entries.old) }
+    ensures { Gives (λ v. (v.items, entries.new)) result
+        (method_attributes is_abstract number sizes.0 sizes.1 rest.now entries.old) }
 {
     if is_abstract {
         Ok(no_attributes(alloc)?)
@@ -223,7 +230,8 @@ fn method_head(
     name: &[u8],
     descriptor: &[u8],
 ) -> Result<Vec<u8>, ListingError>
-    ensures { Gives (λ v. (v.items, entries.new)) result (told (at_line number) (member_head access name.now descriptor.now entries.old)) }
+    ensures { Gives (λ v. (v.items, entries.new)) result
+        (placed (at_line number) (member_head access name.now descriptor.now entries.old)) }
 {
     match member_head(alloc, entries, access, name, descriptor) {
         Ok(bytes) => Ok(bytes),
@@ -238,7 +246,8 @@ fn interface_item(
     number: u32,
     line: &Line,
 ) -> Result<Option<Vec<u8>>, ListingError>
-    ensures { Gives (λ item. (option_map (λ v. v.items) item, entries.new)) result (interface_item number line.now entries.old) }
+    ensures { Gives (λ item. (option_map (λ v. v.items) item, entries.new)) result
+        (interface_item number line.now entries.old) }
 {
     match line {
         Line::Implements(name) => match entries.text(alloc, 7, name.as_slice()) {
@@ -260,7 +269,8 @@ fn field_item(
     number: u32,
     line: &Line,
 ) -> Result<Option<Vec<u8>>, ListingError>
-    ensures { Gives (λ item. (option_map (λ v. v.items) item, entries.new)) result (field_item number line.now entries.old) }
+    ensures { Gives (λ item. (option_map (λ v. v.items) item, entries.new)) result
+        (field_item number line.now entries.old) }
 {
     match line {
         Line::Field {
@@ -288,7 +298,8 @@ fn method_item(
     line: &Line,
     rest: &[Line],
 ) -> Result<Option<Vec<u8>>, ListingError>
-    ensures { Gives (λ item. (option_map (λ v. v.items) item, entries.new)) result (method_item number line.now rest.now entries.old) }
+    ensures { Gives (λ item. (option_map (λ v. v.items) item, entries.new)) result
+        (method_item number line.now rest.now entries.old) }
 {
     match line {
         Line::Method {
@@ -319,7 +330,8 @@ fn item_of(
     line: &Line,
     rest: &[Line],
 ) -> Result<Option<Vec<u8>>, ListingError>
-    ensures { Gives (λ item. (option_map (λ v. v.items) item, entries.new)) result (item_of section number line.now rest.now entries.old) }
+    ensures { Gives (λ item. (option_map (λ v. v.items) item, entries.new)) result
+        (item_of section number line.now rest.now entries.old) }
 {
     match section {
         Section::Interfaces => interface_item(alloc, entries, number, line),
@@ -343,7 +355,8 @@ pub(crate) fn section_bytes(
     number: u32,
     lines: &[Line],
 ) -> Result<Listed, ListingError>
-    ensures { Gives (λ l. (l.count, l.bytes.items, entries.new)) result (section_from section number 0 lines.now entries.old) }
+    ensures { Gives (λ l. (l.count, l.bytes.items, entries.new)) result
+        (section_from section number 0 lines.now entries.old) }
 {
     let mut count = 0;
     let mut bytes = Vec::new(alloc);

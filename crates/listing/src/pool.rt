@@ -1,15 +1,13 @@
 //! A constant pool under construction (JVMS 4.4).
 
 ghost use Rattle.std.specs.Prelude.{◌≡◌, ◌+◌, ◌≤◌, ◌++◌, [], ◌∷◌, OnOk, IfErr};
-ghost use Rattle.byteorder.specs.Endian.{big_bytes};
 ghost use Rattle.listing_lines.specs.Reading.{Gives};
 ghost use Rattle.listing.specs.Pool.{width, free_index, index_from, with_entry, with_utf8, with_text, with_pair, with_name_and_type, member_tag, with_member, with_wanted};
 
 use ap_base::Bytes;
-use byteorder::{BigEndian, ByteOrder};
-use const_pool::{put_u16, put_u32};
 use listing_lines::{LineRefusal, ListingFault, MemberKind, MemberName, Wanted};
-use std::alloc::{AllocError, Global};
+use parsing::{put_u16, put_u32, put_u64};
+use std::alloc::Global;
 use std::collections::HashMap;
 use std::marker::Model;
 
@@ -32,7 +30,8 @@ impl Model for Entries {
 
     ghost view = { λ e. e.items.items };
 
-    ghost invariant = { λ e. (e.free ≡ free_index e.items.items) × AreIndices e.items.items e.indices };
+    ghost invariant = { λ e. (e.free ≡ free_index e.items.items)
+        × AreIndices e.items.items e.indices };
 }
 
 /// How many indices an entry takes.
@@ -164,7 +163,8 @@ impl Entries {
         name: &[u8],
         descriptor: &[u8],
     ) -> Result<u16, LineRefusal>
-        ensures { Gives (λ index. (index, self.new)) result (with_name_and_type name.now descriptor.now self.old) }
+        ensures { Gives (λ index. (index, self.new)) result
+            (with_name_and_type name.now descriptor.now self.old) }
     {
         let name = self.utf8(alloc, name)?;
         let descriptor = self.utf8(alloc, descriptor)?;
@@ -181,7 +181,8 @@ impl Entries {
     }
 
     fn integer(&mut self, alloc: Global, number: i32) -> Result<u16, LineRefusal>
-        ensures { Gives (λ index. (index, self.new)) result (with_wanted (Wanted.Integer number) self.old) }
+        ensures { Gives (λ index. (index, self.new)) result
+            (with_wanted (Wanted.Integer number) self.old) }
     {
         let mut entry = Vec::new(alloc);
         entry.push(3)?;
@@ -190,7 +191,8 @@ impl Entries {
     }
 
     fn long(&mut self, alloc: Global, number: i64) -> Result<u16, LineRefusal>
-        ensures { Gives (λ index. (index, self.new)) result (with_wanted (Wanted.Long number) self.old) }
+        ensures { Gives (λ index. (index, self.new)) result
+            (with_wanted (Wanted.Long number) self.old) }
     {
         let mut entry = Vec::new(alloc);
         entry.push(5)?;
@@ -210,14 +212,6 @@ impl Entries {
             Wanted::Member(member) => self.member(alloc, member),
         }
     }
-}
-
-fn put_u64(out: &mut Vec<u8>, number: u64) -> Result<(), AllocError>
-    ensures { OnOk result (out.new.items ≡ out.old.items ++ big_bytes 8 number) }
-{
-    let mut field = [0; 8];
-    BigEndian::write_u64(&mut field, number);
-    out.extend_from_slice(&field)
 }
 
 /// The tag of a member's entry (JVMS table 4.4-A).

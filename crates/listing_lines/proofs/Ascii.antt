@@ -23,7 +23,10 @@ rest_ascii false y h = absurd cc
 
 units : (bytes : List ℕ) → list_all is_ascii bytes ≡ true → AllByRecursion IsUnit bytes
 units [] h = tt
-units (b ∷ bytes) h = (small b (first_ascii (is_ascii b) (list_all is_ascii bytes) h), units bytes (rest_ascii (is_ascii b) (list_all is_ascii bytes) h))
+units (b ∷ bytes) h = (
+  small b (first_ascii (is_ascii b) (list_all is_ascii bytes) h),
+  units bytes (rest_ascii (is_ascii b) (list_all is_ascii bytes) h),
+)
 
 spelled : (bytes : List ℕ) → list_all is_ascii bytes ≡ true → bytes ≡ units_bytes bytes
 spelled [] h = refl

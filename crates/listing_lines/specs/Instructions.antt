@@ -7,7 +7,7 @@ use Rattle.const_pool.specs.declared.descriptor.BaseType.TheVariants as base
 use Rattle.const_pool.specs.declared.descriptor.ElementType.{ElementType}
 use Rattle.const_pool.specs.declared.descriptor.ElementType.TheVariants as element
 use Rattle.const_pool.specs.declared.descriptor.FieldType.{FieldType}
-use Rattle.class_items.specs.Parsing.{◌>>=◌}
+use Rattle.parsing.specs.Results.{◌>>=◌}
 use Rattle.listing_lines.specs.declared.refusal.ListingFault.TheVariants.{Syntax, UnknownWord, BadNumber, BadText, TooLarge}
 use Rattle.listing_lines.specs.declared.refusal.LineRefusal.{LineRefusal}
 use Rattle.listing_lines.specs.declared.refusal.LineRefusal.TheVariants as refusal
@@ -90,12 +90,17 @@ highest = pos 2147483647
 abbrev pub has_each_key : (low high : ℤ) → List (List ℕ) → Bool
 has_each_key low high labels = int_le low high && (length labels == unsigned_abs (high -ℤ low) + 1)
 
-unfoldable pub table : List (List ℕ) → Read
-table (a ∷ b ∷ default ∷ labels) = do
-  low ← or_fault BadNumber (number lowest highest a)
-  high ← or_fault BadNumber (number lowest highest b)
+unfoldable pub keys : (low high : List ℕ) → List (List ℕ) → Result (ℤ × ℤ) LineRefusal
+keys first second labels = do
+  low ← or_fault BadNumber (number lowest highest first)
+  high ← or_fault BadNumber (number lowest highest second)
   each ← unless (not (has_each_key low high labels)) Syntax
-  Ok (instruction.Table low high default labels)
+  Ok (low, high)
+
+unfoldable pub table : List (List ℕ) → Read
+table (low ∷ high ∷ default ∷ labels) = do
+  found ← keys low high labels
+  Ok (instruction.Table found.0 found.1 default labels)
 table other = Err (refusal.Fault Syntax)
 
 unfoldable pub key_label : (key label : List ℕ) → Result KeyLabel LineRefusal
@@ -124,7 +129,8 @@ constant word =
     else (or_fault BadNumber (number lowest highest word) >>= λ z. Ok (wanted.Integer z))
 
 abbrev pub load_constant : ℕ → List (List ℕ) → Read
-load_constant opcode words = one_operand words >>= λ word. constant word >>= λ entry. Ok (instruction.Entry opcode entry)
+load_constant opcode words =
+    one_operand words >>= λ word. constant word >>= λ entry. Ok (instruction.Entry opcode entry)
 
 unfoldable pub load_long : ℕ → List (List ℕ) → Read
 load_long opcode words = do

@@ -5,3 +5,4 @@ pub mod Mnemonics
 pub mod Reading
 pub mod Instructions
 pub mod Lines
+pub mod Rows

@@ -5,7 +5,7 @@ use Rattle.std.specs.Str.{bytes_eq}
 use Rattle.const_pool.specs.declared.descriptor.ElementType.{ElementType}
 use Rattle.const_pool.specs.declared.descriptor.ElementType.TheVariants as element
 use Rattle.const_pool.specs.declared.descriptor.FieldType.{FieldType}
-use Rattle.class_items.specs.Parsing.{◌>>=◌}
+use Rattle.parsing.specs.Results.{◌>>=◌}
 use Rattle.listing_lines.specs.declared.refusal.ListingFault.TheVariants.{Syntax, UnknownWord, BadNumber}
 use Rattle.listing_lines.specs.declared.refusal.LineRefusal.{LineRefusal}
 use Rattle.listing_lines.specs.declared.refusal.LineRefusal.TheVariants as refusal
@@ -45,7 +45,7 @@ flag set n = if set then n else 0
 
 -- nor these and / in a field's (JVMS 4.2.2)
 abbrev pub is_barred_in_field : ℕ → Bool
-is_barred_in_field b = is_barred_in_class b || (b == 47)
+is_barred_in_field b = (b == 47) || is_barred_in_class b
 
 abbrev pub is_class : ElementType → Bool
 is_class (element.Class name) = true
@@ -61,7 +61,8 @@ field_options operands =
     let root = taken (codes "root") static.1 in
     if length root.1 == 0 then Ok (static.0, root.0) else Err (refusal.Fault Syntax)
 
--- A durable root is static and of a reference type. The access flags are public and static (JVMS table 4.5-A).
+-- A durable root is static and of a reference type. The access flags are public and static (JVMS table
+-- 4.5-A).
 unfoldable pub field : (name descriptor : List ℕ) → List (List ℕ) → Read
 field name descriptor options = do
   spelled ← unless (list_any is_barred_in_field name) Syntax
@@ -88,13 +89,14 @@ sizes stack locals = do
   variables ← or_fault BadNumber (natural 65535 locals)
   Ok (deepest, variables)
 
--- An abstract method has no stack and no local variables. The access flags are public, static, synchronized and abstract
--- (JVMS table 4.6-A).
+-- An abstract method has no stack and no local variables. The access flags are public, static, synchronized
+-- and abstract (JVMS table 4.6-A).
 unfoldable pub method : (name descriptor : List ℕ) → ℕ × ℕ → List (List ℕ) → Read
 method name descriptor size options = do
   found ← method_options options
   empty ← unless (found.2 && not ((size.0 == 0) && (size.1 == 0))) Syntax
-  Ok (line.Method (1 + flag found.0 8 + flag found.1 32 + flag found.2 1024) name descriptor size.0 size.1 found.2)
+  Ok (line.Method (1 + flag found.0 8 + flag found.1 32 + flag found.2 1024) name descriptor size.0 size.1
+      found.2)
 
 unfoldable pub method_line : List (List ℕ) → Read
 method_line (name ∷ descriptor ∷ stack ∷ locals ∷ options) = do
@@ -151,7 +153,8 @@ directive_or_instruction None word operands = instruction_line (instruction_name
 -- what stands before a word's colon, which is its last byte
 abbrev pub before_colon : List ℕ → Option (List ℕ)
 before_colon word =
-    if not (length word == 0) && (slice_index word (length word - 1) == 58) then Some (take (length word - 1) word) else None
+    if not (length word == 0) && (slice_index word (length word - 1) == 58)
+    then Some (take (length word - 1) word) else None
 
 abbrev pub label_line : List ℕ → List (List ℕ) → Read
 label_line [] operands = Err (refusal.Fault Syntax)
@@ -189,7 +192,8 @@ cut_off (b ∷ rest) = line.Wrong Syntax ∷ []
 -- the lines of the rest of a text, of which one has begun; each ends in a new line
 unfoldable pub lines_from : (begun : List ℕ) → List ℕ → List Line
 lines_from begun [] = cut_off begun
-lines_from begun (b ∷ rest) = if b == 10 then line_of begun ∷ lines_from [] rest else lines_from (begun ++ b ∷ []) rest
+lines_from begun (b ∷ rest) =
+    if b == 10 then line_of begun ∷ lines_from [] rest else lines_from (begun ++ b ∷ []) rest
 
-abbrev pub lines_of : List ℕ → List Line
-lines_of text = lines_from [] text
+abbrev pub listing_lines : List ℕ → List Line
+listing_lines text = lines_from [] text

@@ -1,4 +1,5 @@
--- The words of the instructions, with their opcodes and their operands (JVMS 6.5). ldc is written in its wide form.
+-- The words of the instructions, with their opcodes and their operands (JVMS 6.5). ldc is written in its
+-- wide form.
 use Rattle.std.specs.Prelude.{ℕ, List, [], ◌∷◌, codes, Option, Some, None, if◌then◌else◌}
 use Rattle.std.specs.Str.{bytes_eq}
 use Rattle.listing_lines.specs.declared.mnemonics.Operands.{Operands}

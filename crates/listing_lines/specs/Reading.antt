@@ -7,7 +7,7 @@ use Rattle.const_pool.specs.declared.descriptor.Descriptor.{Descriptor}
 use Rattle.const_pool.specs.declared.descriptor.Descriptor.TheVariants as descriptor
 use Rattle.const_pool.specs.declared.descriptor.FieldType.{FieldType}
 use Rattle.const_pool.specs.Parsing.{descriptor_at}
-use Rattle.class_items.specs.Parsing.{GivesUnless}
+use Rattle.parsing.specs.Results as results
 use Rattle.listing_lines.specs.declared.refusal.ListingFault.{ListingFault}
 use Rattle.listing_lines.specs.declared.refusal.ListingFault.TheVariants.{Syntax, BadDescriptor}
 use Rattle.listing_lines.specs.declared.refusal.LineRefusal.{LineRefusal}
@@ -16,7 +16,11 @@ use Rattle.listing_lines.specs.Numbers.{number}
 
 -- what a call gave is what reading gives, unless memory ran out
 abbrev pub Gives : {A B : Type 0} → (A → B) → Result A LineRefusal → Result B LineRefusal → Type 0
-Gives view result read = GivesUnless refusal.OutOfMemory view result read
+Gives view result read = results.Gives (Some refusal.OutOfMemory) view result read
+
+-- the same of a call that takes no memory
+abbrev pub Answers : {A B : Type 0} → (A → B) → Result A LineRefusal → Result B LineRefusal → Type 0
+Answers view result read = results.Gives None view result read
 
 abbrev pub or_fault : {A : Type 0} → ListingFault → Option A → Result A LineRefusal
 or_fault kind None = Err (refusal.Fault kind)

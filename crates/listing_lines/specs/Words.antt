@@ -1,5 +1,5 @@
--- The words of a line: what stands between spaces. A word that begins with a quotation mark is a text, and keeps its spaces up to
--- the closing mark. Behind a backslash a quotation mark doesn't close a text.
+-- The words of a line: what stands between spaces. A word that begins with a quotation mark is a text, and
+-- keeps its spaces up to the closing mark. Behind a backslash a quotation mark doesn't close a text.
 use Rattle.std.specs.Prelude.{ℕ, ◌==◌, Bool, true, false, List, [], ◌∷◌, ◌++◌, if◌then◌else◌}
 use Rattle.listing_lines.specs.declared.words.Mode.{Mode}
 use Rattle.listing_lines.specs.declared.words.Mode.TheVariants as mode

@@ -2,7 +2,7 @@
 
 ghost use Rattle.std.specs.Prelude.{◌≡◌, ◌≤◌, IfOk};
 ghost use Rattle.std.specs.List.{list_any};
-ghost use Rattle.listing_lines.specs.Reading.{Gives};
+ghost use Rattle.listing_lines.specs.Reading.{Answers, Gives};
 ghost use Rattle.listing_lines.specs.Lines.{is_barred_in_class, class_line, super_line, implements_line, flag, is_barred_in_field, is_class, is_reference, field_options, field, field_line, method_options, sizes, method, method_line, catch_class, catch_line, end_line, directive_named, directive_line};
 
 use crate::lines::Line;
@@ -15,7 +15,7 @@ use const_pool::{ElementType, FieldType};
 use std::alloc::{AllocError, Global};
 
 /// A word that a line begins with and that is no instruction's.
-#[derive(Clone, Copy, Debug, PartialEq, Eq)]
+#[derive(Clone, Copy)]
 pub(crate) enum Directive {
     Class,
     Final,
@@ -39,7 +39,7 @@ fn is_barred_in_class(b: u8) -> bool
 fn is_barred_in_field(b: u8) -> bool
     ensures { result ≡ is_barred_in_field b }
 {
-    is_barred_in_class(b) || b == b'/'
+    b == b'/' || is_barred_in_class(b)
 }
 
 fn is_misnamed_class(name: &[u8]) -> bool
@@ -109,7 +109,7 @@ fn is_reference(field: &FieldType) -> bool
 
 /// Whether a field is static, and whether it is a durable root.
 fn field_options(operands: &[Bytes]) -> Result<(bool, bool), LineRefusal>
-    ensures { Gives (λ found. found) result (field_options operands.now) }
+    ensures { Answers (λ found. found) result (field_options operands.now) }
 {
     let (is_static, rest) = taken(b"static", operands);
     let (is_root, rest) = taken(b"root", rest);
@@ -158,7 +158,7 @@ fn field_line(alloc: Global, operands: &[Bytes]) -> Result<Line, LineRefusal>
 
 /// Whether a method is static, synchronized and abstract.
 fn method_options(operands: &[Bytes]) -> Result<(bool, bool, bool), LineRefusal>
-    ensures { Gives (λ found. found) result (method_options operands.now) }
+    ensures { Answers (λ found. found) result (method_options operands.now) }
 {
     let (is_static, rest) = taken(b"static", operands);
     let (is_synchronized, rest) = taken(b"synchronized", rest);
@@ -173,7 +173,7 @@ fn method_options(operands: &[Bytes]) -> Result<(bool, bool, bool), LineRefusal>
 /// The greatest depth of the stack, and the number of local variables.
 #[tactic(auto, unfolding(crate::specs::Lines::sizes))]
 fn sizes(stack: &[u8], locals: &[u8]) -> Result<(u16, u16), LineRefusal>
-    ensures { Gives (λ found. found) result (sizes stack.now locals.now) }
+    ensures { Answers (λ found. found) result (sizes stack.now locals.now) }
 {
     let stack = natural(65_535, stack).ok_or(BAD_NUMBER)?;
     let locals = natural(65_535, locals).ok_or(BAD_NUMBER)?;
@@ -245,7 +245,7 @@ fn catch_line(alloc: Global, operands: &[Bytes]) -> Result<Line, LineRefusal>
 }
 
 fn end_line(operands: &[Bytes]) -> Result<Line, LineRefusal>
-    ensures { Gives (λ line. line) result (end_line operands.now) }
+    ensures { Answers (λ line. line) result (end_line operands.now) }
 {
     no_operand(operands)?;
     Ok(Line::End)

@@ -2,8 +2,8 @@
 
 ghost use Rattle.std.specs.Prelude.{◌≡◌, ◌≤◌, IfOk, Ok};
 ghost use Rattle.listing_lines.specs.Numbers.{number as number_of};
-ghost use Rattle.listing_lines.specs.Reading.{Gives, or_fault};
-ghost use Rattle.listing_lines.specs.Instructions.{bare, byte_number, short_number, local_index, increment, primitive_code, new_array, jump, has_each_key, table, key_label, pairs, lookup, constant, load_constant, load_long, class_use, named, field_use, method_use, is_long, cell_count, interface_count, interface_use, instruction_with};
+ghost use Rattle.listing_lines.specs.Reading.{Answers, Gives, or_fault};
+ghost use Rattle.listing_lines.specs.Instructions.{bare, byte_number, short_number, local_index, increment, primitive_code, new_array, jump, has_each_key, keys, table, key_label, pairs, lookup, constant, load_constant, load_long, class_use, named, field_use, method_use, is_long, cell_count, interface_count, interface_use, instruction_with};
 
 use crate::lines::{Instruction, KeyLabel, MemberKind, MemberName, Wanted};
 use crate::mnemonics::Operands;
@@ -15,7 +15,8 @@ use crate::operands::{
 use crate::refusal::{LineRefusal, ListingFault};
 use crate::texts::{begins_text, text};
 use ap_base::{Bytes, ListOf};
-use const_pool::{BaseType, ElementType, FieldType, put_u16};
+use const_pool::{BaseType, ElementType, FieldType};
+use parsing::put_u16;
 use std::alloc::{AllocError, Global};
 
 const BAD_NUMBER: LineRefusal = LineRefusal::Fault(ListingFault::BadNumber);
@@ -120,7 +121,8 @@ fn jump(alloc: Global, opcode: u8, words: &[Bytes]) -> Result<Instruction, LineR
 
 /// A number of 32 bits.
 fn int(word: &[u8]) -> Result<i32, LineRefusal>
-    ensures { Gives (λ z. z) result (or_fault ListingFault.BadNumber (number_of LOWEST HIGHEST word.now)) }
+    ensures { Answers (λ z. z) result
+        (or_fault ListingFault.BadNumber (number_of LOWEST HIGHEST word.now)) }
 {
     let number = number(LOWEST, HIGHEST, word).ok_or(BAD_NUMBER)?;
     Ok(number as i32)
@@ -142,17 +144,27 @@ fn has_each_key(low: i32, high: i32, labels: &[Bytes]) -> bool
     low <= high && labels.len() as u64 == (i64::from(high) - i64::from(low)).unsigned_abs() + 1
 }
 
+/// The lowest and the highest key of a switch with these labels.
+#[tactic(auto, unfolding(crate::specs::Instructions::keys))]
+fn keys(low: &[u8], high: &[u8], labels: &[Bytes]) -> Result<(i32, i32), LineRefusal>
+    ensures { Answers (λ found. found) result (keys low.now high.now labels.now) }
+{
+    let low = int(low)?;
+    let high = int(high)?;
+    if has_each_key(low, high, labels) {
+        Ok((low, high))
+    } else {
+        Err(SYNTAX)
+    }
+}
+
 #[tactic(auto, unfolding(crate::specs::Instructions::table))]
 fn table(alloc: Global, words: &[Bytes]) -> Result<Instruction, LineRefusal>
     ensures { Gives (λ i. i) result (table words.now) }
 {
     match words {
-        [first, second, default, labels @ ..] => {
-            let low = int(first.as_slice())?;
-            let high = int(second.as_slice())?;
-            if !has_each_key(low, high, labels) {
-                return Err(SYNTAX);
-            }
+        [low, high, default, labels @ ..] => {
+            let (low, high) = keys(low.as_slice(), high.as_slice(), labels)?;
             let default = Bytes::copy(alloc, default.as_slice())?;
             let labels = copies(alloc, labels)?;
             Ok(Instruction::Table {
@@ -230,7 +242,7 @@ fn load_constant(alloc: Global, opcode: u8, words: &[Bytes]) -> Result<Instructi
 
 #[tactic(auto, unfolding(crate::specs::Instructions::load_long))]
 fn load_long(opcode: u8, words: &[Bytes]) -> Result<Instruction, LineRefusal>
-    ensures { Gives (λ i. i) result (load_long opcode words.now) }
+    ensures { Answers (λ i. i) result (load_long opcode words.now) }
 {
     let word = one_operand(words)?;
     let number = number(i64::MIN, i64::MAX, word).ok_or(BAD_NUMBER)?;

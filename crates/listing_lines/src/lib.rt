@@ -6,6 +6,7 @@
 
 mod directives;
 mod instructions;
+mod laws;
 mod lines;
 mod mnemonics;
 mod numbers;
@@ -15,9 +16,9 @@ mod refusal;
 mod texts;
 mod words;
 
+pub use laws::{
+    each_line_ends_in_a_new_line, each_line_has_its_meaning, each_wrong_line_has_its_fault,
+};
 pub use lines::{Instruction, KeyLabel, Line, MemberKind, MemberName, Wanted};
 pub use reading::read_lines;
 pub use refusal::{LineRefusal, ListingFault};
-
-#[cfg(test)]
-mod tests;

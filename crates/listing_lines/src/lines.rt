@@ -4,7 +4,7 @@ use crate::refusal::ListingFault;
 use ap_base::{Bytes, ListOf};
 
 /// What a member is.
-#[derive(Clone, Copy, Debug, PartialEq, Eq)]
+#[derive(Clone, Copy)]
 pub enum MemberKind {
     Field,
     Method,
@@ -12,7 +12,7 @@ pub enum MemberKind {
 }
 
 /// A member that an instruction names.
-#[derive(Debug, Drop)]
+#[derive(Drop)]
 pub struct MemberName {
     pub kind: MemberKind,
     pub class: Bytes,
@@ -21,7 +21,7 @@ pub struct MemberName {
 }
 
 /// The entry of the constant pool that an instruction names.
-#[derive(Debug, Drop)]
+#[derive(Drop)]
 pub enum Wanted {
     Integer(i32),
     Long(i64),
@@ -31,14 +31,14 @@ pub enum Wanted {
 }
 
 /// A key of a `lookupswitch`, and its label.
-#[derive(Debug, Drop)]
+#[derive(Drop)]
 pub struct KeyLabel {
     pub key: i32,
     pub label: Bytes,
 }
 
 /// An instruction as a line has it.
-#[derive(Debug, Drop)]
+#[derive(Drop)]
 pub enum Instruction {
     /// One without a label or an entry of the constant pool: its bytes.
     Whole(Bytes),
@@ -72,7 +72,7 @@ pub enum Instruction {
 }
 
 /// What a line means.
-#[derive(Debug, Drop)]
+#[derive(Drop)]
 pub enum Line {
     /// It is empty or a comment.
     Nothing,

@@ -4,7 +4,7 @@ ghost use Rattle.std.specs.Prelude.{◌≡◌, map};
 ghost use Rattle.listing_lines.specs.Mnemonics.{row_of, instruction_named};
 
 /// What stands behind the word of an instruction.
-#[derive(Clone, Copy, Debug, PartialEq, Eq)]
+#[derive(Clone, Copy)]
 pub(crate) enum Operands {
     Nothing,
     /// A number of eight bits.
@@ -179,16 +179,22 @@ static MNEMONICS: [(&[u8], u8, Operands); 137] = [
 ];
 
 /// The first row of a word.
-#[tactic(auto, using(crate::proofs::Rows::row_step), unfolding(crate::specs::Mnemonics::row_of))]
+#[tactic(auto, unfolding(crate::specs::Mnemonics::row_of))]
 fn row_of(rows: &[(&[u8], u8, Operands)], word: &[u8]) -> Option<(u8, Operands)>
     ensures { result ≡ row_of (map (λ row. (row.0.now, row.1, row.2)) rows.now) word.now }
 {
-    for (name, opcode, operands) in rows {
-        if *name == word {
-            return Some((*opcode, *operands));
+    let mut rest = rows;
+    'rows: loop {
+        match rest {
+            [] => return None,
+            [(name, opcode, operands), behind @ ..] => {
+                if *name == word {
+                    return Some((*opcode, *operands));
+                }
+                rest = behind;
+            }
         }
     }
-    None
 }
 
 /// The opcode of the instruction with this word, and what its operands are.

@@ -3,7 +3,7 @@
 ghost use Rattle.std.specs.Prelude.{◌≡◌, IfOk};
 ghost use Rattle.std.specs.List.{list_all};
 ghost use Rattle.std.specs.Str.{bytes_eq};
-ghost use Rattle.listing_lines.specs.Reading.{Gives, or_fault, no_operand, one_operand, two_operands, three_operands, taken, natural, is_ascii, descriptor_of, field_type, parameters};
+ghost use Rattle.listing_lines.specs.Reading.{Answers, Gives, or_fault, no_operand, one_operand, two_operands, three_operands, taken, natural, is_ascii, descriptor_of, field_type, parameters};
 
 use crate::numbers::number;
 use crate::refusal::{LineRefusal, ListingFault};
@@ -17,7 +17,7 @@ pub(crate) const BAD_DESCRIPTOR: LineRefusal = LineRefusal::Fault(ListingFault::
 
 /// Nothing stands behind the line's word.
 pub(crate) fn no_operand(words: &[Bytes]) -> Result<(), LineRefusal>
-    ensures { Gives (λ u. u) result (no_operand words.now) }
+    ensures { Answers (λ u. u) result (no_operand words.now) }
 {
     match words {
         [] => Ok(()),
@@ -27,7 +27,7 @@ pub(crate) fn no_operand(words: &[Bytes]) -> Result<(), LineRefusal>
 
 /// The only operand of a line.
 pub(crate) fn one_operand(words: &[Bytes]) -> Result<&[u8], LineRefusal>
-    ensures { Gives (λ word. word.now) result (one_operand words.now) }
+    ensures { Answers (λ word. word.now) result (one_operand words.now) }
 {
     match words {
         [a] => Ok(a.as_slice()),
@@ -37,7 +37,7 @@ pub(crate) fn one_operand(words: &[Bytes]) -> Result<&[u8], LineRefusal>
 
 /// The two operands of a line.
 pub(crate) fn two_operands(words: &[Bytes]) -> Result<(&[u8], &[u8]), LineRefusal>
-    ensures { Gives (λ found. (found.0.now, found.1.now)) result (two_operands words.now) }
+    ensures { Answers (λ found. (found.0.now, found.1.now)) result (two_operands words.now) }
 {
     match words {
         [a, b] => Ok((a.as_slice(), b.as_slice())),
@@ -47,7 +47,8 @@ pub(crate) fn two_operands(words: &[Bytes]) -> Result<(&[u8], &[u8]), LineRefusa
 
 /// The three operands of a line.
 pub(crate) fn three_operands(words: &[Bytes]) -> Result<(&[u8], &[u8], &[u8]), LineRefusal>
-    ensures { Gives (λ found. (found.0.now, found.1.now, found.2.now)) result (three_operands words.now) }
+    ensures { Answers (λ found. (found.0.now, found.1.now, found.2.now)) result
+        (three_operands words.now) }
 {
     match words {
         [a, b, c] => Ok((a.as_slice(), b.as_slice(), c.as_slice())),

@@ -3,7 +3,7 @@
 ghost use Rattle.std.specs.Prelude.{◌≡◌, IfOk};
 ghost use Rattle.std.specs.Option.{option_map};
 ghost use Rattle.listing_lines.specs.Reading.{Gives};
-ghost use Rattle.listing_lines.specs.Lines.{instruction_line, directive_or_instruction, before_colon, label_line, label_or_other, meaning, is_comment, line_of, cut_off, lines_from, lines_of};
+ghost use Rattle.listing_lines.specs.Lines.{instruction_line, directive_or_instruction, before_colon, label_line, label_or_other, meaning, is_comment, line_of, cut_off, lines_from, listing_lines};
 
 use crate::directives::{Directive, directive_line, directive_named};
 use crate::instructions::instruction_with;
@@ -37,7 +37,8 @@ fn directive_or_instruction(
     word: &[u8],
     operands: &[Bytes],
 ) -> Result<Line, LineRefusal>
-    ensures { Gives (λ line. line) result (directive_or_instruction directive word.now operands.now) }
+    ensures { Gives (λ line. line) result
+        (directive_or_instruction directive word.now operands.now) }
 {
     match directive {
         Some(found) => directive_line(alloc, found, operands),
@@ -67,7 +68,8 @@ fn label_line(alloc: Global, name: &[u8], operands: &[Bytes]) -> Result<Line, Li
 }
 
 fn label_or_other(alloc: Global, word: &[u8], operands: &[Bytes]) -> Result<Line, LineRefusal>
-    ensures { Gives (λ line. line) result (label_or_other (before_colon word.now) word.now operands.now) }
+    ensures { Gives (λ line. line) result
+        (label_or_other (before_colon word.now) word.now operands.now) }
 {
     match before_colon(word) {
         Some(name) => label_line(alloc, name, operands),
@@ -120,7 +122,7 @@ fn line_of(alloc: Global, bytes: &[u8]) -> Result<Line, AllocError>
 /// one is `Wrong` with `Syntax`, and so is a line with a byte that isn't ASCII.
 #[tactic(auto, using(crate::proofs::Steps::front), unfolding(crate::specs::Lines::lines_from))]
 pub fn read_lines(alloc: Global, text: &[u8]) -> Result<Vec<Line>, AllocError>
-    ensures { IfOk result (λ lines. lines.items ≡ lines_of text.now) }
+    ensures { IfOk result (λ lines. lines.items ≡ listing_lines text.now) }
 {
     let mut lines = Vec::new(alloc);
     let mut begun = Vec::new(alloc);

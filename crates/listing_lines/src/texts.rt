@@ -30,33 +30,38 @@ pub(crate) fn begins_text(word: &[u8]) -> bool
 }
 
 /// The text that a word spells behind its opening quotation mark.
-#[tactic(auto, using(crate::proofs::Steps::front), unfolding(crate::specs::Texts::text_from))]
+#[tactic(auto, unfolding(crate::specs::Texts::text_from))]
 fn text_behind(alloc: Global, bytes: &[u8]) -> Result<Option<Bytes>, AllocError>
     ensures { IfOk result (λ found. found ≡ text_from false [] bytes.now) }
 {
     let mut text = Vec::new(alloc);
     let mut behind = false;
-    for (at, b) in bytes.iter().enumerate() {
-        if behind {
-            match escaped(*b) {
-                Some(byte) => text.push(byte)?,
-                None => return Ok(None),
+    let mut rest = bytes;
+    'bytes: loop {
+        match rest {
+            [] => return Ok(None),
+            [b, after @ ..] => {
+                if behind {
+                    let Some(byte) = escaped(*b) else {
+                        return Ok(None);
+                    };
+                    text.push(byte)?;
+                    behind = false;
+                } else if *b == b'"' {
+                    return Ok(if after.is_empty() {
+                        Some(Bytes::from_vec(text))
+                    } else {
+                        None
+                    });
+                } else if *b == b'\\' {
+                    behind = true;
+                } else {
+                    text.push(*b)?;
+                }
+                rest = after;
             }
-            behind = false;
-        } else if *b == b'"' {
-            let is_last = at + 1 == bytes.len();
-            return Ok(if is_last {
-                Some(Bytes::from_vec(text))
-            } else {
-                None
-            });
-        } else if *b == b'\\' {
-            behind = true;
-        } else {
-            text.push(*b)?;
         }
     }
-    Ok(None)
 }
 
 /// The text that a word spells with its quotation marks, `None` exactly where it spells none.

@@ -1,10 +1,11 @@
 // Requests and replies, over references R and values V: those of the code, or those of the plain heap.
-use ap_base::{At, FieldAt, Item, Key, Kind, Piece, Ref, RunFault};
+use ap_base::{Item, Kind, Piece, Ref};
+use run_types::{At, FieldAt, Key, RunFault};
 
 /// What one shared instruction, or a step of a native method, asks of the heap. `from` is the instruction that asks.
 ///
 /// The references are operands, so they may be null; a request says which throwable comes of that (JVMS 6.5).
-#[derive(Clone, Copy, Debug, PartialEq, Eq)]
+#[derive(Drop)]
 pub enum Request<R = Ref, V = Item> {
     /// A turn ended without a shared instruction.
     Pause,
@@ -142,7 +143,7 @@ pub enum Request<R = Ref, V = Item> {
 }
 
 /// What the heap replies to a request.
-#[derive(Clone, Copy, Debug, PartialEq, Eq)]
+#[derive(Drop)]
 pub enum Reply<R = Ref, V = Item> {
     Done,
     Item(V),

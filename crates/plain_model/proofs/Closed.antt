@@ -11,7 +11,7 @@ use Rattle.graph_model.specs.declared.types.NamedValue.{NamedValue}
 use Rattle.graph_model.specs.declared.types.Graph.{Graph}
 use Rattle.graph_model.specs.Heaps.{no_object, IsBelow, default_of}
 use Rattle.run_history.specs.Recorded.{Recorded}
-use Rattle.run_history.specs.Knowing.{Known, next_known, known_after, is_root}
+use Rattle.run_history.specs.Knowing.{Knowledge, next_known, known_after, is_root}
 use Rattle.run_history.specs.Wanted.{Wishes, WantsNow, IsClosed}
 use Rattle.plain_model.specs.Facts.{SetFacts, StaticFacts, narrowed}
 use Rattle.plain_model.specs.First.{IsOpening, first_known, first_world, first_heap, first_objects, first_statics, node_object, literal_object, static_value, constant_value, root_static, root_value, roots_from, is_lacking, lacking_roots, name_is}
@@ -20,7 +20,7 @@ use Rattle.plain_model.specs.Runs.{GoesOn}
 use Rattle.plain_model.proofs.Durable.{below_from_has_number, has_number_from_below}
 
 module _ (set : SetFacts) (main : ℕ) (opening : Graph) {Frames : Type 0} (code : Code set main opening Frames) where
-  pub closed_after : (known : Known) (frames : List Frames) (Now : Wishes) (front rest : List Recorded)
+  pub closed_after : (known : Knowledge) (frames : List Frames) (Now : Wishes) (front rest : List Recorded)
       → IsClosed known → GoesOn set main opening code known frames Now (front ++ rest) → IsClosed (known_after known front)
   closed_after known frames Now [] rest closed run = closed
   closed_after known frames Now (a ∷ front) rest closed run =

@@ -7,7 +7,7 @@ use Rattle.graph_model.specs.declared.types.Value.TheVariants.{Obj as Object}
 use Rattle.graph_model.specs.declared.types.Root.{Root}
 use Rattle.graph_model.specs.declared.types.Heap.{Heap}
 use Rattle.graph_model.specs.Heaps.{has_number, values_of}
-use Rattle.run_history.specs.Knowing.{Known, is_root}
+use Rattle.run_history.specs.Knowing.{Knowledge, is_root}
 use Rattle.run_history.specs.Wanted.{IsClosed}
 
 -- whether the value is no object, or a durable one
@@ -31,7 +31,7 @@ abbrev roots_are_kept : List Value → List ℕ → List Root → Bool
 roots_are_kept statics durable [] = true
 roots_are_kept statics durable (r ∷ rs) = static_is_kept durable (slice_get statics r.at) && roots_are_kept statics durable rs
 
-abbrev pub is_closed : Known → Bool
+abbrev pub is_closed : Knowledge → Bool
 is_closed known =
     slots_are_kept known.world.heap known.durable known.durable
     && roots_are_kept known.world.heap.statics known.durable known.world.heap.roots
@@ -71,7 +71,7 @@ kept_roots statics durable (r ∷ rs) k n kept root at =
     ] refl root
 
 -- what passes the test is closed
-pub closed_by_test : (known : Known) → is_closed known ≡ true → IsClosed known
+pub closed_by_test : (known : Knowledge) → is_closed known ≡ true → IsClosed known
 closed_by_test known closed =
     let heap = known.world.heap in
     let (slots, roots) = both (slots_are_kept heap known.durable known.durable) (roots_are_kept heap.statics known.durable heap.roots) closed in

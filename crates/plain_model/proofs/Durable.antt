@@ -9,7 +9,7 @@ use Rattle.run_history.specs.declared.act.Op.{Op}
 use Rattle.run_history.specs.declared.act.Op.TheVariants as op
 use Rattle.run_history.specs.Recorded.{Recorded}
 use Rattle.run_history.specs.Worlds.{after}
-use Rattle.run_history.specs.Knowing.{Known, next_known, known_after, known_after_op, is_outermost, after_end}
+use Rattle.run_history.specs.Knowing.{Knowledge, next_known, known_after, known_after_op, is_outermost, after_end}
 use Rattle.plain_model.specs.First.{numbers_to}
 use Rattle.plain_model.specs.Codes.{is_persistent}
 use Rattle.plain_model.specs.Laws.{visible, world_after}
@@ -42,7 +42,7 @@ All-has_number P (x ∷ xs) n all has =
     ] refl has
 
 -- durable objects stay, by one operation and by many
-durable_after_end : (known : Known) (t : ℕ) (outermost : Bool) → (after_end known t outermost).durable ≡ known.durable
+durable_after_end : (known : Knowledge) (t : ℕ) (outermost : Bool) → (after_end known t outermost).durable ≡ known.durable
 durable_after_end known t true = refl
 durable_after_end known t false = refl
 
@@ -51,30 +51,30 @@ abbrev pub made_durable : Op → List ℕ → List ℕ
 made_durable op.Joined named = named
 made_durable o named = []
 
-pub durable-known_after_op : (known : Known) (t : ℕ) (named : List ℕ) (o : Op)
+pub durable-known_after_op : (known : Knowledge) (t : ℕ) (named : List ℕ) (o : Op)
     → (known_after_op known t named o).durable ≡ known.durable ++ made_durable o named
 unfolding known_after_op
 durable-known_after_op known t named op.Joined = refl
 durable-known_after_op known t named op.End = durable_after_end known t (is_outermost known t) ∙ sym (append-nil known.durable)
 durable-known_after_op known t named o = sym (append-nil known.durable)
 
-pub durable_stays : (known : Known) (acts : List Recorded) (n : ℕ)
+pub durable_stays : (known : Knowledge) (acts : List Recorded) (n : ℕ)
     → has_number known.durable n ≡ true → has_number (known_after known acts).durable n ≡ true
 durable_stays known [] n has = has
 durable_stays known (a ∷ acts) n has = durable_stays (next_known known a) acts n (
     rw (durable-known_after_op known a.act.thread a.named a.act.op)
     (has_number-append_left known.durable (made_durable a.act.op a.named) n has))
 
-pub durable_stays_after : (known : Known) (front rest : List Recorded) (n : ℕ)
+pub durable_stays_after : (known : Knowledge) (front rest : List Recorded) (n : ℕ)
     → has_number (known_after known front).durable n ≡ true → has_number (known_after known (front ++ rest)).durable n ≡ true
 durable_stays_after known front rest n has = rw (known_after-append known front rest) (durable_stays (known_after known front) rest n has)
 
 -- the world after one operation
-world_after_end : (known : Known) (t : ℕ) (outermost : Bool) → (after_end known t outermost).world ≡ after known.world t op.End
+world_after_end : (known : Knowledge) (t : ℕ) (outermost : Bool) → (after_end known t outermost).world ≡ after known.world t op.End
 world_after_end known t true = refl
 world_after_end known t false = refl
 
-pub world-known_after_op : (known : Known) (t : ℕ) (named : List ℕ) (o : Op)
+pub world-known_after_op : (known : Knowledge) (t : ℕ) (named : List ℕ) (o : Op)
     → (known_after_op known t named o).world ≡ (if is_persistent o then known.world else after known.world t o)
 unfolding known_after_op
 world-known_after_op known t named (op.Asked place value) = refl
@@ -85,11 +85,11 @@ world-known_after_op known t named op.Fenced = refl
 world-known_after_op known t named op.End = world_after_end known t (is_outermost known t)
 world-known_after_op known t named o = refl
 
-pub persistence_leaves_the_world : (known : Known) (t : ℕ) (named : List ℕ) (o : Op) → is_persistent o ≡ true
+pub persistence_leaves_the_world : (known : Knowledge) (t : ℕ) (named : List ℕ) (o : Op) → is_persistent o ≡ true
     → (known_after_op known t named o).world ≡ known.world
 persistence_leaves_the_world known t named o persistent = rw persistent at (world-known_after_op known t named o)
 
-pub world_by_visible : (known : Known) (acts : List Recorded) → (known_after known acts).world ≡ world_after known.world (visible acts)
+pub world_by_visible : (known : Knowledge) (acts : List Recorded) → (known_after known acts).world ≡ world_after known.world (visible acts)
 world_by_visible known [] = refl
 world_by_visible known (a ∷ acts) =
     world_by_visible (next_known known a) acts

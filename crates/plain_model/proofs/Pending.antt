@@ -6,7 +6,7 @@ use Rattle.std.proofs.lemmas.List.Elements.{All-nil, All-cons}
 use Rattle.run_history.specs.declared.act.Op.{Op}
 use Rattle.run_history.specs.declared.act.Op.TheVariants as op
 use Rattle.run_history.specs.Recorded.{Recorded}
-use Rattle.run_history.specs.Knowing.{Known, Pending, pending_of, next_known, known_after, known_after_op, is_outermost, after_end}
+use Rattle.run_history.specs.Knowing.{Knowledge, Pending, pending_of, next_known, known_after, known_after_op, is_outermost, after_end}
 use Rattle.plain_model.specs.Laws.{IsStored, WasAsked}
 
 -- of a list with one more, the pending act of a thread is that of the list or the new one
@@ -56,11 +56,11 @@ asked_after ps t (op.Asked place value) = ps ++ record { thread = t; place = pla
 asked_after ps t (op.Stored place value) = without t ps
 asked_after ps t o = ps
 
-asked_after_end : (known : Known) (t : ℕ) (outermost : Bool) → (after_end known t outermost).asked ≡ known.asked
+asked_after_end : (known : Knowledge) (t : ℕ) (outermost : Bool) → (after_end known t outermost).asked ≡ known.asked
 asked_after_end known t true = refl
 asked_after_end known t false = refl
 
-asked-known_after_op : (known : Known) (t : ℕ) (named : List ℕ) (o : Op) → (known_after_op known t named o).asked ≡ asked_after known.asked t o
+asked-known_after_op : (known : Knowledge) (t : ℕ) (named : List ℕ) (o : Op) → (known_after_op known t named o).asked ≡ asked_after known.asked t o
 unfolding known_after_op
 asked-known_after_op known t named op.End = asked_after_end known t (is_outermost known t)
 asked-known_after_op known t named o = refl
@@ -91,7 +91,7 @@ asked_before a acts u p was = record {
   no_store = was.no_store;
 }
 
-pub pending_was_asked : (known : Known) (acts : List Recorded) (u : ℕ) (p : Pending) → pending_of (known_after known acts).asked u ≡ Some p
+pub pending_was_asked : (known : Knowledge) (acts : List Recorded) (u : ℕ) (p : Pending) → pending_of (known_after known acts).asked u ≡ Some p
     → ((pending_of known.asked u ≡ Some p) × NoStore u acts) ⊎ WasAsked acts u p
 pending_was_asked known [] u p is = inl (is, All-nil (λ (a : Recorded). a.act.thread ≡ u → IsStored a.act.op → ⊥))
 pending_was_asked known (a ∷ acts) u p is = elim (pending_was_asked (next_known known a) acts u p is) [

@@ -8,7 +8,7 @@ use Rattle.graph_model.specs.declared.types.Value.TheVariants.{Null, Obj as Obje
 use Rattle.graph_model.specs.declared.types.Heap.{Heap}
 use Rattle.graph_model.specs.Heaps.{has_number, values_of, with_fresh}
 use Rattle.graph_model.specs.Reach.{Reaches, here, along}
-use Rattle.run_history.specs.Knowing.{Known, Pending, pending_of, known_after_op, known_after}
+use Rattle.run_history.specs.Knowing.{Knowledge, Pending, pending_of, known_after_op, known_after}
 use Rattle.run_history.specs.Wanted.{Wishes, NoWish, WantsNow, WantsAfter}
 use Rattle.plain_model.specs.First.{first_world, first_heap, first_known}
 use Rattle.plain_model.specs.Steps.{step}
@@ -119,7 +119,7 @@ abbrev asks_node : Pending
 asks_node = record { thread = 0; place = Static 1; value = Object 2 }
 
 -- where object 2 alone is asked, and has one slot, which is null, nobody wants object 0
-unwanted : (known : Known) (Before : Wishes) (u : ℕ) → known.asked ≡ asks_node ∷ [] → values_of known.world.heap 2 ≡ Null ∷ []
+unwanted : (known : Knowledge) (Before : Wishes) (u : ℕ) → known.asked ≡ asks_node ∷ [] → values_of known.world.heap 2 ≡ Null ∷ []
     → ((v m : ℕ) → Before v m → ⊥) → WantsNow known Before u 0 → ⊥
 unwanted known Before u is_asked null none wants =
     let now = wants_now known Before u 0 wants in

@@ -10,7 +10,7 @@ use Rattle.run_history.specs.declared.act.Op.{Op}
 use Rattle.run_history.specs.declared.act.Op.TheVariants as op
 use Rattle.run_history.specs.Recorded.{Recorded}
 use Rattle.run_history.specs.Worlds.{World, heap_after_op, after}
-use Rattle.run_history.specs.Knowing.{Known, next_known, known_after}
+use Rattle.run_history.specs.Knowing.{Knowledge, next_known, known_after}
 use Rattle.plain_model.specs.Facts.{SetFacts, IsConsistent, shapes_of}
 use Rattle.plain_model.specs.First.{IsOpening, first_known, first_world, first_heap}
 use Rattle.plain_model.specs.Requests.{PlainRequest, PlainReply}
@@ -44,15 +44,15 @@ shapes_stay heap o = refl
 abbrev world_next : World → Recorded → Bool → World
 world_next world a persistent = if persistent then world else after world a.act.thread a.act.op
 
-world_of_next : (known : Known) (a : Recorded) → (next_known known a).world ≡ world_next known.world a (is_persistent a.act.op)
+world_of_next : (known : Knowledge) (a : Recorded) → (next_known known a).world ≡ world_next known.world a (is_persistent a.act.op)
 world_of_next known a = world-known_after_op known a.act.thread a.named a.act.op
 
-objects_stay_next : (known : Known) (a : Recorded) → length known.world.heap.objects ≤ length (next_known known a).world.heap.objects
+objects_stay_next : (known : Knowledge) (a : Recorded) → length known.world.heap.objects ≤ length (next_known known a).world.heap.objects
 objects_stay_next known a = rw (world_of_next known a) (
     elim (is_persistent a.act.op) as (λ b. length known.world.heap.objects ≤ length (world_next known.world a b).heap.objects)
     [ true ↦ omega arith | false ↦ objects_stay known.world.heap a.act.op ])
 
-objects_stay_after : (known : Known) (acts : List Recorded) → length known.world.heap.objects ≤ length (known_after known acts).world.heap.objects
+objects_stay_after : (known : Knowledge) (acts : List Recorded) → length known.world.heap.objects ≤ length (known_after known acts).world.heap.objects
 objects_stay_after known [] = omega arith
 objects_stay_after known (a ∷ acts) = omega (arith, objects_stay_next known a, objects_stay_after (next_known known a) acts)
 

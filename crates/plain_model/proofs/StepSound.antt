@@ -6,14 +6,14 @@ use Rattle.std.proofs.lemmas.List.{length-map, length-set}
 use Rattle.std.proofs.lemmas.List.Elements.{All-map, All-replicate, All-weaker, All-set, All-push, All-get_or}
 use Rattle.ap_base.specs.declared.kind.Kind.{Kind}
 use Rattle.ap_base.specs.declared.kind.Kind.TheVariants.{L}
-use Rattle.ap_base.specs.declared.kind.Key.TheVariants as key
+use Rattle.run_types.specs.declared.key.Key.TheVariants as key
 use Rattle.ap_base.specs.declared.place.Place.{Place}
 use Rattle.ap_base.specs.declared.place.Place.TheVariants.{Static, Slot}
-use Rattle.ap_base.specs.declared.wait.On.{On}
-use Rattle.ap_base.specs.declared.wait.On.TheVariants as on
-use Rattle.ap_base.specs.declared.fault.RunFault.{RunFault}
-use Rattle.ap_base.specs.declared.fault.RunFault.TheVariants as fault
-use Rattle.ap_base.specs.declared.fault.Which.TheVariants as which
+use Rattle.run_types.specs.declared.wait.On.{On}
+use Rattle.run_types.specs.declared.wait.On.TheVariants as on
+use Rattle.run_types.specs.declared.fault.RunFault.{RunFault}
+use Rattle.run_types.specs.declared.fault.RunFault.TheVariants as fault
+use Rattle.run_types.specs.declared.fault.Which.TheVariants as which
 use Rattle.graph_model.specs.declared.types.Value.{Value}
 use Rattle.graph_model.specs.declared.types.Value.TheVariants.{Int, Long, Null, Obj as Object}
 use Rattle.graph_model.specs.declared.types.Field.{Field}

@@ -5,7 +5,7 @@ use Rattle.graph_model.specs.declared.types.Graph.{Graph}
 use Rattle.run_history.specs.declared.act.Op.{Op}
 use Rattle.run_history.specs.declared.act.Op.TheVariants as op
 use Rattle.run_history.specs.Recorded.{Recorded}
-use Rattle.run_history.specs.Knowing.{Known}
+use Rattle.run_history.specs.Knowing.{Knowledge}
 use Rattle.run_history.specs.Wanted.{Wishes, NoWish}
 use Rattle.plain_model.specs.Facts.{SetFacts}
 use Rattle.plain_model.specs.First.{first_known}
@@ -14,7 +14,7 @@ use Rattle.plain_model.specs.Codes.{Code, is_persistent}
 use Rattle.plain_model.specs.Runs.{IsAbout, Rule, MayAct, IsPlainRun, first_frames, known_of, wants_of, request_after}
 use Rattle.plain_model.proofs.Appended.{GoesOn-front, GoesOn-pushed}
 
-pub about_from_rule : (set : SetFacts) (known : Known) (Now : Wishes) (request : Option PlainRequest) (t : ℕ) (named : List ℕ) (o : Op)
+pub about_from_rule : (set : SetFacts) (known : Knowledge) (Now : Wishes) (request : Option PlainRequest) (t : ℕ) (named : List ℕ) (o : Op)
     → Rule set known Now request t named o → is_persistent o ≡ false → IsAbout set known request t o
 about_from_rule set known Now request t named (op.Asked place value) rule visible = absurd (let no : true ≡ false = visible in cc)
 about_from_rule set known Now request t named op.Joined rule visible = absurd (let no : true ≡ false = visible in cc)

@@ -6,7 +6,7 @@ use Rattle.graph_model.specs.Heaps.{has_number}
 use Rattle.run_history.specs.declared.act.Op.{Op}
 use Rattle.run_history.specs.declared.act.Op.TheVariants as op
 use Rattle.run_history.specs.Recorded.{Recorded}
-use Rattle.run_history.specs.Knowing.{Known, Pending, pending_of, next_known, known_after}
+use Rattle.run_history.specs.Knowing.{Knowledge, Pending, pending_of, next_known, known_after}
 use Rattle.run_history.specs.Wanted.{Wishes, WantsFor, WantsNow, WantsAfter}
 use Rattle.plain_model.specs.Facts.{SetFacts}
 use Rattle.plain_model.specs.Requests.{PlainRequest}
@@ -16,17 +16,17 @@ use Rattle.plain_model.specs.Laws.{IsWantedNow}
 use Rattle.plain_model.proofs.Durable.{made_durable, durable-known_after_op, has_number-append_cases, All-has_number}
 
 -- what an operation makes durable some thread wants
-made_durable_is_wanted : (set : SetFacts) (known : Known) (Now : Wishes) (request : Option PlainRequest) (t n : ℕ) (named : List ℕ) (o : Op)
+made_durable_is_wanted : (set : SetFacts) (known : Knowledge) (Now : Wishes) (request : Option PlainRequest) (t n : ℕ) (named : List ℕ) (o : Op)
     → Rule set known Now request t named o → has_number (made_durable o named) n ≡ true → (u : ℕ) × Now u n
 made_durable_is_wanted set known Now request t n named op.Joined rule has = All-has_number (λ m. (u : ℕ) × Now u m) named n rule.wanted has
 made_durable_is_wanted set known Now request t n named o rule has = absurd (let no : false ≡ true = has in cc)
 
 -- some thread wants object n after a front of these acts
-abbrev pub WasWantedFrom : Known → Wishes → List Recorded → ℕ → Type 0
+abbrev pub WasWantedFrom : Knowledge → Wishes → List Recorded → ℕ → Type 0
 WasWantedFrom known Now acts n = (front rest : List Recorded) × (u : ℕ) × (acts ≡ front ++ rest) × WantsAfter known Now front u n
 
 module _ (set : SetFacts) (main : ℕ) (opening : Graph) {Frames : Type 0} (code : Code set main opening Frames) where
-  pub durable_was_wanted : (known : Known) (frames : List Frames) (Now : Wishes) (acts : List Recorded) (n : ℕ)
+  pub durable_was_wanted : (known : Knowledge) (frames : List Frames) (Now : Wishes) (acts : List Recorded) (n : ℕ)
       → GoesOn set main opening code known frames Now acts → has_number (known_after known acts).durable n ≡ true
       → (has_number known.durable n ≡ true) ⊎ WasWantedFrom known Now acts n
   durable_was_wanted known frames Now [] n run has = inl has
@@ -48,10 +48,10 @@ module _ (set : SetFacts) (main : ℕ) (opening : Graph) {Frames : Type 0} (code
       by_this now = here (has_number-append_cases known.durable (made_durable a.act.op a.named) n
           (rw (durable-known_after_op known a.act.thread a.named a.act.op) at now))
 
-wants_for : (known : Known) (Before : Wishes) (u n : ℕ) (pending : Option Pending) → pending_of known.asked u ≡ pending
+wants_for : (known : Knowledge) (Before : Wishes) (u n : ℕ) (pending : Option Pending) → pending_of known.asked u ≡ pending
     → WantsFor known Before u pending n → IsWantedNow known Before u n
 wants_for known Before u n None is wants = absurd wants
 wants_for known Before u n (Some p) is wants = record { pending = p; is_pending = is; reached = wants }
 
-pub wants_now : (known : Known) (Before : Wishes) (u n : ℕ) → WantsNow known Before u n → IsWantedNow known Before u n
+pub wants_now : (known : Knowledge) (Before : Wishes) (u n : ℕ) → WantsNow known Before u n → IsWantedNow known Before u n
 wants_now known Before u n wants = wants_for known Before u n (pending_of known.asked u) refl wants

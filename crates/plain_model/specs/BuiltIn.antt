@@ -3,7 +3,7 @@
 use Rattle.std.specs.Prelude.{ℕ, ◌+◌, Bool, true, false, List, [], ◌∷◌, map, codes, Option, Some, None}
 use Rattle.ap_base.specs.declared.kind.Kind.{Kind}
 use Rattle.ap_base.specs.declared.kind.Kind.TheVariants.{C, I, L}
-use Rattle.ap_base.specs.declared.kind.Known.{Known as KnownClasses}
+use Rattle.run_types.specs.declared.known.Known.{Known as KnownClasses}
 use Rattle.graph_model.specs.declared.types.Field.{Field}
 use Rattle.plain_model.specs.Facts.{ClassFacts, ThrowableNumbers}
 

@@ -6,7 +6,7 @@ use Rattle.run_history.specs.declared.act.Op.{Op}
 use Rattle.run_history.specs.declared.act.Op.TheVariants as op
 use Rattle.run_history.specs.Recorded.{Recorded}
 use Rattle.run_history.specs.Worlds.{Thread, World}
-use Rattle.run_history.specs.Knowing.{Known, next_known}
+use Rattle.run_history.specs.Knowing.{Knowledge, next_known}
 use Rattle.plain_model.specs.Facts.{SetFacts}
 use Rattle.plain_model.specs.Requests.{PlainRequest, PlainReply}
 use Rattle.plain_model.specs.Steps.{step, reply_of}
@@ -68,6 +68,6 @@ module _ (set : SetFacts) (main : ℕ) (opening : Graph) {Frames : Type 0} (code
   unfoldable pub frames_after_op : World → List Frames → ℕ → Op → List Frames
   frames_after_op world frames t o = if is_persistent o then frames else answered_at world t (taken_by o) frames t ++ begun_by o
 
-  abbrev pub frames_after : Known → List Frames → List Recorded → List Frames
+  abbrev pub frames_after : Knowledge → List Frames → List Recorded → List Frames
   frames_after known frames [] = frames
   frames_after known frames (a ∷ acts) = frames_after (next_known known a) (frames_after_op known.world frames a.act.thread a.act.op) acts

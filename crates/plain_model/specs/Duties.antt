@@ -3,12 +3,12 @@
 use Rattle.std.specs.Prelude.{◌≡◌, ◌⊎◌, ℕ, suc, ◌<◌, true, false, List, length, slice_get, Some, None, IsSome}
 use Rattle.ap_base.specs.declared.kind.Kind.{Kind}
 use Rattle.ap_base.specs.declared.kind.Kind.TheVariants.{J, L}
-use Rattle.ap_base.specs.declared.kind.FieldAt.{FieldAt}
-use Rattle.ap_base.specs.declared.kind.Key.TheVariants as key
-use Rattle.ap_base.specs.declared.fault.RunFault.{RunFault}
-use Rattle.ap_base.specs.declared.fault.RunFault.TheVariants as fault
-use Rattle.ap_base.specs.declared.fault.Which.{Which}
-use Rattle.ap_base.specs.declared.fault.Which.TheVariants as which
+use Rattle.run_types.specs.declared.resolved.FieldAt.{FieldAt}
+use Rattle.run_types.specs.declared.key.Key.TheVariants as key
+use Rattle.run_types.specs.declared.fault.RunFault.{RunFault}
+use Rattle.run_types.specs.declared.fault.RunFault.TheVariants as fault
+use Rattle.run_types.specs.declared.fault.Which.{Which}
+use Rattle.run_types.specs.declared.fault.Which.TheVariants as which
 use Rattle.graph_model.specs.declared.types.Value.{Value}
 use Rattle.graph_model.specs.declared.types.Value.TheVariants.{Int, Long, Null, Obj as Object}
 use Rattle.graph_model.specs.declared.types.Field.{Field}

@@ -1,12 +1,12 @@
 -- How a run ends: by a fault that its last event meets, by a throwable that ended a thread, or normally.
 use Rattle.std.specs.Prelude.{◌≡◌, ◌≢◌, ◌⊎◌, ℕ, suc, ◌+◌, ◌-◌, ◌/◌, ◌<◌, ◌≤◌, max, true, false, nat_eq, nat_le, List, [], ◌∷◌, ◌++◌, length, drop, filter, sum_by, slice_get, Option, Some, None, All, AllPairs, Contains, IsSome}
-use Rattle.ap_base.specs.declared.wait.On.{On}
+use Rattle.run_types.specs.declared.wait.On.{On}
 use Rattle.ap_base.specs.declared.place.Place.{Place}
-use Rattle.ap_base.specs.declared.kind.Limits.{Limits}
-use Rattle.ap_base.specs.declared.fault.RunFault.{RunFault}
-use Rattle.ap_base.specs.declared.fault.RunFault.TheVariants as fault
-use Rattle.ap_base.specs.declared.fault.Which.{Which}
-use Rattle.ap_base.specs.declared.fault.Which.TheVariants as which
+use Rattle.run_types.specs.declared.limits.Limits.{Limits}
+use Rattle.run_types.specs.declared.fault.RunFault.{RunFault}
+use Rattle.run_types.specs.declared.fault.RunFault.TheVariants as fault
+use Rattle.run_types.specs.declared.fault.Which.{Which}
+use Rattle.run_types.specs.declared.fault.Which.TheVariants as which
 use Rattle.graph_model.specs.declared.types.Value.{Value}
 use Rattle.graph_model.specs.declared.types.Obj.{Obj}
 use Rattle.graph_model.specs.declared.types.Heap.{Heap}
@@ -16,7 +16,7 @@ use Rattle.run_history.specs.declared.act.Op.{Op}
 use Rattle.run_history.specs.declared.act.Op.TheVariants as op
 use Rattle.run_history.specs.Recorded.{Recorded}
 use Rattle.run_history.specs.Worlds.{World, Thread, held, depth_of}
-use Rattle.run_history.specs.Knowing.{Known, Guard, durable_at, guard_of}
+use Rattle.run_history.specs.Knowing.{Knowledge, Guard, durable_at, guard_of}
 use Rattle.run_history.specs.Wanted.{Wishes}
 use Rattle.natives.specs.declared.requests.Request.TheVariants as ask
 use Rattle.plain_model.specs.Facts.{SetFacts}
@@ -44,20 +44,20 @@ wait_at set world t None = None
 wait_at set world t (Some request) = wait_of (step set world t 1 request)
 
 -- the step of the thread's request finds a wrong operand: the fault names the instruction that asks
-pub record FindsWrongOperand (set : SetFacts) (known : Known) (request : Option PlainRequest) (t : ℕ) (f : RunFault) : Type 0 where
+pub record FindsWrongOperand (set : SetFacts) (known : Knowledge) (request : Option PlainRequest) (t : ℕ) (f : RunFault) : Type 0 where
   pub asked : PlainRequest
   pub is_asked : request ≡ Some asked
   pub is_wrong : step set known.world t 1 asked ≡ WrongOperand
   pub names : (from : _) × (from_of asked ≡ Some from) × (f ≡ fault.BadCode from)
 
 -- the request is itself the end of the run, or can't be served within the 64 threads
-pub record IsOverBy (set : SetFacts) (known : Known) (request : Option PlainRequest) (t : ℕ) (f : RunFault) : Type 0 where
+pub record IsOverBy (set : SetFacts) (known : Knowledge) (request : Option PlainRequest) (t : ℕ) (f : RunFault) : Type 0 where
   pub asked : PlainRequest
   pub is_asked : request ≡ Some asked
   pub is_over : step set known.world t 1 asked ≡ IsOver f
 
 -- the thread's request stores at a durable place that another thread's open region has guarded
-pub record Races (set : SetFacts) (known : Known) (request : Option PlainRequest) (t : ℕ) (f : RunFault) : Type 0 where
+pub record Races (set : SetFacts) (known : Knowledge) (request : Option PlainRequest) (t : ℕ) (f : RunFault) : Type 0 where
   pub place : Place
   pub other : ℕ
   pub stores : (value : Value) × IsAbout set known request t (op.Stored place value)
@@ -80,8 +80,8 @@ abbrev pub words_of : Obj → ℕ
 words_of object = 3 + length object.values
 
 -- an object takes a head word and a word for each slot, in whole lines of eight words
-abbrev pub lines_of : Heap → ℕ → ℕ
-lines_of heap n = (length (values_of heap n) + 8) / 8
+abbrev pub object_lines : Heap → ℕ → ℕ
+object_lines heap n = (length (values_of heap n) + 8) / 8
 
 -- the words of the objects that were made in volatile memory: all but the nodes of the opening graph
 abbrev pub words_taken : Graph → Heap → ℕ
@@ -101,50 +101,50 @@ pub record UsesUp (need left : ℕ) (which : Which) (f : RunFault) : Type 0 wher
   pub more : left < need
   pub names : f ≡ fault.Full (record { which = which; need = need; left = left })
 
-abbrev pub FillsHeap : SetFacts → Graph → Limits → Known → Option PlainRequest → ℕ → RunFault → Type 0
+abbrev pub FillsHeap : SetFacts → Graph → Limits → Knowledge → Option PlainRequest → ℕ → RunFault → Type 0
 FillsHeap set opening limits known request t f =
     (o : Op) × (need : ℕ) × IsAbout set known request t o × (words_made known.world.heap o ≡ Some need)
     × UsesUp need (limits.heap_words - words_taken opening known.world.heap) which.VolatileWords f
 
 -- the history has as many acts as it may have; this is tested first in each event
-abbrev pub FillsHistory : Limits → Known → RunFault → Type 0
+abbrev pub FillsHistory : Limits → Knowledge → RunFault → Type 0
 FillsHistory limits known f = UsesUp 1 (limits.acts - length known.marks) which.Acts f
 
 -- an open region has 1,024 places guarded, and its thread stores at a further durable place
-abbrev pub FillsLog : SetFacts → Known → Option PlainRequest → ℕ → RunFault → Type 0
+abbrev pub FillsLog : SetFacts → Knowledge → Option PlainRequest → ℕ → RunFault → Type 0
 FillsLog set known request t f =
     (place : Place) × (value : Value) × IsAbout set known request t (op.Stored place value) × (durable_at known place ≡ true)
     × (depth_of known.world t ≢ 0) × (has_guarded known t place ≡ false)
     × UsesUp 1 (1024 - length (guards_of known.guards t)) which.LogEntries f
 
 -- 4,096 monitors are held, and the thread enters a further one
-abbrev pub FillsMonitors : SetFacts → Known → Option PlainRequest → ℕ → RunFault → Type 0
+abbrev pub FillsMonitors : SetFacts → Knowledge → Option PlainRequest → ℕ → RunFault → Type 0
 FillsMonitors set known request t f =
     (key : _) × IsAbout set known request t (op.Enter key) × (held known.world.monitors key ≡ None)
     × UsesUp 1 (4096 - length known.world.monitors) which.Monitors f
 
 -- These objects became durable in the run, or are wanted.
-abbrev pub IsTaken : Graph → Known → Wishes → ℕ → Type 0
+abbrev pub IsTaken : Graph → Knowledge → Wishes → ℕ → Type 0
 IsTaken opening known Now n = (length opening.nodes < suc n) × ((has_number known.durable n ≡ true) ⊎ ((u : ℕ) × Now u n))
 
 -- the objects that became durable in the run
-abbrev pub joined_of : Graph → Known → List ℕ
+abbrev pub joined_of : Graph → Knowledge → List ℕ
 joined_of opening known = filter (λ n. nat_le (length opening.nodes) n) known.durable
 
 -- The image has too few lines for a further object beside those that have taken theirs: all that became durable in the run, and maybe
 -- some that are wanted.
-pub record FillsImage (opening : Graph) (lines : ℕ) (known : Known) (Now : Wishes) (f : RunFault) : Type 0 where
+pub record FillsImage (opening : Graph) (lines : ℕ) (known : Knowledge) (Now : Wishes) (f : RunFault) : Type 0 where
   pub claimed : List ℕ
   pub refused : ℕ
   pub once : AllPairs (λ m n. m ≢ n) (claimed ++ refused ∷ [])
   pub taken : All (IsTaken opening known Now) (claimed ++ refused ∷ [])
   pub joined : All (λ n. Contains claimed n) (joined_of opening known)
-  pub used_up : UsesUp (lines_of known.world.heap refused) (lines - sum_by (lines_of known.world.heap) claimed) which.ImageLines f
+  pub used_up : UsesUp (object_lines known.world.heap refused) (lines - sum_by (object_lines known.world.heap) claimed) which.ImageLines f
 
 -- A run never takes more than there is: of volatile memory, beyond what its first objects take, and of the image's lines.
-pub record KeepsMemory (set : SetFacts) (opening : Graph) (limits : Limits) (lines : ℕ) (known : Known) : Type 0 where
+pub record KeepsMemory (set : SetFacts) (opening : Graph) (limits : Limits) (lines : ℕ) (known : Knowledge) : Type 0 where
   pub words : words_taken opening known.world.heap ≤ max limits.heap_words (words_taken opening (first_heap set opening))
-  pub image : sum_by (lines_of known.world.heap) (joined_of opening known) ≤ lines
+  pub image : sum_by (object_lines known.world.heap) (joined_of opening known) ≤ lines
 
 -- the request prints a piece
 abbrev pub Prints : Option PlainRequest → Type 0

@@ -5,7 +5,7 @@ use Rattle.std.specs.Prelude.{ℕ, ◌<◌, ℤ, pos, ◌^◌, Bool, false, List
 use Rattle.std.specs.Int.{w8, w16, int_wrap, int_rem_euclid}
 use Rattle.ap_base.specs.declared.kind.Kind.{Kind}
 use Rattle.ap_base.specs.declared.kind.Kind.TheVariants.{Z, B, C, S}
-use Rattle.ap_base.specs.declared.kind.Known.{Known as KnownClasses}
+use Rattle.run_types.specs.declared.known.Known.{Known as KnownClasses}
 use Rattle.graph_model.specs.declared.types.Value.{Value}
 use Rattle.graph_model.specs.declared.types.Value.TheVariants.{Int}
 use Rattle.graph_model.specs.declared.types.Shape.{Shape}

@@ -18,7 +18,7 @@ use Rattle.graph_model.specs.Heaps.{default_of, IsBelow}
 use Rattle.run_history.specs.declared.plain.Progress.{Progress}
 use Rattle.run_history.specs.declared.plain.Progress.TheVariants.{Untouched, Finished}
 use Rattle.run_history.specs.Worlds.{World, new_thread}
-use Rattle.run_history.specs.Knowing.{Known, known_at_first}
+use Rattle.run_history.specs.Knowing.{Knowledge, known_at_first}
 use Rattle.plain_model.specs.Facts.{ClassFacts, StaticFacts, Constant, IntConstant, LongConstant, LiteralConstant, SetFacts, class_at, shapes_of, narrowed}
 
 -- equal names, byte by byte
@@ -122,7 +122,7 @@ module _ (set : SetFacts) (opening : Graph) where
   }
 
   -- The nodes of the opening graph are durable at first.
-  abbrev pub first_known : Known
+  abbrev pub first_known : Knowledge
   first_known = known_at_first first_world (numbers_to (length opening.nodes))
 
 -- a value of a graph that is of this kind: a reference, a long, or an int for every other kind

@@ -1,17 +1,20 @@
 -- What holds of every plain run and of every history, whatever the class set, the opening graph and the code.
 use Rattle.std.specs.Prelude.{◌≡◌, ◌⊎◌, ◌↔◌, ℕ, ◌<◌, true, false, not, ◌^◌, List, [], ◌∷◌, ◌++◌, map, filter, length, Some, All}
 use Rattle.graph_model.specs.declared.types.Value.TheVariants.{Obj as Object}
+use Rattle.graph_model.specs.declared.types.Heap.{Heap}
+use Rattle.graph_model.specs.declared.types.Node.{Node}
 use Rattle.graph_model.specs.declared.types.Graph.{Graph}
+use Rattle.graph_model.specs.Canon.{canon_of}
 use Rattle.graph_model.specs.Heaps.{has_number, IsSound}
 use Rattle.graph_model.specs.Reach.{Reaches}
 use Rattle.run_history.specs.declared.act.Op.{Op}
 use Rattle.run_history.specs.declared.act.Op.TheVariants as op
 use Rattle.run_history.specs.Recorded.{Recorded}
 use Rattle.run_history.specs.Worlds.{World, after, heap_after_op}
-use Rattle.run_history.specs.Knowing.{Known, Pending, pending_of, known_after_op, next_known, known_after}
+use Rattle.run_history.specs.Knowing.{Knowledge, Pending, pending_of, known_after_op, next_known, known_after}
 use Rattle.run_history.specs.Wanted.{Wishes, WantsNow, IsClosed}
-use Rattle.plain_model.specs.Facts.{SetFacts, shapes_of, IsConsistent}
-use Rattle.plain_model.specs.First.{first_heap, IsOpening}
+use Rattle.plain_model.specs.Facts.{SetFacts, class_at, shapes_of, IsConsistent}
+use Rattle.plain_model.specs.First.{class_named, first_heap, IsOpening}
 use Rattle.plain_model.specs.Requests.{PlainRequest, PlainReply}
 use Rattle.plain_model.specs.Steps.{Does, step}
 use Rattle.plain_model.specs.Codes.{Code, is_persistent, frames_after_op}
@@ -90,7 +93,7 @@ OnlyWantedBecomesDurable Frames = (set : SetFacts) (main : ℕ) (opening : Graph
     → (n < length opening.nodes) ⊎ WasWanted set main opening code acts n
 
 -- Thread u's Asked act is pending, and its value, or an object that u wanted before, reaches object n.
-pub record IsWantedNow (known : Known) (Before : Wishes) (u n : ℕ) : Type 0 where
+pub record IsWantedNow (known : Knowledge) (Before : Wishes) (u n : ℕ) : Type 0 where
   pub pending : Pending
   pub is_pending : pending_of known.asked u ≡ Some pending
   pub reached : Reaches known.world.heap (λ m. (pending.value ≡ Object m) ⊎ Before u m) n
@@ -128,7 +131,7 @@ PendingWasAsked Frames = (set : SetFacts) (main : ℕ) (opening : Graph) (code :
 
 -- An object that is durable after a front of a history is durable after all of it.
 abbrev pub DurableObjectsStay : Type 0
-DurableObjectsStay = (known : Known) (front rest : List Recorded) (n : ℕ)
+DurableObjectsStay = (known : Knowledge) (front rest : List Recorded) (n : ℕ)
     → has_number (known_after known front).durable n ≡ true
     → has_number (known_after known (front ++ rest)).durable n ≡ true
 
@@ -141,18 +144,32 @@ world_after world (a ∷ acts) = world_after (after world a.act.thread a.act.op)
 
 -- The world after a history is the first one with the visible acts done in order.
 abbrev pub WorldByVisibleActs : Type 0
-WorldByVisibleActs = (known : Known) (acts : List Recorded)
+WorldByVisibleActs = (known : Knowledge) (acts : List Recorded)
     → (known_after known acts).world ≡ world_after known.world (visible acts)
 
 -- An operation of persistence leaves the world as it is.
 abbrev pub PersistenceLeavesTheWorld : Type 0
-PersistenceLeavesTheWorld = (known : Known) (t : ℕ) (named : List ℕ) (o : Op) → is_persistent o ≡ true
+PersistenceLeavesTheWorld = (known : Knowledge) (t : ℕ) (named : List ℕ) (o : Op) → is_persistent o ≡ true
     → (known_after_op known t named o).world ≡ known.world
 
 -- The first heap of a class set and its opening graph is sound.
 abbrev pub FirstHeapIsSound : Type 0
 FirstHeapIsSound = (set : SetFacts) (opening : Graph) → IsConsistent set → IsOpening set opening
     → IsSound (first_heap set opening)
+
+-- a graph is canonical where it is the graph of some sound heap
+abbrev pub IsCanonical : Graph → Type 0
+IsCanonical graph = (heap : Heap) × IsSound heap × (graph ≡ canon_of heap)
+
+-- each node's shape is that of the class with its name
+abbrev pub HasShapesOf : SetFacts → Graph → Type 0
+HasShapesOf set graph =
+    All (λ (n : Node). (class_at set (class_named set.classes n.shape.name)).shape ≡ n.shape) graph.nodes
+
+-- The first heap of a canonical opening graph has that graph.
+abbrev pub FirstHeapHasItsGraph : Type 0
+FirstHeapHasItsGraph = (set : SetFacts) (opening : Graph) → IsConsistent set → IsOpening set opening
+    → HasShapesOf set opening → IsCanonical opening → canon_of (first_heap set opening) ≡ opening
 
 -- A fit request's step leaves the heap sound, where it leaves it fewer than 2^32 objects.
 abbrev pub FitStepsKeepHeapsSound : Type 0

@@ -1,6 +1,6 @@
 -- Requests and replies of the plain machine: plain values stand in place of references.
 use Rattle.std.specs.Prelude.{Option, Some, None}
-use Rattle.ap_base.specs.declared.kind.At.{At}
+use Rattle.run_types.specs.declared.resolved.At.{At}
 use Rattle.graph_model.specs.declared.types.Value.{Value}
 use Rattle.natives.specs.declared.requests.Request.{Request}
 use Rattle.natives.specs.declared.requests.Request.TheVariants as ask

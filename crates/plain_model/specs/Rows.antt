@@ -1,7 +1,7 @@
 -- Small class sets, code that follows a script, and what it may and may not do.
 use Rattle.std.specs.Prelude.{◌≡◌, ◌⊎◌, ◌↔◌, ℕ, suc, ℤ, Bool, true, false, List, [], ◌∷◌, ◌++◌, length, slice_index_or, slice_get, Option, Some, None, codes}
-use Rattle.ap_base.specs.declared.kind.At.{At}
-use Rattle.ap_base.specs.declared.kind.FieldAt.{FieldAt}
+use Rattle.run_types.specs.declared.resolved.At.{At}
+use Rattle.run_types.specs.declared.resolved.FieldAt.{FieldAt}
 use Rattle.ap_base.specs.declared.kind.Kind.{Kind}
 use Rattle.ap_base.specs.declared.kind.Kind.TheVariants.{C, L}
 use Rattle.ap_base.specs.declared.place.Place.TheVariants.{Static, Slot}

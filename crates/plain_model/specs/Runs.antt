@@ -11,7 +11,7 @@ use Rattle.run_history.specs.declared.act.Op.{Op}
 use Rattle.run_history.specs.declared.act.Op.TheVariants as op
 use Rattle.run_history.specs.Recorded.{Recorded}
 use Rattle.run_history.specs.Worlds.{World, depth_of}
-use Rattle.run_history.specs.Knowing.{Known, next_known, known_after, durable_at, pending_of, guard_of, has_guards, is_outermost}
+use Rattle.run_history.specs.Knowing.{Knowledge, next_known, known_after, durable_at, pending_of, guard_of, has_guards, is_outermost}
 use Rattle.run_history.specs.Wanted.{Wishes, NoWish, WantsNow, WantsAfter, IsClosed}
 use Rattle.run_history.specs.Kept.{IsAllowedFrom}
 use Rattle.plain_model.specs.Facts.{SetFacts}
@@ -26,7 +26,7 @@ op_given set world t taken None = None
 op_given set world t taken (Some request) = op_of (step set world t taken request)
 
 -- the request of thread t is one whose step does this
-abbrev pub IsAbout : SetFacts → Known → Option PlainRequest → ℕ → Op → Type 0
+abbrev pub IsAbout : SetFacts → Knowledge → Option PlainRequest → ℕ → Op → Type 0
 IsAbout set known request t o = op_given set known.world t (taken_by o) request ≡ Some o
 
 abbrev pub is_guarded_by : ℕ → Option ℕ → Bool
@@ -34,19 +34,19 @@ is_guarded_by t None = false
 is_guarded_by t (Some u) = has_number (u ∷ []) t
 
 -- whether thread t's own open region has guarded the place
-abbrev pub has_guarded : Known → ℕ → Place → Bool
+abbrev pub has_guarded : Knowledge → ℕ → Place → Bool
 has_guarded known t place = is_guarded_by t (guard_of known.guards place)
 
 -- Asked: none of the thread's Asked acts is pending, its request is one whose step stores this value there, the value is an
 -- object that isn't durable, and the place is durable or a slot of a wanted object.
-pub record MayAsk (set : SetFacts) (known : Known) (Now : Wishes) (request : Option PlainRequest) (t : ℕ) (place : Place) (value : Value) : Type 0 where
+pub record MayAsk (set : SetFacts) (known : Knowledge) (Now : Wishes) (request : Option PlainRequest) (t : ℕ) (place : Place) (value : Value) : Type 0 where
   pub none_pending : pending_of known.asked t ≡ None
   pub is_about : IsAbout set known request t (op.Stored place value)
   pub volatile : (n : ℕ) × (value ≡ Object n) × (has_number known.durable n ≡ false)
   pub holder : (durable_at known place ≡ true) ⊎ ((u n i : ℕ) × (place ≡ Slot n i) × Now u n)
 
 -- Joined: it names at least one object, each once; each is wanted and wasn't durable.
-pub record MayJoin (known : Known) (Now : Wishes) (named : List ℕ) : Type 0 where
+pub record MayJoin (known : Knowledge) (Now : Wishes) (named : List ℕ) : Type 0 where
   pub some : named ≢ []
   pub once : AllPairs (λ m n. m ≢ n) named
   pub volatile : All (λ n. has_number known.durable n ≡ false) named
@@ -54,7 +54,7 @@ pub record MayJoin (known : Known) (Now : Wishes) (named : List ℕ) : Type 0 wh
 
 -- Guarded: the thread's request is one whose step stores at this durable place, its region is open and isn't closing, and no open
 -- region has guarded the place.
-pub record MayGuard (set : SetFacts) (known : Known) (request : Option PlainRequest) (t : ℕ) (place : Place) : Type 0 where
+pub record MayGuard (set : SetFacts) (known : Knowledge) (request : Option PlainRequest) (t : ℕ) (place : Place) : Type 0 where
   pub is_about : (value : Value) × IsAbout set known request t (op.Stored place value)
   pub is_open : depth_of known.world t ≢ 0
   pub not_closing : has_number known.closing t ≡ false
@@ -62,7 +62,7 @@ pub record MayGuard (set : SetFacts) (known : Known) (request : Option PlainRequ
   pub unguarded : guard_of known.guards place ≡ None
 
 -- Closing: the thread's request is the End that matches its outermost Begin, and its region has guarded a place and isn't closing.
-pub record MayClose (set : SetFacts) (known : Known) (request : Option PlainRequest) (t : ℕ) : Type 0 where
+pub record MayClose (set : SetFacts) (known : Knowledge) (request : Option PlainRequest) (t : ℕ) : Type 0 where
   pub is_about : IsAbout set known request t op.End
   pub outermost : is_outermost known t ≡ true
   pub guards : has_guards known.guards t ≡ true
@@ -70,18 +70,18 @@ pub record MayClose (set : SetFacts) (known : Known) (request : Option PlainRequ
 
 -- Stored: a durable store is at no place that another thread's open region has guarded, and within a region at one that this
 -- region has guarded.
-pub record MayStore (set : SetFacts) (known : Known) (request : Option PlainRequest) (t : ℕ) (place : Place) (value : Value) : Type 0 where
+pub record MayStore (set : SetFacts) (known : Knowledge) (request : Option PlainRequest) (t : ℕ) (place : Place) (value : Value) : Type 0 where
   pub is_about : IsAbout set known request t (op.Stored place value)
   pub no_race : durable_at known place ≡ true → (guard_of known.guards place ≡ None) ⊎ (has_guarded known t place ≡ true)
   pub guarded : durable_at known place ≡ true → depth_of known.world t ≢ 0 → has_guarded known t place ≡ true
 
 -- End: where it ends a region that has guarded a place, that region is closing.
-pub record MayEnd (set : SetFacts) (known : Known) (request : Option PlainRequest) (t : ℕ) : Type 0 where
+pub record MayEnd (set : SetFacts) (known : Knowledge) (request : Option PlainRequest) (t : ℕ) : Type 0 where
   pub is_about : IsAbout set known request t op.End
   pub closing : is_outermost known t ≡ true → has_guards known.guards t ≡ true → has_number known.closing t ≡ true
 
 -- the rule of each operation, at the request of its thread
-abbrev pub Rule : SetFacts → Known → Wishes → Option PlainRequest → ℕ → List ℕ → Op → Type 0
+abbrev pub Rule : SetFacts → Knowledge → Wishes → Option PlainRequest → ℕ → List ℕ → Op → Type 0
 Rule set known Now request t named (op.Asked place value) = MayAsk set known Now request t place value
 Rule set known Now request t named op.Joined = MayJoin known Now named
 Rule set known Now request t named (op.Guarded place) = MayGuard set known request t place
@@ -101,7 +101,7 @@ NamesRightly op.Joined named = Unit {0}
 NamesRightly o named = named ≡ []
 
 -- What may come next, where the act's thread asks this request.
-pub record MayAct (set : SetFacts) (known : Known) (Now : Wishes) (request : Option PlainRequest) (a : Recorded) : Type 0 where
+pub record MayAct (set : SetFacts) (known : Knowledge) (Now : Wishes) (request : Option PlainRequest) (a : Recorded) : Type 0 where
   -- the count of image calls never falls
   pub later : known.at ≤ a.act.at
   pub rule : Rule set known Now request a.act.thread a.named a.act.op
@@ -113,7 +113,7 @@ pub record MayAct (set : SetFacts) (known : Known) (Now : Wishes) (request : Opt
 
 module _ (set : SetFacts) (main : ℕ) (opening : Graph) {Frames : Type 0} (code : Code set main opening Frames) where
   -- these acts go on from what is known, from these frames and wishes
-  abbrev pub GoesOn : Known → List Frames → Wishes → List Recorded → Type 0
+  abbrev pub GoesOn : Knowledge → List Frames → Wishes → List Recorded → Type 0
   GoesOn known frames Now [] = Unit {0}
   GoesOn known frames Now (a ∷ acts) =
       MayAct set known Now (request_of set main opening code known.world frames a.act.thread) a
@@ -127,7 +127,7 @@ module _ (set : SetFacts) (main : ℕ) (opening : Graph) {Frames : Type 0} (code
   IsPlainRun acts = GoesOn (first_known set opening) first_frames NoWish acts
 
   -- what is known, what is wanted and what each thread asks after these acts
-  abbrev pub known_of : List Recorded → Known
+  abbrev pub known_of : List Recorded → Knowledge
   known_of acts = known_after (first_known set opening) acts
 
   abbrev pub wants_of : List Recorded → Wishes

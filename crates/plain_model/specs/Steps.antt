@@ -5,14 +5,14 @@
 use Rattle.std.specs.Prelude.{ℕ, zero, suc, ℤ, pos, negsuc, Bool, true, false, nat_eq, nat_lt, nat_le, not, ◌&&◌, List, [], ◌∷◌, length, take, slice_get, Option, Some, None, if◌then◌else◌, is_some, unwrap_or}
 use Rattle.ap_base.specs.declared.kind.Kind.{Kind}
 use Rattle.ap_base.specs.declared.kind.Kind.TheVariants.{Z, B, C, S, I, J, L, Text}
-use Rattle.ap_base.specs.declared.kind.Key.TheVariants as key
+use Rattle.run_types.specs.declared.key.Key.TheVariants as key
 use Rattle.ap_base.specs.declared.place.Place.{Place}
 use Rattle.ap_base.specs.declared.place.Place.TheVariants.{Static, Slot}
-use Rattle.ap_base.specs.declared.wait.On.{On}
-use Rattle.ap_base.specs.declared.wait.On.TheVariants as on
-use Rattle.ap_base.specs.declared.fault.RunFault.{RunFault}
-use Rattle.ap_base.specs.declared.fault.RunFault.TheVariants as fault
-use Rattle.ap_base.specs.declared.fault.Which.TheVariants as which
+use Rattle.run_types.specs.declared.wait.On.{On}
+use Rattle.run_types.specs.declared.wait.On.TheVariants as on
+use Rattle.run_types.specs.declared.fault.RunFault.{RunFault}
+use Rattle.run_types.specs.declared.fault.RunFault.TheVariants as fault
+use Rattle.run_types.specs.declared.fault.Which.TheVariants as which
 use Rattle.graph_model.specs.declared.types.Value.{Value}
 use Rattle.graph_model.specs.declared.types.Value.TheVariants.{Int, Long, Null, Obj as Object}
 use Rattle.graph_model.specs.Heaps.{object_at, value_at}

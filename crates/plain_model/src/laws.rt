@@ -3,7 +3,7 @@
 ghost use Rattle.plain_model.specs.Laws.{OneMoreAct, FrontsArePlainRuns, VisibleActsAreSteps, OutputOfParts, OutputByOperations};
 ghost use Rattle.plain_model.specs.Laws.{DurableReferToDurable, OnlyWantedBecomesDurable, WantsForTheAsked, WantsNothingAtFirst};
 ghost use Rattle.plain_model.specs.Laws.{PendingWasAsked, DurableObjectsStay, WorldByVisibleActs, PersistenceLeavesTheWorld};
-ghost use Rattle.plain_model.specs.Laws.{FirstHeapIsSound, FitStepsKeepHeapsSound, HeapsOfRunsAreSound};
+ghost use Rattle.plain_model.specs.Laws.{FirstHeapHasItsGraph, FirstHeapIsSound, FitStepsKeepHeapsSound, HeapsOfRunsAreSound};
 
 /// A plain run goes on by exactly the acts that may come next.
 pub fn one_more_act<Frames>()
@@ -37,7 +37,7 @@ pub fn durable_objects_stay()
 {}
 
 /// The visible acts alone tell the plain world.
-pub fn steps_are_functions()
+pub fn visible_acts_tell_the_world()
     ensures world { WorldByVisibleActs }
     ensures persistence { PersistenceLeavesTheWorld }
 {}
@@ -45,6 +45,11 @@ pub fn steps_are_functions()
 /// The first heap is sound: each of its references names an object, and each object's shape is there.
 pub fn the_first_heap_is_sound()
     ensures { FirstHeapIsSound }
+{}
+
+/// The first heap of a canonical opening graph has that graph.
+pub fn the_first_heap_has_its_graph()
+    ensures { FirstHeapHasItsGraph }
 {}
 
 /// A step of a fit request keeps the heap sound.

@@ -3,17 +3,32 @@
 
 mod laws;
 mod rows;
-#[cfg(test)]
-mod tests;
+mod run_laws;
+mod run_rows;
+mod step_rows;
 mod throws;
 
 pub use laws::{
     a_fit_step_keeps_the_heap_sound, durable_objects_stay, durable_places_refer_to_durable_objects,
     one_more_act, only_what_was_wanted_becomes_durable, output_is_that_of_the_acts,
-    steps_are_functions, the_first_heap_is_sound, the_heap_of_a_plain_run_is_sound,
+    the_first_heap_has_its_graph, the_first_heap_is_sound, the_heap_of_a_plain_run_is_sound,
+    visible_acts_tell_the_world,
 };
 pub use rows::{
     a_fence_keeps_the_published_node, a_node_is_published, a_region_guards_and_closes,
     stores_are_narrowed, the_programs_are_sound,
+};
+pub use run_laws::{
+    limits_are_reached, lines_are_for_wanted_objects, monitors_have_one_owner,
+    one_store_of_a_thread_is_unfenced, regions_are_begun_and_ended, stuck_threads_do_nothing,
+};
+pub use run_rows::{
+    a_program_prints_7, regions_commit_at_their_end, regions_keep_their_rules,
+    runs_end_by_their_rules, stores_keep_their_rules, the_boxes_are_sound,
+    threads_keep_their_rules,
+};
+pub use step_rows::{
+    elements_step_by_the_table, fit_requests_are_those_of_the_table,
+    objects_and_fields_step_by_the_table, tests_step_by_the_table, threads_step_by_the_table,
 };
 pub use throws::Throws;

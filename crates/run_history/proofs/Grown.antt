@@ -7,12 +7,12 @@ use Rattle.run_history.specs.declared.act.Op.{Op}
 use Rattle.run_history.specs.declared.act.Op.TheVariants as op
 use Rattle.run_history.specs.Recorded.{Recorded}
 use Rattle.run_history.specs.Worlds.{depth_of}
-use Rattle.run_history.specs.Knowing.{Fate, Sure, Open, Closing, Single, Mark, Known, known_at_first, known_after, known_after_op, next_known, fenced, closed, ended, each_fate, with_sure, fate_of, store_fate, durable_at, is_outermost, is_single, without_number, after_end}
+use Rattle.run_history.specs.Knowing.{Fate, Sure, Open, Closing, Single, Mark, Knowledge, known_at_first, known_after, known_after_op, next_known, fenced, closed, ended, each_fate, with_sure, fate_of, store_fate, durable_at, is_outermost, is_single, without_number, after_end}
 use Rattle.run_history.specs.Laws.{Past, further, known_in, marks_in}
 use Rattle.run_history.proofs.KeptLists.{OfEach, Any, OfEach-any, OfEach-more, OfEach-each_fate}
 
 -- what is known after one more act
-pub known_after-append : (known : Known) (acts : List Recorded) (a : Recorded)
+pub known_after-append : (known : Knowledge) (acts : List Recorded) (a : Recorded)
     → known_after known (acts ++ a ∷ []) ≡ next_known (known_after known acts) a
 known_after-append known [] a = refl
 known_after-append known (b ∷ acts) a = known_after-append (next_known known b) acts a
@@ -25,14 +25,14 @@ marks-further past t at o =
     ap (λ k. k.marks) (known_after-append (known_at_first past.world past.durable) past.acts act)
 
 -- what each act keeps is so after all acts
-pub known_after-keeps : (P : Known → Type 0) → ((known : Known) (a : Recorded) → P known → P (next_known known a))
-    → (known : Known) (acts : List Recorded) → P known → P (known_after known acts)
+pub known_after-keeps : (P : Knowledge → Type 0) → ((known : Knowledge) (a : Recorded) → P known → P (next_known known a))
+    → (known : Knowledge) (acts : List Recorded) → P known → P (known_after known acts)
 known_after-keeps P keeps known [] holds = holds
 known_after-keeps P keeps known (a ∷ acts) holds =
     known_after-keeps P keeps (next_known known a) acts (keeps known a holds)
 
 -- Lists of threads.
-has_number-without : (ns : List ℕ) (t u : ℕ) → nat_eq u t ≡ false → has_number (without_number ns t) u ≡ has_number ns u
+pub has_number-without : (ns : List ℕ) (t u : ℕ) → nat_eq u t ≡ false → has_number (without_number ns t) u ≡ has_number ns u
 has_number-without [] t u d = refl
 has_number-without (n ∷ ns) t u d =
     let Same : Bool → Type 0 = λ b.
@@ -142,7 +142,7 @@ closed-own t (Closing v) = refl
 closed-own t (Single v) = refl
 
 -- a single store is the storing thread's
-store_fate-single : (t : ℕ) (durable : Bool) (depth : ℕ) (is_closing : Bool)
+pub store_fate-single : (t : ℕ) (durable : Bool) (depth : ℕ) (is_closing : Bool)
     → is_single (store_fate t durable depth is_closing) ≡ true → store_fate t durable depth is_closing ≡ Single t
 store_fate-single t false depth is_closing h = absurd (let e : false ≡ true = h in cc)
 store_fate-single t true zero is_closing h = refl
@@ -167,10 +167,10 @@ OfEach-with_sure : (P : Fate → Type 0) (f : Fate → Fate) → ((fate : Fate) 
 OfEach-with_sure P f keeps sure ms o all = OfEach-more P (each_fate f ms) Sure o (OfEach-each_fate P P f keeps ms all) sure
 
 -- A thread that owes no fence has no single store.
-abbrev pub OwesForSingles : Known → Type 0
+abbrev pub OwesForSingles : Knowledge → Type 0
 OwesForSingles known = (t : ℕ) → has_number known.unfenced t ≡ false → OfEach (NoSingle t) known.marks
 
-owes-stored : (known : Known) (t : ℕ) (o : Op) (fate : Fate) → (is_single fate ≡ true → fate ≡ Single t)
+owes-stored : (known : Knowledge) (t : ℕ) (o : Op) (fate : Fate) → (is_single fate ≡ true → fate ≡ Single t)
     → OwesForSingles known → (u : ℕ)
     → has_number (if is_single fate then known.unfenced ++ t ∷ [] else known.unfenced) u ≡ false
     → OfEach (NoSingle u) (known.marks ++ record { fate = fate; op = o } ∷ [])
@@ -181,7 +181,7 @@ owes-stored known t o (Single v) own owes u h =
     let neither = has_number-neither known.unfenced t u h in
     rw (own refl) (OfEach-more (NoSingle u) known.marks (Single t) o (owes u neither.0) neither.1)
 
-owes-fenced : (known : Known) (t : ℕ) → OwesForSingles known → (u : ℕ)
+owes-fenced : (known : Knowledge) (t : ℕ) → OwesForSingles known → (u : ℕ)
     → has_number (without_number known.unfenced t) u ≡ false → OfEach (NoSingle u) (each_fate (fenced t) known.marks)
 owes-fenced known t owes u h =
     let own = OfEach-each_fate Any (NoSingle t) (fenced t) (λ fate _. fenced-own t fate) known.marks (OfEach-any known.marks) in
@@ -192,12 +192,12 @@ owes-fenced known t owes u h =
           OfEach-each_fate (NoSingle u) (NoSingle u) (fenced t) (fenced-no_single t u) known.marks owed
     ] refl
 
-owes-end : (known : Known) (t : ℕ) (b : Bool) → OwesForSingles known → OwesForSingles (after_end known t b)
+owes-end : (known : Knowledge) (t : ℕ) (b : Bool) → OwesForSingles known → OwesForSingles (after_end known t b)
 owes-end known t true owes u h =
     OfEach-with_sure (NoSingle u) (ended t) (ended-no_single t u) refl known.marks op.End (owes u h)
 owes-end known t false owes u h = OfEach-more (NoSingle u) known.marks Sure op.End (owes u h) refl
 
-owes-op : (known : Known) (t : ℕ) (named : List ℕ) (o : Op)
+owes-op : (known : Knowledge) (t : ℕ) (named : List ℕ) (o : Op)
     → OwesForSingles known → OwesForSingles (known_after_op known t named o)
 unfolding known_after_op
 owes-op known t named op.Closing owes u h =
@@ -216,10 +216,10 @@ owes_for_singles past =
     (known_at_first past.world past.durable) past.acts (λ t h. tt)
 
 -- A thread whose region is closing has no store of an open one.
-abbrev pub ClosingIsNotOpen : Known → Type 0
+abbrev pub ClosingIsNotOpen : Knowledge → Type 0
 ClosingIsNotOpen known = (t : ℕ) → has_number known.closing t ≡ true → OfEach (NotOpen t) known.marks
 
-not_open-closing : (known : Known) (t : ℕ) → ClosingIsNotOpen known → (u : ℕ)
+not_open-closing : (known : Knowledge) (t : ℕ) → ClosingIsNotOpen known → (u : ℕ)
     → has_number (known.closing ++ t ∷ []) u ≡ true → OfEach (NotOpen u) (each_fate (closed t) known.marks)
 not_open-closing known t not_open u h =
     let own = OfEach-each_fate Any (NotOpen t) (closed t) (λ fate _. closed-own t fate) known.marks (OfEach-any known.marks) in
@@ -240,13 +240,13 @@ still_closing ns t u h =
       | false ↦ λ e. sym (has_number-without ns t u e) ∙ h
     ] refl
 
-not_open-end : (known : Known) (t : ℕ) (b : Bool) → ClosingIsNotOpen known → ClosingIsNotOpen (after_end known t b)
+not_open-end : (known : Knowledge) (t : ℕ) (b : Bool) → ClosingIsNotOpen known → ClosingIsNotOpen (after_end known t b)
 not_open-end known t true not_open u h =
     OfEach-with_sure (NotOpen u) (ended t) (ended-not_open t u) refl known.marks op.End
     (not_open u (still_closing known.closing t u h))
 not_open-end known t false not_open u h = OfEach-more (NotOpen u) known.marks Sure op.End (not_open u h) refl
 
-not_open-op : (known : Known) (t : ℕ) (named : List ℕ) (o : Op)
+not_open-op : (known : Knowledge) (t : ℕ) (named : List ℕ) (o : Op)
     → ClosingIsNotOpen known → ClosingIsNotOpen (known_after_op known t named o)
 unfolding known_after_op
 not_open-op known t named op.Closing not_open u h =

@@ -7,7 +7,7 @@ use Rattle.graph_model.specs.Canon.{canon_of}
 use Rattle.run_history.specs.declared.act.Op.{Op}
 use Rattle.run_history.specs.Recorded.{Recorded}
 use Rattle.run_history.specs.Worlds.{heap_after_op, heap_after}
-use Rattle.run_history.specs.Knowing.{Fate, Sure, Open, Closing, Single, Mark, Known, known_after}
+use Rattle.run_history.specs.Knowing.{Fate, Sure, Open, Closing, Single, Mark, Knowledge, known_after}
 
 -- whether an act of this fate is kept, where these closing regions and these single stores are
 abbrev pub survives : (ℕ → Bool) → (ℕ → Bool) → Fate → Bool
@@ -34,7 +34,7 @@ abbrev pub MayRemainWith : Heap → List Mark → Op → Graph → Type 0
 MayRemainWith first marks o g = (ops : List Op) × IsKept marks ops × (g ≡ canon_of (heap_after_op (heap_after first ops) o))
 
 -- A graph that the history allows, from what is known at first: the canonical graph after some kept list.
-abbrev pub IsAllowedFrom : Known → List Recorded → Graph → Type 0
+abbrev pub IsAllowedFrom : Knowledge → List Recorded → Graph → Type 0
 IsAllowedFrom known acts g = MayRemain known.world.heap (known_after known acts).marks g
 
 -- what had happened when a stop fell within image call m

@@ -36,7 +36,7 @@ pub record Guard : Type 0 where
   pub thread : ℕ
   pub place : Place
 
-pub record Known : Type 0 where
+pub record Knowledge : Type 0 where
   pub world : World
   pub durable : List ℕ
   pub asked : List Pending
@@ -52,7 +52,7 @@ pub record Known : Type 0 where
   pub at : ℕ
 
 -- what is known before the first act, where these objects are durable
-abbrev pub known_at_first : World → List ℕ → Known
+abbrev pub known_at_first : World → List ℕ → Knowledge
 known_at_first world durable =
     record { world = world; durable = durable; asked = []; guards = []; closing = []; unfenced = []; marks = []; stores = 0; at = 0 }
 
@@ -68,7 +68,7 @@ abbrev pub is_durable : Heap → List ℕ → Place → Bool
 is_durable heap durable (Static n) = is_root heap.roots n
 is_durable heap durable (Slot n i) = has_number durable n
 
-abbrev pub durable_at : Known → Place → Bool
+abbrev pub durable_at : Knowledge → Place → Bool
 durable_at known place = is_durable known.world.heap known.durable place
 
 abbrev pub pending_of : List Pending → ℕ → Option Pending
@@ -91,7 +91,7 @@ store_fate t true zero is_closing = Single t
 store_fate t true (suc depth) true = Closing t
 store_fate t true (suc depth) false = Open t
 
-abbrev pub fate_of : Known → ℕ → Place → Fate
+abbrev pub fate_of : Knowledge → ℕ → Place → Fate
 fate_of known t place = store_fate t (durable_at known place) (depth_of known.world t) (has_number known.closing t)
 
 abbrev pub is_single : Fate → Bool
@@ -121,10 +121,10 @@ abbrev pub with_sure : List Mark → Op → List Mark
 with_sure marks o = marks ++ record { fate = Sure; op = o } ∷ []
 
 -- whether an End of thread t matches the outermost Begin of its region
-abbrev pub is_outermost : Known → ℕ → Bool
+abbrev pub is_outermost : Knowledge → ℕ → Bool
 is_outermost known t = nat_eq (depth_of known.world t) 1
 
-abbrev pub after_stored : Known → ℕ → Place → Value → Fate → Known
+abbrev pub after_stored : Knowledge → ℕ → Place → Value → Fate → Knowledge
 after_stored known t place value fate = record known {
   world = after known.world t (op.Stored place value);
   asked = filter (λ p. not (nat_eq p.thread t)) known.asked;
@@ -134,7 +134,7 @@ after_stored known t place value fate = record known {
 }
 
 -- an End that matches the outermost Begin gives the region's guards up
-abbrev pub after_end : Known → ℕ → Bool → Known
+abbrev pub after_end : Knowledge → ℕ → Bool → Knowledge
 after_end known t true = record known {
   world = after known.world t op.End;
   guards = filter (λ g. not (nat_eq g.thread t)) known.guards;
@@ -143,14 +143,14 @@ after_end known t true = record known {
 }
 after_end known t false = record known { world = after known.world t op.End; marks = with_sure known.marks op.End }
 
-abbrev pub after_asked : Known → ℕ → Place → Value → Known
+abbrev pub after_asked : Knowledge → ℕ → Place → Value → Knowledge
 after_asked known t place value = record known {
   asked = known.asked ++ record { thread = t; place = place; value = value } ∷ [];
   marks = with_sure known.marks (op.Asked place value);
 }
 
 -- what is known after an operation of thread t that names these objects
-unfoldable pub known_after_op : Known → ℕ → List ℕ → Op → Known
+unfoldable pub known_after_op : Knowledge → ℕ → List ℕ → Op → Knowledge
 known_after_op known t named (op.Asked place value) = after_asked known t place value
 known_after_op known t named op.Joined = record known { durable = known.durable ++ named; marks = with_sure known.marks op.Joined }
 known_after_op known t named (op.Guarded place) =
@@ -163,10 +163,10 @@ known_after_op known t named (op.Stored place value) = after_stored known t plac
 known_after_op known t named op.End = after_end known t (is_outermost known t)
 known_after_op known t named o = record known { world = after known.world t o; marks = with_sure known.marks o }
 
-abbrev pub next_known : Known → Recorded → Known
+abbrev pub next_known : Knowledge → Recorded → Knowledge
 next_known known a = record (known_after_op known a.act.thread a.named a.act.op) { at = a.act.at }
 
 -- What is known after these acts.
-abbrev pub known_after : Known → List Recorded → Known
+abbrev pub known_after : Knowledge → List Recorded → Knowledge
 known_after known [] = known
 known_after known (a ∷ acts) = known_after (next_known known a) acts

@@ -11,7 +11,7 @@ use Rattle.run_history.specs.declared.act.Op.{Op}
 use Rattle.run_history.specs.declared.act.Op.TheVariants as op
 use Rattle.run_history.specs.Recorded.{Recorded}
 use Rattle.run_history.specs.Worlds.{World, heap_after, heap_after_op_checked}
-use Rattle.run_history.specs.Knowing.{Fate, Sure, Open, Closing, Single, Mark, Known, known_at_first, known_after, fate_of, each_fate, is_outermost}
+use Rattle.run_history.specs.Knowing.{Fate, Sure, Open, Closing, Single, Mark, Knowledge, known_at_first, known_after, fate_of, each_fate, is_outermost}
 use Rattle.run_history.specs.Kept.{kept, MayRemain, MayRemainWith, IsAllowedFrom, acts_before}
 
 -- A past: a first world, the objects that are durable there, and the acts since then.
@@ -25,7 +25,7 @@ abbrev pub further : Past → ℕ → ℕ → Op → Past
 further past t at o =
     record past { acts = past.acts ++ record { act = record { thread = t; at = at; op = o }; named = [] } ∷ [] }
 
-abbrev pub known_in : Past → Known
+abbrev pub known_in : Past → Knowledge
 known_in past = known_after (known_at_first past.world past.durable) past.acts
 
 abbrev pub marks_in : Past → List Mark
@@ -44,7 +44,7 @@ abbrev pub graph_left : Heap → List Mark → (ℕ → Bool) → (ℕ → Bool)
 graph_left first marks regions singles = canon_of (heap_after first (kept regions singles marks))
 
 -- A single store: thread t owes no fence, and its store at this place is a durable one outside regions.
-pub record IsSingleStore (known : Known) (t : ℕ) (place : Place) : Type 0 where
+pub record IsSingleStore (known : Knowledge) (t : ℕ) (place : Place) : Type 0 where
   pub owes_none : has_number known.unfenced t ≡ false
   pub fate : fate_of known t place ≡ Single t
 
@@ -116,7 +116,7 @@ ClosingRegionIsNotOpen = (past : Past) (t : ℕ)
     → All (λ (m : Mark). m.fate ≢ Open t) (marks_in past)
 
 -- Thread t's region is closing, and its next End matches the outermost Begin.
-pub record IsAtItsEnd (known : Known) (t : ℕ) : Type 0 where
+pub record IsAtItsEnd (known : Knowledge) (t : ℕ) : Type 0 where
   pub outermost : is_outermost known t ≡ true
   pub closing : has_number known.closing t ≡ true
 

@@ -1,8 +1,10 @@
 pub mod HeldActs
 pub mod Kept
+pub mod KnowledgeRows
 pub mod Knowing
 pub mod Laws
 pub mod Recorded
 pub mod Ring
 pub mod Wanted
+pub mod WorldRows
 pub mod Worlds

@@ -1,10 +1,10 @@
 // The history as a list that takes no memory once its room was reserved.
 ghost use Rattle.std.specs.Prelude.{◌≡◌, ◌<◌, ◌≤◌, ◌+◌, ◌-◌, ◌^◌, ◌↔◌, [], ◌∷◌, ◌++◌, length, OnOk, OnErr, IfErr, IsErr, IfSome, IsNone, slice_get, option_copied};
 ghost use Rattle.run_history.specs.Recorded.{History, with_act, acts_of, named_at};
-ghost use Rattle.ap_base.specs.declared.fault.Which.TheVariants.{Acts as ActsLimit};
+ghost use Rattle.run_types.specs.declared.fault.Which.TheVariants.{Acts as ActsLimit};
 
 use crate::{Act, Op};
-use ap_base::{Full, Which};
+use run_types::{Full, Which};
 use std::alloc::{AllocError, Global};
 use std::marker::Model;
 

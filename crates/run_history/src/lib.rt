@@ -5,8 +5,7 @@ mod act;
 mod acts;
 pub mod laws;
 mod plain;
-#[cfg(test)]
-mod tests;
+pub mod rows;
 mod watcher;
 
 pub use act::{Act, Op, PlainKey, Stage};

@@ -1,13 +1,13 @@
 -- The array is asked for in the image, copied there and made durable.
 use Rattle.std.proofs.Common.{◌≡◌, ℕ, pos, replicate, ap, ◌∙◌, subst, sym, arith, Err, Result}
 use Rattle.std.proofs.lemmas.Result.{err_from_is_err_and}
-use Rattle.line_image.specs.History.{Outcome}
+use Rattle.line_image.specs.Trace.{Outcome}
 use Rattle.line_memory.specs.Memory.{Memory, shown, IsKnown, CanLeaveAll}
 use Rattle.line_memory.specs.Moments.{Goes}
 use Rattle.image_layout.specs.Places.{lines_of}
 use Rattle.array_heap.specs.Calls.{IsIn, OnRoom}
 use Rattle.array_heap.specs.Holding.{ShowsHeap, IsSettledFor, IsImageOf}
-use Rattle.line_memory.proofs.Whole.{all_resident}
+use Rattle.line_memory.proofs.Residence.{every_line_is_resident}
 use Rattle.array_run.specs.declared.run.RunEnd.{RunEnd}
 use Rattle.array_run.specs.declared.objects.DurableArray.{DurableArray}
 use Rattle.array_run.specs.Going.{PlacesOn}
@@ -34,7 +34,7 @@ returns-in_err-array-clause-goes g c = λ s make put gs root stands.
 pub place_zeros-requires-clause-resident : goal.place_zeros-requires-clause-resident
 place_zeros-requires-clause-resident g c = λ l from to.
     let line : c.in_ok-array.array.line ≡ c.args.objects.now.free = ap (λ (a : DurableArray). a.line) c.in_ok-array.ensures.array in
-    all_resident c.visible.new.run.memory l
+    every_line_is_resident c.visible.new.run.memory l
     (omega (arith, to, line, c.if-left-lines.false, c.lines.ensures, c.lines_of-lines.ensures, c.allocate.ensures.free, c.requires.range.high))
 
 -- what `place_zeros` says of so many zeros, by another name of their number

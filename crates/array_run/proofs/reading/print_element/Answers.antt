@@ -8,7 +8,7 @@ use Rattle.ap_base.specs.declared.place.Place.TheVariants.{Slot}
 use Rattle.run_history.specs.declared.act.Op.TheVariants as op
 use Rattle.array_program.specs.Running.{Calling}
 use Rattle.line_memory.specs.Memory.{Memory}
-use Rattle.line_memory.proofs.Whole.{all_resident}
+use Rattle.line_memory.proofs.Residence.{every_line_is_resident}
 use Rattle.image_layout.specs.Places.{object_line}
 use Rattle.array_history.specs.Standing.{Nothing, stream_of, with_op}
 use Rattle.array_run.specs.Finding.{IsElementOf, IsMissing}
@@ -24,7 +24,7 @@ element-number-requires-clause-resident g c =
     let array = rw c.in-Ok.ensures.found.there at c.requires.range.array in
     let first = ap (λ (k : Memory). k.size) c.read_stream.ensures.memory in
     let second = ap (λ (k : Memory). k.size) c.read_root.ensures.memory in
-    all_resident c.read_root.new.run.memory (object_line c.in-Ok.array.line c.in-Ok.index) (omega (arith, array, first, second, c.in-Ok.ensures.found.within))
+    every_line_is_resident c.read_root.new.run.memory (object_line c.in-Ok.array.line c.in-Ok.index) (omega (arith, array, first, second, c.in-Ok.ensures.found.within))
 
 pub returns-in-Ok-clause-goes : goal.returns-in-Ok-clause-goes
 returns-in-Ok-clause-goes g c = λ s out fetch load call gs root stands.

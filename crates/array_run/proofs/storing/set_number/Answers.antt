@@ -6,7 +6,7 @@ use Rattle.std.proofs.lemmas.Result.{err_from_is_err_and}
 use Rattle.ap_base.specs.declared.place.Place.TheVariants.{Slot}
 use Rattle.graph_model.specs.declared.types.Value.TheVariants.{Int}
 use Rattle.line_memory.specs.Memory.{Memory, IsDurable}
-use Rattle.line_memory.proofs.Whole.{all_resident}
+use Rattle.line_memory.proofs.Residence.{every_line_is_resident}
 use Rattle.image_layout.specs.Places.{object_line, object_word}
 use Rattle.array_heap.specs.Calls.{OnElement}
 use Rattle.array_heap.specs.Holding.{ShowsHeap, IsSettledFor, TurnedInto}
@@ -22,13 +22,13 @@ use Rattle.array_run.proofs.storing.set_number.Goals as goal
 pub store_element-requires-clause-resident : goal.store_element-requires-clause-resident
 store_element-requires-clause-resident g c =
     let same = ap (λ (k : Memory). k.size) c.visible.ensures.memory in
-    all_resident c.visible.new.run.memory (object_line c.args.array.line c.args.index) (omega (arith, same))
+    every_line_is_resident c.visible.new.run.memory (object_line c.args.array.line c.args.index) (omega (arith, same))
 
 pub make_durable-requires-clause-resident : goal.make_durable-requires-clause-resident
 make_durable-requires-clause-resident g c =
     let line = rw c.unwrap-spot.ensures at c.object_slot.ensures.line in
     let same = ap (λ (k : Memory). k.size) c.visible.ensures.memory in
-    all_resident c.store_element.new.memory c.unwrap-spot.result.line (omega (arith, line, same))
+    every_line_is_resident c.store_element.new.memory c.unwrap-spot.result.line (omega (arith, line, same))
 
 pub returns-clause-goes : goal.returns-clause-goes
 returns-clause-goes g c = λ s store gs objects root is stands.

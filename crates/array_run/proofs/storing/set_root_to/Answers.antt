@@ -2,7 +2,7 @@
 use Rattle.std.proofs.Common.{ap, ◌∙◌, arith, Err}
 use Rattle.std.proofs.lemmas.Result.{err_from_is_err_and}
 use Rattle.line_memory.specs.Memory.{Memory}
-use Rattle.line_memory.proofs.Whole.{all_resident}
+use Rattle.line_memory.proofs.Residence.{every_line_is_resident}
 use Rattle.image_layout.specs.Places.{slot_word}
 use Rattle.array_program.specs.Running.{Before}
 use Rattle.array_history.specs.Standing.{Nothing}
@@ -15,12 +15,12 @@ use Rattle.array_run.proofs.storing.set_root_to.Goals as goal
 pub store_root-requires : goal.store_root-requires
 store_root-requires g c =
     let same = ap (λ (k : Memory). k.size) c.further.ensures.memory in
-    all_resident c.further.new.run.memory 1 (omega (arith, same, c.requires.range.enough))
+    every_line_is_resident c.further.new.run.memory 1 (omega (arith, same, c.requires.range.enough))
 
 pub make_durable-requires-clause-resident : goal.make_durable-requires-clause-resident
 make_durable-requires-clause-resident g c =
     let same = ap (λ (k : Memory). k.size) c.further.ensures.memory in
-    all_resident c.store_root.new.memory 1 (omega (arith, same, c.requires.range.enough))
+    every_line_is_resident c.store_root.new.memory 1 (omega (arith, same, c.requires.range.enough))
 
 pub returns-clause-goes : goal.returns-clause-goes
 returns-clause-goes g c = λ s put gs root placed.

@@ -7,8 +7,9 @@ use Rattle.array_run.proofs.throwing.throw.Goals as goal
 
 pub returns-then-objects-lt-THROWABLE_WORDS-clause-stopped : goal.returns-then-objects-lt-THROWABLE_WORDS-clause-stopped
 returns-then-objects-lt-THROWABLE_WORDS-clause-stopped g c = λ s to_throw.
-    stopped s to_throw.frame Nothing c.args.run.now.acts.acts c.args.objects.now c.args.run.now.memory _ to_throw.stands
-    (to_throw.can.fills c.args.objects.now.words to_throw.stands.ties.words c.if-objects-lt-THROWABLE_WORDS.true)
+    rw (c.next_turn.ensures.acts, c.next_turn.ensures.memory)
+    (stopped s to_throw.frame Nothing c.args.run.now.acts.acts c.args.objects.now c.args.run.now.memory _ to_throw.stands
+    (to_throw.can.fills c.args.objects.now.words to_throw.stands.ties.words c.if-objects-lt-THROWABLE_WORDS.true))
 
 pub returns-clause-stopped : goal.returns-clause-stopped
 returns-clause-stopped g c = λ s to_throw.

@@ -5,8 +5,8 @@ use Rattle.ap_base.specs.Sources as given
 use Rattle.autopersist.specs.declared.status.Status.{Status}
 use Rattle.autopersist.specs.declared.status.Status.TheVariants as status
 use Rattle.autopersist.specs.Files.{class_of}
-use Rattle.autopersist.specs.Reading.{FilesComeTo, IsFree}
-use Rattle.autopersist.proofs.SourceFiles.{HasRead, goes_on, ends, refuses, passes, whole}
+use Rattle.autopersist.specs.Reading.{FilesComeTo, HasNoCause, IsLeft}
+use Rattle.autopersist.proofs.SourceFiles.{HasRead, goes_on, ends, refuses, passes, whole, left_failed, left_refused, left_full}
 use Rattle.autopersist.proofs.files.read_files.Goals as goal
 
 pub returns-in_default-clause-seen : goal.returns-in_default-clause-seen
@@ -48,8 +48,8 @@ loop-preserved g c =
     }
 
 -- a class that is refused is the answer
-of_class : (P : Status → Type 0) (e : Status) (file : NamedBytes) → (e ≡ status.OutOfMemory) ⊎ (class_of file ≡ Err e) → (class_of file ≡ Err e → P e) → IsFree e ⊎ P e
-of_class P e file (inl memory) then = inl (subst IsFree (sym memory) tt)
+of_class : (P : Status → Type 0) (e : Status) (file : NamedBytes) → (e ≡ status.OutOfMemory) ⊎ (class_of file ≡ Err e) → (class_of file ≡ Err e → P e) → HasNoCause e ⊎ P e
+of_class P e file (inl memory) then = inl (subst HasNoCause (sym memory) tt)
 of_class P e file (inr is) then = inr (then is)
 
 pub returns-in_err-class-clause-refused : goal.returns-in_err-class-clause-refused
@@ -68,3 +68,36 @@ pub returns-in_err-class-clause-cause : goal.returns-in_err-class-clause-cause
 returns-in_err-class-clause-cause g c =
     let p = err_from_is_err_and c.from_residual-in_err-class.result c.from_residual-in_err-class.ensures.1 in
     rw (p.1, p.2) (λ is. absurd (c.in_err-class.ensures.no_source cc))
+
+pub returns-in_err-file-clause-left : goal.returns-in_err-file-clause-left
+returns-in_err-file-clause-left g c =
+    let p = err_from_is_err_and c.from_residual.result c.from_residual.ensures.1 in
+    let e = c.in_err-file.field-0.0 in
+    rw (p.1, p.2) (λ files told. subst (λ left. IsLeft files e left) (sym c.in_err-file.ensures.kept)
+    (left_failed _ (g.C.ClassSource.left c.loop.source) (4096 - c.loop.counter) c.loop.before e c.loop.invariant.read c.in_err-file.ensures.free files told))
+
+pub returns-in_err-next_file-clause-left : goal.returns-in_err-next_file-clause-left
+returns-in_err-next_file-clause-left g c =
+    let p = err_from_is_err_and c.from_residual-in_err-next_file.result c.from_residual-in_err-next_file.ensures.1 in
+    let e = c.in_err-next_file.field-0.0 in
+    rw (p.1, p.2) (λ files told. subst (λ left. IsLeft files e left) (sym c.in_err-next_file.ensures.kept)
+    (left_failed _ (g.C.ClassSource.left c.loop.source) (4096 - c.loop.counter) c.loop.before e c.loop.invariant.read c.in_err-next_file.ensures.free files told))
+
+pub returns-in_err-class-clause-left : goal.returns-in_err-class-clause-left
+returns-in_err-class-clause-left g c =
+    let p = err_from_is_err_and c.from_residual-in_err-class.result c.from_residual-in_err-class.ensures.1 in
+    let first = g.C.ClassSource.left c.args.source.now in
+    let left = g.C.ClassSource.left c.loop.source in
+    let after = g.C.ClassSource.left c.next_file.new.source in
+    let more : 4096 - c.loop.counter ≡ suc (4096 - (c.loop.counter + 1)) = omega arith in
+    let has = subst (λ n. HasRead first left n c.loop.before) more c.loop.invariant.read in
+    let gives = subst (λ f. given.Gives left f after) c.in-Some.is c.in_ok-file.ensures.file in
+    rw (p.1, p.2) (left_refused first left after (4096 - (c.loop.counter + 1)) c.loop.before c.in-Some.file c.in_err-class.field-0.0 has gives
+    c.in_err-class.ensures.files c.in_err-class.ensures.no_source c.in_err-class.ensures.class)
+
+pub returns-in-Some-2-clause-left : goal.returns-in-Some-2-clause-left
+returns-in-Some-2-clause-left g c =
+    let none : 4096 - c.loop.counter ≡ 0 = omega arith in
+    left_full (g.C.ClassSource.left c.args.source.now) (g.C.ClassSource.left c.loop.source) (g.C.ClassSource.left c.next_file-2.new.source) c.loop.before c.in-Some-2.field-0
+    (subst (λ n. HasRead (g.C.ClassSource.left c.args.source.now) (g.C.ClassSource.left c.loop.source) n c.loop.before) none c.loop.invariant.read)
+    (subst (λ f. given.Gives (g.C.ClassSource.left c.loop.source) f (g.C.ClassSource.left c.next_file-2.new.source)) c.in-Some-2.is c.in_ok-next_file.ensures.file)

@@ -1,50 +1,50 @@
-use Rattle.std.proofs.Common.{ℕ, ◌<◌, sym, subst}
-use Rattle.line_memory.specs.Memory.{Told}
-use Rattle.run_history.specs.Recorded.{History}
-use Rattle.autopersist.specs.Attached.{IsAttached}
-use Rattle.autopersist.specs.Images.{Entry, StandsAtStops}
-use Rattle.autopersist.proofs.Kept.{kept_unattached, untouched_unattached}
+use Rattle.std.proofs.Common.{ℕ, List, [], Option, sym, subst}
+use Rattle.graph_model.specs.declared.types.Graph.{Graph}
+use Rattle.run_history.specs.Recorded.{Recorded, History}
+use Rattle.autopersist.specs.declared.status.Status.{Status}
+use Rattle.array_history.specs.Standing.{root_name}
+use Rattle.autopersist.specs.Attached.{IsOpenedOn}
+use Rattle.autopersist.specs.TopCall.{RunsOver}
+use Rattle.autopersist.proofs.Ran.{HasRunOn, is_opened, runs_over}
 use Rattle.autopersist.proofs.image_run.run_over_image.Given.{Over}
 use Rattle.autopersist.proofs.image_run.run_over_image.Goals as goal
+use Rattle.autopersist.proofs.image_run.run_over_image.Goals.{After-into_image}
 
-is_attached : (g : Over) (c : goal.After-open_and_run g)
-    → IsAttached (record { size = g.I.Image.size c.args.image; told = record { calls = g.I.Image.calls c.args.image; history = g.I.Image.history c.args.image } }) c.in-Ok.memory
-is_attached g c = record {
-  size = c.in-Ok.ensures.size;
-  enough = c.in-Ok.ensures.range.0;
-  most = c.in-Ok.ensures.range.1;
-  shows = λ l w below. c.in-Ok.ensures.shows l w (subst (λ (n : ℕ). l < n) (sym c.in-Ok.ensures.size) below);
-  history = c.in-Ok.ensures.history;
-  counts = c.in-Ok.ensures.counts;
-  calls = c.in-Ok.ensures.calls;
-  moments = c.in-Ok.ensures.any_moment;
-  rest = λ settled. record { durable = c.in-Ok.ensures.durable settled };
-}
+there_on : (g : Over) (c : After-into_image g) → IsOpenedOn (g.I.Image.told c.args.image) (root_name c.args.chosen.now.program) c.in-Ok.ready.memory c.in-Ok.ready.opened
+there_on g c =
+    subst (λ (r : Option (List ℕ)). IsOpenedOn (g.I.Image.told c.args.image) r c.in-Ok.ready.memory c.in-Ok.ready.opened) c.requires.root c.in-Ok.ensures.opened
 
-pub returns-in-Ok-clause-run : goal.returns-in-Ok-clause-run
-returns-in-Ok-clause-run g c =
-    let entry : Entry = record { size = g.I.Image.size c.args.image; told = record { calls = g.I.Image.calls c.args.image; history = g.I.Image.history c.args.image } } in
-    λ begun. c.open_and_run.ensures.run entry (is_attached g c) begun
+has_run_on : (g : Over) (c : After-into_image g) → HasRunOn c.args.chosen.now.program (g.I.Image.told c.args.image) c.in-Ok.ready.memory c.in-Ok.ready.opened (there_on g c)
+    c.run_program-answer.new.run.acts.acts c.run_program-answer.new.run.memory c.run_program-answer.result
+has_run_on g c =
+    let there = there_on g c in
+    let opened = is_opened c.args.chosen.now.program (g.I.Image.told c.args.image) c.in-Ok.ready.memory c.in-Ok.ready.opened there c.requires.right in
+    record {
+      run = c.run_program-answer.ensures.run opened;
+      ends = c.run_program-answer.ensures.ends opened;
+      within = c.run_program-answer.ensures.within opened;
+      made = c.run_program-answer.ensures.made opened;
+      counts = c.run_program-answer.ensures.counts (g.I.Image.told c.args.image).calls opened there.counts;
+      safe = λ rest. c.run_program-answer.ensures.safe (g.I.Image.told c.args.image).calls opened rest there.counts;
+      no_memory = c.run_program-answer.ensures.no_memory;
+      same = c.run_program-answer.ensures.same;
+      size = c.run_program-answer.ensures.size;
+    }
 
-pub returns-in-Ok-clause-untouched : goal.returns-in-Ok-clause-untouched
-returns-in-Ok-clause-untouched g c =
-    let entry : Entry = record { size = g.I.Image.size c.args.image; told = record { calls = g.I.Image.calls c.args.image; history = g.I.Image.history c.args.image } } in
-    c.open_and_run.ensures.untouched entry (is_attached g c)
+pub returns-clause-ran : goal.returns-clause-ran
+returns-clause-ran g c =
+    let program = c.args.chosen.now.program in
+    let start = g.I.Image.told c.args.image in
+    let acts : List Recorded = c.run_program-answer.new.run.acts.acts in
+    let told = g.I.Image.told c.into_image.result in
+    subst (λ (s : Status). RunsOver program start c.opening_of.result acts told s) (sym c.of_run.ensures)
+    (runs_over program start c.in-Ok.ready.memory c.in-Ok.ready.opened (there_on g c) acts c.run_program-answer.new.run.memory c.run_program-answer.result
+    (has_run_on g c) c.opening_of.result told c.opening_of.ensures.run c.opening_of.ensures.none c.into_image.ensures.told c.into_image.ensures.size)
 
-pub returns-in-Err-clause-untouched : goal.returns-in-Err-clause-untouched
-returns-in-Err-clause-untouched g c =
-    let entry : Entry = record { size = g.I.Image.size c.args.image; told = record { calls = g.I.Image.calls c.args.image; history = g.I.Image.history c.args.image } } in
-    let after : Told = record { calls = g.I.Image.calls c.in-Err.image; history = g.I.Image.history c.in-Err.image } in
-    untouched_unattached c.args.chosen.now.program entry after c.in-Err.ensures.same_history
-
-pub returns-in-Ok-clause-not_built : goal.returns-in-Ok-clause-not_built
-returns-in-Ok-clause-not_built g c =
-    let entry : Entry = record { size = g.I.Image.size c.args.image; told = record { calls = g.I.Image.calls c.args.image; history = g.I.Image.history c.args.image } } in
-    c.open_and_run.ensures.not_built entry (is_attached g c)
-
-pub returns-in-Err-clause-kept : goal.returns-in-Err-clause-kept
-returns-in-Err-clause-kept g c = λ settled.
-    let entry : Entry = record { size = g.I.Image.size c.args.image; told = record { calls = g.I.Image.calls c.args.image; history = g.I.Image.history c.args.image } } in
-    let after : Told = record { calls = g.I.Image.calls c.in-Err.image; history = g.I.Image.history c.in-Err.image } in
-    subst (λ (h : History). StandsAtStops c.args.chosen.now.program entry c.no_graph.result h.acts after) (sym c.new.ensures.empty)
-    (kept_unattached c.args.chosen.now.program entry c.no_graph.result after settled c.in-Err.ensures.same_history c.in-Err.ensures.any_moment_of_fault)
+pub returns-in-Err-clause-ran : goal.returns-in-Err-clause-ran
+returns-in-Err-clause-ran g c =
+    let program = c.args.chosen.now.program in
+    let start = g.I.Image.told c.args.image in
+    let after = g.I.Image.told c.in-Err.image in
+    subst (λ (h : History). RunsOver program start c.no_graph.result h.acts after c.in-Err.status) (sym c.new.ensures.empty)
+    (subst (λ (graph : Graph). RunsOver program start graph [] after c.in-Err.status) (sym c.no_graph.ensures) c.in-Err.ensures.refused)

@@ -1,48 +1,63 @@
-use Rattle.std.proofs.Common.{inr, map, sym, List, [], String, Global, subst}
-use Rattle.std.specs.String.{string_bytes}
+use Rattle.std.proofs.Common.{◌≡◌, inr, List, [], Option, String, Global, sym, subst}
+use Rattle.ap_base.specs.declared.source.NamedBytes.{NamedBytes}
+use Rattle.line_image.specs.Told.{Told}
 use Rattle.run_history.specs.Recorded.{History}
-use Rattle.autopersist.specs.Images.{Entry}
+use Rattle.array_program.specs.declared.program.Program.{Program}
+use Rattle.autopersist.specs.declared.status.Status.{Status}
 use Rattle.autopersist.specs.TopCall.{IsAsked, IsCauseOf}
-use Rattle.autopersist.proofs.Causes.{cause_of_run, refused_by_words, runs_by_words}
+use Rattle.autopersist.specs.Words.{texts}
+use Rattle.autopersist.proofs.Causes.{cause_of_run, left_of_run, answers_by_words, answers_by_run, asked_unrefused}
 use Rattle.autopersist.proofs.top_call.autopersist.Goals as goal
 
-pub returns-in-Ok-clause-stops : goal.returns-in-Ok-clause-stops
-returns-in-Ok-clause-stops g c = λ settled. inr (record {
-  program = c.in-Ok.chosen.program;
-  is_asked = subst (λ (words : List (String Global)). IsAsked (map string_bytes words) (g.C.ClassSource.left c.args.source) c.in-Ok.chosen.program) c.as_slice.ensures.value c.in-Ok.ensures.found;
-  holds = c.run_over_image-ran.ensures.kept settled;
-})
+-- the slice of the words has their bytes
+asked : (slice words : List (String Global)) (left : Option (List NamedBytes)) (program : Program) → slice ≡ words → IsAsked (texts slice) left program
+    → IsAsked (texts words) left program
+asked slice words left program same is = subst (λ (ws : List (String Global)). IsAsked (texts ws) left program) same is
 
-pub returns-in-Ok-clause-untouched : goal.returns-in-Ok-clause-untouched
-returns-in-Ok-clause-untouched g c = inr (record {
+cause : (slice words : List (String Global)) (left : Option (List NamedBytes)) (start : Told) (s : Status) → slice ≡ words
+    → IsCauseOf (texts slice) left start [] s → IsCauseOf (texts words) left start [] s
+cause slice words left start s same is = subst (λ (ws : List (String Global)). IsCauseOf (texts ws) left start [] s) same is
+
+pub returns-in-Ok-clause-theorem : goal.returns-in-Ok-clause-theorem
+returns-in-Ok-clause-theorem g c = inr (record {
   program = c.in-Ok.chosen.program;
-  is_asked = subst (λ (words : List (String Global)). IsAsked (map string_bytes words) (g.C.ClassSource.left c.args.source) c.in-Ok.chosen.program) c.as_slice.ensures.value c.in-Ok.ensures.found;
-  holds = c.run_over_image-ran.ensures.untouched;
+  is_asked = asked _ c.args.words.now.items (g.C.ClassSource.left c.args.source) c.in-Ok.chosen.program c.as_slice.ensures.value c.in-Ok.ensures.found;
+  holds = c.run_over_image-ran.ensures.ran;
 })
 
 pub returns-in-Ok-clause-cause : goal.returns-in-Ok-clause-cause
 returns-in-Ok-clause-cause g c =
-    let entry : Entry = record { size = g.I.Image.size c.args.image; told = record { calls = g.I.Image.calls c.args.image; history = g.I.Image.history c.args.image } } in
-    let asked = subst (λ (words : List (String Global)). IsAsked (map string_bytes words) (g.C.ClassSource.left c.args.source) c.in-Ok.chosen.program) c.as_slice.ensures.value c.in-Ok.ensures.found in
-    cause_of_run (map string_bytes c.args.words.now.items) (g.C.ClassSource.left c.args.source) entry c.in-Ok.chosen.program c.run_over_image-ran.result.acts.acts c.run_over_image-ran.result.status
-    asked c.run_over_image-ran.ensures.of_run c.run_over_image-ran.ensures.not_built c.run_over_image-ran.ensures.begun
+    cause_of_run (texts c.args.words.now.items) (g.C.ClassSource.left c.args.source) c.in-Ok.chosen.program
+    (asked _ c.args.words.now.items (g.C.ClassSource.left c.args.source) c.in-Ok.chosen.program c.as_slice.ensures.value c.in-Ok.ensures.found)
+    (g.I.Image.told c.args.image) c.run_over_image-ran.result.opening c.run_over_image-ran.result.acts.acts
+    (g.I.Image.told c.run_over_image-ran.result.image) c.run_over_image-ran.result.status c.run_over_image-ran.ensures.ran
+
+pub returns-in-Ok-clause-answers : goal.returns-in-Ok-clause-answers
+returns-in-Ok-clause-answers g c =
+    answers_by_run (texts c.args.words.now.items) (g.C.ClassSource.left c.args.source) (g.I.Image.told c.args.image) c.in-Ok.chosen.program
+    c.run_over_image-ran.result.status
+    (asked _ c.args.words.now.items (g.C.ClassSource.left c.args.source) c.in-Ok.chosen.program c.as_slice.ensures.value c.in-Ok.ensures.found)
+    c.run_over_image-ran.ensures.ran.of_run
+
+pub returns-in-Ok-clause-left : goal.returns-in-Ok-clause-left
+returns-in-Ok-clause-left g c = λ none files told.
+    left_of_run files
+    (asked_unrefused (texts c.args.words.now.items) (g.C.ClassSource.left c.args.source) c.in-Ok.chosen.program
+    (asked _ c.args.words.now.items (g.C.ClassSource.left c.args.source) c.in-Ok.chosen.program c.as_slice.ensures.value c.in-Ok.ensures.found) files told)
+    c.in-Ok.chosen.program (g.I.Image.told c.args.image) c.run_over_image-ran.result.opening c.run_over_image-ran.result.acts.acts
+    (g.I.Image.told c.run_over_image-ran.result.image) c.run_over_image-ran.result.status (g.C.ClassSource.left c.find_program.new.source)
+    c.run_over_image-ran.ensures.ran none (c.in-Ok.ensures.whole files told)
 
 pub returns-in-Err-clause-cause : goal.returns-in-Err-clause-cause
 returns-in-Err-clause-cause g c =
-    let entry : Entry = record { size = g.I.Image.size c.args.image; told = record { calls = g.I.Image.calls c.args.image; history = g.I.Image.history c.args.image } } in
-    let words = map string_bytes c.args.words.now.items in
+    let words = texts c.args.words.now.items in
     let left = g.C.ClassSource.left c.args.source in
-    subst (λ (h : History). IsCauseOf words left entry h.acts c.in-Err.status) (sym c.new.ensures.empty)
-    (subst (λ (ws : List (String Global)). IsCauseOf (map string_bytes ws) left entry [] c.in-Err.status) c.as_slice.ensures.value (c.in-Err.ensures.cause entry))
+    let start = g.I.Image.told c.args.image in
+    subst (λ (h : History). IsCauseOf words left start h.acts c.in-Err.status) (sym c.new.ensures.empty)
+    (cause _ c.args.words.now.items left start c.in-Err.status c.as_slice.ensures.value (c.in-Err.ensures.cause start))
 
-pub returns-in-Err-clause-refused : goal.returns-in-Err-clause-refused
-returns-in-Err-clause-refused g c = λ name files s asked told is.
-    let entry : Entry = record { size = g.I.Image.size c.args.image; told = record { calls = g.I.Image.calls c.args.image; history = g.I.Image.history c.args.image } } in
-    let cause = subst (λ (words : List (String Global)). IsCauseOf (map string_bytes words) (g.C.ClassSource.left c.args.source) entry [] c.in-Err.status) c.as_slice.ensures.value (c.in-Err.ensures.cause entry) in
-    refused_by_words (map string_bytes c.args.words.now.items) (g.C.ClassSource.left c.args.source) entry name files asked told c.in-Err.status s c.in-Err.ensures.of_words cause is
-
-pub returns-in-Err-clause-runs : goal.returns-in-Err-clause-runs
-returns-in-Err-clause-runs g c = λ name files program asked told is.
-    let entry : Entry = record { size = g.I.Image.size c.args.image; told = record { calls = g.I.Image.calls c.args.image; history = g.I.Image.history c.args.image } } in
-    let cause = subst (λ (words : List (String Global)). IsCauseOf (map string_bytes words) (g.C.ClassSource.left c.args.source) entry [] c.in-Err.status) c.as_slice.ensures.value (c.in-Err.ensures.cause entry) in
-    runs_by_words (map string_bytes c.args.words.now.items) (g.C.ClassSource.left c.args.source) entry name files asked told c.in-Err.status program c.in-Err.ensures.of_words cause is
+pub returns-in-Err-clause-answers : goal.returns-in-Err-clause-answers
+returns-in-Err-clause-answers g c =
+    let start = g.I.Image.told c.args.image in
+    answers_by_words (texts c.args.words.now.items) (g.C.ClassSource.left c.args.source) start c.in-Err.status c.in-Err.ensures.of_words
+    (cause _ c.args.words.now.items (g.C.ClassSource.left c.args.source) start c.in-Err.status c.as_slice.ensures.value (c.in-Err.ensures.cause start))

@@ -1,7 +1,7 @@
 use Rattle.std.proofs.Common.{◌≡◌, ℕ, ◌-◌, List, []}
 use Rattle.class_file.specs.Members.{fields_from}
 use Rattle.class_file.specs.RootNames.{AreTexts}
-use Rattle.class_file.proofs.FieldLists.{with_front}
+use Rattle.parsing.proofs.Loops.{with_front}
 use Rattle.class_file.proofs.fields.some_fields.Given as goal
 
 abbrev pub invariant-loop-number : goal.invariant-loop-number

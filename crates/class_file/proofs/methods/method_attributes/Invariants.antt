@@ -1,6 +1,6 @@
 use Rattle.std.proofs.Common.{◌≡◌, ◌-◌}
 use Rattle.class_file.specs.Members.{method_attributes_from}
-use Rattle.class_file.proofs.MethodLists.{with_front}
+use Rattle.parsing.proofs.Loops.{with_front}
 use Rattle.class_file.proofs.methods.method_attributes.Given as goal
 
 abbrev pub invariant-loop : goal.invariant-loop

@@ -1,6 +1,6 @@
 use Rattle.std.proofs.Common.{◌≡◌, ◌-◌}
 use Rattle.class_file.specs.Members.{methods_from}
-use Rattle.class_file.proofs.MethodLists.{with_front}
+use Rattle.parsing.proofs.Loops.{with_front}
 use Rattle.class_file.proofs.methods.some_methods.Given as goal
 
 abbrev pub invariant-loop-number : goal.invariant-loop-number

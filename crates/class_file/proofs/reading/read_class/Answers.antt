@@ -1,6 +1,6 @@
 use Rattle.std.proofs.Common.{◌≡◌, List, ℕ, Result, Ok, Err, arith}
 use Rattle.std.specs.Prelude.{IfOk}
-use Rattle.const_pool.specs.Entry.{IsBytes}
+use Rattle.parsing.specs.Bytes.{IsBytes}
 use Rattle.class_file.specs.declared.class.ClassFile.{ClassFile}
 use Rattle.class_file.specs.declared.refusal.ClassRefusal.{ClassRefusal}
 use Rattle.class_file.specs.Refusals.{Gives}
@@ -8,11 +8,13 @@ use Rattle.class_file.specs.Classes.{CanBeRead, class_in, class_bytes}
 use Rattle.class_file.proofs.Spelled.{class_spelled}
 use Rattle.class_file.proofs.reading.read_class.Goals as goal
 
-is_found : (bytes : List ℕ) (r : Result ClassFile ClassRefusal) → IsBytes bytes → Gives (λ c. c) r (class_in bytes) → IfOk r (λ c. bytes ≡ class_bytes c)
+is_found : (bytes : List ℕ) (r : Result ClassFile ClassRefusal) → IsBytes bytes
+    → Gives (λ c. c) r (class_in bytes) → IfOk r (λ c. bytes ≡ class_bytes c)
 is_found bytes (Ok c) fits given = (class_spelled bytes c fits given).0
 is_found bytes (Err e) fits given = tt
 
-can_be_read : (bytes : List ℕ) (r : Result ClassFile ClassRefusal) → IsBytes bytes → Gives (λ c. c) r (class_in bytes) → IfOk r CanBeRead
+can_be_read : (bytes : List ℕ) (r : Result ClassFile ClassRefusal) → IsBytes bytes
+    → Gives (λ c. c) r (class_in bytes) → IfOk r CanBeRead
 can_be_read bytes (Ok c) fits given = record { bytes = bytes; are_bytes = fits; read = given }
 can_be_read bytes (Err e) fits given = tt
 

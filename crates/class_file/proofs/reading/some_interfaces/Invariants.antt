@@ -1,7 +1,7 @@
 use Rattle.std.proofs.Common.{◌≡◌, ◌-◌}
 use Rattle.const_pool.specs.declared.entry.Tag.TheVariants.{Class}
-use Rattle.class_items.specs.Parsing.{many_from}
-use Rattle.class_items.proofs.Loops.{with_front}
+use Rattle.parsing.specs.Results.{many_from}
+use Rattle.parsing.proofs.Loops.{with_front}
 use Rattle.class_file.specs.Members.{index}
 use Rattle.class_file.proofs.reading.some_interfaces.Given as goal
 

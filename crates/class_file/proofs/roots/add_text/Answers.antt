@@ -1,4 +1,4 @@
-use Rattle.std.proofs.Common.{rules, sym, ◌∙◌}
+use Rattle.std.proofs.Common.{rules}
 use Rattle.class_file.proofs.RootTexts.{one_more}
 use Rattle.class_file.proofs.roots.add_text.Goals as goal
 

@@ -1,6 +1,7 @@
 use Rattle.std.proofs.Common.{arith}
 use Rattle.const_pool.specs.declared.entry.Tag.TheVariants.{Utf8}
-use Rattle.class_items.proofs.Moves.{number_moves, index_moves}
+use Rattle.parsing.proofs.Fields.{number_moves}
+use Rattle.class_items.proofs.Moves.{index_moves}
 use Rattle.class_items.proofs.attribute.raw_attribute.Goals as goal
 
 pub returns-clause-within : goal.returns-clause-within

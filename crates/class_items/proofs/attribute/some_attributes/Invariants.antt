@@ -1,7 +1,7 @@
 use Rattle.std.proofs.Common.{◌≡◌, ◌-◌}
 use Rattle.class_items.specs.Items.{attribute_at}
-use Rattle.class_items.specs.Parsing.{many_from}
-use Rattle.class_items.proofs.Loops.{with_front}
+use Rattle.parsing.specs.Results.{many_from}
+use Rattle.parsing.proofs.Loops.{with_front}
 use Rattle.class_items.proofs.attribute.some_attributes.Given as goal
 
 abbrev pub invariant-loop : goal.invariant-loop

@@ -2,9 +2,9 @@ use Rattle.std.proofs.Common.{◌≡◌, ◌<◌, ℕ, Option, Some, None, refl,
 use Rattle.std.proofs.lemmas.Option.{slice_get_read}
 use Rattle.class_links.specs.Names.{name_of}
 use Rattle.class_links.specs.Links.{super_edges}
-use Rattle.class_links.specs.Circles.{IsFirstOnCircle}
+use Rattle.graph_walks.specs.Circles.{IsFirstOnCircle}
 use Rattle.class_links.proofs.Edges.{same_edges_below, same_edges_count}
-use Rattle.class_links.proofs.Paths.{Leads-within, HasNoCircle-same, IsFirstOnCircle-same}
+use Rattle.graph_walks.proofs.Paths.{Leads-within, HasNoCircle-same, IsFirstOnCircle-same}
 use Rattle.class_links.proofs.linking.check_circles.Goals as goal
 
 pub first_on_circle-requires-clause-there : goal.first_on_circle-requires-clause-there

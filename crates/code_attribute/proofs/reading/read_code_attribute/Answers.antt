@@ -9,19 +9,23 @@ pub returns-clause-found : goal.returns-clause-found
 returns-clause-found c =
     let content = c.args.content.now in
     let r = c.code_attribute_at.result in
-    let all = is_spelled c.args.pool.now c.args.at content c.new.result r (λ i. omega (arith, c.type_inv.content i)) c.new.ensures c.code_attribute_at.ensures in
+    let all = is_spelled c.args.pool.now c.args.at content c.new.result r
+    (λ i. omega (arith, c.type_inv.content i)) c.new.ensures c.code_attribute_at.ensures in
     IfOk-weaker r (λ x. IsSpelled content x) (λ x. content ≡ code_attribute_bytes x) (λ x s. s.bytes) all
 
 pub returns-clause-fits : goal.returns-clause-fits
 returns-clause-fits c =
     let content = c.args.content.now in
     let r = c.code_attribute_at.result in
-    let all = is_spelled c.args.pool.now c.args.at content c.new.result r (λ i. omega (arith, c.type_inv.content i)) c.new.ensures c.code_attribute_at.ensures in
+    let all = is_spelled c.args.pool.now c.args.at content c.new.result r
+    (λ i. omega (arith, c.type_inv.content i)) c.new.ensures c.code_attribute_at.ensures in
     IfOk-weaker r (λ x. IsSpelled content x) (λ x. Fits x) (λ x s. s.fits) all
 
 pub returns-clause-instructions : goal.returns-clause-instructions
 returns-clause-instructions c =
     let content = c.args.content.now in
     let r = c.code_attribute_at.result in
-    let all = is_spelled c.args.pool.now c.args.at content c.new.result r (λ i. omega (arith, c.type_inv.content i)) c.new.ensures c.code_attribute_at.ensures in
-    IfOk-weaker r (λ x. IsSpelled content x) (λ x. code_of x.bytes ≡ Ok x.instructions) (λ x s. s.instructions) all
+    let all = is_spelled c.args.pool.now c.args.at content c.new.result r
+    (λ i. omega (arith, c.type_inv.content i)) c.new.ensures c.code_attribute_at.ensures in
+    IfOk-weaker r (λ x. IsSpelled content x) (λ x. code_of x.bytes ≡ Ok x.instructions)
+    (λ x s. s.instructions) all

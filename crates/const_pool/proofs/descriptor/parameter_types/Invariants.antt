@@ -1,7 +1,7 @@
 use Rattle.std.proofs.Common.{◌≡◌, ◌≤◌, ◌+◌, ◌-◌, length, vec_len}
 use Rattle.const_pool.specs.Utf8.{IsModifiedUtf8}
 use Rattle.const_pool.specs.Parsing.{parameters_at}
-use Rattle.const_pool.proofs.Descriptors.{with_front}
+use Rattle.parsing.proofs.Options.{with_front}
 use Rattle.const_pool.proofs.descriptor.parameter_types.Given as goal
 
 abbrev pub invariant-parameters : goal.invariant-parameters

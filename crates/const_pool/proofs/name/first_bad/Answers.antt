@@ -5,19 +5,23 @@ use Rattle.const_pool.proofs.Texts.{front_unit, bad_step, bad_stop, bad_end, goo
 use Rattle.const_pool.proofs.name.first_bad.Goals as goal
 
 -- what stands at a place, by the bytes from there on
-found_at : (bytes : List ℕ) (at : ℕ) (len : Option ℕ) → len ≡ char_len (take (length bytes - at) (drop at bytes)) → char_len (drop at bytes) ≡ len
+found_at : (bytes : List ℕ) (at : ℕ) (len : Option ℕ)
+    → len ≡ char_len (take (length bytes - at) (drop at bytes)) → char_len (drop at bytes) ≡ len
 found_at bytes at len e = sym (e ∙ ap char_len (take_rest bytes at))
 
 -- a good character ends within the bytes
-ends_within : (bytes : List ℕ) (at len : ℕ) → at ≤ length bytes → char_len (drop at bytes) ≡ Some len → (0 < len) × (at + len ≤ length bytes)
+ends_within : (bytes : List ℕ) (at len : ℕ) → at ≤ length bytes → char_len (drop at bytes) ≡ Some len
+    → (0 < len) × (at + len ≤ length bytes)
 ends_within bytes at len le e =
     let f = front_unit (drop at bytes) len e in
     (f.positive, omega (arith, f.short, length-drop at bytes))
 
-stops_at : (bytes : List ℕ) (at : ℕ) → at < length bytes → char_len (drop at bytes) ≡ None → bad_place at 0 (drop at bytes) ≡ bad_place 0 0 bytes → bad_place 0 0 bytes ≡ Some at
+stops_at : (bytes : List ℕ) (at : ℕ) → at < length bytes → char_len (drop at bytes) ≡ None
+    → bad_place at 0 (drop at bytes) ≡ bad_place 0 0 bytes → bad_place 0 0 bytes ≡ Some at
 stops_at bytes at lt e so_far = sym so_far ∙ bad_stop at (drop at bytes) (omega (arith, length-drop at bytes)) e
 
-none_at_end : (bytes : List ℕ) (at : ℕ) → length bytes ≤ at → bad_place at 0 (drop at bytes) ≡ bad_place 0 0 bytes → bad_place 0 0 bytes ≡ None
+none_at_end : (bytes : List ℕ) (at : ℕ) → length bytes ≤ at
+    → bad_place at 0 (drop at bytes) ≡ bad_place 0 0 bytes → bad_place 0 0 bytes ≡ None
 none_at_end bytes at le so_far = sym so_far ∙ ap (bad_place at 0) (drop_all at bytes le) ∙ bad_end at
 
 pub overflow_add-at : goal.overflow_add-at

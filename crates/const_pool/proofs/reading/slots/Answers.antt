@@ -1,7 +1,8 @@
-use Rattle.std.proofs.Common.{◌≡◌, ℕ, ◌+◌, ◌<◌, ◌≤◌, ◌∷◌, [], ◌++◌, length, None, Ok, ap, subst, ◌∙◌, arith, vec_len, length-append}
+use Rattle.std.proofs.Common.{◌≡◌, ℕ, ◌+◌, ◌<◌, ◌≤◌, ◌∷◌, [], ◌++◌, length, None, Ok, Err, ◌⊎◌, ap, subst, ◌∙◌, arith, vec_len, length-append}
 use Rattle.std.proofs.lemmas.Result.{err_from_is_err_and}
+use Rattle.const_pool.specs.declared.refusal.PoolRefusal.TheVariants.{OutOfMemory}
 use Rattle.const_pool.specs.Pool.{Slots, slots_of}
-use Rattle.const_pool.specs.Reading.{Fails, counted_slots, entry_from}
+use Rattle.const_pool.specs.Reading.{counted_slots, entry_from}
 use Rattle.const_pool.proofs.Slots.{begins, goes_on, ends, is_done, length-slots_of}
 use Rattle.const_pool.proofs.reading.slots.Goals as goal
 
@@ -17,8 +18,9 @@ returns-in_err-entry-clause-read c =
     let p = err_from_is_err_and r.result r.ensures.1 in
     let slots = c.entries.slots in
     let lt : vec_len slots < c.args.count = omega arith in
-    let fails = subst (λ (i : ℕ). Fails c.in_err-entry.field-0.0 (entry_from i c.args.count c.entries.file)) c.len-in-entries.ensures c.in_err-entry.ensures in
-    rw (p.1, p.2) (ends c.in_err-entry.field-0.0 slots.items c.args.count (vec_len slots) c.entries.file (counted_slots c.args.count c.args.file.now) lt fails c.entries.invariant.so_far)
+    let e = c.in_err-entry.field-0.0 in
+    let refused = subst (λ (i : ℕ). (e ≡ OutOfMemory) ⊎ (entry_from i c.args.count c.entries.file ≡ Err e)) c.len-in-entries.ensures c.in_err-entry.ensures in
+    rw (p.1, p.2) (ends e slots.items c.args.count (vec_len slots) c.entries.file (counted_slots c.args.count c.args.file.now) lt refused c.entries.invariant.so_far)
 
 pub entries-preserved : goal.entries-preserved
 entries-preserved c =

@@ -1,6 +1,6 @@
 use Rattle.std.proofs.Common.{◌≡◌, ◌≤◌, ◌-◌, false, vec_len}
 use Rattle.const_pool.specs.Reading.{slots_from, counted_slots}
-use Rattle.const_pool.proofs.Slots.{with_front}
+use Rattle.parsing.proofs.Loops.{with_front}
 use Rattle.const_pool.proofs.reading.slots.Given as goal
 
 abbrev pub invariant-entries : goal.invariant-entries

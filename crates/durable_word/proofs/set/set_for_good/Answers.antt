@@ -1,6 +1,7 @@
 -- The word is stored, and then the image is written and fenced: each stop within leaves the old word or the new one.
 use Rattle.std.proofs.Common.{subst}
-use Rattle.line_memory.specs.Memory.{Told, CanLeaveAll}
+use Rattle.line_image.specs.Told.{Told}
+use Rattle.line_memory.specs.Memory.{CanLeaveAll}
 use Rattle.line_memory.specs.Moments.{Goes}
 use Rattle.line_memory.proofs.Chain.{goes_on}
 use Rattle.durable_word.specs.Word.{OldOrNew}

@@ -1,16 +1,16 @@
 use Rattle.std.proofs.Common.{◌≡◌, ◌<◌, ◌+◌, ℕ, List, [], ◌∷◌, ◌++◌, length, get_or, slice_index, reverse, ap, sym, ◌∙◌, subst, arith}
 use Rattle.std.proofs.lemmas.Grind.{common_steps}
-use Rattle.line_image.specs.History.{History, versions, newest}
+use Rattle.line_image.specs.Trace.{Trace, versions, newest}
 use Rattle.line_image.specs.Crash.{word_left, version_word, state_at}
 use Rattle.line_image.proofs.Generator.{state_at-one, state_past-one, version_word-one, word_left_lem, line_steps}
 use Rattle.line_image.proofs.Versions.{each_pushed}
 use Rattle.line_image.proofs.crash.crash_lines.Goals as goal
 
-abbrev IsLeft : ℕ → History → ℕ → List ℕ → Type 0
+abbrev IsLeft : ℕ → Trace → ℕ → List ℕ → Type 0
 IsLeft pick h l words = (w : ℕ) → w < 8 → slice_index words w ≡ word_left pick h l w
 
 -- the words that are picked, with those of one more line
-all_left : (pick line : ℕ) (h : History) (lines new : List (List ℕ)) (words : List ℕ) → new ≡ lines ++ words ∷ [] → length lines ≡ line
+all_left : (pick line : ℕ) (h : Trace) (lines new : List (List ℕ)) (words : List ℕ) → new ≡ lines ++ words ∷ [] → length lines ≡ line
     → ((k w : ℕ) → k < line → w < 8 → slice_index (get_or lines k []) w ≡ word_left pick h k w) → IsLeft pick h line words
     → (k w : ℕ) → k < line + 1 → w < 8 → slice_index (get_or new k []) w ≡ word_left pick h k w
 all_left pick line h lines new words is size before one k w lt eight =
@@ -19,7 +19,7 @@ all_left pick line h lines new words is size before one k w lt eight =
 
 pub loop-line-preserved-then-index-fences : goal.loop-line-preserved-then-index-fences
 loop-line-preserved-then-index-fences c =
-    let h : History = record { first = c.args.first.now; done = reverse c.args.done.now } in
+    let h : Trace = record { first = c.args.first.now; done = reverse c.args.done.now } in
     let line = c.loop-line.line in
     let before = c.loop-line.invariant in
     let unwritten : get_or c.in_ok-writes.writes.items line 0 < c.in_ok-writes.fences = grind (arith, common_steps) in
@@ -38,7 +38,7 @@ loop-line-preserved-then-index-fences c =
 
 pub loop-line-preserved : goal.loop-line-preserved
 loop-line-preserved c =
-    let h : History = record { first = c.args.first.now; done = reverse c.args.done.now } in
+    let h : Trace = record { first = c.args.first.now; done = reverse c.args.done.now } in
     let line = c.loop-line.line in
     let before = c.loop-line.invariant in
     record {

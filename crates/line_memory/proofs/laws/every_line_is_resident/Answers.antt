@@ -1,5 +1,5 @@
-use Rattle.line_memory.proofs.Whole.{all_resident}
+use Rattle.line_memory.proofs.Residence.{every_line_is_resident}
 use Rattle.line_memory.proofs.laws.every_line_is_resident.Goals as goal
 
 pub returns : goal.returns
-returns c = all_resident
+returns c = every_line_is_resident

@@ -2,7 +2,7 @@ use Rattle.std.proofs.Common.{◌≡◌, ◌<◌, ◌+◌, [], ◌∷◌, ◌++�
 use Rattle.std.specs.Prelude.{is_some}
 use Rattle.std.specs.Option.{option_to_list}
 use Rattle.std.proofs.lemmas.List.{take_more, length-take}
-use Rattle.class_links.specs.Names.{Known, built_in, name_of, has_name, file_from}
+use Rattle.class_links.specs.Names.{NamedClass, built_in, name_of, has_name, file_from}
 use Rattle.class_links.proofs.Known.{AreNumbers-push}
 use Rattle.class_links.proofs.Doubled.{names_after, has_name-kept, has_name-flags, has_name-none, has_name-numbered, numbered-none, doubled_after-here, doubled_after-next}
 use Rattle.class_links.proofs.classes.Classes.of.Goals as goal
@@ -15,7 +15,7 @@ returns-then-is_some-clause-broken c =
     let file = c.index-files-number.result in
     let there : i < length files = omega arith in
     let name : c.name_of-name.result.now ≡ name_of file = c.name_of-name.ensures in
-    let before = map (λ (k : Known). k.name) built_in in
+    let before = map (λ (k : NamedClass). k.name) built_in in
     let names = names_after before (take i files) in
     let built_in_too : has_name before (name_of file) ≡ is_some c.built_in.result =
     has_name-flags built_in (name_of file) c.built_in.result (rw name at c.built_in.ensures) in
@@ -37,7 +37,7 @@ loop-number-preserved c =
     let file = c.index-files-number.result in
     let there : i < length files = omega arith in
     let name : c.name_of-name.result.now ≡ name_of file = c.name_of-name.ensures in
-    let before = map (λ (k : Known). k.name) built_in in
+    let before = map (λ (k : NamedClass). k.name) built_in in
     let built_in_too : has_name before (name_of file) ≡ is_some c.built_in.result =
     has_name-flags built_in (name_of file) c.built_in.result (rw name at c.built_in.ensures) in
     let new : has_name before (name_of file) ≡ false = built_in_too ∙ sym c.is_some.ensures ∙ c.if-is_some.false in

@@ -1,6 +1,6 @@
 use Rattle.std.proofs.Common.{map, take}
 use Rattle.class_links.specs.Names.{super_files}
-use Rattle.class_links.specs.Circles.{HaveSameEdges}
+use Rattle.graph_walks.specs.Paths.{HaveSameEdges}
 use Rattle.class_links.proofs.classes.Classes.super_edges.Given as goal
 
 abbrev pub invariant-loop-file : goal.invariant-loop-file

@@ -1,9 +1,8 @@
-use Rattle.std.proofs.Common.{◌≡◌, ◌++◌, map, take}
+use Rattle.std.proofs.Common.{◌≡◌, map, take}
 use Rattle.std.specs.List.{flat_map}
-use Rattle.class_links.specs.Names.{class_name, super_of, file_from}
+use Rattle.class_links.specs.Names.{class_name, file_from}
 use Rattle.class_links.proofs.classes.Classes.super_files.Given as goal
 
 abbrev pub invariant-loop-index : goal.invariant-loop-index
 invariant-loop-index l =
-    l.numbers.items
-    ≡ file_from 0 l.self (super_of l.file) ++ flat_map (file_from 0 l.self) (map (class_name l.file.pool) (take l.index-index l.index-items))
+    l.numbers.items ≡ flat_map (file_from 0 l.self) (map (class_name l.file.pool) (take l.index-index l.index-items))

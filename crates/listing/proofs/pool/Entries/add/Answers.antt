@@ -11,6 +11,7 @@ invariant_of-self-in-Ok c =
     let free : c.self.inside.free ≡ free_index entries = c.self.invariant.0 in
     let needed : c.width-width.result ≡ width c.args.entry.items = search rules in (
       rw (put, free-append entries c.args.entry.items, free, needed) refl,
-      new_index entries c.push.new.self.items c.args.entry c.self.inside.free c.self.inside.indices c.insert.new.self
+      new_index entries c.push.new.self.items c.args.entry c.self.inside.free c.self.inside.indices
+          c.insert.new.self
           free put none c.in-Ok.ensures.updates c.self.invariant.1,
     )

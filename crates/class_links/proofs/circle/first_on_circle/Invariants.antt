@@ -1,6 +1,0 @@
-use Rattle.std.proofs.Common.{ℕ, ◌<◌}
-use Rattle.class_links.specs.Circles.{Leads}
-use Rattle.class_links.proofs.circle.first_on_circle.Given as goal
-
-abbrev pub invariant-loop-vertex : goal.invariant-loop-vertex
-invariant-loop-vertex l = (u : ℕ) → u < l.vertex → Leads l.edges u u → ⊥

@@ -1,6 +1,0 @@
-mod Marks
-mod Lists
-mod Firsts
-mod Walks
-mod Visiting
-mod Later

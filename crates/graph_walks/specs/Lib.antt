@@ -1,0 +1,4 @@
+pub mod Paths
+pub mod Circles
+pub mod Order
+pub mod Reached

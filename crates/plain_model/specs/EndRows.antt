@@ -1,0 +1,162 @@
+-- A program that prints, worked act by act; what a stop may leave of nested regions; and how runs of two
+-- threads end.
+use Rattle.std.specs.Prelude.{◌≡◌, ◌⊎◌, ◌↔◌, ℕ, List, [], ◌∷◌, ◌++◌, replicate, Option, Some, None}
+use Rattle.run_types.specs.declared.key.Key.TheVariants as key
+use Rattle.run_types.specs.declared.limits.Limits.{Limits}
+use Rattle.run_types.specs.declared.wait.On.{On}
+use Rattle.run_types.specs.declared.wait.On.TheVariants as on
+use Rattle.run_types.specs.declared.fault.RunFault.{RunFault}
+use Rattle.run_types.specs.declared.fault.RunFault.TheVariants as fault
+use Rattle.run_types.specs.declared.fault.Which.TheVariants as which
+use Rattle.run_types.specs.declared.fault.LinkKind.TheVariants.{NoCode}
+use Rattle.ap_base.specs.declared.place.Place.TheVariants.{Static}
+use Rattle.graph_model.specs.declared.types.Value.TheVariants.{Obj as Object}
+use Rattle.graph_model.specs.declared.types.Graph.{Graph}
+use Rattle.natives.specs.declared.requests.Request.TheVariants as ask
+use Rattle.run_history.specs.declared.act.PlainKey.TheVariants.{Object as ObjectKey}
+use Rattle.run_history.specs.declared.act.Stage.TheVariants as stage
+use Rattle.run_history.specs.declared.act.Op.TheVariants as op
+use Rattle.run_history.specs.Recorded.{Recorded}
+use Rattle.plain_model.specs.Requests.{PlainRequest}
+use Rattle.plain_model.specs.Codes.{Code}
+use Rattle.plain_model.specs.Runs.{IsPlainRun, IsAllowed, output_of, known_of, request_after}
+use Rattle.plain_model.specs.Ends.{Uncaught, Finished, Races, IsStuck, FillsHeap, FillsHistory, FaultComes, EndsAs, wait_at}
+use Rattle.plain_model.specs.StepWorld.{boxes, main_class, print_stream, runtime_exception, here, int, system_out, amount}
+use Rattle.plain_model.specs.RunRows.{two_boxes, box_graph, scripts, both, by, started, in_region, puts_amount, amount_of, begins, guards}
+use Rattle.plain_model.specs.RunRows.{ends, closes, leaves, inner_ended, enters, entered, awaits}
+
+-- System.out
+abbrev pub stream : ℕ
+stream = 2
+
+-- `System.out.println(7);` in a class Main without initialiser
+abbrev pub printing : Code boxes main_class two_boxes (List PlainRequest)
+printing = scripts (
+    ask.Init here main_class
+    ∷ ask.InitDone here main_class
+    ∷ ask.GetStatic here system_out
+    ∷ ask.ClassOf here (Object stream) print_stream
+    ∷ ask.Enter here (key.Object (Object stream))
+    ∷ ask.Print here (55 ∷ 10 ∷ [])
+    ∷ ask.Exit here (key.Object (Object stream))
+    ∷ []
+    ) []
+
+-- up to the print
+abbrev pub before_print : List Recorded
+before_print =
+    by 0 0 (op.Init main_class stage.Begun)
+    ∷ by 0 0 (op.Init main_class stage.Done)
+    ∷ by 0 0 (op.Read (Static 0) (Object stream))
+    ∷ by 0 0 (op.Class (Some stream) (Some print_stream))
+    ∷ by 0 0 (op.Enter (ObjectKey stream))
+    ∷ []
+
+abbrev pub printed : List ℕ → List Recorded
+printed bytes =
+    before_print ++ by 0 0 (op.Print bytes) ∷ by 0 0 (op.Exit (ObjectKey stream)) ∷ by 0 0 (op.Ended None)
+    ∷ []
+
+abbrev pub no_limits : Limits
+no_limits = record { heap_words = 1000; acts = 1000 }
+
+-- It prints 7 and a new line, and has ended.
+pub record Prints7 : Type 0 where
+  pub run : IsPlainRun boxes main_class two_boxes printing (printed (55 ∷ 10 ∷ []))
+  pub output : output_of (printed (55 ∷ 10 ∷ [])) ≡ 55 ∷ 10 ∷ []
+  pub ends : EndsAs boxes main_class two_boxes printing no_limits 100 (printed (55 ∷ 10 ∷ [])) Finished
+  pub unended : EndsAs boxes main_class two_boxes printing no_limits 100 before_print Finished → ⊥
+  pub nothing : IsPlainRun boxes main_class two_boxes printing (printed []) → ⊥
+  pub another_digit : IsPlainRun boxes main_class two_boxes printing (printed (56 ∷ 10 ∷ [])) → ⊥
+
+-- what a stop may leave of the nested regions after these acts
+abbrev pub MayLeave : List Recorded → Graph → Type 0
+MayLeave acts g = IsAllowed boxes two_boxes (started ++ acts) g
+
+-- The inner End commits nothing. The whole region is there or not once it is closing, and is there after
+-- its outermost End.
+pub record RegionsCommitAtTheirEnd : Type 0 where
+  pub inner : (g : Graph) → MayLeave inner_ended g ↔ (g ≡ two_boxes)
+  pub closing : (g : Graph) → MayLeave (inner_ended ++ closes 0 ∷ []) g
+      ↔ ((g ≡ two_boxes) ⊎ (g ≡ box_graph (int 7)))
+  pub ended : (g : Graph) → MayLeave (inner_ended ++ closes 0 ∷ ends 0 ∷ []) g ↔ (g ≡ box_graph (int 7))
+
+-- the event of thread t after the start and these acts ends the run by this fault
+abbrev pub Ends : List PlainRequest → List PlainRequest → Limits → List Recorded → ℕ → RunFault → Type 0
+Ends mains workers limits acts t f =
+    FaultComes boxes main_class two_boxes (both mains workers) limits 100 (started ++ acts) t f
+
+-- thread t's request and what is known after the start and these acts
+abbrev pub asked_after : List PlainRequest → List PlainRequest → List Recorded → ℕ → Option PlainRequest
+asked_after mains workers acts = request_after boxes main_class two_boxes (both mains workers)
+    (started ++ acts)
+
+-- A store to a place that another thread's open region has guarded is a race, and one of the region's own
+-- thread isn't.
+pub record RegionsRace : Type 0 where
+  pub races : Ends (in_region 7) (puts_amount 0 8 ∷ []) no_limits (begins 0 ∷ guards 0 0 ∷ []) 1
+      (fault.RegionRace 1 0 (amount_of 0))
+  pub own_place : (f : RunFault)
+      → Races boxes (known_of boxes main_class two_boxes (both (in_region 7) []) (started ++ begins 0
+      ∷ guards 0 0 ∷ []))
+      (asked_after (in_region 7) [] (begins 0 ∷ guards 0 0 ∷ []) 0) 0 f → ⊥
+
+abbrev pub waits : On → On → List (Option On)
+waits first second = Some first ∷ Some second ∷ replicate 62 None
+
+abbrev pub first_two : List PlainRequest
+first_two = enters 0 ∷ enters 1 ∷ []
+
+abbrev pub second_two : List PlainRequest
+second_two = enters 1 ∷ enters 0 ∷ []
+
+-- thread t waits for this after the start and these acts
+abbrev pub waiting : List PlainRequest → List PlainRequest → List Recorded → ℕ → Option On
+waiting mains workers acts t =
+    wait_at boxes (known_of boxes main_class two_boxes (both mains workers) (started ++ acts)).world t
+    (asked_after mains workers acts t)
+
+-- Two threads that wait for each other are stuck, and one that waits alone isn't.
+pub record ThreadsAreStuck : Type 0 where
+  pub crosswise : Ends first_two second_two no_limits (entered 0 0 ∷ entered 1 1 ∷ []) 1
+      (fault.Stuck (waits (on.Monitor 1) (on.Monitor 0)))
+  pub one_waits : (f : RunFault) → IsStuck (waiting first_two second_two (entered 0 0 ∷ []))
+      (asked_after first_two second_two (entered 0 0 ∷ [])) f → ⊥
+  pub joining : Ends (enters 0 ∷ awaits ∷ []) (enters 0 ∷ []) no_limits (entered 0 0 ∷ []) 0
+      (fault.Stuck (waits (on.Join 1) (on.Monitor 0)))
+
+-- A history of six acts that may have six is full. The stream, the arguments and the worker take ten words,
+-- and a further worker four.
+pub record RunsFill : Type 0 where
+  pub history : Ends [] [] (record no_limits { acts = 6 }) [] 1
+      (fault.Full (record { which = which.Acts; need = 1; left = 0 }))
+  pub one_act_left : (f : RunFault)
+      → FillsHistory (record no_limits { acts = 7 })
+      (known_of boxes main_class two_boxes (both [] []) started) f → ⊥
+  pub heap : Ends (ask.New here 5 ∷ []) [] (record no_limits { heap_words = 13 }) [] 0
+      (fault.Full (record { which = which.VolatileWords; need = 4; left = 3 }))
+  pub enough_words : (f : RunFault) → FillsHeap boxes two_boxes (record no_limits { heap_words = 14 })
+      (known_of boxes main_class two_boxes (both (ask.New here 5 ∷ []) []) started)
+      (asked_after (ask.New here 5 ∷ []) [] [] 0) 0 f → ⊥
+
+-- A wrong operand, a fault of the turn, and the sink where a thread prints.
+pub record FaultsCome : Type 0 where
+  pub wrong : Ends [] (ask.GetField here (Object stream) amount ∷ []) no_limits [] 1 (fault.BadCode here)
+  pub broken : Ends (ask.Broken (fault.LinkFault NoCode 1 2) ∷ []) [] no_limits [] 0
+      (fault.LinkFault NoCode 1 2)
+  pub sink : Ends [] (ask.Print here (55 ∷ []) ∷ []) no_limits [] 1 fault.SinkFault
+  pub no_print : Ends [] (ask.Print here (55 ∷ []) ∷ []) no_limits [] 0 fault.SinkFault → ⊥
+  pub image : Ends [] [] no_limits [] 1 fault.ImageFault
+  pub no_thread : Ends [] [] no_limits [] 2 fault.ImageFault → ⊥
+
+abbrev pub throws_out : ℕ → ℕ → Recorded
+throws_out t class = by t 2 (op.Ended (Some class))
+
+-- All threads have ended, and the least that a throwable ended is told.
+pub record ThreadsEnd : Type 0 where
+  pub uncaught : EndsAs boxes main_class two_boxes (both [] []) no_limits 100
+      (started ++ throws_out 1 runtime_exception ∷ leaves 0 ∷ []) (Uncaught 1 runtime_exception)
+  pub least : EndsAs boxes main_class two_boxes (both [] []) no_limits 100
+      (started ++ throws_out 1 runtime_exception ∷ throws_out 0 main_class ∷ []) (Uncaught 0 main_class)
+  pub one_lives : EndsAs boxes main_class two_boxes (both [] []) no_limits 100 (started ++ leaves 1
+      ∷ []) Finished → ⊥

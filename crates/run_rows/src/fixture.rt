@@ -1,0 +1,98 @@
+// What the rows share: words, class files, images in memory, and runs on them.
+use crate::class_bytes;
+use ap_base::{Bytes, MemorySink, MemorySource, NamedBytes, NoGate};
+use autopersist::{Ended, autopersist};
+use line_image::{Fails, MemoryImage};
+use run_history::NoWatch;
+use std::alloc::{AllocError, Global};
+use std::sync::Wait;
+use std::test::Fail;
+use std::thread::Threads;
+
+/// The lines of an image.
+pub(crate) const LINES: u64 = 32_768;
+
+/// The words that ask for class Main.
+pub(crate) const RUN: [&str; 7] = [
+    "autopersist",
+    "run",
+    "--image",
+    "work.img",
+    "--main",
+    "Main",
+    "classes",
+];
+
+// class Main with the durable root `data`, up to the body of `main`
+const HEAD: &str = ".class Main\n.super java/lang/Object\n.field data [I static root\n\
+    .method main ([Ljava/lang/String;)V 3 1 static\n";
+
+/// `data = new int[3]; data[1] = 7;`
+pub(crate) const STORES: &str = "iconst_3\nnewarray int\nputstatic Main data [I\n\
+    getstatic Main data [I\niconst_1\nbipush 7\niastore\n";
+
+/// `System.out.println(data[1]);`
+pub(crate) const PRINTS: &str =
+    "getstatic java/lang/System out Ljava/io/PrintStream;\ngetstatic Main data [I\niconst_1\niaload\n\
+    invokevirtual java/io/PrintStream println (I)V\n";
+
+/// An image's calls fail from this one on.
+pub(crate) fn fails_from(alloc: Global, since: u64) -> Fails {
+    Fails {
+        calls: Vec::new(alloc),
+        since,
+        room: 20_000,
+    }
+}
+
+pub(crate) fn no_fails(alloc: Global) -> Fails {
+    fails_from(alloc, u64::MAX)
+}
+
+/// An image of zeros.
+pub(crate) fn blank(alloc: Global) -> Result<MemoryImage, AllocError> {
+    MemoryImage::new(alloc, LINES, no_fails(alloc))
+}
+
+pub(crate) fn words(alloc: Global, all: &[&str]) -> Result<Vec<String>, AllocError> {
+    let mut words = Vec::new(alloc);
+    for word in all {
+        words.push(String::from_str(alloc, word)?)?;
+    }
+    Ok(words)
+}
+
+pub(crate) fn file(alloc: Global, name: &[u8], bytes: &[u8]) -> Result<NamedBytes, AllocError> {
+    Ok(NamedBytes::whole(Bytes::copy(alloc, name)?, Bytes::copy(alloc, bytes)?))
+}
+
+/// The bytes of a class Main with these instructions in `main`.
+pub(crate) fn main_class(alloc: Global, body: &[&str]) -> Result<Vec<u8>, Fail> {
+    let mut text = HEAD.as_bytes().to_vec(alloc)?;
+    for lines in body {
+        text.extend_from_slice(lines.as_bytes())?;
+    }
+    text.extend_from_slice(b"return\n.end\n")?;
+    Ok(class_bytes(alloc, &text)?.ok_or("a class")?)
+}
+
+/// A source of one file.
+pub(crate) fn source(alloc: Global, bytes: &[u8]) -> Result<MemorySource, AllocError> {
+    let mut files = Vec::new(alloc);
+    files.push(file(alloc, b"Main.class", bytes)?)?;
+    Ok(MemorySource::new(files, Vec::new(alloc)))
+}
+
+pub(crate) type Run = Ended<MemorySource, MemoryImage, MemorySink, NoWatch>;
+
+/// Runs a class Main with this body on an image.
+pub(crate) fn run<R>(rt: &R, alloc: Global, body: &[&str], image: MemoryImage) -> Result<Run, Fail>
+where
+    R: Threads + Wait + Clone + Send + Sync + Drop,
+{
+    let words = words(alloc, &RUN)?;
+    let sink = MemorySink::new(alloc, 100, 24, Vec::new(alloc))?;
+    let class = main_class(alloc, body)?;
+    let source = source(alloc, &class)?;
+    Ok(autopersist(rt, alloc, &words, source, image, sink, &NoGate, NoWatch))
+}

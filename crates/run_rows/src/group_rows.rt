@@ -1,0 +1,298 @@
+// Programs that are put together from groups run over an image in memory that was opened for them.
+ghost use Rattle.std.specs.Prelude.{◌≤◌, IfOk};
+ghost use Rattle.image_layout.specs.Places.{min_lines, max_lines};
+ghost use Rattle.image_opening.specs.Wanted.{HasRoom};
+
+use crate::fixture::{LINES, fails_from, no_fails};
+use ap_base::{Bytes, ListOf, MemorySink, NoGate, Piece, Place};
+use array_program::{Group, Program};
+use array_run::{Run, RunEnd, run_program};
+use graph_model::Value;
+use image_opening::{FoundArray, open_image};
+use line_image::{Fails, MemoryImage};
+use line_memory::LineMemory;
+use plain_model::Throws;
+use run_history::{Acts, NoWatch, Op, PlainKey, Stage};
+use run_types::{Full, Which};
+use std::alloc::{AllocError, Global};
+use std::test::Fail;
+
+const MAKES_THREE: Group = Group::MakesArray {
+    count: 3,
+    make: 1,
+    put: 3,
+};
+
+const STORES_SEVEN: Group = Group::StoresElement {
+    fetch: 6,
+    index: 1,
+    number: 7,
+    store: 12,
+};
+
+const PRINTS_IT: Group = Group::PrintsElement {
+    out: 13,
+    fetch: 16,
+    index: 1,
+    load: 20,
+    call: 21,
+};
+
+/// `root[3] = 7`.
+const STORES_PAST: Group = Group::StoresElement {
+    fetch: 6,
+    index: 3,
+    number: 7,
+    store: 12,
+};
+
+/// `root = new int[count]`.
+fn makes(count: i32) -> Group {
+    Group::MakesArray {
+        count,
+        make: 1,
+        put: 3,
+    }
+}
+
+/// A memory over an image.
+fn attached(alloc: Global, image: MemoryImage) -> Result<LineMemory<MemoryImage>, Fail>
+    ensures enough { IfOk result (λ memory. min_lines ≤ memory.size) }
+    ensures most { IfOk result (λ memory. memory.size ≤ max_lines) }
+{
+    match LineMemory::attach(alloc, image) {
+        Ok(memory) => Ok(memory),
+        Err(_) => Err(Fail::from("attached")),
+    }
+}
+
+/// The name of the root.
+fn main_data(alloc: Global) -> Result<Option<Bytes>, Fail>
+    ensures { IfOk result (λ root. HasRoom root) }
+{
+    Ok(Some(Bytes::copy(alloc, b"Main.data")?))
+}
+
+/// The program of these groups, whose root is `Main.data`.
+fn program(alloc: Global, groups: &[Group]) -> Result<Program, AllocError> {
+    Ok(Program {
+        name: Bytes::copy(alloc, b"Main")?,
+        is_made: true,
+        literals: ListOf::new(alloc),
+        main: 0,
+        root: Some(Bytes::copy(alloc, b"data")?),
+        groups: ListOf::from_vec(groups.to_vec(alloc)?),
+    })
+}
+
+/// How a run ended, what it was at its end, and how many calls of the image came before it.
+#[derive(Drop)]
+struct Ran {
+    answer: Result<(), RunEnd>,
+    run: Run<MemoryImage, MemorySink, NoWatch>,
+    before: u64,
+}
+
+/// Runs these groups over a blank image that fails so, with room for so many bytes of output, one at once.
+fn run_groups(alloc: Global, groups: &[Group], fails: Fails, room: u64) -> Result<Ran, Fail> {
+    let image = MemoryImage::new(alloc, LINES, fails)?;
+    let mut memory = attached(alloc, image)?;
+    let root = main_data(alloc)?;
+    let opened = open_image(alloc, &mut memory, &root)?;
+    let before = memory.calls();
+    let mut run = Run {
+        acts: Acts::new(alloc),
+        memory,
+        sink: MemorySink::new(alloc, room, 1, Vec::new(alloc))?,
+        watcher: NoWatch,
+        turns: 0,
+    };
+    let program = program(alloc, groups)?;
+    let answer = run_program(&mut run, &NoGate, &program, &opened);
+    Ok(Ran {
+        answer,
+        run,
+        before,
+    })
+}
+
+/// The operations of the run that makes an array, stores 7 and prints it, and how many calls of the image came before each since it began.
+fn expected() -> Result<[(u64, Op); 19], Fail> {
+    let root = Place::Static(1);
+    let stream = Place::Static(0);
+    let element = Place::Slot {
+        object: 2,
+        index: 1,
+    };
+    let out = Value::Obj(0);
+    let array = Value::Obj(2);
+    let seven = Value::Int(7);
+    let key = PlainKey::Object(0);
+    let begun = Stage::Begun;
+    let done = Stage::Done;
+    let digit = Piece::new(b"7").ok_or("a piece")?;
+    let line_feed = Piece::new(b"\n").ok_or("a piece")?;
+    let read = |place: Place, value: Value| Op::Read { place, value };
+    let stored = |place: Place, value: Value| Op::Stored { place, value };
+    Ok([
+        (
+            0,
+            Op::Init {
+                class: 0,
+                is: begun,
+            },
+        ),
+        (0, Op::Init { class: 0, is: done }),
+        (
+            0,
+            Op::Alloc {
+                object: 2,
+                shape: 30,
+                length: 3,
+            },
+        ),
+        (
+            0,
+            Op::Asked {
+                place: root,
+                value: array,
+            },
+        ),
+        (2, Op::Joined),
+        (2, stored(root, array)),
+        (4, Op::Fenced),
+        (4, read(root, array)),
+        (4, stored(element, seven)),
+        (6, Op::Fenced),
+        (6, read(stream, out)),
+        (6, read(root, array)),
+        (6, read(element, seven)),
+        (
+            6,
+            Op::Class {
+                object: Some(0),
+                shape: Some(2),
+            },
+        ),
+        (6, Op::Enter { key }),
+        (6, Op::Print { bytes: digit }),
+        (6, Op::Print { bytes: line_feed }),
+        (6, Op::Exit { key }),
+        (6, Op::Ended { uncaught: None }),
+    ])
+}
+
+#[test]
+fn an_element_is_stored_and_printed(rt: HostRuntime) -> Result<(), Fail> {
+    let alloc = rt.alloc();
+    let groups = [MAKES_THREE, STORES_SEVEN, PRINTS_IT];
+    let Ran {
+        answer,
+        run,
+        before,
+    } = run_groups(alloc, &groups, no_fails(alloc), 100)?;
+    // A write-back and a fence each for the array, the root and the element.
+    assert_eq!(rt;
+        (
+            answer,
+            run.sink.as_slice(),
+            run.memory.calls().checked_sub(before),
+            run.acts.named(4)
+        ),
+        (Ok(()), b"7\n".as_slice(), Some(6), [2].as_slice())
+    );
+    let wanted = expected()?;
+    for i in 0..20_u32 {
+        let found = run
+            .acts
+            .get(i)
+            .map(|act| (act.at.saturating_sub(before), act.op));
+        assert_eq!(rt; found, wanted.get(i as usize).copied(), "act {i}");
+    }
+    Ok(())
+}
+
+#[test]
+fn what_a_run_stores_stays_in_the_image(rt: HostRuntime) -> Result<(), Fail> {
+    let alloc = rt.alloc();
+    let groups = [MAKES_THREE, STORES_SEVEN];
+    let Ran { run, .. } = run_groups(alloc, &groups, no_fails(alloc), 100)?;
+    let left = run.memory.into_image().crash(alloc, 0, no_fails(alloc))?;
+    let mut again = attached(alloc, left)?;
+    let root = main_data(alloc)?;
+    let opened = open_image(alloc, &mut again, &root)?;
+    let node = opened.graph.nodes.as_slice().first().ok_or("an array")?;
+    let array = FoundArray {
+        line: 20_577,
+        length: 3,
+    };
+    let values = [Value::Int(0), Value::Int(7), Value::Int(0)];
+    assert_eq!(rt;
+        (
+            opened.array,
+            opened.graph.nodes.len(),
+            node.values.as_slice()
+        ),
+        (Some(array), 1, values.as_slice())
+    );
+    Ok(())
+}
+
+#[test]
+fn runs_end_by_what_they_do(rt: HostRuntime) -> Result<(), Fail> {
+    let alloc = rt.alloc();
+    let uncaught = |thrown: Throws| Err(RunEnd::Uncaught(thrown));
+    let full = |which: Which, need: u64, left: u64| Err(RunEnd::Full(Full { which, need, left }));
+    // 12,191 lines are behind the first objects' line, for a head and 97,527 elements. The stream and the arguments take six of 8,388,608
+    // words.
+    let rows: [(&[Group], Result<(), RunEnd>); 6] = [
+        (&[makes(-1)], uncaught(Throws::NegativeArraySize)),
+        (&[PRINTS_IT], uncaught(Throws::NullPointer)),
+        (
+            &[MAKES_THREE, STORES_PAST],
+            uncaught(Throws::ArrayIndexOutOfBounds),
+        ),
+        (&[makes(97_527)], Ok(())),
+        (&[makes(97_528)], full(Which::ImageLines, 12_192, 12_191)),
+        (
+            &[makes(8_388_600)],
+            full(Which::VolatileWords, 8_388_603, 8_388_602),
+        ),
+    ];
+    for (i, (groups, answer)) in rows.into_iter().enumerate() {
+        let ran = run_groups(alloc, groups, no_fails(alloc), 100)?;
+        assert_eq!(rt; ran.answer, answer, "row {i}");
+    }
+    Ok(())
+}
+
+#[test]
+fn the_image_and_the_sink_fail(rt: HostRuntime) -> Result<(), Fail> {
+    let alloc = rt.alloc();
+    let groups = [MAKES_THREE, STORES_SEVEN, PRINTS_IT];
+    let before = run_groups(alloc, &[], no_fails(alloc), 100)?.before;
+    let never = u64::MAX;
+    // Within the copy of the array, the store into the root, and that into the element; and at the second byte that is printed.
+    for (call, room, answer, acts, printed) in [
+        (1, 100, RunEnd::ImageFailed, 4, ""),
+        (2, 100, RunEnd::ImageFailed, 4, ""),
+        (3, 100, RunEnd::ImageFailed, 6, ""),
+        (4, 100, RunEnd::ImageFailed, 6, ""),
+        (5, 100, RunEnd::ImageFailed, 9, ""),
+        (6, 100, RunEnd::ImageFailed, 9, ""),
+        (never, 1, RunEnd::SinkFailed, 16, "7"),
+    ] {
+        let fails = fails_from(alloc, before.saturating_add(call));
+        let Ran {
+            answer: found,
+            run,
+            ..
+        } = run_groups(alloc, &groups, fails, room)?;
+        assert_eq!(rt;
+            (found, run.acts.len(), run.sink.as_slice()),
+            (Err(answer), acts, printed.as_bytes()),
+            "call {call}"
+        );
+    }
+    Ok(())
+}
