@@ -4,18 +4,18 @@ use Rattle.std.specs.Prelude.{All}
 use Rattle.std.proofs.lemmas.List.Elements.{All-head, All-tail, All-push, All-weaker}
 use Rattle.graph_model.specs.declared.types.Heap.{Heap}
 use Rattle.graph_model.specs.declared.types.Graph.{Graph}
-use Rattle.graph_model.specs.Heaps.{has_number}
 use Rattle.graph_model.specs.Reach.{here}
 use Rattle.run_history.specs.declared.act.Op.{Op}
 use Rattle.run_history.specs.Recorded.{Recorded}
 use Rattle.run_history.specs.Worlds.{heap_after_op, heap_after}
-use Rattle.run_history.specs.Knowing.{Knowledge, Mark, next_known, known_after, with_sure}
+use Rattle.run_history.specs.Knowing.{Knowledge, Mark, next_known, known_after, with_sure, owes_fence}
 use Rattle.run_history.specs.Wanted.{Wishes, NoWish, WantsNow}
 use Rattle.run_history.specs.Kept.{kept}
 use Rattle.run_history.proofs.KeptLists.{kept-with_sure}
 use Rattle.plain_model.specs.First.{first_known, first_heap}
 use Rattle.plain_model.specs.Codes.{request_of, frames_after_op}
-use Rattle.plain_model.specs.Runs.{Rule, NamesRightly, MayAct, is_fenced, known_of, frames_of, wants_of, first_frames}
+use Rattle.plain_model.specs.Runs.{Rule, MayAct, is_fenced, known_of, frames_of, wants_of, first_frames}
+use Rattle.run_history.specs.Recorded.{NamesRightly}
 use Rattle.plain_model.proofs.Appended.{known_after-append, wants_after-push, frames_after-push, GoesOn-push}
 use Rattle.array_program.specs.declared.program.Program.{Program}
 use Rattle.array_program.specs.Facts.{program_facts}
@@ -38,7 +38,7 @@ pub record LeadsOn (program : Program) (opening : Graph) (frame next : Frame) (u
       → Rule (program_facts program) (known_at program opening frame uncaught state marks stores before) Now
       (request_of (program_facts program) 0 opening (program_code program opening) (world_at program opening frame uncaught state.heap) (frame ∷ []) 0) 0 named o
   pub names : NamesRightly o named
-  pub fence : is_fenced o ≡ has_number (unfenced_of state.owes) 0
+  pub fence : is_fenced o ≡ owes_fence (unfenced_of state.owes) 0
   pub frames : frames_after_op (program_facts program) 0 opening (program_code program opening) (world_at program opening frame uncaught state.heap) (frame ∷ []) 0 o ≡ next ∷ []
   pub known : (marks : List Mark) (stores before : ℕ)
       → next_known (known_at program opening frame uncaught state marks stores before) (recorded at o named)

@@ -1,12 +1,14 @@
 -- What each frame of such a program holds, so that its request names what is there, and how the step of the request keeps it so.
 use Rattle.graph_model.specs.declared.types.Obj.{Obj}
-use Rattle.std.proofs.Common.{◌≡◌, ℕ, suc, ◌<◌, ◌≤◌, ℤ, pos, negsuc, Bool, true, false, ◌&&◌, nat_eq, nat_lt, nat_le, List, [], ◌∷◌, ◌++◌, length, take, drop, Option, Some, None, refl, sym, ◌∙◌, arith, inl, inr, if◌then◌else◌, length-append, zero}
-use Rattle.std.specs.Prelude.{All, IsSome, slice_get, slice_set, slice_index_or, codes}
+use Rattle.std.proofs.Common.{◌≡◌, ℕ, suc, ◌<◌, ◌≤◌, ℤ, pos, negsuc, Bool, true, false, ◌&&◌, nat_eq, nat_lt, nat_le, List, [], ◌∷◌, ◌++◌, length, take, drop, Option, Some, None, refl, sym, ◌∙◌, ap, arith, inl, inr, if◌then◌else◌, length-append, zero}
+use Rattle.std.specs.Prelude.{◌≢◌, ◌⊎◌, All, IsSome, slice_get, slice_set, slice_index_or, codes}
+use Rattle.std.specs.Fmt.{signed_decimal}
 use Rattle.std.proofs.lemmas.Bool.{false≢true}
-use Rattle.std.proofs.lemmas.List.{length-set}
+use Rattle.std.proofs.lemmas.List.{length-set, length-take}
 use Rattle.std.proofs.lemmas.List.Elements.{All-head, All-tail, All-set, All-weaker}
 use Rattle.std.proofs.lemmas.Option.{none-some}
 use Rattle.ap_base.specs.declared.kind.Kind.TheVariants.{I, L}
+use Rattle.ap_base.specs.Pieces.{IsPiece}
 use Rattle.ap_base.specs.declared.place.Place.TheVariants.{Static, Slot}
 use Rattle.run_types.specs.declared.wait.On.TheVariants as on
 use Rattle.graph_model.specs.declared.types.Value.{Value}
@@ -25,16 +27,16 @@ use Rattle.run_history.specs.declared.plain.Monitor.{Monitor}
 use Rattle.run_history.specs.Worlds.{World, after, heap_after_op, held}
 use Rattle.plain_model.specs.declared.throws.Throws.{Throws}
 use Rattle.plain_model.specs.declared.throws.Throws.TheVariants.{NegativeArraySize, NullPointer, ArrayIndexOutOfBounds, StringIndexOutOfBounds, ArrayStore, ClassCast, IllegalMonitorState, IllegalThreadState, IllegalState, Arithmetic}
-use Rattle.plain_model.specs.Facts.{thrown_class, element_of}
+use Rattle.plain_model.specs.Facts.{thrown_class, element_of, string_number}
 use Rattle.plain_model.specs.Requests.{PlainReply}
 use Rattle.plain_model.specs.Steps.{Step, Does, Waits, WrongOperand, step, throws, with_progress, with_object, with_index, reads, enters_held, exits_held, has_elements}
 use Rattle.plain_model.specs.Codes.{begun_by}
-use Rattle.plain_model.specs.Duties.{IsClass, IsThrowable, IsReferenceIn, IsFit, StaticHas, IsStaticField}
+use Rattle.plain_model.specs.Duties.{IsClass, IsThrowable, IsReferenceIn, IsFit, IsStream, IsStaticOf, IsStaticField}
 use Rattle.array_program.specs.declared.program.Group.{Group}
 use Rattle.array_program.specs.declared.program.Group.TheVariants as group
 use Rattle.array_program.specs.declared.program.Program.{Program}
 use Rattle.array_program.specs.Facts.{program_facts, int_array_number, system_out, root_field}
-use Rattle.array_program.specs.Running.{Frame, Beginning, Initialising, Before, Putting, Storing, Fetching, Loading, Calling, Entering, Printing, Leaving, Threw, Left, frame_request, frame_answer, with_element, print_rest, program_code}
+use Rattle.array_program.specs.Running.{Frame, Beginning, Initialising, Before, Putting, Storing, Fetching, Loading, Calling, Entering, Printing, Leaving, Threw, Left, piece_of, frame_request, frame_answer, with_element, print_rest, line_of, program_code}
 use Rattle.array_history.specs.Standing.{NeedsNone, names_root}
 
 -- ---- references
@@ -86,16 +88,28 @@ static_refers world (value ∷ statics) (suc n) all = static_refers world static
 
 -- ---- frames
 
+cons≢nil : {X : Type 0} (x : X) (xs : List X) → x ∷ xs ≢ []
+cons≢nil x xs same = absurd (omega (arith, ap length same))
+
+line_has_bytes : (number : ℤ) → line_of number ≢ []
+line_has_bytes number same =
+    absurd (omega (arith, length-append (signed_decimal number) (10 ∷ []), ap length same))
+
 -- a program without a root has no group that names it
 root_there : (root : Option (List ℕ)) (g : Group) → NeedsNone root g → names_root g ≡ true → IsSome root
 root_there None g none names = absurd (false≢true (sym none ∙ names))
 root_there (Some field) g none names = refl
 
+-- a print of a text that has bytes asks for a piece
+piece_fits : (text : List ℕ) → text ≢ [] → IsPiece (piece_of text)
+piece_fits [] some = absurd (some refl)
+piece_fits (b ∷ bs) some = (omega arith, omega (arith, length-take 23 bs))
+
 module _ (program : Program) where
   abbrev pub GroupsFit : List Group → Type 0
   GroupsFit gs = All (NeedsNone program.root) gs
 
-  -- what the frame holds: references, and groups that name the root only where there is one
+  -- what the frame holds: references, text that has bytes, and groups that name the root only where there is one
   abbrev pub Holds : World → Frame → Type 0
   Holds world Beginning = Unit {0}
   Holds world Initialising = slice_get world.classes 0 ≡ Some (BegunBy 0)
@@ -105,8 +119,8 @@ module _ (program : Program) where
   Holds world (Fetching stream fetch index load call gs) = IsReferenceIn world stream × IsSome program.root × GroupsFit gs
   Holds world (Loading stream array index load call gs) = IsReferenceIn world stream × IsReferenceIn world array × GroupsFit gs
   Holds world (Calling stream number call gs) = IsReferenceIn world stream × GroupsFit gs
-  Holds world (Entering stream text gs) = IsReferenceIn world stream × GroupsFit gs
-  Holds world (Printing stream text gs) = IsReferenceIn world stream × GroupsFit gs
+  Holds world (Entering stream text gs) = (text ≢ []) × IsReferenceIn world stream × GroupsFit gs
+  Holds world (Printing stream text gs) = (text ≢ []) × IsReferenceIn world stream × GroupsFit gs
   Holds world (Leaving stream gs) = IsReferenceIn world stream × GroupsFit gs
   Holds world (Threw class) = IsThrowable (program_facts program) class
   Holds world Left = Unit {0}
@@ -127,13 +141,15 @@ module _ (program : Program) where
   class_25 = omega arith
 
   abbrev IsArrayClass : Program → Type 0
-  IsArrayClass p = IsClass (program_facts p) int_array_number × IsSome (element_of (program_facts p) int_array_number)
+  IsArrayClass p =
+      IsClass (program_facts p) int_array_number × IsSome (element_of (program_facts p) int_array_number)
+      × (int_array_number ≢ string_number (program_facts p))
 
   array_class : IsArrayClass program
   unfolding program_facts
   array_class = elim program.root as (λ root. IsArrayClass (record program { root = root })) [
-    | None ↦ (omega arith, refl)
-    | Some field ↦ (omega arith, refl)
+    | None ↦ (omega arith, refl, λ same. absurd (omega (arith, same)))
+    | Some field ↦ (omega arith, refl, λ same. absurd (omega (arith, same)))
   ]
 
   throwable : (which : Throws) → IsThrowable (program_facts program) (thrown_class (program_facts program) which)
@@ -150,15 +166,18 @@ module _ (program : Program) where
   throwable Arithmetic = (omega arith, refl)
 
   out_field : IsStaticField (program_facts program) system_out
-  out_field = (class_25, refl, inl (refl, refl))
+  unfolding program_facts
+  out_field = (class_25, refl, inl (refl, refl, refl))
 
   the_root : IsSome program.root → IsStaticField (program_facts program) root_field
   unfolding program_facts
   the_root some = (class_0, refl, named program.root some)
     where
-      named : (root : Option (List ℕ)) → IsSome root → StaticHas (program_facts (record program { root = root })) 1 L
+      named : (root : Option (List ℕ)) → IsSome root
+          → IsStream (program_facts (record program { root = root })) root_field
+          ⊎ IsStaticOf (program_facts (record program { root = root })) root_field
       named None some = absurd (false≢true some)
-      named (Some field) some = inr (0, record { name = program.name ++ codes "." ++ field; class = 0; kind = L; constant = None; is_root = true }, refl, refl, refl)
+      named (Some field) some = inr (0, record { name = program.name ++ codes "." ++ field; class = 0; kind = L; constant = None; is_root = true }, refl, refl, refl, refl)
 
   -- what the frame holds makes its request fit
   pub fits : (world : World) (frame : Frame) → Holds world frame → IsFit (program_facts program) world 0 (frame_request program frame)
@@ -175,8 +194,8 @@ module _ (program : Program) where
   fits world (Fetching stream fetch index load call gs) (stream_is, some, gs_fit) = the_root some
   fits world (Loading stream array index load call gs) (stream_is, array_is, gs_fit) = array_is
   fits world (Calling stream number call gs) (stream_is, gs_fit) = (class_2, stream_is)
-  fits world (Entering stream text gs) (stream_is, gs_fit) = stream_is
-  fits world (Printing stream text gs) holds = tt
+  fits world (Entering stream text gs) (some, stream_is, gs_fit) = stream_is
+  fits world (Printing stream text gs) (some, stream_is, gs_fit) = piece_fits text some
   fits world (Leaving stream gs) (stream_is, gs_fit) = stream_is
   fits world (Threw class) holds = holds
   fits world Left holds = tt
@@ -236,7 +255,7 @@ module _ (program : Program) where
 
     rest_holds : (stream : Value) (rest : List ℕ) (gs : List Group) → IsReferenceIn world stream × GroupsFit gs → Holds world (print_rest stream rest gs)
     rest_holds stream [] gs holds = holds
-    rest_holds stream (b ∷ bs) gs holds = holds
+    rest_holds stream (b ∷ bs) gs (stream_is, gs_fit) = (cons≢nil b bs, stream_is, gs_fit)
 
     abbrev pub step_of : (taken : ℕ) → Frame → Step
     step_of taken frame = step (program_facts program) world 0 taken (frame_request program frame)
@@ -247,7 +266,7 @@ module _ (program : Program) where
     holder : StaticsRefer world → (n : ℕ) → IsReferenceIn world (slice_index_or world.heap.statics n Null)
     holder statics n = static_refers world world.heap.statics n statics
 
-    enters_keeps : (stream : Value) (text : List ℕ) (gs : List Group) → IsReferenceIn world stream × GroupsFit gs → (n : ℕ) (m : Option Monitor)
+    enters_keeps : (stream : Value) (text : List ℕ) (gs : List Group) → (text ≢ []) × IsReferenceIn world stream × GroupsFit gs → (n : ℕ) (m : Option Monitor)
         → StepKeeps (Entering stream text gs) (enters_held (program_facts program) world 0 (ObjectKey n) m)
     enters_keeps stream text gs holds n None = record { starts_none = refl; stores = tt; holds = holds }
     enters_keeps stream text gs holds n (Some m) =
@@ -312,13 +331,15 @@ module _ (program : Program) where
         object_keeps (Loading stream array index load call gs) array (has_elements (program_facts program) world I) _ (λ n.
         index_keeps (Loading stream array index load call gs) n index (λ i. reads (program_facts program) world (Slot n i)) (λ i.
         record { starts_none = refl; stores = tt; holds = element_holds stream call gs (value_at world.heap (Slot n i)) (stream_is, gs_fit) }))
-    step_keeps taken (Calling stream number call gs) statics holds =
-        object_keeps (Calling stream number call gs) stream _ _ (λ n. record { starts_none = refl; stores = tt; holds = holds })
+    step_keeps taken (Calling stream number call gs) statics (stream_is, gs_fit) =
+        object_keeps (Calling stream number call gs) stream _ _ (λ n.
+        record { starts_none = refl; stores = tt; holds = (line_has_bytes number, stream_is, gs_fit) })
     step_keeps taken (Entering stream text gs) statics holds =
         object_keeps (Entering stream text gs) stream _ _ (λ n. enters_keeps stream text gs holds n (held world.monitors (ObjectKey n)))
-    step_keeps taken (Printing stream text gs) statics holds =
-        choice_keeps (Printing stream text gs) (nat_lt 0 taken && nat_le taken (length text)) (Does (op.Print (take taken text)) (reply.Printed taken)) WrongOperand
-        (record { starts_none = refl; stores = tt; holds = rest_holds stream (drop taken text) gs holds }) tt
+    step_keeps taken (Printing stream text gs) statics (some, stream_is, gs_fit) =
+        choice_keeps (Printing stream text gs) (nat_lt 0 taken && nat_le taken (length (piece_of text)))
+        (Does (op.Print (take taken (piece_of text))) (reply.Printed taken)) WrongOperand
+        (record { starts_none = refl; stores = tt; holds = rest_holds stream (drop taken text) gs (stream_is, gs_fit) }) tt
     step_keeps taken (Leaving stream gs) statics holds =
         object_keeps (Leaving stream gs) stream _ _ (λ n. exits_keeps stream gs holds n (held world.monitors (ObjectKey n)))
     step_keeps taken (Threw class) statics holds = record { starts_none = refl; stores = tt; holds = tt }

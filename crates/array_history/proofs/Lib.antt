@@ -21,3 +21,4 @@ pub mod Fitting
 pub mod Duties
 pub mod Words
 pub mod Seven
+mod Asking

@@ -14,8 +14,9 @@ use Rattle.graph_model.specs.declared.types.Heap.{Heap}
 use Rattle.graph_model.specs.declared.types.Graph.{Graph}
 use Rattle.graph_model.specs.Heaps.{has_number, object_at, shape_at, no_object, no_shape, fresh_values, with_fresh}
 use Rattle.image_meaning.specs.Arrays.{int_value}
-use Rattle.plain_model.specs.BuiltIn.{built_in_classes}
-use Rattle.plain_model.specs.Facts.{ClassFacts, no_class}
+use Rattle.plain_model.specs.BuiltIn.{array_class, built_in_classes}
+use Rattle.plain_model.specs.Classes.{ClassFacts, no_class}
+use Rattle.plain_model.specs.Facts.{stream_class}
 use Rattle.array_program.specs.declared.program.Program.{Program}
 use Rattle.array_program.specs.Facts.{program_facts, class_facts, int_array_number, array_types}
 use Rattle.array_history.specs.Standing.{State, Owes, IsHeapOf, IsIntsObject, HasRoot, durable_of, stream_of}
@@ -24,12 +25,12 @@ use Rattle.array_history.specs.Standing.{State, Owes, IsHeapOf, IsIntsObject, Ha
 
 -- with a root, class 30 is `[I`
 pub ints_class : (first : ClassFacts) (root : Option (List ℕ)) → IsSome root
-    → (slice_index_or (first ∷ built_in_classes 1 ++ array_types root) int_array_number no_class).shape.element ≡ Some I
+    → (slice_index_or (first ∷ built_in_classes 1 ++ map (array_class 1) (array_types root)) int_array_number no_class).shape.element ≡ Some I
 ints_class first None some = absurd (let no : false ≡ true = some in cc)
 ints_class first (Some field) some = refl
 
 ints_shape : (first : ClassFacts) (root : Option (List ℕ)) → IsSome root
-    → (slice_index_or (map (λ (c : ClassFacts). c.shape) (first ∷ built_in_classes 1 ++ array_types root)) int_array_number no_shape).element ≡ Some I
+    → (slice_index_or (map (λ (c : ClassFacts). c.shape) (first ∷ built_in_classes 1 ++ map (array_class 1) (array_types root))) int_array_number no_shape).element ≡ Some I
 ints_shape first None some = absurd (let no : false ≡ true = some in cc)
 ints_shape first (Some field) some = refl
 
@@ -91,7 +92,7 @@ module _ (program : Program) (opening : Graph) where
     roots = is.roots;
     statics = is.statics;
     stream = get_still state.heap.objects (record { shape = shape; values = fresh_values (shape_at state.heap shape) count } ∷ []) (stream_of opening)
-        (record { shape = (program_facts program).stream; values = [] }) is.stream;
+        (record { shape = stream_class (program_facts program); values = [] }) is.stream;
     arrays = λ n has. let (ints, array) = is.arrays n has in (ints, old_ints state.heap shape count n ints array);
     refers = is.refers;
     new = is.new;
@@ -106,7 +107,7 @@ module _ (program : Program) (opening : Graph) where
 
   pub fresh_new : (state : State) → IsHeapOf program opening state → length opening.nodes ≤ length state.heap.objects
   fresh_new state is =
-      let there = slice_get_within state.heap.objects (stream_of opening) (record { shape = (program_facts program).stream; values = [] }) is.stream in
+      let there = slice_get_within state.heap.objects (stream_of opening) (record { shape = stream_class (program_facts program); values = [] }) is.stream in
       omega (arith, there)
 
   -- the elements of a new array

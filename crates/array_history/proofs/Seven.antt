@@ -50,7 +50,7 @@ pub seven_runs : PrintsSeven seven_acts
 seven_runs =
     let s = first_state seven None in
     (ended seven empty_graph _ s 0 refl (left seven empty_graph [] _ s 0 refl
-    (printed seven empty_graph 2 (55 ∷ 10 ∷ []) [] _ s 0 (lit< tt) (lit≤ tt) refl (entered seven empty_graph (55 ∷ 10 ∷ []) [] _ s 0 refl entering)))).run
+    (printed seven empty_graph 2 (55 ∷ 10 ∷ []) [] _ s 0 (lit< tt) (lit≤ tt) (lit≤ tt) refl (entered seven empty_graph (55 ∷ 10 ∷ []) [] _ s 0 refl entering)))).run
 
 pub refused_class : PrintsSeven without_class → ⊥
 unfolding program_facts program_code first_heap first_world known_after_op frames_after_op step

@@ -6,12 +6,12 @@ use Rattle.graph_model.specs.Heaps.{with_fresh}
 use Rattle.natives.specs.declared.requests.Reply.TheVariants as reply
 use Rattle.run_history.specs.declared.act.Op.TheVariants as op
 use Rattle.run_history.specs.Recorded.{Recorded}
-use Rattle.plain_model.specs.BuiltIn.{throwable_numbers}
+use Rattle.plain_model.specs.declared.throws.Throws.TheVariants.{NegativeArraySize}
 use Rattle.plain_model.specs.Steps.{step}
 use Rattle.array_program.specs.declared.program.Group.{Group}
 use Rattle.array_program.specs.declared.program.Group.TheVariants as group
 use Rattle.array_program.specs.declared.program.Program.{Program}
-use Rattle.array_program.specs.Facts.{program_facts, int_array_number}
+use Rattle.array_program.specs.Facts.{program_facts, int_array_number, thrown_number}
 use Rattle.array_program.specs.Running.{Before, Putting, Threw}
 use Rattle.array_history.specs.Standing.{IsAt, State, Nothing, with_op}
 use Rattle.array_history.proofs.Objects.{with_fresh-heap}
@@ -31,9 +31,9 @@ module _ (program : Program) (opening : Graph) where
 
   pub negative : (m make put : ℕ) (gs : List Group) (acts : List Recorded) (state : State) (at : ℕ) → state.owes ≡ Nothing
       → IsAt program opening acts (Before (group.MakesArray (negsuc m) make put ∷ gs)) None state at
-      → IsAt program opening (with_op acts at (op.Throw (length state.heap.objects) (throwable_numbers 1).negative_array_size)) (Threw (throwable_numbers 1).negative_array_size) None
-      (record state { heap = with_fresh state.heap (throwable_numbers 1).negative_array_size 0 }) at
+      → IsAt program opening (with_op acts at (op.Throw (length state.heap.objects) (thrown_number NegativeArraySize))) (Threw (thrown_number NegativeArraySize)) None
+      (record state { heap = with_fresh state.heap (thrown_number NegativeArraySize) 0 }) at
   unfolding program_facts step
   negative m make put gs acts state at owes is =
-      thrown program opening (Before (group.MakesArray (negsuc m) make put ∷ gs)) (throwable_numbers 1).negative_array_size acts state at
+      thrown program opening (Before (group.MakesArray (negsuc m) make put ∷ gs)) (thrown_number NegativeArraySize) acts state at
       (record { simple = refl; live = refl; does = refl; answered = refl; world = refl }) owes is

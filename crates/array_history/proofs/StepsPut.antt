@@ -5,6 +5,7 @@ use Rattle.std.proofs.lemmas.Bool.{eq-eqb, or_left, or_right, or_cases, eqb-true
 use Rattle.std.proofs.lemmas.List.Elements.{All-nil, All-cons, All-push}
 use Rattle.std.proofs.lemmas.List.Quantifiers.{all_pairs_push}
 use Rattle.std.proofs.lemmas.Option.{same_Some}
+use Rattle.ap_base.specs.declared.place.Place.{Place}
 use Rattle.graph_model.specs.declared.types.Value.{Value}
 use Rattle.graph_model.specs.declared.types.Value.TheVariants.{Obj as Object}
 use Rattle.graph_model.specs.declared.types.Heap.{Heap}
@@ -15,7 +16,7 @@ use Rattle.run_history.specs.declared.act.Op.{Op}
 use Rattle.run_history.specs.declared.act.Op.TheVariants as op
 use Rattle.run_history.specs.Recorded.{Recorded}
 use Rattle.run_history.specs.Worlds.{heap_after_op, heap_after}
-use Rattle.run_history.specs.Knowing.{Fate, Sure, Open, Closing, Single, Mark, Knowledge, known_after_op, Pending, is_root, is_single, store_fate, fenced as fenced_fate, each_fate, with_sure, without_number, pending_of, next_known}
+use Rattle.run_history.specs.Knowing.{Fate, Sure, Open, Closing, Single, Mark, Knowledge, known_after_op, Pending, is_root, is_single, store_fate, fenced as fenced_fate, each_fate, with_sure, without_fenced, owes_fence, pending_of, next_known}
 use Rattle.run_history.specs.Kept.{survives}
 use Rattle.run_history.proofs.KeptLists.{kept-append, kept-each_fate, heap_after-append}
 use Rattle.plain_model.specs.First.{numbers_to}
@@ -113,7 +114,7 @@ module _ (program : Program) (opening : Graph) where
   set_root (Some field) array k some = refl
 
   root_stored_heap : (k : ℕ) (state : State) → HasRoot program opening → has_number (durable_of opening state) k ≡ true → IsHeapOf program opening state
-      → IsHeapOf program opening (record state { heap = stored state.heap root_place (Object k); array = Some k; owes = Fence })
+      → IsHeapOf program opening (record state { heap = stored state.heap root_place (Object k); array = Some k; owes = Fence root_place })
   root_stored_heap k state root durable is = record {
     shapes = is.shapes;
     roots = is.roots;
@@ -170,7 +171,7 @@ module _ (program : Program) (opening : Graph) where
           wanted = all_alone (λ n. (u : ℕ) × Now u n) k (0, wants k owes);
         };
         names = tt;
-        fence = ap (λ (owed : Owes). has_number (unfenced_of owed) 0) (sym owes);
+        fence = ap (λ (owed : Owes). owes_fence (unfenced_of owed) 0) (sym owes);
         frames = refl;
         known = λ marks stores before.
             ap (λ (durable : List ℕ). record (known_at program opening frame uncaught state' (with_sure marks op.Joined) stores at) { durable = durable })
@@ -182,42 +183,42 @@ module _ (program : Program) (opening : Graph) where
   pub root_stored : (k put : ℕ) (gs : List Group) (acts : List Recorded) (state : State) (at : ℕ) → HasRoot program opening
       → has_number (durable_of opening state) k ≡ true → state.owes ≡ Store k → IsAt program opening acts (Putting (Object k) put gs) None state at
       → IsAt program opening (with_op acts at (op.Stored root_place (Object k))) (Before gs) None
-      (record state { heap = stored state.heap root_place (Object k); array = Some k; owes = Fence }) at
+      (record state { heap = stored state.heap root_place (Object k); array = Some k; owes = Fence root_place }) at
   unfolding program_facts program_code known_after_op frames_after_op step
   root_stored k put gs acts state at root durable owes is =
       let o = op.Stored root_place (Object k) in
-      let state' : State = record state { heap = stored state.heap root_place (Object k); array = Some k; owes = Fence } in
+      let state' : State = record state { heap = stored state.heap root_place (Object k); array = Some k; owes = Fence root_place } in
       let durable_root : is_root state.heap.roots 1 ≡ true = ap (λ (rs : List Root). is_root rs 1) is.heap.roots ∙ root.durable in
       extended program opening acts (Putting (Object k) put gs) (Before gs) None None state state' at o [] is (record {
         rule = λ marks stores before Now wants. record { is_about = refl; no_race = λ there. inl refl; guarded = λ there within. absurd (within refl) };
         names = refl;
-        fence = ap (λ (owed : Owes). has_number (unfenced_of owed) 0) (sym owes);
+        fence = ap (λ (owed : Owes). owes_fence (unfenced_of owed) 0) (sym owes);
         frames = refl;
         known = λ marks stores before.
             let next : Knowledge = next_known (known_at program opening (Putting (Object k) put gs) None state marks stores before) (recorded at o []) in
             ap₂ (λ (is_durable : Bool) (owed : Owes). record (known_at program opening (Before gs) None state' next.marks next.stores at) {
               asked = filter (λ (p : Pending). not (nat_eq p.thread 0)) (asked_of owed);
-              unfenced = (if is_single (store_fate 0 is_durable 0 false) then unfenced_of owed ++ 0 ∷ [] else unfenced_of owed);
+              unfenced = (if is_single (store_fate 0 is_durable 0 false) then unfenced_of owed ++ record { thread = 0; place = root_place } ∷ [] else unfenced_of owed);
             }) durable_root owes;
         whole = λ first marks stores before whole. kept_store first state.heap marks (is_root state.heap.roots 1) o whole;
         heap = root_stored_heap k state root durable;
       })
 
-  pub fenced : (frame : Frame) (uncaught : Option ℕ) (acts : List Recorded) (state : State) (at : ℕ) → state.owes ≡ Fence
+  pub fenced : (frame : Frame) (uncaught : Option ℕ) (acts : List Recorded) (state : State) (at : ℕ) (place : Place) → state.owes ≡ Fence place
       → IsAt program opening acts frame uncaught state at
       → IsAt program opening (with_op acts at op.Fenced) frame uncaught (record state { owes = Nothing }) at
   unfolding known_after_op frames_after_op
-  fenced frame uncaught acts state at owes is =
+  fenced frame uncaught acts state at place owes is =
       let state' : State = record state { owes = Nothing } in
       extended program opening acts frame frame uncaught uncaught state state' at op.Fenced [] is (record {
         rule = λ marks stores before Now wants. tt;
         names = refl;
-        fence = ap (λ (owed : Owes). has_number (unfenced_of owed) 0) (sym owes);
+        fence = ap (λ (owed : Owes). owes_fence (unfenced_of owed) 0) (sym owes);
         frames = refl;
         known = λ marks stores before.
             ap (λ (owed : Owes). record (known_at program opening frame uncaught state' (with_sure (each_fate (fenced_fate 0) marks) op.Fenced) stores at) {
               asked = asked_of owed;
-              unfenced = without_number (unfenced_of owed) 0;
+              unfenced = without_fenced (unfenced_of owed) 0;
             }) owes;
         whole = λ first marks stores before whole. kept_fenced first state.heap marks whole;
         heap = owing program opening state Nothing;

@@ -23,6 +23,7 @@ use Rattle.natives.specs.declared.requests.Reply.TheVariants as reply
 use Rattle.array_program.specs.declared.program.Group.{Group}
 use Rattle.array_program.specs.declared.program.Group.TheVariants as group
 use Rattle.array_program.specs.declared.program.Program.{Program}
+use Rattle.plain_model.specs.Facts.{stream_class}
 use Rattle.array_program.specs.Facts.{program_facts, class_facts}
 use Rattle.array_program.specs.Running.{Frame, Before, Storing, frame_request, program_code}
 use Rattle.array_history.specs.Standing.{IsAt, IsHeapOf, IsIntsObject, HasRoot, State, Owes, Nothing, Fence, with_op, recorded, known_at, world_at, durable_of, unfenced_of, asked_of, root_place, root_values, array_value, stream_of}
@@ -85,12 +86,12 @@ module _ (program : Program) (opening : Graph) where
         same_ints state.heap heap' m ints (omega (arith, count)) (get_or-set_other state.heap.objects n m object' no_object (λ same. other (sym same))) array
 
     element_stored_heap : (ints : List ℤ) → FitsSigned w32 number → IsIntsObject state.heap n ints → IsHeapOf program opening state
-        → IsHeapOf program opening (record state { heap = heap'; owes = Fence })
+        → IsHeapOf program opening (record state { heap = heap'; owes = Fence (Slot n i) })
     element_stored_heap ints fits array is = record {
       shapes = is.shapes;
       roots = is.roots;
       statics = is.statics;
-      stream = get_beside state.heap.objects n (stream_of opening) object' (record { shape = (program_facts program).stream; values = [] }) (no_stream state n ints is array) is.stream;
+      stream = get_beside state.heap.objects n (stream_of opening) object' (record { shape = stream_class (program_facts program); values = [] }) (no_stream state n ints is array) is.stream;
       arrays = λ m has. elim (cases_eq n m) [
         | inl same ↦ subst (λ (k : ℕ). (js : List ℤ) × IsIntsObject heap' k js) same (slice_set ints i number, stored_ints ints fits array)
         | inr other ↦ let (js, beside) = is.arrays m has in (js, other_ints m js other beside)
@@ -116,12 +117,12 @@ module _ (program : Program) (opening : Graph) where
 
   pub element_stored : (n i : ℕ) (number : ℤ) (store : ℕ) (gs : List Group) (acts : List Recorded) (state : State) (at : ℕ) → HasRoot program opening → state.array ≡ Some n
       → i < length (values_of state.heap n) → FitsSigned w32 number → state.owes ≡ Nothing → IsAt program opening acts (Storing (Object n) (pos i) number store gs) None state at
-      → IsAt program opening (with_op acts at (op.Stored (Slot n i) (Int number))) (Before gs) None (record state { heap = stored state.heap (Slot n i) (Int number); owes = Fence }) at
+      → IsAt program opening (with_op acts at (op.Stored (Slot n i) (Int number))) (Before gs) None (record state { heap = stored state.heap (Slot n i) (Int number); owes = Fence (Slot n i) }) at
   unfolding program_facts program_code known_after_op frames_after_op step
   element_stored n i number store gs acts state at root refers within fits owes is =
       let o = op.Stored (Slot n i) (Int number) in
       let frame : Frame = Storing (Object n) (pos i) number store gs in
-      let state' : State = record state { heap = stored state.heap (Slot n i) (Int number); owes = Fence } in
+      let state' : State = record state { heap = stored state.heap (Slot n i) (Int number); owes = Fence (Slot n i) } in
       let durable : has_number (durable_of opening state) n ≡ true = is.heap.refers n refers in
       let (ints, array) = is.heap.arrays n durable in
       let there = lt-ltb n (length state.heap.objects) array.there in
@@ -138,7 +139,7 @@ module _ (program : Program) (opening : Graph) where
             let next : Knowledge = next_known (known_at program opening frame None state marks stores before) (recorded at o []) in
             ap₂ (λ (is_durable : Bool) (owed : Owes). record (known_at program opening (Before gs) None state' next.marks next.stores at) {
               asked = filter (λ (p : Pending). not (nat_eq p.thread 0)) (asked_of owed);
-              unfenced = (if is_single (store_fate 0 is_durable 0 false) then unfenced_of owed ++ 0 ∷ [] else unfenced_of owed);
+              unfenced = (if is_single (store_fate 0 is_durable 0 false) then unfenced_of owed ++ record { thread = 0; place = Slot n i } ∷ [] else unfenced_of owed);
             }) durable owes;
         whole = λ first marks stores before whole. kept_store first state.heap marks (has_number (durable_of opening state) n) o whole;
         heap = element_stored_heap n i number state ints fits array;

@@ -3,18 +3,18 @@ use Rattle.std.proofs.Common.{◌≡◌, ℕ, Bool, true, false, List, [], ◌�
 use Rattle.std.proofs.lemmas.Bool.{true≢false}
 use Rattle.graph_model.specs.declared.types.Heap.{Heap}
 use Rattle.graph_model.specs.declared.types.Graph.{Graph}
-use Rattle.graph_model.specs.Heaps.{has_number}
 use Rattle.run_history.specs.declared.act.Op.{Op}
 use Rattle.run_history.specs.declared.act.Op.TheVariants as op
 use Rattle.run_history.specs.Recorded.{Recorded}
 use Rattle.run_history.specs.Worlds.{World, after, heap_after}
-use Rattle.run_history.specs.Knowing.{Knowledge, Mark, known_after_op, next_known, with_sure}
+use Rattle.run_history.specs.Knowing.{Knowledge, Mark, known_after_op, next_known, with_sure, owes_fence}
 use Rattle.run_history.specs.Wanted.{Wishes}
 use Rattle.plain_model.specs.Facts.{SetFacts}
 use Rattle.plain_model.specs.Requests.{PlainRequest, PlainReply}
 use Rattle.plain_model.specs.Steps.{Does, step, op_of}
 use Rattle.plain_model.specs.Codes.{taken_by, is_persistent, request_of, frames_after_op, begun_by}
-use Rattle.plain_model.specs.Runs.{Rule, IsAbout, NamesRightly, is_fenced, op_given}
+use Rattle.plain_model.specs.Runs.{Rule, IsAbout, is_fenced, op_given}
+use Rattle.run_history.specs.Recorded.{NamesRightly}
 use Rattle.array_program.specs.declared.program.Program.{Program}
 use Rattle.array_program.specs.Facts.{program_facts}
 use Rattle.array_program.specs.Running.{Frame, frame_request, frame_answer, program_code}
@@ -22,8 +22,8 @@ use Rattle.array_history.specs.Standing.{IsAt, IsHeapOf, State, Owes, Nothing, w
 use Rattle.array_history.proofs.Extending.{LeadsOn, extended, all_kept, kept_sure}
 
 -- a thread that owes nothing need not fence
-pub no_fence : (owes : Owes) → owes ≡ Nothing → false ≡ has_number (unfenced_of owes) 0
-no_fence owes is = ap (λ (o : Owes). has_number (unfenced_of o) 0) (sym is)
+pub no_fence : (owes : Owes) → owes ≡ Nothing → false ≡ owes_fence (unfenced_of owes) 0
+no_fence owes is = ap (λ (o : Owes). owes_fence (unfenced_of o) 0) (sym is)
 
 -- an operation that stores nothing, starts no thread, ends no region and is none of persistence
 abbrev pub is_simple : Op → Bool

@@ -17,9 +17,9 @@ use Rattle.graph_model.specs.Heaps.{no_object, no_shape, object_at, values_of, s
 use Rattle.image_layout.specs.Places as places
 use Rattle.plain_model.specs.declared.throws.Throws.{Throws}
 use Rattle.plain_model.specs.declared.throws.Throws.TheVariants.{NegativeArraySize, NullPointer, ArrayIndexOutOfBounds, StringIndexOutOfBounds, ArrayStore, ClassCast, IllegalMonitorState, IllegalThreadState, IllegalState, Arithmetic}
-use Rattle.plain_model.specs.Facts.{shapes_of, thrown_class}
+use Rattle.plain_model.specs.Facts.{arguments_class, shapes_of, stream_class, thrown_class}
 use Rattle.plain_model.specs.First.{first_heap, node_object, literal_object}
-use Rattle.plain_model.specs.Ends.{words_of, words_taken, object_lines}
+use Rattle.plain_model.specs.Limits.{words_of, words_taken, object_lines}
 use Rattle.array_program.specs.declared.program.Program.{Program}
 use Rattle.array_program.specs.Facts.{program_facts, int_array_number}
 use Rattle.array_history.specs.Standing.{State, IsHeapOf, stream_of}
@@ -42,8 +42,8 @@ unfolding first_heap program_facts
 words_first program opening =
     let nodes = map (node_object (program_facts program) opening) opening.nodes in
     let literals = map (literal_object (program_facts program) opening) program.literals in
-    let stream : Obj = record { shape = (program_facts program).stream; values = [] } in
-    let arguments : Obj = record { shape = (program_facts program).arguments; values = [] } in
+    let stream : Obj = record { shape = stream_class (program_facts program); values = [] } in
+    let arguments : Obj = record { shape = arguments_class (program_facts program); values = [] } in
     let behind : List Obj = stream ∷ arguments ∷ literals in
     ap (λ (n : ℕ). sum_by words_of (drop n (nodes ++ behind))) (sym (length-map opening.nodes (node_object (program_facts program) opening)))
     ∙ ap (sum_by words_of) (drop-append_seam nodes behind)
@@ -58,7 +58,7 @@ objects_first program opening =
     let literals = map (literal_object set opening) program.literals in
     omega (
       arith,
-      length-append (map (node_object set opening) opening.nodes) (record { shape = set.stream; values = [] } ∷ record { shape = set.arguments; values = [] } ∷ literals),
+      length-append (map (node_object set opening) opening.nodes) (record { shape = stream_class set; values = [] } ∷ record { shape = arguments_class set; values = [] } ∷ literals),
       length-map opening.nodes (node_object set opening),
       length-map program.literals (literal_object set opening),
     )

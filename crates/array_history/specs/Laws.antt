@@ -1,6 +1,6 @@
 -- The laws of runs of programs with at most one durable array. Each is said of every program, opening graph and history.
 use Rattle.plain_model.specs.Duties.{KeepsDuties}
-use Rattle.std.specs.Prelude.{◌≡◌, ◌<◌, ◌≤◌, ◌+◌, ◌-◌, max, ℕ, ℤ, pos, List, [], ◌∷◌, ◌++◌, Option, Some, None, Ok, sum_by, true, false}
+use Rattle.std.specs.Prelude.{◌≡◌, ◌<◌, ◌≤◌, ◌+◌, ◌-◌, max, ℕ, ℤ, pos, List, [], ◌∷◌, ◌++◌, length, Option, Some, None, Ok, sum_by, true, false}
 use Rattle.run_types.specs.declared.limits.Limits.{Limits}
 use Rattle.ap_base.specs.declared.place.Place.{Place}
 use Rattle.run_types.specs.declared.fault.RunFault.TheVariants as fault
@@ -22,14 +22,15 @@ use Rattle.run_history.specs.Recorded.{Recorded}
 use Rattle.run_history.specs.Knowing.{is_durable}
 use Rattle.plain_model.specs.First.{first_heap}
 use Rattle.plain_model.specs.Runs.{known_of}
-use Rattle.plain_model.specs.Ends.{EndsAs, Fault, Uncaught, Finished, KeepsMemory, words_taken, object_lines}
+use Rattle.plain_model.specs.Ends.{EndsAs, Fault, Uncaught, Finished}
+use Rattle.plain_model.specs.Limits.{KeepsWithin, words_taken, object_lines}
 use Rattle.array_program.specs.declared.program.Group.{Group}
 use Rattle.array_program.specs.declared.program.Group.TheVariants as group
 use Rattle.array_program.specs.declared.program.Program.{Program}
 use Rattle.array_program.specs.Form.{program_of}
 use Rattle.array_program.specs.Facts.{program_facts}
 use Rattle.array_program.specs.Running.{Frame, Beginning, Before, Left, program_code}
-use Rattle.array_history.specs.Standing.{IsRight, IsAt, AllFit, State, Store, root_name, graph_with, first_state, durable_of, unfenced_of, has_left, recorded, with_op}
+use Rattle.array_history.specs.Standing.{IsRight, IsAt, AllFit, State, Store, root_name, graph_with, first_state, durable_of, unfenced_of, recorded, with_op}
 use Rattle.array_history.specs.Left.{IsOneOf, IsSafe}
 
 -- A program that was read from bytes names its root only where it has one, and its class has another name than arrays of ints.
@@ -89,19 +90,20 @@ ThrowableEnds = (program : Program) (opening : Graph) (acts : List Recorded) (cl
     → IsAt program opening acts Left (Some class) state at
     → EndsAs (program_facts program) 0 opening (program_code program opening) limits lines acts (Uncaught 0 class)
 
--- A new array that finds no room ends the run, in volatile memory or in the image.
+-- A new array that finds no room ends the run, in volatile memory or in the image, where the history has room for a further act
+-- and no fence is owed.
 abbrev pub ArrayFillsHeap : Type 0
 ArrayFillsHeap = (program : Program) (opening : Graph) (acts : List Recorded) (uncaught : Option ℕ) (state : State) (at count make put : ℕ) (gs : List Group)
     (limits : Limits) (lines : ℕ)
     → IsAt program opening acts (Before (group.MakesArray (pos count) make put ∷ gs)) uncaught state at
-    → limits.heap_words - words_taken opening state.heap < 3 + count
+    → unfenced_of state.owes ≡ [] → length acts < limits.acts → limits.heap_words - words_taken opening state.heap < 3 + count
     → EndsAs (program_facts program) 0 opening (program_code program opening) limits lines acts
     (Fault (fault.Full (record { which = which.VolatileWords; need = 3 + count; left = limits.heap_words - words_taken opening state.heap })))
 
 abbrev pub ArrayFillsImage : Type 0
 ArrayFillsImage = (program : Program) (opening : Graph) (acts : List Recorded) (frame : Frame) (uncaught : Option ℕ) (state : State) (at k : ℕ)
     (limits : Limits) (lines : ℕ)
-    → IsAt program opening acts frame uncaught state at → has_left frame ≡ false
+    → IsAt program opening acts frame uncaught state at → length acts < limits.acts
     → state.owes ≡ Store k → has_number (durable_of opening state) k ≡ false
     → lines - sum_by (object_lines state.heap) state.joined < object_lines state.heap k
     → EndsAs (program_facts program) 0 opening (program_code program opening) limits lines acts
@@ -111,11 +113,11 @@ ArrayFillsImage = (program : Program) (opening : Graph) (acts : List Recorded) (
       left = lines - sum_by (object_lines state.heap) state.joined;
     })))
 
--- A run whose numbers keep within what there is takes no more: of volatile memory, and of the image's lines.
+-- A run whose numbers keep within what there is takes no more: of acts, of volatile memory, and of the image's lines.
 abbrev pub NumbersKeepMemory : Type 0
 NumbersKeepMemory = (program : Program) (opening : Graph) (acts : List Recorded) (frame : Frame) (uncaught : Option ℕ) (state : State) (at : ℕ)
     (limits : Limits) (lines : ℕ)
     → IsAt program opening acts frame uncaught state at
     → words_taken opening state.heap ≤ max limits.heap_words (words_taken opening (first_heap (program_facts program) opening))
-    → sum_by (object_lines state.heap) state.joined ≤ lines
-    → KeepsMemory (program_facts program) opening limits lines (known_of (program_facts program) 0 opening (program_code program opening) acts)
+    → sum_by (object_lines state.heap) state.joined ≤ lines → length acts ≤ limits.acts
+    → KeepsWithin (program_facts program) opening limits lines (known_of (program_facts program) 0 opening (program_code program opening) acts)

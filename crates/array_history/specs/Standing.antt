@@ -1,6 +1,6 @@
 -- Where a run of a program with at most one durable array stands: thread 0 is at a frame, and with the heap, the arrays that became
 -- durable and what the thread owes this tells all that is known.
-use Rattle.std.specs.Prelude.{◌≡◌, ◌≢◌, ℕ, ◌<◌, ◌≤◌, ℤ, pos, negsuc, Bool, true, false, List, [], ◌∷◌, ◌++◌, length, map, codes, slice_get, Option, Some, None, IsSome, All, AllPairs, FitsSigned}
+use Rattle.std.specs.Prelude.{◌≡◌, ◌≢◌, ℕ, ◌<◌, ◌≤◌, ℤ, pos, negsuc, Bool, true, false, List, [], ◌∷◌, ◌++◌, length, replicate, ◌+◌, map, codes, slice_get, Option, Some, None, IsSome, All, AllPairs, FitsSigned}
 use Rattle.std.specs.Int.{w32}
 use Rattle.std.specs.Option.{option_map}
 use Rattle.ap_base.specs.declared.place.Place.{Place}
@@ -17,11 +17,11 @@ use Rattle.run_history.specs.declared.plain.Progress.{Progress}
 use Rattle.run_history.specs.declared.plain.Progress.TheVariants.{Untouched, BegunBy, Finished}
 use Rattle.run_history.specs.Recorded.{Recorded}
 use Rattle.run_history.specs.Worlds.{World, new_thread, heap_after}
-use Rattle.run_history.specs.Knowing.{Knowledge, Mark, Pending, is_root}
+use Rattle.run_history.specs.Knowing.{Knowledge, Mark, Pending, is_root, Unfenced}
 use Rattle.run_history.specs.Kept.{kept}
-use Rattle.plain_model.specs.BuiltIn.{built_in_classes}
-use Rattle.plain_model.specs.Facts.{shapes_of}
-use Rattle.plain_model.specs.First.{first_heap, first_progress, numbers_to}
+use Rattle.plain_model.specs.BuiltIn.{built_in_count}
+use Rattle.plain_model.specs.Facts.{shapes_of, stream_class}
+use Rattle.plain_model.specs.First.{first_heap, numbers_to}
 use Rattle.plain_model.specs.Runs.{IsPlainRun, known_of, frames_of, wants_of}
 use Rattle.image_meaning.specs.Arrays.{int_value}
 use Rattle.image_opening.specs.Opened.{opening_graph}
@@ -87,7 +87,7 @@ root_place = Static 1
 pub data Owes : Type 0 where
   Nothing : Owes
   Store : (array : ℕ) → Owes
-  Fence : Owes
+  Fence : Place → Owes
 
 -- the heap; the arrays that became durable, in order; the array to which the root refers; what is owed
 pub record State : Type 0 where
@@ -99,12 +99,12 @@ pub record State : Type 0 where
 abbrev pub asked_of : Owes → List Pending
 asked_of Nothing = []
 asked_of (Store n) = record { thread = 0; place = root_place; value = Object n } ∷ []
-asked_of Fence = []
+asked_of (Fence place) = []
 
-abbrev pub unfenced_of : Owes → List ℕ
+abbrev pub unfenced_of : Owes → List Unfenced
 unfenced_of Nothing = []
 unfenced_of (Store n) = []
-unfenced_of Fence = 0 ∷ []
+unfenced_of (Fence place) = record { thread = 0; place = place } ∷ []
 
 -- the nodes of the opening graph, and the arrays that joined them
 abbrev pub durable_of : Graph → State → List ℕ
@@ -136,7 +136,7 @@ abbrev pub world_at : Program → Graph → Frame → (uncaught : Option ℕ) �
 world_at program opening frame uncaught heap = record {
   heap = heap;
   monitors = monitors_at opening frame;
-  classes = progress_at frame ∷ map (first_progress (program_facts program) opening) (built_in_classes 1 ++ array_types program.root);
+  classes = progress_at frame ∷ replicate (built_in_count + length (array_types program.root)) Finished;
   threads = record (new_thread None) { ended = has_left frame; uncaught = uncaught } ∷ [];
 }
 
@@ -196,7 +196,7 @@ pub record IsHeapOf (program : Program) (opening : Graph) (state : State) : Type
   pub shapes : state.heap.shapes ≡ shapes_of (program_facts program)
   pub roots : state.heap.roots ≡ (first_heap (program_facts program) opening).roots
   pub statics : state.heap.statics ≡ Object (stream_of opening) ∷ root_values program.root state.array
-  pub stream : slice_get state.heap.objects (stream_of opening) ≡ Some (record { shape = (program_facts program).stream; values = [] })
+  pub stream : slice_get state.heap.objects (stream_of opening) ≡ Some (record { shape = stream_class (program_facts program); values = [] })
   pub arrays : (n : ℕ) → has_number (durable_of opening state) n ≡ true → (ints : List ℤ) × IsIntsObject state.heap n ints
   pub refers : (n : ℕ) → state.array ≡ Some n → has_number (durable_of opening state) n ≡ true
   pub new : All (λ n. length opening.nodes ≤ n) state.joined

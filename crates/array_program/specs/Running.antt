@@ -1,7 +1,7 @@
 -- What the code of a program with at most one durable array does: what each group asks, instruction by instruction, and what comes
 -- of each reply (JVMS 6.5, getstatic, putstatic, newarray, iaload, iastore, invokevirtual). Nothing catches a throwable, so one ends
 -- the thread (JVMS 2.10).
-use Rattle.std.specs.Prelude.{ℕ, suc, ℤ, List, [], ◌∷◌, ◌++◌, drop, Some, None}
+use Rattle.std.specs.Prelude.{ℕ, suc, ℤ, List, [], ◌∷◌, ◌++◌, take, drop, Some, None}
 use Rattle.std.specs.Fmt.{signed_decimal}
 use Rattle.run_types.specs.declared.resolved.At.{At}
 use Rattle.ap_base.specs.declared.kind.Kind.TheVariants.{I}
@@ -65,6 +65,10 @@ group_request program (group.MakesArray count make put) = ask.NewArray (in_main 
 group_request program (group.StoresElement fetch index number store) = ask.GetStatic (in_main program fetch) root_field
 group_request program (group.PrintsElement out fetch index load call) = ask.GetStatic (in_main program out) system_out
 
+-- what a print asks for of a text: a piece has at most 24 bytes
+abbrev pub piece_of : List ℕ → List ℕ
+piece_of text = take 24 text
+
 abbrev pub frame_request : Program → Frame → PlainRequest
 frame_request program Beginning = ask.Init (in_main program 0) 0
 frame_request program Initialising = ask.InitDone (in_main program 0) 0
@@ -76,7 +80,7 @@ frame_request program (Fetching stream fetch index load call gs) = ask.GetStatic
 frame_request program (Loading stream array index load call gs) = ask.GetElement (in_main program load) array index I
 frame_request program (Calling stream number call gs) = ask.ClassOf (in_main program call) stream (suc print_stream_place)
 frame_request program (Entering stream text gs) = ask.Enter in_println (key.Object stream)
-frame_request program (Printing stream text gs) = ask.Print in_println text
+frame_request program (Printing stream text gs) = ask.Print in_println (piece_of text)
 frame_request program (Leaving stream gs) = ask.Exit in_println (key.Object stream)
 frame_request program (Threw class) = ask.Leave (Some class)
 frame_request program Left = ask.Pause

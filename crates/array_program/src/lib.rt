@@ -15,4 +15,4 @@ mod rows;
 pub use laws::a_code_is_its_groups;
 pub use program::{Group, Program};
 pub use reading::read_program;
-pub use rows::{seven_is_stored_and_printed, the_set_is_consistent, what_throws_ends_the_program};
+pub use rows::{seven_is_stored_and_printed, the_set_is_complete, what_throws_ends_the_program};

@@ -1,6 +1,6 @@
 //! Small programs by computation: what they may do, and what they may not.
 ghost use Rattle.std.specs.Prelude.{◌≡◌, [], ◌∷◌, ◌++◌, codes};
-ghost use Rattle.plain_model.specs.Facts.{IsConsistent};
+ghost use Rattle.plain_model.specs.Consistent.{IsComplete};
 ghost use Rattle.plain_model.specs.Runs.{output_of};
 ghost use Rattle.array_program.specs.declared.program.Program.{Program};
 ghost use Rattle.array_program.specs.Facts.{program_facts};
@@ -27,7 +27,7 @@ pub fn what_throws_ends_the_program()
     ensures output { output_of null_acts ≡ [] }
 {}
 
-/// The class set of every program is one: the classes of which the runtime makes objects are there.
-pub fn the_set_is_consistent()
-    ensures { (program : Program) → IsConsistent (program_facts program) }
+/// The class set of every program is complete: the array types that the runtime itself makes are there.
+pub fn the_set_is_complete()
+    ensures { (program : Program) → IsComplete (program_facts program) }
 {}

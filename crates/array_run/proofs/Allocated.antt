@@ -13,7 +13,7 @@ use Rattle.array_program.specs.declared.program.Group.{Group}
 use Rattle.array_program.specs.declared.program.Group.TheVariants as group
 use Rattle.array_program.specs.Facts.{int_array_number}
 use Rattle.array_program.specs.Running.{Before, Putting}
-use Rattle.array_history.specs.Standing.{State, Nothing, HasRoot, IsHeapOf, with_op}
+use Rattle.array_history.specs.Standing.{State, Nothing, unfenced_of, HasRoot, IsHeapOf, with_op}
 use Rattle.array_history.proofs.StepsMake.{made}
 use Rattle.array_history.proofs.Objects.{fresh_ints, fresh_volatile, fresh_new}
 use Rattle.array_history.proofs.Words.{words_with_ints}
@@ -29,13 +29,13 @@ use Rattle.array_run.proofs.Goings.{safe_tied, timed_act, stopped}
 -- too few words are left
 pub no_words : (s : Setting) (count make put need : ℕ) (gs : List Group) (acts : List Recorded) (objects : Objects) (m : Memory)
     → Stands s (Before (group.MakesArray (pos count) make put ∷ gs)) Nothing acts objects m → need ≡ 3 + count → objects.words < need
-    → Stopped s acts m (end.Full (record { which = which_full.VolatileWords; need = need; left = objects.words }))
-no_words s count make put need gs acts objects m stands is less =
+    → length acts < default_limits.acts → Stopped s acts m (end.Full (record { which = which_full.VolatileWords; need = need; left = objects.words }))
+no_words s count make put need gs acts objects m stands is less few =
     stopped s (Before (group.MakesArray (pos count) make put ∷ gs)) Nothing acts objects m
-    (end.Full (record { which = which_full.VolatileWords; need = need; left = objects.words })) stands
+    (end.Full (record { which = which_full.VolatileWords; need = need; left = objects.words })) stands (omega (arith, few))
     (subst (λ n. FillsWords s acts n objects.words) (sym is)
     (subst (λ left. FillsWords s acts (3 + count) left) (sym stands.ties.words)
-    (full_array stands.at default_limits (s.start.size - s.free) (omega (arith, less, is, stands.ties.words)))))
+    (full_array stands.at (ap unfenced_of stands.owed) default_limits (s.start.size - s.free) (omega (arith, less, is, stands.ties.words)))) few)
 
 -- the state with the new array
 abbrev pub with_zeros : State → ℕ → State

@@ -1,5 +1,5 @@
 -- What throws: a negative length, a null root, an index outside of the array.
-use Rattle.std.proofs.Common.{◌≡◌, ◌-◌, ℕ, ℤ, negsuc, List, ◌∷◌, length, sym, subst, arith, None, Some, Option, true}
+use Rattle.std.proofs.Common.{◌≡◌, ◌-◌, ℕ, ℤ, negsuc, List, ◌∷◌, length, sym, subst, ap, arith, None, Some, Option, true}
 use Rattle.graph_model.specs.declared.types.Value.{Value}
 use Rattle.graph_model.specs.declared.types.Value.TheVariants.{Null, Obj as Object}
 use Rattle.graph_model.specs.Heaps.{has_number, values_of}
@@ -12,7 +12,7 @@ use Rattle.array_program.specs.declared.program.Group.{Group}
 use Rattle.array_program.specs.declared.program.Group.TheVariants as group
 use Rattle.array_program.specs.Facts.{program_facts}
 use Rattle.array_program.specs.Running.{Frame, Before, Storing, Loading, Threw}
-use Rattle.array_history.specs.Standing.{State, Nothing, HasRoot, IsAt, IsOutside, durable_of, with_op}
+use Rattle.array_history.specs.Standing.{State, Nothing, unfenced_of, HasRoot, IsAt, IsOutside, durable_of, with_op}
 use Rattle.array_history.proofs.StepsMake.{negative}
 use Rattle.array_history.proofs.StepsThrow.{store_to_null, load_of_null, store_outside, load_outside}
 use Rattle.array_history.proofs.Endings.{ThrowsAt, Negative, StoresInNull, LoadsFromNull, StoresOutside, LoadsOutside, full_throwable}
@@ -45,7 +45,7 @@ to_throw s acts frame which objects m stands throws = record {
     leads = leads s acts frame which stands.state m.calls throws stands.owed stands.at;
     fills = λ left is less.
         subst (λ k. FillsWords s acts 4 k) (sym is)
-        (full_throwable stands.at throws default_limits (s.start.size - s.free) (omega (arith, is, less)));
+        (full_throwable stands.at throws (ap unfenced_of stands.owed) default_limits (s.start.size - s.free) (omega (arith, is, less)));
   };
 }
 

@@ -1,5 +1,5 @@
 -- A number is stored in an element of the root's array.
-use Rattle.std.proofs.Common.{◌≡◌, ◌≢◌, ◌-◌, ◌^◌, ℕ, ℤ, pos, ◌+◌, ◌<◌, List, length, refl, sym, subst, ap, ◌∙◌, arith, Bool, None, Some, Option}
+use Rattle.std.proofs.Common.{◌≡◌, ◌≢◌, ◌-◌, ◌^◌, ℕ, ℤ, pos, ◌+◌, ◌<◌, List, length, refl, sym, subst, ap, ◌∙◌, arith, Bool, None, Some, Option, ◌≤◌}
 use Rattle.std.specs.Prelude.{FitsSigned}
 use Rattle.std.specs.Int.{w32}
 use Rattle.ap_base.specs.declared.place.Place.TheVariants.{Slot}
@@ -26,6 +26,7 @@ use Rattle.array_history.proofs.Words.{words_stored}
 use Rattle.array_run.specs.declared.objects.Objects.{Objects}
 use Rattle.array_run.specs.declared.objects.DurableArray.{DurableArray}
 use Rattle.array_run.specs.declared.run.RunEnd.TheVariants as end
+use Rattle.array_run.specs.Opening.{default_limits}
 use Rattle.array_run.specs.Going.{Setting, Ties, Stands, Stopped, IsRootArray}
 use Rattle.std.proofs.lemmas.List.Elements.{All-weaker}
 use Rattle.array_run.proofs.Numbers.{objects-slot, length-slot, sum-slot, root_array, ints_element}
@@ -52,7 +53,7 @@ root_refers lies heap (Some n) (Some found) array is root =
 
 -- the state after the store
 abbrev pub with_number : State → ℕ → ℕ → ℤ → State
-with_number state n i number = record state { heap = stored state.heap (Slot n i) (Int number); owes = Fence }
+with_number state n i number = record state { heap = stored state.heap (Slot n i) (Int number); owes = Fence (Slot n i) }
 
 -- the array has such an element
 pub has_element : (s : Setting) (state : State) (lies : ℕ → ℕ → Bool) (array : DurableArray) (i : ℕ) → HasRoot s.program s.opening → IsHeapOf s.program s.opening state
@@ -107,7 +108,8 @@ module _ (s : Setting) (acts a1 : List Recorded) (objects : Objects) (array : Du
     (store_turns : OnElement m1 array.line i number (λ R directory heap after. IsSettledFor R heap m1
     → TurnedInto R directory heap after (object_line array.line i) (object_word i) n))
     (store_others : (l w : ℕ) → (l ≡ object_line array.line i → w ≢ object_word i) → shown n l w ≡ shown m1 l w)
-    (store_same : SameImage m1 n) (store_size : n.size ≡ m1.size) where
+    (store_same : SameImage m1 n) (store_size : n.size ≡ m1.size)
+    (room : length a1 < default_limits.acts) where
   abbrev state : State
   state = stands.state
 
@@ -140,8 +142,8 @@ module _ (s : Setting) (acts a1 : List Recorded) (objects : Objects) (array : Du
   size : n.size ≡ m.size
   size = store_size ∙ ap (λ (k : Memory). k.size) still
 
-  few : n.calls < 2 ^ 64
-  few = omega (arith, same.calls, calls)
+  short : n.calls < 2 ^ 64
+  short = omega (arith, same.calls, calls)
 
   front : SameFront (shown s.start) (shown n)
   front = front-along (shown s.start) (shown m) (shown n) ties.front (element-front (told_by ties.lies) ties.directory state.heap m n array.line array.object i ties.shows element
@@ -154,12 +156,16 @@ module _ (s : Setting) (acts a1 : List Recorded) (objects : Objects) (array : Du
   at_stored = element_stored s.program s.opening array.object i number store gs acts state m.calls root refers.is
       (omega (arith, within, refers.count)) fits stands.owed stands.at
 
+  few1 : length acts1 ≤ default_limits.acts
+  few1 = let same = ap (length {A = Recorded}) first in omega (arith, same, room)
+
   has : HasStored s (Before gs) a1 after n
   has = subst (λ (all : List Recorded). HasStored s (Before gs) all after n) (sym first) (record {
     at = subst (λ (k : ℕ). IsAt s.program s.opening acts1 (Before gs) None after k) (sym same.calls) at_stored;
+    place = Slot array.object i;
     owed = refl;
     within = keeps_tied s acts1 (Before gs) None state after m.calls objects m at_stored ties
-        (words_stored s.opening state.heap (Slot array.object i) (Int number)) (sum-slot state.heap array.object i number state.joined);
+        (words_stored s.opening state.heap (Slot array.object i) (Int number)) (sum-slot state.heap array.object i number state.joined) few1;
     timed = timed_stored s acts m n (op.Stored (Slot array.object i) (Int number)) stands.timed same;
     safe = λ rest begin counts.
         safe-stored s (Storing (Object array.object) (pos i) number store gs) (Before gs) acts state after m n (Slot array.object i) (Int number)
@@ -170,12 +176,12 @@ module _ (s : Setting) (acts a1 : List Recorded) (objects : Objects) (array : Du
   })
 
   pub number_stopped : (k : Memory) → WritesOn n k → Stopped s a1 k end.ImageFailed
-  number_stopped k on = unfenced_ends s (Before gs) a1 after n k has refl few on
+  number_stopped k on = unfenced_ends s (Before gs) a1 after n k has refl room short on
 
   pub number_fenced : (a2 : List Recorded) (k k2 : Memory) → WritesOn n k → IsDurable k (object_line array.line i) (object_word i)
       → a2 ≡ with_op a1 k.calls op.Fenced → k2 ≡ k → Stands s (Before gs) Nothing a2 objects k2
   number_fenced a2 k k2 on durable second last =
-      fenced_stands s (Before gs) a1 a2 after objects n k k2 has few on
+      fenced_stands s (Before gs) a1 a2 after objects n k k2 has short on
       (element-ties s state objects array.object i number m k ties
       (shows-on (told_by ties.lies) ties.directory after.heap n k shows on)
       (λ rest. turned-durable (told_by ties.lies) ties.directory state.heap after.heap (object_line array.line i) (object_word i) m n k (turned rest) same on durable)

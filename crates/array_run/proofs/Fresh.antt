@@ -10,7 +10,7 @@ use Rattle.image_meaning.specs.Checks.{Words}
 use Rattle.image_meaning.specs.Directories.{Directory}
 use Rattle.image_meaning.specs.Corresponds.{LiesAt}
 use Rattle.image_meaning.proofs.Elsewhere.{corresponds-fresh}
-use Rattle.plain_model.specs.Ends.{object_lines}
+use Rattle.plain_model.specs.Limits.{object_lines}
 use Rattle.array_run.proofs.Numbers.{same_sum}
 use Rattle.array_heap.specs.Holding.{Counts, InSuperblock, InDirectory, CountOfLog, RootSlot, ObjectHead, ObjectSlot, ShowsHeap, IsSettledFor}
 

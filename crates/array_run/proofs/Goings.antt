@@ -1,5 +1,5 @@
 -- How the run goes on by one act that leaves the memory as it was, and what stays so after calls of the image.
-use Rattle.std.proofs.Common.{◌≡◌, ◌-◌, ◌≤◌, ℕ, List, [], ◌∷◌, ◌++◌, refl, sym, subst, ◌∙◌, arith, Bool, Option, None, Result, Err}
+use Rattle.std.proofs.Common.{◌≡◌, ◌-◌, ◌≤◌, ℕ, List, [], ◌∷◌, ◌++◌, length, refl, sym, subst, ◌∙◌, arith, Bool, Option, None, Result, Err}
 use Rattle.std.specs.Prelude.{sum_by}
 use Rattle.std.proofs.lemmas.List.Elements.{All-push, All-weaker}
 use Rattle.graph_model.specs.declared.types.Heap.{Heap}
@@ -14,7 +14,7 @@ use Rattle.image_meaning.specs.Laws.{told_by, SameFront}
 use Rattle.image_opening.specs.Opened.{IsOfForm}
 use Rattle.image_opening.specs.Rest.{IsAtRest}
 use Rattle.array_heap.specs.Holding.{HoldsHeap, IsImageOf}
-use Rattle.plain_model.specs.Ends.{words_taken, object_lines}
+use Rattle.plain_model.specs.Limits.{words_taken, object_lines}
 use Rattle.array_program.specs.Running.{Frame}
 use Rattle.array_history.specs.Standing.{State, Owes, Nothing, IsAt, IsHeapOf, recorded, root_name, with_op}
 use Rattle.array_history.specs.Left.{IsSafe, IsOneOf}
@@ -101,12 +101,15 @@ timed_calls s acts m n timed more counts = record {
 pub keeps_tied : (s : Setting) (acts : List Recorded) (frame : Frame) (uncaught : Option ℕ) (state other : State) (at : ℕ) (objects : Objects) (m : Memory)
     → IsAt s.program s.opening acts frame uncaught other at → Ties s state objects m
     → words_taken s.opening other.heap ≡ words_taken s.opening state.heap
-    → sum_by (object_lines other.heap) other.joined ≡ sum_by (object_lines state.heap) state.joined → KeepsWithin s acts
-keeps_tied s acts frame uncaught state other at objects m is ties words lines =
-    keeps_memory is default_limits (s.start.size - s.free) (omega (arith, ties.few, words)) (omega (arith, ties.used, ties.within, lines))
+    → sum_by (object_lines other.heap) other.joined ≡ sum_by (object_lines state.heap) state.joined
+    → length acts ≤ default_limits.acts → KeepsWithin s acts
+keeps_tied s acts frame uncaught state other at objects m is ties words lines few =
+    keeps_memory is default_limits (s.start.size - s.free) (omega (arith, ties.few, words)) (omega (arith, ties.used, ties.within, lines)) few
 
-pub keeps : (s : Setting) (frame : Frame) (owes : Owes) (acts : List Recorded) (objects : Objects) (m : Memory) → Stands s frame owes acts objects m → KeepsWithin s acts
-keeps s frame owes acts objects m stands = keeps_tied s acts frame None stands.state stands.state m.calls objects m stands.at stands.ties refl refl
+pub keeps : (s : Setting) (frame : Frame) (owes : Owes) (acts : List Recorded) (objects : Objects) (m : Memory) → Stands s frame owes acts objects m
+    → length acts ≤ default_limits.acts → KeepsWithin s acts
+keeps s frame owes acts objects m stands few =
+    keeps_tied s acts frame None stands.state stands.state m.calls objects m stands.at stands.ties refl refl few
 
 -- ---- one more act
 
@@ -142,12 +145,13 @@ stands_on s frame next acts new objects m n o stands at same is =
 
 -- where the run stands it may end
 pub stopped : (s : Setting) (frame : Frame) (owes : Owes) (acts : List Recorded) (objects : Objects) (m : Memory) (answer : RunEnd)
-    → Stands s frame owes acts objects m → EndsIf s.program s.opening (s.start.size - s.free) acts (ending_of s.program (Err answer))
+    → Stands s frame owes acts objects m → length acts ≤ default_limits.acts
+    → EndsIf s.program s.opening (s.start.size - s.free) acts (ending_of s.program (Err answer))
     → Stopped s acts m answer
-stopped s frame owes acts objects m answer stands ends = record {
+stopped s frame owes acts objects m answer stands few ends = record {
   run = stands.at.run;
   ends = ends;
-  within = keeps s frame owes acts objects m stands;
+  within = keeps s frame owes acts objects m stands few;
   timed = stands.timed;
   safe = stands.safe;
 }

@@ -13,7 +13,7 @@ use Rattle.graph_model.specs.Heaps.{no_object, object_at, values_of, stored, wit
 use Rattle.ap_base.specs.declared.kind.Kind.TheVariants.{I}
 use Rattle.graph_model.specs.declared.types.Shape.{Shape}
 use Rattle.graph_model.specs.Heaps.{no_shape, shape_at}
-use Rattle.plain_model.specs.Ends.{object_lines}
+use Rattle.plain_model.specs.Limits.{object_lines}
 use Rattle.image_meaning.specs.Arrays.{int_array}
 use Rattle.image_meaning.specs.Laws.{told_by}
 use Rattle.plain_model.specs.Facts.{shapes_of}

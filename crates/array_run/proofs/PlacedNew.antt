@@ -26,7 +26,7 @@ use Rattle.array_heap.proofs.Held.{front-along}
 use Rattle.array_heap.proofs.Placing.{to_either, from_either}
 use Rattle.run_history.specs.declared.act.Op.TheVariants as op
 use Rattle.run_history.specs.Recorded.{Recorded}
-use Rattle.plain_model.specs.Ends.{object_lines}
+use Rattle.plain_model.specs.Limits.{object_lines}
 use Rattle.array_program.specs.declared.program.Group.{Group}
 use Rattle.array_program.specs.Facts.{int_array_number}
 use Rattle.array_program.specs.Running.{Putting}
@@ -74,7 +74,8 @@ with_lines objects lines = record objects { free = objects.free + lines }
 module _ (s : Setting) (array : DurableArray) (put : ℕ) (gs : List Group) (acts a1 : List Recorded) (objects : Objects) (m m1 : Memory)
     (root : HasRoot s.program s.opening)
     (has : HasAllocated s (Putting (Object array.object) put gs) array acts objects m)
-    (first : a1 ≡ with_op acts m.calls (op.Asked root_place (Object array.object))) (still : m1 ≡ m) where
+    (first : a1 ≡ with_op acts m.calls (op.Asked root_place (Object array.object))) (still : m1 ≡ m)
+    (few : length a1 < default_limits.acts) where
   abbrev k : ℕ
   k = array.object
 
@@ -108,7 +109,7 @@ module _ (s : Setting) (array : DurableArray) (put : ℕ) (gs : List Group) (act
   timed_asked = subst (λ (all : List Recorded). IsTimed s all m) (sym first) (timed_act s acts m (op.Asked root_place (Object k)) [] has.stands.timed)
 
   keeps_asked : KeepsWithin s a1
-  keeps_asked = keeps_tied s a1 (Putting (Object k) put gs) None state wants m.calls objects m at_asked ties refl refl
+  keeps_asked = keeps_tied s a1 (Putting (Object k) put gs) None state wants m.calls objects m at_asked ties refl refl (omega (arith, few))
 
   count_is : length (values_of state.heap k) ≡ array.length
   count_is = ap length has.ints.values ∙ length-map zeros int_value ∙ length-replicate array.length (pos 0)
@@ -126,8 +127,8 @@ module _ (s : Setting) (array : DurableArray) (put : ℕ) (gs : List Group) (act
       let size = ap (λ (n : Memory). n.size) still in
       subst (λ (n : Memory). Stopped s a1 n (end.Full (record { which = which_full.ImageLines; need = need; left = left }))) (sym still) (record {
         run = at_asked.run;
-        ends = full_image at_asked refl refl has.volatile default_limits (s.start.size - s.free) need left (need_is ∙ sym lines_are)
-            (omega (arith, ties.used, ties.size, size, left_is)) less;
+        ends = full_image at_asked refl has.volatile default_limits (s.start.size - s.free) need left (need_is ∙ sym lines_are)
+            (omega (arith, ties.used, ties.size, size, left_is)) less few;
         within = keeps_asked;
         timed = timed_asked;
         safe = safe_asked;
@@ -214,7 +215,7 @@ module _ (s : Setting) (array : DurableArray) (put : ℕ) (gs : List Group) (act
     at_placed = later s.program s.opening a1 (Putting (Object k) put gs) None wants m.calls n.calls on at_asked
 
     pub place_failed : Stopped s a1 n end.ImageFailed
-    place_failed = record { run = at_asked.run; ends = ends_image at_asked default_limits (s.start.size - s.free) refl; within = keeps_asked; timed = timed_placed; safe = safe_placed }
+    place_failed = record { run = at_asked.run; ends = ends_image at_asked default_limits (s.start.size - s.free) refl few; within = keeps_asked; timed = timed_placed; safe = safe_placed }
 
     -- ---- it becomes durable
 

@@ -12,7 +12,7 @@ use Rattle.run_history.specs.Recorded.{Recorded}
 use Rattle.array_program.specs.declared.program.Group.{Group}
 use Rattle.array_program.specs.declared.program.Group.TheVariants as group
 use Rattle.array_program.specs.Running.{Before, Calling, Fetching, Entering, Printing, Leaving, print_rest, line_of}
-use Rattle.array_history.specs.Standing.{Nothing, stream_of, with_op}
+use Rattle.array_history.specs.Standing.{Nothing, unfenced_of, stream_of, with_op}
 use Rattle.array_history.proofs.StepsPrint.{number_out_read, element_out_read, called, entered, printed, left}
 use Rattle.array_run.specs.declared.objects.Objects.{Objects}
 use Rattle.array_run.specs.Going.{Setting, Stands, Stopped}
@@ -35,23 +35,24 @@ all_left s (b ∷ bs) gs acts objects m some stands = stands
 
 -- a fault of the sink ends the run where some of the text is left
 pub sink_ends : (s : Setting) (text : List ℕ) (gs : List Group) (acts : List Recorded) (objects : Objects) (m : Memory) → 0 < length text
-    → Stands s (print_rest (Object (stream_of s.opening)) text gs) Nothing acts objects m → Stopped s acts m end.SinkFailed
-sink_ends s [] gs acts objects m some stands = absurd (omega (arith, some))
-sink_ends s (b ∷ bs) gs acts objects m some stands =
-    stopped s (Printing (Object (stream_of s.opening)) (b ∷ bs) gs) Nothing acts objects m end.SinkFailed stands
-    (ends_sink stands.at default_limits (s.start.size - s.free))
+    → Stands s (print_rest (Object (stream_of s.opening)) text gs) Nothing acts objects m → length acts < default_limits.acts
+    → Stopped s acts m end.SinkFailed
+sink_ends s [] gs acts objects m some stands few = absurd (omega (arith, some))
+sink_ends s (b ∷ bs) gs acts objects m some stands few =
+    stopped s (Printing (Object (stream_of s.opening)) (b ∷ bs) gs) Nothing acts objects m end.SinkFailed stands (omega (arith, few))
+    (ends_sink stands.at (ap unfenced_of stands.owed) default_limits (s.start.size - s.free) some few)
 
 -- after one more print
 pub prints_more : (s : Setting) (text : List ℕ) (n : ℕ) (gs : List Group) (acts new : List Recorded) (objects : Objects) (m k : Memory)
-    → 0 < n → n ≤ length text
+    → 0 < n → n ≤ length text → n ≤ 24
     → Stands s (print_rest (Object (stream_of s.opening)) text gs) Nothing acts objects m
     → new ≡ with_op acts m.calls (op.Print (take n text)) → k ≡ m
     → Stands s (print_rest (Object (stream_of s.opening)) (drop n text) gs) Nothing new objects k
-prints_more s [] n gs acts new objects m k some few stands = absurd (omega (arith, some, few))
-prints_more s (b ∷ bs) n gs acts new objects m k some few stands =
+prints_more s [] n gs acts new objects m k some few short stands = absurd (omega (arith, some, few))
+prints_more s (b ∷ bs) n gs acts new objects m k some few short stands =
     stands_on s (Printing (Object (stream_of s.opening)) (b ∷ bs) gs) (print_rest (Object (stream_of s.opening)) (drop n (b ∷ bs)) gs) acts new objects m k
     (op.Print (take n (b ∷ bs))) stands
-    (printed s.program s.opening n (b ∷ bs) gs acts stands.state m.calls some few stands.owed stands.at)
+    (printed s.program s.opening n (b ∷ bs) gs acts stands.state m.calls some few short stands.owed stands.at)
 
 -- what is left of a text after its first bytes
 pub left_after : (rest : Option (List ℕ)) (text : List ℕ) (n : ℕ) → IsSome rest ↔ (n < length text) → IfSome rest (λ r. r ≡ drop n text) → text_left rest ≡ drop n text

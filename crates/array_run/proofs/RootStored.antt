@@ -1,5 +1,5 @@
 -- The root is let refer to a new array.
-use Rattle.std.proofs.Common.{◌≡◌, ◌≢◌, ◌^◌, ℕ, ◌<◌, List, [], ◌∷◌, length, refl, sym, subst, ap, ◌∙◌, arith, true, false, None, Some, Option, slice_index_or, map}
+use Rattle.std.proofs.Common.{◌≡◌, ◌≢◌, ◌^◌, ℕ, ◌<◌, List, [], ◌∷◌, length, refl, sym, subst, ap, ◌∙◌, arith, true, false, None, Some, Option, slice_index_or, map, ◌≤◌}
 use Rattle.std.specs.Prelude.{IsSome}
 use Rattle.ap_base.specs.declared.place.Place.TheVariants.{Static}
 use Rattle.graph_model.specs.declared.types.Root.{Root}
@@ -28,6 +28,7 @@ use Rattle.array_history.proofs.StepsPut.{root_stored}
 use Rattle.array_run.specs.declared.run.RunEnd.TheVariants as end
 use Rattle.array_run.specs.declared.objects.Objects.{Objects}
 use Rattle.array_run.specs.declared.objects.DurableArray.{DurableArray}
+use Rattle.array_run.specs.Opening.{default_limits}
 use Rattle.array_run.specs.Going.{Setting, Ties, Stands, Stopped, HasPlaced, HasOneRoot, IsArrayAt}
 use Rattle.array_run.proofs.Goings.{reopened, keeps_tied}
 use Rattle.array_run.proofs.Stored.{safe-stored, timed_stored, HasStored, fenced_stands, unfenced_ends}
@@ -62,7 +63,7 @@ for_root s state objects m ties array root is placed =
 
 -- the state after the store
 abbrev pub with_root : State → ℕ → State
-with_root state k = record state { heap = stored state.heap root_place (Object k); array = Some k; owes = Fence }
+with_root state k = record state { heap = stored state.heap root_place (Object k); array = Some k; owes = Fence root_place }
 
 abbrev pub with_array : Objects → DurableArray → Objects
 with_array objects array = record objects { array = Some array }
@@ -105,7 +106,8 @@ module _ (s : Setting) (acts a1 : List Recorded) (objects : Objects) (array : Du
     (store_turns : OnRoot m1 (Some array.line) (λ R directory heap after. IsSettledFor R heap m1
     → TurnedInto R directory heap after (slot_line 0) (slot_word 0) n))
     (store_others : (l w : ℕ) → (l ≡ slot_line 0 → w ≢ slot_word 0) → shown n l w ≡ shown m1 l w)
-    (store_same : SameImage m1 n) (store_size : n.size ≡ m1.size) where
+    (store_same : SameImage m1 n) (store_size : n.size ≡ m1.size)
+    (room : length a1 < default_limits.acts) where
   abbrev stands : Stands s (Putting (Object array.object) put gs) (Store array.object) acts objects m
   stands = has_placed.stands
 
@@ -146,8 +148,8 @@ module _ (s : Setting) (acts a1 : List Recorded) (objects : Objects) (array : Du
   size : n.size ≡ m.size
   size = store_size ∙ ap (λ (k : Memory). k.size) still
 
-  few : n.calls < 2 ^ 64
-  few = omega (arith, same.calls, calls)
+  short : n.calls < 2 ^ 64
+  short = omega (arith, same.calls, calls)
 
   front : SameFront (shown s.start) (shown n)
   front = front-along (shown s.start) (shown m) (shown n) ties.front (root-front (told_by ties.lies) ties.directory state.heap m n ties.shows
@@ -159,13 +161,17 @@ module _ (s : Setting) (acts a1 : List Recorded) (objects : Objects) (array : Du
   at_stored : IsAt s.program s.opening acts1 (Before gs) None after m.calls
   at_stored = root_stored s.program s.opening array.object put gs acts state m.calls root has_placed.durable stands.owed stands.at
 
+  few1 : length acts1 ≤ default_limits.acts
+  few1 = let same = ap (length {A = Recorded}) first in omega (arith, same, room)
+
   has : HasStored s (Before gs) a1 after n
   has =
       let durable : is_root state.heap.roots 1 ≡ true = ap (λ (rs : List Root). is_root rs 1) stands.at.heap.roots ∙ root.durable in
       subst (λ (all : List Recorded). HasStored s (Before gs) all after n) (sym first) (record {
         at = subst (λ (k : ℕ). IsAt s.program s.opening acts1 (Before gs) None after k) (sym same.calls) at_stored;
+        place = root_place;
         owed = refl;
-        within = keeps_tied s acts1 (Before gs) None state after m.calls objects m at_stored ties refl refl;
+        within = keeps_tied s acts1 (Before gs) None state after m.calls objects m at_stored ties refl refl few1;
         timed = timed_stored s acts m n (op.Stored root_place (Object array.object)) stands.timed same;
         safe = λ rest begin counts.
             safe-stored s (Putting (Object array.object) put gs) (Before gs) acts state after m n root_place (Object array.object)
@@ -176,12 +182,12 @@ module _ (s : Setting) (acts a1 : List Recorded) (objects : Objects) (array : Du
       })
 
   pub root_stopped : (k : Memory) → WritesOn n k → Stopped s a1 k end.ImageFailed
-  root_stopped k on = unfenced_ends s (Before gs) a1 after n k has refl few on
+  root_stopped k on = unfenced_ends s (Before gs) a1 after n k has refl room short on
 
   pub root_fenced : (a2 : List Recorded) (k k2 : Memory) → WritesOn n k → IsDurable k (slot_line 0) (slot_word 0)
       → a2 ≡ with_op a1 k.calls op.Fenced → k2 ≡ k → Stands s (Before gs) Nothing a2 (with_array objects array) k2
   root_fenced a2 k k2 on durable second last =
-      fenced_stands s (Before gs) a1 a2 after (with_array objects array) n k k2 has few on
+      fenced_stands s (Before gs) a1 a2 after (with_array objects array) n k k2 has short on
       (root-ties s state objects array m k ties has_placed.placed
       (shows-on (told_by ties.lies) ties.directory after.heap n k shows on)
       (λ rest. turned-durable (told_by ties.lies) ties.directory state.heap after.heap (slot_line 0) (slot_word 0) m n k (turned rest) same on durable)

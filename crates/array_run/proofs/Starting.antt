@@ -33,7 +33,7 @@ use Rattle.array_program.specs.declared.program.Program.{Program}
 use Rattle.array_program.specs.Facts.{program_facts}
 use Rattle.array_program.specs.Running.{Beginning}
 use Rattle.run_history.specs.Recorded.{Recorded}
-use Rattle.plain_model.specs.Ends.{words_taken}
+use Rattle.plain_model.specs.Limits.{words_taken}
 use Rattle.array_history.specs.Standing.{IsRight, IsAt, AllFit, Nothing, graph_with, root_name, first_state, first_array as array_at_first}
 use Rattle.array_history.specs.Left.{IsSafe}
 use Rattle.array_history.proofs.Firsts.{at_first, first_holds, root_found}
@@ -236,7 +236,7 @@ module _ (program : Program) (ints : Option (List ℤ)) (m : Memory) (found : Ho
     few_first = omega arith
 
     pub keeps_at_first : KeepsWithin s []
-    keeps_at_first = keeps_memory first_at default_limits (m.size - free_behind array) few_first (omega arith)
+    keeps_at_first = keeps_memory first_at default_limits (m.size - free_behind array) few_first (omega arith) (omega arith)
 
     module _ (objects : Objects) (first : AreFirst program opening array (free_behind array) objects) (fits : free_behind array ≤ m.size) where
       ties : Ties s (first_state program ints) objects m

@@ -1,5 +1,5 @@
 -- A store into the heap and into the memory at once, and its fence.
-use Rattle.std.proofs.Common.{◌≡◌, ◌^◌, ℕ, ◌<◌, ◌≤◌, ◌-◌, List, [], sym, ap, arith, subst, refl, ⊎_elim, Bool, true, false, None}
+use Rattle.std.proofs.Common.{◌≡◌, ◌^◌, ℕ, ◌<◌, ◌≤◌, ◌-◌, List, [], sym, ap, arith, subst, refl, ⊎_elim, Bool, true, false, None, length}
 use Rattle.std.specs.Prelude.{All}
 use Rattle.ap_base.specs.declared.place.Place.{Place}
 use Rattle.graph_model.specs.declared.types.Value.{Value}
@@ -65,7 +65,8 @@ timed_stored s acts m n o timed same =
 -- Thread 0 made a durable store, which isn't fenced yet.
 pub record HasStored (s : Setting) (next : Frame) (acts : List Recorded) (after : State) (m : Memory) : Type 0 where
   pub at : IsAt s.program s.opening acts next None after m.calls
-  pub owed : after.owes ≡ Fence
+  pub place : Place
+  pub owed : after.owes ≡ Fence place
   pub within : KeepsWithin s acts
   pub timed : IsTimed s acts m
   pub safe : IsAtRest s.start → (begin : ℕ) → CountsFrom begin s.start → IsSafe s.program s.opening begin s.start acts m
@@ -77,7 +78,7 @@ pub fenced_stands : (s : Setting) (next : Frame) (acts new : List Recorded) (aft
     → new ≡ with_op acts n.calls op.Fenced → k ≡ n → Stands s next Nothing new objects k
 fenced_stands s next acts new after objects m n k has fits on ties is same =
     let at = later s.program s.opening acts next None after m.calls n.calls ((on.later fits).0) has.at in
-    let at_fenced = fenced s.program s.opening next None acts after n.calls has.owed at in
+    let at_fenced = fenced s.program s.opening next None acts after n.calls has.place has.owed at in
     let acts_fenced : List Recorded = with_op acts n.calls op.Fenced in
     stands_same s next Nothing acts_fenced new objects n k is same record {
       state = record after { owes = Nothing };
@@ -91,10 +92,11 @@ fenced_stands s next acts new after objects m n k has fits on ties is same =
 
 -- where the image fails meanwhile
 pub unfenced_ends : (s : Setting) (next : Frame) (acts : List Recorded) (after : State) (m n : Memory)
-    → HasStored s next acts after m → has_left next ≡ false → m.calls < 2 ^ 64 → WritesOn m n → Stopped s acts n end.ImageFailed
-unfenced_ends s next acts after m n has lives fits on = record {
+    → HasStored s next acts after m → has_left next ≡ false → length acts < default_limits.acts → m.calls < 2 ^ 64 → WritesOn m n
+    → Stopped s acts n end.ImageFailed
+unfenced_ends s next acts after m n has lives few fits on = record {
   run = has.at.run;
-  ends = ends_image has.at default_limits (s.start.size - s.free) lives;
+  ends = ends_image has.at default_limits (s.start.size - s.free) lives few;
   within = has.within;
   timed = timed_calls s acts m n has.timed ((on.later fits).0) on.counts;
   safe = λ rest begin counts. safe-writes s acts m n begin (has.safe rest begin counts) has.at.later fits on;

@@ -1,5 +1,5 @@
 -- A throwable is thrown, and ends the thread.
-use Rattle.std.proofs.Common.{◌≡◌, ◌-◌, ◌≤◌, ℕ, List, [], length, refl, ap, ◌∙◌, arith, Some, None}
+use Rattle.std.proofs.Common.{◌≡◌, ◌-◌, ◌≤◌, ℕ, List, [], length, refl, ap, ◌∙◌, arith, Some, None, subst}
 use Rattle.line_memory.specs.Memory.{Memory}
 use Rattle.image_meaning.specs.Laws.{told_by}
 use Rattle.image_opening.specs.Rest.{IsAtRest}
@@ -23,9 +23,9 @@ use Rattle.array_run.proofs.Goings.{reopened, safe_on, timed_act, stopped_same}
 pub threw : (s : Setting) (which : Throws) (class : ℕ) (acts a1 a2 : List Recorded) (objects : Objects) (m n1 n2 : Memory)
     → IsToThrow s which acts objects m → class ≡ class_thrown s which → 4 ≤ objects.words
     → a1 ≡ with_op acts m.calls (op.Throw objects.next class) → n1 ≡ m
-    → a2 ≡ with_op a1 n1.calls (op.Ended (Some class)) → n2 ≡ n1
+    → a2 ≡ with_op a1 n1.calls (op.Ended (Some class)) → n2 ≡ n1 → length a2 ≤ default_limits.acts
     → Stopped s a2 n2 (end.Uncaught which)
-threw s which class acts a1 a2 objects m n1 n2 to_throw is enough first same second still =
+threw s which class acts a1 a2 objects m n1 n2 to_throw is enough first same second still few =
     let stands = to_throw.stands in
     let thrown : ℕ = class_thrown s which in
     let state : State = with_thrown stands.state thrown in
@@ -49,7 +49,8 @@ threw s which class acts a1 a2 objects m n1 n2 to_throw is enough first same sec
       ends = ends_uncaught thrown ended default_limits (s.start.size - s.free);
       within = keeps_memory ended default_limits (s.start.size - s.free)
           (omega (arith, ties.words, enough, words_with_throwable s.program s.opening stands.state which stands.at.heap))
-          (omega (arith, ties.used, ties.within, sum-fresh stands.state.heap thrown 0 stands.state.joined ties.made));
+          (omega (arith, ties.used, ties.within, sum-fresh stands.state.heap thrown 0 stands.state.joined ties.made))
+          (subst (λ (all : List Recorded). length all ≤ default_limits.acts) two few);
       timed = timed_act s acts1 m (op.Ended (Some thrown)) [] (timed_act s acts m (op.Throw (length stands.state.heap.objects) thrown) [] stands.timed);
       safe = λ rest begin counts.
           safe_on s acts1 Left (Some thrown) begin state m (op.Ended (Some thrown)) []

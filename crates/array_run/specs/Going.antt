@@ -25,7 +25,8 @@ use Rattle.plain_model.specs.Facts.{thrown_class}
 use Rattle.plain_model.specs.declared.throws.Throws.{Throws}
 use Rattle.plain_model.specs.First.{first_heap}
 use Rattle.plain_model.specs.Runs.{known_of}
-use Rattle.plain_model.specs.Ends.{Fault, EndsAs, KeepsMemory, words_taken, object_lines}
+use Rattle.plain_model.specs.Ends.{Fault, EndsAs}
+use Rattle.plain_model.specs.Limits.{KeepsWithin as KeepsWithinLimits, words_taken, object_lines}
 use Rattle.array_program.specs.declared.program.Group.{Group}
 use Rattle.array_program.specs.declared.program.Program.{Program}
 use Rattle.array_program.specs.Facts.{program_facts, int_array_number}
@@ -116,7 +117,7 @@ pub record IsTimed (s : Setting) (acts : List Recorded) (m : Memory) : Type 0 wh
 
 -- what the acts took is there
 abbrev pub KeepsWithin : Setting → List Recorded → Type 0
-KeepsWithin s acts = KeepsMemory (program_facts s.program) s.opening default_limits (s.start.size - s.free)
+KeepsWithin s acts = KeepsWithinLimits (program_facts s.program) s.opening default_limits (s.start.size - s.free)
     (known_of (program_facts s.program) 0 s.opening (program_code s.program s.opening) acts)
 
 -- Thread 0 stands at the frame, with what it owes; where the run began at rest, a stop within a call or now leaves what the acts of that
@@ -152,9 +153,9 @@ with_thrown state class = record state { heap = with_fresh state.heap class 0 }
 abbrev pub class_thrown : Setting → Throws → ℕ
 class_thrown s which = thrown_class (program_facts s.program) which
 
--- so few words of volatile memory are left that the run ends by the want of them
+-- so few words of volatile memory are left that the run ends by the want of them, as its history has room for a further act
 abbrev pub FillsWords : Setting → List Recorded → (need left : ℕ) → Type 0
-FillsWords s acts need left = EndsAs (program_facts s.program) 0 s.opening (program_code s.program s.opening) default_limits (s.start.size - s.free) acts
+FillsWords s acts need left = length acts < default_limits.acts → EndsAs (program_facts s.program) 0 s.opening (program_code s.program s.opening) default_limits (s.start.size - s.free) acts
     (Fault (fault.Full (record { which = which_full.VolatileWords; need = need; left = left })))
 
 -- Thread 0 may throw this: a new throwable takes four words.

@@ -4,6 +4,7 @@ use Rattle.ap_base.specs.Causes.{Rose}
 use Rattle.ap_base.specs.Sinks.{with_bytes}
 use Rattle.run_history.specs.Recorded.{Recorded, History}
 use Rattle.plain_model.specs.Runs.{output_of}
+use Rattle.array_run.specs.Opening.{default_limits}
 use Rattle.array_run.specs.declared.run.RunEnd.{RunEnd}
 use Rattle.array_run.specs.declared.run.RunEnd.TheVariants as end
 
@@ -33,10 +34,11 @@ pub record HasCauses {T : Type 0} (sink sink' image image' : ℕ) (result : Resu
   pub image_fault : IsErrOf result end.ImageFailed → Rose image image'
   pub has_memory : ¬ IsErrOf result end.OutOfMemory
 
--- no objects are named, and there is room for so many further acts and named objects
+-- no objects are named, and there is room for so many further acts and named objects, within the acts of a run
 pub record HasRoom (history : History) (more names : ℕ) : Type 0 where
   pub unnamed : history.named ≡ []
   pub fits : length history.acts + more ≤ history.limit
+  pub limited : history.limit ≤ default_limits.acts
   pub nameable : names ≤ history.room
 
 -- at most so many acts and names were added, and no objects are named

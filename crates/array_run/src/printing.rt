@@ -56,7 +56,7 @@ fn print_some<I: Image, S: Sink, G: Gate, W: Watcher>(
     piece: &Piece,
 ) -> Result<usize, SinkFailed>
     requires { HasRoom run.old.acts 1 0 }
-    ensures some { IfOk result (λ n. (0 < n) × (n ≤ length piece.now)) }
+    ensures some { IfOk result (λ n. (0 < n) × (n ≤ length piece.now) × (n ≤ 24)) }
     ensures acts { IfOk result (λ n. run.new.acts.acts ≡ with_op run.old.acts.acts run.old.memory.calls (op.Print (take n piece.now))) }
     ensures same { OnErr result (run.new.acts ≡ run.old.acts) }
     ensures spent { HasSpent run.old.acts run.new.acts 1 0 }

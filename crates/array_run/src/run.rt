@@ -6,7 +6,7 @@ ghost use Rattle.line_memory.specs.Moments.{CountsFrom};
 ghost use Rattle.image_opening.specs.Rest.{IsAtRest};
 ghost use Rattle.array_program.specs.declared.program.Group.{Group as ProgramGroup};
 ghost use Rattle.run_history.specs.Recorded.{Recorded};
-ghost use Rattle.plain_model.specs.Ends.{KeepsMemory};
+ghost use Rattle.plain_model.specs.Limits.{KeepsWithin};
 ghost use Rattle.plain_model.specs.Runs.{known_of};
 ghost use Rattle.array_program.specs.Facts.{program_facts};
 ghost use Rattle.array_program.specs.Running.{Before, Beginning, program_code};
@@ -89,8 +89,9 @@ const ACTS_OF_GROUP: u32 = 30;
 // Those of the class's initialisation, and of the thread's end.
 const OTHER_ACTS: u32 = 4;
 
-// So many groups have less than 2^31 acts.
-const MOST_GROUPS: usize = 50_000_000;
+// So many groups have at most as many acts as a run may make, 1,048,576. The code of a method has fewer: it is shorter than
+// 65,536 bytes (JVMS 4.7.3), and a group takes at least six.
+const MOST_GROUPS: usize = 34_952;
 
 /// Runs a program from its first turn, over the image that was opened for it, until its thread has ended. The gate is called in each turn,
 /// before its first event, and the watcher is told each act.
@@ -112,7 +113,7 @@ pub fn run_program<I: Image, S: Sink, G: Gate, W: Watcher>(
         → EndsBy program.now opened.now.graph (run.old.memory.size - opened.now.free) run.new.acts.acts result }
     // What it took is there, and each act was made after the start and within the calls so far.
     ensures within { IsOpened program.now opened.now run.old.memory
-        → KeepsMemory (program_facts program.now) opened.now.graph default_limits (run.old.memory.size - opened.now.free)
+        → KeepsWithin (program_facts program.now) opened.now.graph default_limits (run.old.memory.size - opened.now.free)
         (known_of (program_facts program.now) 0 opened.now.graph (program_code program.now opened.now.graph) run.new.acts.acts) }
     ensures made { IsOpened program.now opened.now run.old.memory
         → All (λ (a : Recorded). (run.old.memory.calls ≤ a.act.at) × (a.act.at ≤ run.new.memory.calls)) run.new.acts.acts }

@@ -14,7 +14,7 @@ use Rattle.image_opening.specs.Opened.{IsOfForm, WasFound, free_behind}
 use Rattle.image_opening.specs.Rest.{IsAtRest}
 use Rattle.run_history.specs.Recorded.{Recorded}
 use Rattle.plain_model.specs.Runs.{known_of}
-use Rattle.plain_model.specs.Ends.{KeepsMemory}
+use Rattle.plain_model.specs.Limits.{KeepsWithin as KeepsWithinLimits}
 use Rattle.array_program.specs.declared.program.Program.{Program}
 use Rattle.array_program.specs.Facts.{program_facts}
 use Rattle.array_program.specs.Running.{program_code}
@@ -120,7 +120,7 @@ module _ (program : Program) (start : Told) (m : Memory) (opened : Opened) (on :
   room_same = ap (λ (n : ℕ). n - opened.free) (on.size ∙ on.attached.size) ∙ ap (λ (n : ℕ). start.size - n) on.found.free
 
   abbrev pub KeepsWithin : ℕ → List Recorded → Type 0
-  KeepsWithin lines acts = KeepsMemory (program_facts program) opened.graph default_limits lines
+  KeepsWithin lines acts = KeepsWithinLimits (program_facts program) opened.graph default_limits lines
       (known_of (program_facts program) 0 opened.graph (program_code program opened.graph) acts)
 
   -- what a run on it came to

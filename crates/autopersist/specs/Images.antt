@@ -14,7 +14,7 @@ use Rattle.image_opening.specs.Opened.{IsOfForm, WasFound, IsFrom, IsKeptOrFille
 use Rattle.run_history.specs.Recorded.{Recorded}
 use Rattle.run_history.specs.Kept.{acts_before}
 use Rattle.plain_model.specs.Runs.{known_of}
-use Rattle.plain_model.specs.Ends.{KeepsMemory}
+use Rattle.plain_model.specs.Limits.{KeepsWithin}
 use Rattle.array_program.specs.declared.program.Program.{Program}
 use Rattle.array_program.specs.Facts.{program_facts}
 use Rattle.array_program.specs.Running.{program_code}
@@ -76,7 +76,7 @@ pub record HasRun (program : Program) (start : Told) (opening : Graph) (acts : L
   pub answer : Result (Unit {0}) RunEnd
   pub is : how ≡ status_of answer
   pub ends : EndsBy program opening (start.size - free_behind array) acts answer
-  pub within : KeepsMemory (program_facts program) opening default_limits (start.size - free_behind array)
+  pub within : KeepsWithin (program_facts program) opening default_limits (start.size - free_behind array)
       (known_of (program_facts program) 0 opening (program_code program opening) acts)
   pub made : All (λ (a : Recorded).
       (start.size ≤ a.act.at) × (min (start.calls + a.act.at) (2 ^ 64 - 1) ≤ after.calls)) acts

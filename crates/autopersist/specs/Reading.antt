@@ -1,13 +1,11 @@
 -- What was read of a source.
-use Rattle.std.specs.Prelude.{◌≡◌, ◌≤◌, List, [], ◌∷◌, ◌++◌, length, Option, Some, None, Result, Ok, Err, IsOk}
+use Rattle.std.specs.Prelude.{◌≡◌, ◌≤◌, List, [], ◌∷◌, ◌++◌, length, Option, Some, None, Result, Err, IsOk}
 use Rattle.ap_base.specs.declared.source.NamedBytes.{NamedBytes}
 use Rattle.class_file.specs.declared.class.ClassFile.{ClassFile}
 use Rattle.parsing.specs.Results as parsing
 use Rattle.autopersist.specs.declared.status.Status.{Status}
 use Rattle.autopersist.specs.declared.status.Status.TheVariants as status
-use Rattle.autopersist.specs.declared.files.Seen.{Seen}
-use Rattle.autopersist.specs.declared.files.Seen.TheVariants as seen
-use Rattle.autopersist.specs.Files.{class_of, class_among}
+use Rattle.autopersist.specs.Files.{IsRefused, classes_among}
 
 -- what a call gave is what the definition gives, unless memory ran out
 abbrev pub IsReadAs : {A B : Type 0} → (A → B) → Result A Status → Result B Status → Type 0
@@ -18,23 +16,12 @@ abbrev pub HadLeft : Option (List NamedBytes) → List NamedBytes → Type 0
 HadLeft None files = Unit {0}
 HadLeft (Some left) files = left ≡ files
 
--- this was seen of the classes of these files
-abbrev pub IsSeenOf : List NamedBytes → Seen → Type 0
-IsSeenOf files seen.Nothing = files ≡ []
-IsSeenOf files (seen.One class) = (file : NamedBytes) × (files ≡ file ∷ []) × (class_of file ≡ Ok class)
-IsSeenOf files seen.More = 2 ≤ length files
-
--- the class that was seen, if it is the only one
-abbrev pub class_seen : Seen → Option ClassFile
-class_seen (seen.One class) = Some class
-class_seen other = None
-
 -- what the files of the source come to
-pub record FilesComeTo (first : Option (List NamedBytes)) (answer : Result (Option ClassFile) Status)
+pub record FilesComeTo (first : Option (List NamedBytes)) (answer : Result (List ClassFile) Status)
     : Type 0 where
   pub files : List NamedBytes
   pub told : HadLeft first files
-  pub is : class_among files ≡ answer
+  pub is : classes_among files ≡ answer
 
 -- the answers that have no cause among the files: want of memory, and the source's own fault
 abbrev pub HasNoCause : Status → Type 0
@@ -50,6 +37,19 @@ IsOfFiles status.OutOfMemory = Unit {0}
 IsOfFiles status.SourceFault = Unit {0}
 IsOfFiles other = ⊥
 
+-- the answers of classes that can't be linked, want of memory among them
+abbrev pub IsOfLinking : List ClassFile → Status → Type 0
+IsOfLinking classes (status.LinkRefused refusal) = IsRefused classes refusal
+IsOfLinking classes status.OutOfMemory = Unit {0}
+IsOfLinking classes other = ⊥
+
+-- the answers of classes that give no program
+abbrev pub IsOfClasses : Status → Type 0
+IsOfClasses (status.LinkRefused refusal) = Unit {0}
+IsOfClasses status.OutOfMemory = Unit {0}
+IsOfClasses status.NotBuilt = Unit {0}
+IsOfClasses other = ⊥
+
 -- ---- what is left of a source that had these files
 
 -- The source failed behind some files, of which none is refused: the others are left.
@@ -57,7 +57,7 @@ pub record FailsUnrefused (files : List NamedBytes) (after : Option (List NamedB
   pub read : List NamedBytes
   pub others : List NamedBytes
   pub whole : files ≡ read ++ others
-  pub unrefused : IsOk (class_among read)
+  pub unrefused : IsOk (classes_among read)
   pub left : after ≡ Some others
 
 -- No file was read behind the first one that is refused: those behind it are left.
@@ -67,8 +67,8 @@ pub record StopsAtRefused (files : List NamedBytes) (why : Status) (after : Opti
   pub file : NamedBytes
   pub others : List NamedBytes
   pub whole : files ≡ read ++ file ∷ others
-  pub unrefused : IsOk (class_among read)
-  pub refused : class_among (read ++ file ∷ []) ≡ Err why
+  pub unrefused : IsOk (classes_among read)
+  pub refused : classes_among (read ++ file ∷ []) ≡ Err why
   pub left : after ≡ Some others
 
 -- Memory ran out behind some files, of which none is refused, but maybe the last one.
@@ -77,7 +77,7 @@ pub record StopsAnywhere (files : List NamedBytes) (after : Option (List NamedBy
   pub last : List NamedBytes
   pub others : List NamedBytes
   pub whole : files ≡ read ++ last ++ others
-  pub unrefused : IsOk (class_among read)
+  pub unrefused : IsOk (classes_among read)
   pub few : length last ≤ 1
   pub left : after ≡ Some others
 

@@ -9,16 +9,19 @@ use Rattle.code_form.specs.declared.refusal.CodeRefusal.{CodeRefusal}
 use Rattle.code_form.specs.declared.refusal.CodeRefusal.TheVariants as code
 use Rattle.class_file.specs.declared.refusal.ClassRefusal.{ClassRefusal}
 use Rattle.class_file.specs.declared.refusal.ClassRefusal.TheVariants as class
+use Rattle.class_links.specs.declared.refusal.LinkRefusal.{LinkRefusal}
+use Rattle.class_links.specs.declared.refusal.LinkRefusal.TheVariants as link
 use Rattle.plain_model.specs.declared.throws.Throws.{Throws}
 use Rattle.plain_model.specs.declared.throws.Throws.TheVariants as thrown
 use Rattle.autopersist.specs.declared.status.Status.{Status}
-use Rattle.autopersist.specs.declared.status.Status.TheVariants.{Ok, Uncaught, Usage, BadClass, Full as FullOf, SourceFault, ImageFault, SinkFault, OutOfMemory, NotBuilt}
+use Rattle.autopersist.specs.declared.status.Status.TheVariants.{Ok, Uncaught, Usage, BadClass, LinkRefused, Full as FullOf, SourceFault, ImageFault, SinkFault, OutOfMemory, NotBuilt}
 
 abbrev pub number_of : Status → ℕ
 number_of Ok = 0
 number_of (Uncaught thread class) = 1
 number_of Usage = 2
 number_of (BadClass file refusal) = 3
+number_of (LinkRefused refusal) = 5
 number_of (FullOf full) = 9
 number_of SourceFault = 10
 number_of ImageFault = 11
@@ -65,6 +68,19 @@ class_text (class.RootNotReference field) = with_numbers (codes "RootNotReferenc
 class_text (class.TrailingBytes at) = with_numbers (codes "TrailingBytes") (at ∷ [])
 class_text class.OutOfMemory = codes "OutOfMemory"
 
+-- names, each behind a space
+abbrev pub with_names : List ℕ → List (List ℕ) → List ℕ
+with_names what names = what ++ flat_map (λ (name : List ℕ). 32 ∷ name) names
+
+abbrev pub link_text : LinkRefusal → List ℕ
+link_text (link.DuplicateClass class) = with_names (codes "DuplicateClass") (class ∷ [])
+link_text (link.MissingSuper class super) = with_names (codes "MissingSuper") (class ∷ super ∷ [])
+link_text (link.SuperKind class super) = with_names (codes "SuperKind") (class ∷ super ∷ [])
+link_text (link.FinalSuper class super) = with_names (codes "FinalSuper") (class ∷ super ∷ [])
+link_text (link.CircularSuper class) = with_names (codes "CircularSuper") (class ∷ [])
+link_text (link.InterfaceCode class) = with_names (codes "InterfaceCode") (class ∷ [])
+link_text link.OutOfMemory = codes "OutOfMemory"
+
 abbrev pub which_text : Which → List ℕ
 which_text which.VolatileWords = codes "VolatileWords"
 which_text which.ImageLines = codes "ImageLines"
@@ -97,6 +113,7 @@ what_of Ok = []
 what_of (Uncaught thread class) = codes "uncaught" ++ spaced thread ++ codes " " ++ class_name class
 what_of Usage = codes "usage"
 what_of (BadClass file refusal) = codes "class " ++ file ++ codes " " ++ class_text refusal
+what_of (LinkRefused refusal) = codes "refused " ++ link_text refusal
 what_of (FullOf full) = codes "full " ++ with_numbers (which_text full.which) (full.need ∷ full.left ∷ [])
 what_of SourceFault = codes "source fault"
 what_of ImageFault = codes "image fault"

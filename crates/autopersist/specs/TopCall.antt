@@ -9,7 +9,7 @@ use Rattle.run_history.specs.Recorded.{Recorded}
 use Rattle.array_program.specs.declared.program.Program.{Program}
 use Rattle.autopersist.specs.declared.status.Status.{Status}
 use Rattle.autopersist.specs.declared.status.Status.TheVariants as status
-use Rattle.autopersist.specs.Files.{to_run}
+use Rattle.autopersist.specs.Files.{FilesGive}
 use Rattle.autopersist.specs.Images.{IsNotOfForm, IsOfFormOrUntouched, HasRun, StandsAtStops}
 use Rattle.autopersist.specs.Reading.{HadLeft, HasNoCause}
 use Rattle.autopersist.specs.Words.{main_class}
@@ -21,7 +21,7 @@ pub record ComesTo (words : List (List ℕ)) (files_told : Option (List NamedByt
   pub asked : main_class words ≡ Some name
   pub files : List NamedBytes
   pub told : HadLeft files_told files
-  pub is : to_run name files ≡ answer
+  pub is : FilesGive name files answer
 
 -- the program that the words ask for is to run
 abbrev pub IsAsked : List (List ℕ) → Option (List NamedBytes) → Program → Type 0
@@ -49,6 +49,8 @@ IsCauseOf words files_told start acts status.SourceFault = Unit {0}
 IsCauseOf words files_told start acts status.OutOfMemory = Unit {0}
 IsCauseOf words files_told start acts (status.BadClass file refusal) =
     ComesTo words files_told (Err (status.BadClass file refusal))
+IsCauseOf words files_told start acts (status.LinkRefused refusal) =
+    ComesTo words files_told (Err (status.LinkRefused refusal))
 IsCauseOf words files_told start acts status.NotBuilt =
     ComesTo words files_told (Err status.NotBuilt)
     ⊎ OfProgram words files_told (λ program. IsNotOfForm program start)
@@ -70,6 +72,7 @@ abbrev pub IsOfRun : Status → Type 0
 IsOfRun status.Usage = ⊥
 IsOfRun status.SourceFault = ⊥
 IsOfRun (status.BadClass file refusal) = ⊥
+IsOfRun (status.LinkRefused refusal) = ⊥
 IsOfRun other = Unit {0}
 
 -- the answers that come before the image is opened
@@ -78,6 +81,7 @@ IsOfWords status.Usage = Unit {0}
 IsOfWords status.SourceFault = Unit {0}
 IsOfWords status.OutOfMemory = Unit {0}
 IsOfWords (status.BadClass file refusal) = Unit {0}
+IsOfWords (status.LinkRefused refusal) = Unit {0}
 IsOfWords (status.Full full) = Unit {0}
 IsOfWords status.NotBuilt = Unit {0}
 IsOfWords other = ⊥
@@ -87,9 +91,9 @@ IsOfWords other = ⊥
 pub record AnswersFor (words : List (List ℕ)) (files_told : Option (List NamedBytes)) (how : Status)
     : Type 0 where
   pub refused : (name : List ℕ) (files : List NamedBytes) (s : Status) → main_class words ≡ Some name
-      → files_told ≡ Some files → to_run name files ≡ Err s → HasNoCause how ⊎ (how ≡ s)
+      → files_told ≡ Some files → FilesGive name files (Err s) → HasNoCause how ⊎ (how ≡ s)
   pub runs : (name : List ℕ) (files : List NamedBytes) (program : Program) → main_class words ≡ Some name
-      → files_told ≡ Some files → to_run name files ≡ Ok program → HasNoCause how ⊎ IsOfRun how
+      → files_told ≡ Some files → FilesGive name files (Ok program) → HasNoCause how ⊎ IsOfRun how
 
 -- ---- the run
 

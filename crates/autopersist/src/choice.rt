@@ -1,22 +1,24 @@
 // The program that is to run.
-ghost use Rattle.std.specs.Prelude.{◌≡◌, List, [], ◌⊎◌, ◌≤◌, ◌↔◌, Some, None, Ok, Err, map, OnOk, IfOk, IfErr, IfSome, IsErrOf, IsNone};
+ghost use Rattle.std.specs.Prelude.{◌≡◌, List, [], length, ◌⊎◌, ◌≤◌, ◌↔◌, Some, None, Ok, Err, map, OnOk, IfOk, IfErr, IfSome, IsErrOf, IsNone};
 ghost use Rattle.ap_base.specs.Causes.{Rose};
 ghost use Rattle.ap_base.specs.declared.source.NamedBytes.{NamedBytes as File};
 ghost use Rattle.array_program.specs.Form.{program_of};
 ghost use Rattle.array_history.specs.Standing.{IsRight, root_name};
+ghost use Rattle.class_links.specs.Links.{Links};
 ghost use Rattle.image_opening.specs.Wanted.{HasRoom};
-ghost use Rattle.autopersist.specs.Files.{built, chosen, to_run};
-ghost use Rattle.autopersist.specs.Reading.{class_seen, IsLeft};
+ghost use Rattle.autopersist.specs.Files.{chosen, ClassesGive};
+ghost use Rattle.autopersist.specs.Reading.{IsLeft, IsOfClasses, IsOfLinking};
 ghost use Rattle.autopersist.specs.TopCall.{IsAsked, IsCauseOf, IsOfWords};
 ghost use Rattle.line_image.specs.Told.{Told};
 ghost use Rattle.autopersist.specs.Words.{main_class, slashed, texts};
 
 use crate::Status;
-use crate::files::{Seen, read_files};
+use crate::files::read_files;
 use crate::words::{internal_name, read_words};
 use ap_base::{Bytes, ClassSource};
 use array_program::{Program, read_program};
 use class_file::ClassFile;
+use class_links::{LinkRefusal, check_links, keep_files};
 use std::alloc::{AllocError, Global};
 
 /// A program, and the name that its durable root has in an image, if it has one: the class and the field.
@@ -27,7 +29,6 @@ pub(crate) struct Chosen {
 }
 
 /// The program for which the words ask; or how the top call ends before it opens the image.
-#[tactic(auto, unfolding(crate::specs::Files::to_run))]
 pub(crate) fn find_program<C: ClassSource>(
     alloc: Global,
     words: &[String],
@@ -54,23 +55,40 @@ pub(crate) fn find_program<C: ClassSource>(
     let Some(command) = read_words(words) else {
         return Err(Status::Usage);
     };
-    let seen = read_files(alloc, source)?;
-    choose(alloc, command.main, &seen)
+    let classes = read_files(alloc, source)?;
+    let kept = keep_files(classes);
+    choose(alloc, command.main, kept.as_slice())
 }
 
-// The program of this name, where its class is the only one that was read and of the form.
-fn choose(alloc: Global, class: &str, seen: &Seen) -> Result<Chosen, Status>
+// Checks that the classes link.
+fn link(alloc: Global, classes: &[ClassFile]) -> Result<(), Status>
+    requires few { length classes.now ≤ 4096 }
+    ensures links { OnOk result (Links classes.now) }
+    ensures refused { IfErr result (IsOfLinking classes.now) }
+{
+    match check_links(alloc, classes) {
+        Ok(()) => Ok(()),
+        Err(LinkRefusal::OutOfMemory) => Err(Status::OutOfMemory),
+        Err(refusal) => Err(Status::LinkRefused { refusal }),
+    }
+}
+
+// The program of this name, where the classes link, there is one alone, and it is of the form.
+fn choose(alloc: Global, class: &str, classes: &[ClassFile]) -> Result<Chosen, Status>
+    requires few { length classes.now ≤ 4096 }
     ensures found { IfOk result (λ found.
-        built class.now (class_seen seen.now) ≡ Ok found.program) }
+        ClassesGive class.now classes.now (Ok found.program)) }
     ensures root { IfOk result (λ found. found.root ≡ root_name found.program) }
     ensures room { IfOk result (λ found. HasRoom found.root) }
-    ensures refused { IfErr result (λ s. (s ≡ Status.OutOfMemory)
-        ⊎ ((s ≡ Status.NotBuilt) × (built class.now (class_seen seen.now) ≡ Err Status.NotBuilt))) }
+    ensures refused { IfErr result (λ s.
+        (s ≡ Status.OutOfMemory) ⊎ ClassesGive class.now classes.now (Err s)) }
+    ensures of_classes { IfErr result IsOfClasses }
 {
+    link(alloc, classes)?;
     let Ok(name) = internal_name(alloc, class) else {
         return Err(Status::OutOfMemory);
     };
-    let Seen::One(class) = seen else {
+    let [class] = classes else {
         return Err(Status::NotBuilt);
     };
     match program_named(alloc, class, name.as_slice()) {

@@ -1,10 +1,10 @@
 // The files of a source, read and checked one by one.
-ghost use Rattle.std.specs.Prelude.{◌≡◌, ◌≢◌, ◌⊎◌, ◌≤◌, List, [], ◌∷◌, ◌++◌, Some, OnOk, OnErr, IfOk, IfErr, IsErrOf, Ok, Err};
+ghost use Rattle.std.specs.Prelude.{◌≡◌, ◌≢◌, ◌⊎◌, ◌≤◌, List, [], length, Some, OnOk, OnErr, IfOk, IfErr, IsErrOf, Ok, Err};
 ghost use Rattle.ap_base.specs.Causes.{Rose};
 ghost use Rattle.ap_base.specs.Sources as given;
 ghost use Rattle.ap_base.specs.declared.source.NamedBytes.{NamedBytes as File};
 ghost use Rattle.autopersist.specs.Files.{class_of};
-ghost use Rattle.autopersist.specs.Reading.{IsReadAs, IsSeenOf, class_seen, HasNoCause, IsOfFiles, FilesComeTo, IsLeft};
+ghost use Rattle.autopersist.specs.Reading.{IsReadAs, HasNoCause, IsOfFiles, FilesComeTo, IsLeft};
 
 use crate::Status;
 use ap_base::{Bytes, ClassSource, MOST_BYTES, NamedBytes, SourceError};
@@ -12,27 +12,8 @@ use class_file::{ClassFile, ClassRefusal, read_class};
 use run_types::{Full, Which};
 use std::alloc::Global;
 
-/// The classes that were read so far: none, one, or several, which aren't kept.
-#[derive(Drop)]
-pub(crate) enum Seen {
-    Nothing,
-    One(ClassFile),
-    More,
-}
-
 // A source has at most so many files.
 const MOST_FILES: u32 = 4_096;
-
-// One more class was read.
-fn with_class(before: Seen, class: ClassFile) -> Seen
-    ensures { (files : List File) (file : File) → IsSeenOf files before → class_of file ≡ Ok class
-        → IsSeenOf (files ++ file ∷ []) result }
-{
-    match before {
-        Seen::Nothing => Seen::One(class),
-        _ => Seen::More,
-    }
-}
 
 // The class of a file.
 #[tactic(auto, unfolding(crate::specs::Files::class_of))]
@@ -86,8 +67,13 @@ fn next_file<C: ClassSource>(alloc: Global, source: &mut C) -> Result<Option<Nam
 }
 
 /// The classes of the files that the source has left, or the first file that is refused.
-pub(crate) fn read_files<C: ClassSource>(alloc: Global, source: &mut C) -> Result<Seen, Status>
-    ensures seen { IfOk result (λ seen. FilesComeTo (C.left source.old) (Ok (class_seen seen))) }
+pub(crate) fn read_files<C: ClassSource>(
+    alloc: Global,
+    source: &mut C,
+) -> Result<Vec<ClassFile>, Status>
+    ensures classes { IfOk result (λ classes.
+        FilesComeTo (C.left source.old) (Ok classes.items)) }
+    ensures few { IfOk result (λ classes. length classes.items ≤ 4096) }
     ensures refused { IfErr result (λ s. HasNoCause s ⊎ FilesComeTo (C.left source.old) (Err s)) }
     ensures whole { OnOk result ((files : List File) → C.left source.old ≡ Some files
         → C.left source.new ≡ Some []) }
@@ -98,16 +84,18 @@ pub(crate) fn read_files<C: ClassSource>(alloc: Global, source: &mut C) -> Resul
     ensures cause { IsErrOf result Status.SourceFault
         → Rose (C.faults source.old) (C.faults source.new) }
 {
-    let mut before = Seen::Nothing;
+    let mut classes = Vec::new(alloc);
     for _ in 0..MOST_FILES {
         let Some(file) = next_file(alloc, source)? else {
-            return Ok(before);
+            return Ok(classes);
         };
         let class = class_of(alloc, file)?;
-        before = with_class(before, class);
+        if classes.push(class).is_err() {
+            return Err(Status::OutOfMemory);
+        }
     }
     match next_file(alloc, source)? {
-        None => Ok(before),
+        None => Ok(classes),
         Some(_) => Err(Status::Full(Full {
             which: Which::Files,
             need: 1,

@@ -4,6 +4,7 @@ ghost use Rattle.autopersist.specs.Statuses.{number_of, text_of};
 
 use ap_base::{Bytes, ThreadNo};
 use class_file::ClassRefusal;
+use class_links::LinkRefusal;
 use plain_model::Throws;
 use run_types::Full;
 use std::alloc::{AllocError, Global};
@@ -19,6 +20,8 @@ pub enum Status {
     Usage,
     /// This file is no class file of version 52.0, or uses what isn't in the profile.
     BadClass { file: Bytes, refusal: ClassRefusal },
+    /// The class files don't link.
+    LinkRefused { refusal: LinkRefusal },
     /// More was needed than there is.
     Full(Full),
     /// The source of class files failed.
@@ -43,6 +46,7 @@ impl Status {
             Status::Uncaught { .. } => 1,
             Status::Usage => 2,
             Status::BadClass { .. } => 3,
+            Status::LinkRefused { .. } => 5,
             Status::Full(_) => 9,
             Status::SourceFault => 10,
             Status::ImageFault => 11,

@@ -1,11 +1,12 @@
 // The texts of statuses.
 ghost use Rattle.std.specs.Prelude.{◌≡◌, ◌∷◌, [], ◌++◌, codes, OnOk, IfOk};
 ghost use Rattle.std.specs.List.{flat_map};
-ghost use Rattle.autopersist.specs.Statuses.{spaced, with_numbers, pool_text, code_text, class_text, class_name, which_text, what_of, text_of};
+ghost use Rattle.autopersist.specs.Statuses.{spaced, with_numbers, pool_text, code_text, class_text, with_names, link_text, class_name, which_text, what_of, text_of};
 
 use crate::Status;
-use ap_base::ThreadNo;
+use ap_base::{Bytes, ThreadNo};
 use class_file::ClassRefusal;
+use class_links::LinkRefusal;
 use code_form::CodeRefusal;
 use const_pool::PoolRefusal;
 use itoa::Buffer;
@@ -114,6 +115,50 @@ fn put_class(out: &mut Vec<u8>, refusal: ClassRefusal) -> Result<(), AllocError>
     }
 }
 
+// What is wrong with a class.
+fn put_of_class(out: &mut Vec<u8>, what: &[u8], class: &Bytes) -> Result<(), AllocError>
+    ensures { OnOk result (out.new.items ≡ out.old.items ++ with_names what.now (class.now ∷ [])) }
+{
+    put(out, what)?;
+    put(out, b" ")?;
+    put(out, class.as_slice())
+}
+
+// What is wrong with a class and its superclass or superinterface.
+fn put_of_super(
+    out: &mut Vec<u8>,
+    what: &[u8],
+    class: &Bytes,
+    super_class: &Bytes,
+) -> Result<(), AllocError>
+    ensures { OnOk result (out.new.items
+        ≡ out.old.items ++ with_names what.now (class.now ∷ super_class.now ∷ [])) }
+{
+    put_of_class(out, what, class)?;
+    put(out, b" ")?;
+    put(out, super_class.as_slice())
+}
+
+fn put_link(out: &mut Vec<u8>, refusal: &LinkRefusal) -> Result<(), AllocError>
+    ensures { OnOk result (out.new.items ≡ out.old.items ++ link_text refusal.now) }
+{
+    match refusal {
+        LinkRefusal::DuplicateClass { class } => put_of_class(out, b"DuplicateClass", class),
+        LinkRefusal::MissingSuper { class, super_class } => {
+            put_of_super(out, b"MissingSuper", class, super_class)
+        }
+        LinkRefusal::SuperKind { class, super_class } => {
+            put_of_super(out, b"SuperKind", class, super_class)
+        }
+        LinkRefusal::FinalSuper { class, super_class } => {
+            put_of_super(out, b"FinalSuper", class, super_class)
+        }
+        LinkRefusal::CircularSuper { class } => put_of_class(out, b"CircularSuper", class),
+        LinkRefusal::InterfaceCode { class } => put_of_class(out, b"InterfaceCode", class),
+        LinkRefusal::OutOfMemory => put(out, b"OutOfMemory"),
+    }
+}
+
 fn which_name(which: Which) -> &'static [u8]
     ensures { result.now ≡ which_text which }
 {
@@ -171,6 +216,10 @@ fn put_what(out: &mut Vec<u8>, status: &Status) -> Result<(), AllocError>
             put(out, file.as_slice())?;
             put(out, b" ")?;
             put_class(out, *refusal)
+        }
+        Status::LinkRefused { refusal } => {
+            put(out, b"refused ")?;
+            put_link(out, refusal)
         }
         Status::Full(full) => {
             put(out, b"full ")?;

@@ -66,8 +66,8 @@ where
         → Rose (I.faults image) (I.faults result.image) }
     ensures no_memory { result.status ≡ Status.OutOfMemory → result.acts.acts ≡ [] }
 
-    // The source is left alone where the words are no command. It is read to its end before a run begins, and not past a
-    // file that is refused.
+    // The source is left alone where the words are no command. It is read to its end before its classes are linked and a run
+    // begins, and not past a file that is refused.
     ensures unasked { main_class (texts words.now.items) ≡ None → result.source ≡ source }
     ensures whole { result.acts.acts ≢ [] → (files : List File) → C.left source ≡ Some files
         → C.left result.source ≡ Some [] }

@@ -1,3 +1,4 @@
 pub mod Edges
 pub mod Known
 pub mod Doubled
+pub mod Refusals

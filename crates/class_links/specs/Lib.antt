@@ -1,4 +1,5 @@
 pub mod Names
 pub mod Links
 pub mod Found
+pub mod Kept
 pub mod Rules

@@ -1,10 +1,10 @@
 -- What linking looks at in a class: its name, the names of its superclass and its superinterfaces, and two of its flags (JVMS 4.1).
-use Rattle.std.specs.Prelude.{ℕ, ◌+◌, ◌==◌, not, bit_and, Bool, List, [], ◌∷◌, ◌++◌, map, codes, Option, Some, None, if◌then◌else◌}
+use Rattle.std.specs.Prelude.{ℕ, ◌+◌, ◌==◌, not, bit_and, Bool, List, [], ◌∷◌, ◌++◌, map, Option, Some, None, if◌then◌else◌}
 use Rattle.std.specs.List.{list_any, flat_map}
 use Rattle.std.specs.Str.{bytes_eq}
 use Rattle.const_pool.specs.Pool.{Slots, class_name_at}
 use Rattle.class_file.specs.declared.class.ClassFile.{ClassFile}
-use Rattle.plain_model.specs.Facts.{ClassFacts}
+use Rattle.plain_model.specs.Classes.{ClassFacts}
 use Rattle.plain_model.specs.BuiltIn.{built_in_classes}
 
 -- the name of the class at an index of a pool
@@ -45,12 +45,8 @@ known_of c = record { name = name_of c; is_interface = is_interface c; is_final 
 abbrev pub has_name : List (List ℕ) → List ℕ → Bool
 has_name names name = list_any (λ n. bytes_eq n name) names
 
--- Of the built-in classes those of which no objects are made are interfaces, and these are final.
-abbrev pub final_names : List (List ℕ)
-final_names = codes "autopersist/Region" ∷ codes "java/lang/String" ∷ codes "java/lang/StringBuilder" ∷ codes "java/lang/System" ∷ []
-
 abbrev pub known_built_in : ClassFacts → NamedClass
-known_built_in c = record { name = c.shape.name; is_interface = not c.is_made; is_final = has_name final_names c.shape.name }
+known_built_in c = record { name = c.shape.name; is_interface = c.is_interface; is_final = c.is_final }
 
 unfoldable pub built_in : List NamedClass
 built_in = map known_built_in (built_in_classes 0)

@@ -5,12 +5,15 @@
 mod built_in;
 mod classes;
 mod interfaces;
+mod kept;
 mod laws;
 mod linking;
 mod names;
 mod refusal;
 mod supers;
 
+pub use kept::keep_files;
 pub use laws::{files_that_link_break_nothing, one_refusal_only};
 pub use linking::check_links;
+pub use names::{class_name, is_final, is_interface, name_of, super_of};
 pub use refusal::LinkRefusal;

@@ -14,8 +14,8 @@ pub(crate) struct Flags {
     pub is_final: bool,
 }
 
-/// The name of the class at an index of a pool.
-pub(crate) fn class_name(pool: &Pool, index: u16) -> &[u8]
+/// The name of the class at an index of a pool, empty where no Class entry is there.
+pub fn class_name(pool: &Pool, index: u16) -> &[u8]
     ensures { result.now ≡ class_name pool.now index }
 {
     match pool.class_name(index) {
@@ -24,13 +24,15 @@ pub(crate) fn class_name(pool: &Pool, index: u16) -> &[u8]
     }
 }
 
-pub(crate) fn name_of(file: &ClassFile) -> &[u8]
+/// The name of the file's class.
+pub fn name_of(file: &ClassFile) -> &[u8]
     ensures { result.now ≡ name_of file.now }
 {
     class_name(&file.pool, file.this_class)
 }
 
-pub(crate) fn super_of(file: &ClassFile) -> &[u8]
+/// The name of its superclass.
+pub fn super_of(file: &ClassFile) -> &[u8]
     ensures { result.now ≡ super_of file.now }
 {
     class_name(&file.pool, file.super_class)
@@ -47,14 +49,14 @@ pub(crate) fn is_text(pool: &Pool, index: u16, text: &[u8]) -> bool
 }
 
 /// ACC_INTERFACE (JVMS table 4.1-B).
-pub(crate) fn is_interface(file: &ClassFile) -> bool
+pub fn is_interface(file: &ClassFile) -> bool
     ensures { result ≡ is_interface file.now }
 {
     file.access & 0x0200 != 0
 }
 
 /// ACC_FINAL (JVMS table 4.1-B).
-pub(crate) fn is_final(file: &ClassFile) -> bool
+pub fn is_final(file: &ClassFile) -> bool
     ensures { result ≡ is_final file.now }
 {
     file.access & 0x0010 != 0

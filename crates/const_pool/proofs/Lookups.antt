@@ -80,7 +80,7 @@ tagged_within slots i t tagged =
           absurd cc
     ]
 
-Names-append : (slots more : Slots) (r : ℕ × Tag) → Names slots r → Names (slots ++ more) r
+pub Names-append : (slots more : Slots) (r : ℕ × Tag) → Names slots r → Names (slots ++ more) r
 Names-append slots more r named =
     let same : entry_at (slots ++ more) r.0 ≡ entry_at slots r.0 = get_or_append_left slots more None r.0 (tagged_within slots r.0 r.1 named) in
     subst (λ (slot : Option Entry). IsTrue (is_tagged slot r.1)) (sym same) named

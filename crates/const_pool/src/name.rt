@@ -1,7 +1,7 @@
 //! Names and other texts of a class file, in modified UTF-8 (JVMS 4.4.7).
 
 ghost use Rattle.std.specs.Prelude.{◌≡◌, ◌↔◌, ◌<◌, ◌≤◌, ◌∷◌, [], length, take, drop, IsTrue, IsSome, IfOk, IfSome, IfNone, OnSome, Some, None};
-ghost use Rattle.const_pool.specs.Utf8.{IsModifiedUtf8, bad_place, char_len};
+ghost use Rattle.const_pool.specs.Utf8.{IsModifiedUtf8, bad_place, char_len, begins_one, begins_two, begins_three};
 
 use std::alloc::{AllocError, Global};
 use std::marker::Model;
@@ -58,14 +58,36 @@ impl Name {
 fn front_char(bytes: &[u8]) -> Option<usize>
     ensures { result ≡ char_len bytes.now }
 {
-    match bytes {
-        [0x01..=0x7F, ..] => Some(1),
-        [0xC0, 0x80, ..] | [0xC2..=0xDF, 0x80..=0xBF, ..] => Some(2),
-        [0xE0, 0xA0..=0xBF, 0x80..=0xBF, ..] | [0xE1..=0xEF, 0x80..=0xBF, 0x80..=0xBF, ..] => {
-            Some(3)
-        }
-        _ => None,
+    if begins_one(bytes) {
+        Some(1)
+    } else if begins_two(bytes) {
+        Some(2)
+    } else if begins_three(bytes) {
+        Some(3)
+    } else {
+        None
     }
+}
+
+fn begins_one(bytes: &[u8]) -> bool
+    ensures { result ≡ begins_one bytes.now }
+{
+    matches!(bytes, [0x01..=0x7F, ..])
+}
+
+fn begins_two(bytes: &[u8]) -> bool
+    ensures { result ≡ begins_two bytes.now }
+{
+    matches!(bytes, [0xC0, 0x80, ..] | [0xC2..=0xDF, 0x80..=0xBF, ..])
+}
+
+fn begins_three(bytes: &[u8]) -> bool
+    ensures { result ≡ begins_three bytes.now }
+{
+    matches!(
+        bytes,
+        [0xE0, 0xA0..=0xBF, 0x80..=0xBF, ..] | [0xE1..=0xEF, 0x80..=0xBF, 0x80..=0xBF, ..]
+    )
 }
 
 /// The place of the first byte of the first bad character.

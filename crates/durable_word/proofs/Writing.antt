@@ -1,7 +1,7 @@
 -- Write-backs one after another.
 use Rattle.std.proofs.Common.{◌≡◌, inl, inr, ℕ, refl, ◌∙◌, arith}
-use Rattle.line_memory.specs.Memory.{Memory, IsKnown, CanLeaveAll, SameShown, SameResident, KeepsTelling, Narrows, OneCall}
-use Rattle.line_memory.specs.Moments.{Goes}
+use Rattle.line_memory.specs.Memory.{Memory, IsKnown, CanLeaveAll, SameResident, KeepsTelling, OneCall}
+use Rattle.line_memory.specs.Moments.{KeepsShown}
 use Rattle.line_memory.proofs.Chain.{goes_on, goes_nowhere, counts_on}
 use Rattle.durable_word.specs.Writes.{WritesOn}
 
@@ -19,14 +19,14 @@ writes_nothing m = record {
 }
 
 -- one call
-pub one_write : (old new : Memory) → SameShown old new → Narrows old new → Goes old.image new.image (CanLeaveAll old) → SameResident old new → KeepsTelling old new → new.size ≡ old.size → OneCall old new → WritesOn old new
-one_write old new shows leaves any_moment resident telling size one = record {
-  shows = shows;
-  leaves = leaves;
-  any_moment = any_moment;
+pub one_write : (old new : Memory) → KeepsShown old new → SameResident old new → OneCall old new → WritesOn old new
+one_write old new keeps resident one = record {
+  shows = keeps.shows;
+  leaves = keeps.leaves;
+  any_moment = keeps.any_moment;
   resident = resident;
-  telling = telling;
-  size = size;
+  telling = keeps.telling;
+  size = keeps.size;
   counts = λ begin counts. counts_on begin old new counts one;
   later = λ fits. (omega (arith, fits, one.calls), omega (arith, fits, one.calls));
 }

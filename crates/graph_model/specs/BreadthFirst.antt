@@ -3,7 +3,7 @@ use Rattle.std.specs.Prelude.{◌≡◌, ◌↔◌, ℕ, nat_eq, List, [], ◌++
 use Rattle.std.specs.List.{IsDistinct, flat_map}
 use Rattle.graph_model.specs.declared.types.Value.{Value}
 use Rattle.graph_model.specs.declared.types.Heap.{Heap}
-use Rattle.graph_model.specs.Heaps.{values_of}
+use Rattle.graph_model.specs.Heaps.{kept_values_of}
 use Rattle.graph_model.specs.Canon.{with_new}
 use Rattle.graph_model.specs.Reach.{IsReached}
 
@@ -13,4 +13,4 @@ use Rattle.graph_model.specs.Reach.{IsReached}
 pub record IsNumbering (heap : Heap) (start : List Value) (numbers : List ℕ) : Type 0 where
   pub reached : (n : ℕ) → Contains numbers n ↔ IsReached heap start n
   pub once : IsDistinct nat_eq numbers
-  pub in_order : numbers ≡ with_new [] (start ++ flat_map (values_of heap) numbers)
+  pub in_order : numbers ≡ with_new [] (start ++ flat_map (kept_values_of heap) numbers)

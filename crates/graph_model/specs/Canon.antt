@@ -8,7 +8,7 @@ use Rattle.graph_model.specs.declared.types.Heap.{Heap}
 use Rattle.graph_model.specs.declared.types.NamedValue.{NamedValue}
 use Rattle.graph_model.specs.declared.types.Node.{Node}
 use Rattle.graph_model.specs.declared.types.Graph.{Graph}
-use Rattle.graph_model.specs.Heaps.{has_number, object_at, values_of, shape_at, root_values}
+use Rattle.graph_model.specs.Heaps.{has_number, object_at, kept_values_of, shape_at, root_values}
 
 abbrev pub with_number : List ℕ → ℕ → List ℕ
 with_number found n = if has_number found n then found else found ++ n ∷ []
@@ -23,7 +23,7 @@ with_new found (Null ∷ values) = with_new found values
 
 -- what is found once the slots of the k-th found object were looked at too
 abbrev pub with_slots_of : Heap → ℕ → List ℕ → List ℕ
-with_slots_of heap k found = with_new found (values_of heap (slice_index_or found k (length heap.objects)))
+with_slots_of heap k found = with_new found (kept_values_of heap (slice_index_or found k (length heap.objects)))
 
 -- what is found from these values once the slots of the first k found objects were looked at
 abbrev pub found_after : Heap → List Value → ℕ → List ℕ
@@ -48,7 +48,7 @@ renumbered found Null = Null
 abbrev pub node_of : Heap → List ℕ → ℕ → Node
 node_of heap found n = record {
   shape = shape_at heap (object_at heap n).shape;
-  values = map (renumbered found) (values_of heap n);
+  values = map (renumbered found) (kept_values_of heap n);
 }
 
 abbrev pub root_of : Heap → List ℕ → Root → NamedValue

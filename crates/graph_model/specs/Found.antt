@@ -5,7 +5,7 @@ use Rattle.graph_model.specs.declared.types.Value.{Value}
 use Rattle.graph_model.specs.declared.types.Value.TheVariants.{Int, Long, Null, Obj as Object}
 use Rattle.graph_model.specs.declared.types.Root.{Root}
 use Rattle.graph_model.specs.declared.types.Heap.{Heap}
-use Rattle.graph_model.specs.Heaps.{has_number, values_of}
+use Rattle.graph_model.specs.Heaps.{has_number, kept_values_of}
 use Rattle.graph_model.specs.Canon.{place_in}
 
 -- the found objects in order, of so many
@@ -37,4 +37,4 @@ IsNumberedRoot heap found r = IsNumbered found (slice_index_or heap.statics r.at
 
 -- an object of the heap whose values are found
 abbrev pub IsNode : Heap → List ℕ → ℕ → Type 0
-IsNode heap found n = (n < length heap.objects) × All (IsNumbered found) (values_of heap n)
+IsNode heap found n = (n < length heap.objects) × All (IsNumbered found) (kept_values_of heap n)

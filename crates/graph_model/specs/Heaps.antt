@@ -1,6 +1,6 @@
 -- Plain heaps: a list of objects that never move, static fields and durable roots (JVMS 2.4, 2.5.3; Shull, Huang and
 -- Torrellas, "AutoPersist", PLDI 2019, for durable roots). What their places hold, and what a store changes.
-use Rattle.std.specs.Prelude.{ℕ, ◌<◌, ◌^◌, Bool, false, nat_eq, pos, List, [], ◌∷◌, ◌++◌, map, length, replicate, slice_set, slice_index_or, Some, None, All, ◌||◌, ◌&&◌}
+use Rattle.std.specs.Prelude.{ℕ, ◌<◌, ◌^◌, Bool, true, false, nat_eq, pos, List, [], ◌∷◌, ◌++◌, map, length, replicate, slice_set, slice_index_or, Some, None, All, ◌||◌, ◌&&◌}
 use Rattle.ap_base.specs.declared.kind.Kind.{Kind}
 use Rattle.ap_base.specs.declared.kind.Kind.TheVariants.{Z, B, C, S, I, J, L, Text}
 use Rattle.ap_base.specs.declared.place.Place.{Place}
@@ -39,6 +39,14 @@ shape_at heap n = slice_index_or heap.shapes n no_shape
 
 abbrev pub values_of : Heap → ℕ → List Value
 values_of heap n = (object_at heap n).values
+
+-- Whether what stands in this slot of the object is kept: every slot is. What isn't kept refers to nothing.
+abbrev pub is_kept_slot : Heap → ℕ → ℕ → Bool
+is_kept_slot heap n i = true
+
+-- what the object's slots keep, in order: what stands in them
+abbrev pub kept_values_of : Heap → ℕ → List Value
+kept_values_of heap n = values_of heap n
 
 -- the value is no object, or one of the first n
 abbrev pub IsBelow : ℕ → Value → Type 0

@@ -4,11 +4,11 @@ use Rattle.std.specs.Prelude.{ℕ, List, Contains}
 use Rattle.graph_model.specs.declared.types.Value.{Value}
 use Rattle.graph_model.specs.declared.types.Value.TheVariants.{Obj as Object}
 use Rattle.graph_model.specs.declared.types.Heap.{Heap}
-use Rattle.graph_model.specs.Heaps.{values_of}
+use Rattle.graph_model.specs.Heaps.{kept_values_of}
 
--- object m has a reference to object n
+-- object m keeps a reference to object n
 abbrev pub Refers : Heap → ℕ → ℕ → Type 0
-Refers heap m n = Contains (values_of heap m) (Object n)
+Refers heap m n = Contains (kept_values_of heap m) (Object n)
 
 -- a path of references leads from an object of `From` to this one
 pub data Reaches (heap : Heap) (From : ℕ → Type 0) : ℕ → Type 0 where

@@ -1,3 +1,6 @@
+pub mod Adding
+pub mod Agreeing
+pub mod Apart
 pub mod Appending
 pub mod Arrays
 pub mod Changes
@@ -8,6 +11,7 @@ pub mod Faults
 pub mod FoundImage
 pub mod Logging
 pub mod Logs
+pub mod Naming
 pub mod Opened
 pub mod Opening
 pub mod Order

@@ -1,5 +1,5 @@
 -- What entries of logs do to the words that are put back.
-use Rattle.std.proofs.Common.{◌≡◌, ◌≢◌, ◌⊎◌, inl, inr, ℕ, zero, suc, ◌+◌, ◌/◌, ◌%◌, ◌<◌, ◌≤◌, ◌==◌, ◌&&◌, ◌||◌, Bool, true, false, List, [], ◌∷◌, ◌++◌, length, Some, None, refl, sym, ◌∙◌, ap, subst, arith, slice_index_or, if◌then◌else◌}
+use Rattle.std.proofs.Common.{◌≡◌, ◌≢◌, inl, inr, ℕ, zero, suc, ◌+◌, ◌/◌, ◌%◌, ◌<◌, ◌≤◌, ◌==◌, ◌&&◌, ◌||◌, Bool, true, false, List, [], ◌∷◌, ◌++◌, length, Some, None, refl, sym, ◌∙◌, ap, subst, arith, slice_index_or, if◌then◌else◌}
 use Rattle.std.specs.Prelude.{not}
 use Rattle.std.proofs.lemmas.Bool.{cases_lt, cases_eq, le-leb, and_parts, eqb-true, eq-eqb, ne_eqb, true≢false, cases_Bool}
 use Rattle.std.proofs.lemmas.List.Folds.{list_any-append, list_any_at}
@@ -7,14 +7,15 @@ use Rattle.std.proofs.lemmas.List.FromFn.{length-map-range_with_len, get_or-map-
 use Rattle.image_layout.specs.declared.superblock.BadReason.TheVariants as bad
 use Rattle.image_layout.specs.Places.{logs, log_entries, log_entry_line}
 use Rattle.image_meaning.specs.Checks.{Words, first_fault}
-use Rattle.image_meaning.specs.Logs.{Logged, log_count, logged_at, first_logged, log_of, logs_below, may_be_logged, has_place, entry_fault, log_fault, logs_fault, is_place, old_word, or_else, is_log_line, put_back}
+use Rattle.image_meaning.specs.Logs.{Logged, log_count, logged_at, first_logged, log_of, logs_below, may_be_logged, has_place, entry_fault, log_fault, logs_fault, is_place, old_word, or_else, is_log_line, put_back, put_one, SameLogs}
 use Rattle.image_meaning.specs.Logging.{AddsLogged, IsFree, LoggingKeeps, SameButLogged, Empties, EmptyingCommits}
 use Rattle.image_meaning.proofs.Faults.{first_fault-none, passes_if}
 use Rattle.image_meaning.proofs.Ranges.{mapped_same}
 use Rattle.image_meaning.proofs.Logs.{logs_below-same}
 use Rattle.image_meaning.proofs.Places.{first_more, not_named, log_passes, entry_passes, once}
-use Rattle.image_meaning.proofs.Recovering.{or_old, old_append, some_or, unchanged_log, emptied_log, logs_still, put_value, put_at}
+use Rattle.image_meaning.proofs.Recovering.{or_old, old_append, some_or, unchanged_log, emptied_log, logs_still, put_value, put_at, not_log_if_logged}
 use Rattle.image_meaning.proofs.Stopped.{logs_pass}
+use Rattle.image_meaning.proofs.Naming.{same_lines}
 
 -- words that are put back the same outside the logs are the same
 all_same : (c d : Words) → ((line word : ℕ) → is_log_line line ≡ false
@@ -146,13 +147,9 @@ unnamed_parts c p (suc n) h s below =
       | inr high ↦ (let e : s ≡ n = omega (arith, below, high) in rw e x)
     ]
 
-module _ (size : ℕ) (c d : Words) (t place : ℕ) (pass : (s : ℕ) → s < logs → log_fault size c s ≡ None) (there : t < logs)
-    (free : IsFree size c place) (adds : AddsLogged c d t place) where
-  new_entry : Logged
-  new_entry = record { place = place; old = c (place / 8) (place % 8) }
-
-  log_more : log_of d t ≡ log_of c t ++ new_entry ∷ []
-  unfolding new_entry
+module _ (size : ℕ) (c d : Words) (t : ℕ) (entry : Logged) (pass : (s : ℕ) → s < logs → log_fault size c s ≡ None) (there : t < logs)
+    (free : IsFree size c entry.place) (adds : AddsLogged c d t entry) where
+  log_more : log_of d t ≡ log_of c t ++ entry ∷ []
   log_more =
       let n = log_count c t in
       let more : suc n ≡ n + 1 = omega arith in
@@ -161,53 +158,66 @@ module _ (size : ℕ) (c d : Words) (t place : ℕ) (pass : (s : ℕ) → s < lo
       ap (λ k. first_logged d t k) (adds.count ∙ more) ∙ first_more d t n
       ∙ ap (λ xs. xs ++ logged_at d t n ∷ []) front ∙ ap (λ e. first_logged c t n ++ e ∷ []) adds.added
 
-  -- the word of the new entry is the one that stands there
-  new_word : (line word : ℕ) → is_place place line word ≡ true → c (place / 8) (place % 8) ≡ c line word
-  new_word line word h =
-      let parts = and_parts (place / 8 == line) (place % 8 == word) h in
-      rw (eqb-true (place / 8) line parts.0, eqb-true (place % 8) word parts.1) refl
-
-  -- of the logs below n, the old word is the same, or it is the one that stands there
-  abbrev SameOrThere : ℕ → ℕ → ℕ → Type 0
-  SameOrThere n line word =
-      (old_word (logs_below d n) line word ≡ old_word (logs_below c n) line word)
-      ⊎ ((old_word (logs_below c n) line word ≡ None) × (old_word (logs_below d n) line word ≡ Some (c line word)))
-
-  there_below : (line word n : ℕ) → n ≤ logs → SameOrThere n line word
-  unfolding or_old logs_below new_entry
-  there_below line word zero le = inl refl
-  there_below line word (suc s) le =
-      let below : s < logs = omega (arith, le) in
-      let before = there_below line word s (omega (arith, le)) in
+  -- elsewhere the logs say what they said
+  said_elsewhere : (line word n : ℕ) → n ≤ logs → is_place entry.place line word ≡ false
+      → old_word (logs_below d n) line word ≡ old_word (logs_below c n) line word
+  unfolding or_old logs_below
+  said_elsewhere line word zero le isnt = refl
+  said_elsewhere line word (suc s) le isnt =
+      let before = said_elsewhere line word s (omega (arith, le)) isnt in
       rw (old_append (log_of d s) (logs_below d s) line word, old_append (log_of c s) (logs_below c s) line word) (elim (cases_eq s t) [
-        | inr ne ↦ rw (unchanged_log c d s (adds.others s below ne)) (elim (some_or (old_word (log_of c s) line word)) [
-          | inr some ↦ rw some.1 (inl refl)
-          | inl none ↦ rw none before
-        ])
+        | inr ne ↦ rw (unchanged_log c d s (adds.others s (omega (arith, le)) ne), before) refl
         | inl same ↦ (
-            let log : log_of d s ≡ log_of c s ++ new_entry ∷ [] = rw same log_more in
-            rw (log, old_append (log_of c s) (new_entry ∷ []) line word) (elim (some_or (old_word (log_of c s) line word)) [
-              | inr some ↦ rw some.1 (inl refl)
-              | inl none ↦ elim (cases_Bool (is_place place line word)) [
-                | inr isnt ↦ rw (none, isnt) before
-                | inl is ↦ (
-                    let parts = unnamed_parts c place logs free.unnamed s below in
-                    let lower = not_named (logs_below c s) place line word parts.1 is in
-                    rw (none, is, lower) (inr (refl, ap (λ w. Some w) (new_word line word is))))
-              ]
+            let log : log_of d s ≡ log_of c s ++ entry ∷ [] = rw same log_more in
+            rw (log, old_append (log_of c s) (entry ∷ []) line word) (elim (some_or (old_word (log_of c s) line word)) [
+              | inr some ↦ rw some.1 refl
+              | inl none ↦ rw (none, isnt) before
             ]))
       ])
 
-  pub logged-same : put_back d ≡ put_back c
-  logged-same = all_same c d (λ line word outside. elim (there_below line word logs (omega arith)) [
-    | inl s ↦ rw (s, adds.words line word outside) refl
-    | inr s ↦ rw (s.0, s.1) refl
-  ])
+  -- at the place they say the entry's word
+  said_here : (line word n : ℕ) → n ≤ logs → t < n → is_place entry.place line word ≡ true
+      → old_word (logs_below d n) line word ≡ Some entry.old
+  unfolding or_old logs_below
+  said_here line word zero le over is = absurd (omega (arith, over))
+  said_here line word (suc s) le over is =
+      let parts = unnamed_parts c entry.place logs free.unnamed s (omega (arith, le)) in
+      let none = not_named (log_of c s) entry.place line word parts.0 is in
+      rw (old_append (log_of d s) (logs_below d s) line word) (elim (cases_eq s t) [
+        | inl same ↦ (
+            let log : log_of d s ≡ log_of c s ++ entry ∷ [] = rw same log_more in
+            rw (log, old_append (log_of c s) (entry ∷ []) line word, none, is) refl)
+        | inr ne ↦ (
+            let below : t < s = omega (arith, over, ne) in
+            rw (unchanged_log c d s (adds.others s (omega (arith, le)) ne), none) (said_here line word s (omega (arith, le)) below is))
+      ])
+
+  -- the entry's place isn't among the logs
+  said_by_put : SameLogs c (put_one entry c)
+  said_by_put = same_lines size c (put_one entry c) pass (λ line word in_log.
+      elim (is_place entry.place line word) as (λ b. is_place entry.place line word ≡ b → (if b then entry.old else c line word) ≡ c line word) [
+        | true ↦ λ is.
+            let at = eqb-true (entry.place / 8) line (and_parts (entry.place / 8 == line) (entry.place % 8 == word) is).0 in
+            let outside : is_log_line line ≡ false = ap is_log_line (sym at) ∙ not_log_if_logged size c pass (entry.place / 8) free.may in
+            absurd (true≢false (sym in_log ∙ outside))
+        | false ↦ λ isnt. refl
+      ] refl)
+
+  pub logged-same : put_back d ≡ put_back (put_one entry c)
+  logged-same = all_same (put_one entry c) d (λ line word outside.
+      rw (logs_below-same c (put_one entry c) said_by_put) (elim (cases_Bool (is_place entry.place line word)) [
+        | inl is ↦ rw (
+          said_here line word logs (omega arith) there is,
+          not_named (logs_below c logs) entry.place line word free.unnamed is,
+          is,
+        ) refl
+        | inr isnt ↦ rw (said_elsewhere line word logs (omega arith) isnt, isnt, adds.words line word outside isnt) refl
+      ]))
 
   -- ---- the logs still pass
 
-  still_unnamed : (p n : ℕ) → n ≤ logs → place ≢ p → has_place (logs_below c n) p ≡ false → has_place (logs_below d n) p ≡ false
-  unfolding logs_below new_entry
+  still_unnamed : (p n : ℕ) → n ≤ logs → entry.place ≢ p → has_place (logs_below c n) p ≡ false → has_place (logs_below d n) p ≡ false
+  unfolding logs_below
   still_unnamed p zero le ne h = refl
   still_unnamed p (suc s) le ne h =
       let x = or_parts (has_place (log_of c s) p) (has_place (logs_below c s) p) (sym (named_append (log_of c s) (logs_below c s) p) ∙ h) in
@@ -215,8 +225,8 @@ module _ (size : ℕ) (c d : Words) (t place : ℕ) (pass : (s : ℕ) → s < lo
       named_append (log_of d s) (logs_below d s) p ∙ rw lower (elim (cases_eq s t) [
         | inr other ↦ rw (unchanged_log c d s (adds.others s (omega (arith, le)) other), x.0) refl
         | inl same ↦ (
-            let log : log_of d s ≡ log_of c s ++ new_entry ∷ [] = rw same log_more in
-            rw (log, named_append (log_of c s) (new_entry ∷ []) p, x.0, ne_eqb place p ne) refl)
+            let log : log_of d s ≡ log_of c s ++ entry ∷ [] = rw same log_more in
+            rw (log, named_append (log_of c s) (entry ∷ []) p, x.0, ne_eqb entry.place p ne) refl)
       ])
 
   -- the logs below t are as they were
@@ -240,29 +250,28 @@ module _ (size : ℕ) (c d : Words) (t place : ℕ) (pass : (s : ℕ) → s < lo
   -- an entry that was there passes as before
   old_entry : (s n : ℕ) → s < logs → n < log_count c s → ((m : ℕ) → m ≤ n → logged_at d s m ≡ logged_at c s m) → entry_fault size d s n ≡ None
   old_entry s n below h same =
-      let entry = entry_passes size c s n ((log_passes size c s (pass s below)).1 n h) in
+      let old = entry_passes size c s n ((log_passes size c s (pass s below)).1 n h) in
       let p = (logged_at c s n).place in
       let front : first_logged d s n ≡ first_logged c s n =
       mapped_same (logged_at d s) (logged_at c s) 0 n (λ j low high. same j (omega (arith, high))) in
-      let absent : has_place (log_of c s) place ≡ false = (unnamed_parts c place logs free.unnamed s below).0 in
-      let other : place ≢ p = λ (e : place ≡ p). true≢false (sym (named_at c s n h) ∙ rw (← e) absent) in
-      let lower : has_place (logs_below d s) p ≡ false = still_unnamed p s (omega (arith, below)) other entry.2 in
+      let absent : has_place (log_of c s) entry.place ≡ false = (unnamed_parts c entry.place logs free.unnamed s below).0 in
+      let other : entry.place ≢ p = λ (e : entry.place ≡ p). true≢false (sym (named_at c s n h) ∙ rw (← e) absent) in
+      let lower : has_place (logs_below d s) p ≡ false = still_unnamed p s (omega (arith, below)) other old.2 in
       let none : has_place (first_logged d s n ++ logs_below d s) p ≡ false =
-      rw front (named_append (first_logged c s n) (logs_below d s) p ∙ rw (entry.1, lower) refl) in
-      by_entry s n (logged_at c s n) (same n (omega arith)) entry.0 none
+      rw front (named_append (first_logged c s n) (logs_below d s) p ∙ rw (old.1, lower) refl) in
+      by_entry s n (logged_at c s n) (same n (omega arith)) old.0 none
 
   -- the new entry passes
   new_passes : entry_fault size d t (log_count c t) ≡ None
-  unfolding new_entry
   new_passes =
       let n = log_count c t in
-      let parts = unnamed_parts c place logs free.unnamed t there in
+      let parts = unnamed_parts c entry.place logs free.unnamed t there in
       let front : first_logged d t n ≡ first_logged c t n =
       mapped_same (logged_at d t) (logged_at c t) 0 n (λ j low high. adds.entries j (omega (arith, high))) in
       let lower : logs_below d t ≡ logs_below c t = lower_logs t (omega arith) in
-      let none : has_place (first_logged d t n ++ logs_below d t) place ≡ false =
-      rw (front, lower) (named_append (first_logged c t n) (logs_below c t) place ∙ rw (parts.0, parts.1) refl) in
-      by_entry t n new_entry adds.added free.may none
+      let none : has_place (first_logged d t n ++ logs_below d t) entry.place ≡ false =
+      rw (front, lower) (named_append (first_logged c t n) (logs_below c t) entry.place ∙ rw (parts.0, parts.1) refl) in
+      by_entry t n entry adds.added free.may none
 
   log_still : (s : ℕ) → s < logs → log_count c t < log_entries → log_fault size d s ≡ None
   log_still s below room = elim (cases_eq s t) [
@@ -280,16 +289,16 @@ module _ (size : ℕ) (c d : Words) (t place : ℕ) (pass : (s : ℕ) → s < lo
         rw (adds.count, le-leb (suc (log_count c t)) log_entries (omega (arith, room))) entries)
   ]
 
-  pub logging-keeps : log_count c t < log_entries → LoggingKeeps size c d
+  pub logging-keeps : log_count c t < log_entries → LoggingKeeps size c d entry
   unfolding logs_fault
   logging-keeps room = record {
     words = logged-same;
     logs = first_fault-none (log_fault size d) logs (λ s h. log_still s h room);
   }
 
-pub free-logged : (size : ℕ) (c d : Words) (t place : ℕ) → logs_fault size c ≡ None → t < logs → log_count c t < log_entries
-    → IsFree size c place → AddsLogged c d t place → LoggingKeeps size c d
-free-logged size c d t place pass there room free adds = logging-keeps size c d t place (logs_pass size c pass) there free adds room
+pub free-logged : (size : ℕ) (c d : Words) (t : ℕ) (entry : Logged) → logs_fault size c ≡ None → t < logs → log_count c t < log_entries
+    → IsFree size c entry.place → AddsLogged c d t entry → LoggingKeeps size c d entry
+free-logged size c d t entry pass there room free adds = logging-keeps size c d t entry (logs_pass size c pass) there free adds room
 
 pub emptied-log-commits : (size : ℕ) (c d : Words) (t : ℕ) → logs_fault size c ≡ None → t < logs → Empties c d t → EmptyingCommits size c d t
 emptied-log-commits size c d t pass there e = emptied-commits size c d t (logs_pass size c pass) there e

@@ -167,7 +167,7 @@ module _ (size : ℕ) (c : Words) (pass : (t : ℕ) → t < logs → log_fault s
         rw (old_append (log_of c n) (logs_below c n) line word, now) refl)
   ]
 
-  not_log_if_logged : (line : ℕ) → may_be_logged size line ≡ true → is_log_line line ≡ false
+  pub not_log_if_logged : (line : ℕ) → may_be_logged size line ≡ true → is_log_line line ≡ false
   not_log_if_logged line h = elim (cases_lt line (log_head_line 0)) [
     | inl before ↦ not_log_before line before
     | inr from ↦ elim (cases_lt line first_object_line) [

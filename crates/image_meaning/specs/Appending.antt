@@ -8,7 +8,7 @@ use Rattle.graph_model.specs.Canon.{canon_of}
 use Rattle.image_layout.specs.Places.{root_slots, first_object_line, directory_words, directory_line, directory_word}
 use Rattle.image_meaning.specs.Checks.{Words}
 use Rattle.image_meaning.specs.Entries.{DirectoryEntry, ShapeEntry, RootEntry, spelled, IsEntry}
-use Rattle.image_meaning.specs.Directories.{Directory, is_refused, with_entry}
+use Rattle.image_meaning.specs.Directories.{Directory, is_refused, with_entry, with_all}
 use Rattle.image_meaning.specs.Logs.{SameLogs}
 use Rattle.image_meaning.specs.Meaning.{root_word, StandsFor}
 use Rattle.image_meaning.specs.Corresponds.{Corresponds}
@@ -73,3 +73,27 @@ AddedEntryStands = (size : ℕ) (c d : Words) (directory : Directory) (entry : D
     → Opens size c directory → StandsFor size c graph
     → IsEntry entry → is_refused directory entry ≡ false → AddsEntry c d entry → SameLogs c d → SameBehind c d
     → StandsFor size d (with_entry_too graph entry)
+
+-- ---- any number of entries
+
+-- d is c after these entries were added one after another
+pub data AddsEach : Words → Directory → List DirectoryEntry → Words → Type 0 where
+  Nothing : (c : Words) (directory : Directory) → AddsEach c directory [] c
+  Further : (c d e : Words) (directory : Directory) (entry : DirectoryEntry) (entries : List DirectoryEntry)
+      → IsEntry entry → is_refused directory entry ≡ false → AddsEntry c d entry → SameLogs c d → SameBehind c d
+      → AddsEach d (with_entry directory entry) entries e → AddsEach c directory (entry ∷ entries) e
+
+-- what an image stands for with these entries too: each added root is null
+abbrev pub with_all_too : Graph → List DirectoryEntry → Graph
+with_all_too graph [] = graph
+with_all_too graph (entry ∷ entries) = with_all_too (with_entry_too graph entry) entries
+
+pub record HasEntriesToo (size : ℕ) (d : Words) (directory : Directory) (graph : Graph) (entries : List DirectoryEntry) : Type 0 where
+  pub opens : Opens size d (with_all directory entries)
+  pub stands : StandsFor size d (with_all_too graph entries)
+
+-- Shapes leave the graph as it was, and roots come to it as null, however many of them were added when a stop comes.
+abbrev pub AddedEntriesStand : Type 0
+AddedEntriesStand = (size : ℕ) (c d : Words) (directory : Directory) (entries : List DirectoryEntry) (graph : Graph)
+    → Opens size c directory → StandsFor size c graph → AddsEach c directory entries d
+    → HasEntriesToo size d directory graph entries

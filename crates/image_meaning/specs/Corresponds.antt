@@ -3,12 +3,13 @@
 use Rattle.std.specs.Prelude.{◌≡◌, ◌≢◌, ◌⊎◌, ℕ, ◌+◌, ◌*◌, ◌<◌, ◌≤◌, true, List, length, map, slice_index_or}
 use Rattle.ap_base.specs.declared.kind.Kind.{Kind}
 use Rattle.ap_base.specs.declared.kind.Kind.TheVariants.{L}
+use Rattle.ap_base.specs.declared.place.Place.TheVariants.{Static, Slot}
 use Rattle.graph_model.specs.declared.types.Value.{Value}
 use Rattle.graph_model.specs.declared.types.Value.TheVariants.{Int, Long, Null, Obj as Object}
 use Rattle.graph_model.specs.declared.types.Shape.{Shape}
 use Rattle.graph_model.specs.declared.types.Root.{Root}
 use Rattle.graph_model.specs.declared.types.Heap.{Heap}
-use Rattle.graph_model.specs.Heaps.{object_at, shape_at, values_of, root_values}
+use Rattle.graph_model.specs.Heaps.{object_at, shape_at, values_of, value_at, root_values}
 use Rattle.image_layout.specs.Places.{root_slots, first_object_line, lines_of}
 use Rattle.image_meaning.specs.Checks.{Words}
 use Rattle.image_meaning.specs.Directories.{Directory}
@@ -101,6 +102,21 @@ pub record SameObjects (R : LiesAt) (heap other : Heap) : Type 0 where
   pub there : (line n : ℕ) → R line n → n < length other.objects
   pub shapes : (line n : ℕ) → R line n → shape_at other (object_at other n).shape ≡ shape_at heap (object_at heap n).shape
   pub slots : (line n : ℕ) → R line n → values_of other n ≡ values_of heap n
+
+-- The other heap has the same roots, and of the objects that lie somewhere the same shapes and as many slots.
+pub record SameObjectSizes (R : LiesAt) (heap other : Heap) : Type 0 where
+  pub roots : other.roots ≡ heap.roots
+  pub there : (line n : ℕ) → R line n → n < length other.objects
+  pub shapes : (line n : ℕ) → R line n → shape_at other (object_at other n).shape ≡ shape_at heap (object_at heap n).shape
+  pub counts : (line n : ℕ) → R line n → length (values_of other n) ≡ length (values_of heap n)
+
+-- d has the heads of c, and in each slot and root slot what the other heap holds there
+pub record AgreesEverywhere (R : LiesAt) (heap other : Heap) (c d : Words) : Type 0 where
+  pub heads : (line n : ℕ) → R line n → d line 0 ≡ c line 0
+  pub slots : (line n i : ℕ) → R line n → i < length (values_of heap n)
+      → Holds R (kind_of (shape_at heap (object_at heap n).shape) i) (object_slot d line i) (value_at other (Slot n i))
+  pub at_roots : (r : ℕ) → r < length heap.roots → HoldsReference R (root_word d r) (value_at other (Static (root_static heap r)))
+  pub unused : (r : ℕ) → length heap.roots ≤ r → r < root_slots → root_word d r ≡ 0
 
 -- an object of the one or the other relation
 abbrev pub Either : LiesAt → LiesAt → LiesAt

@@ -7,14 +7,14 @@ use Rattle.graph_model.specs.declared.types.Heap.{Heap}
 use Rattle.graph_model.specs.Heaps.{values_of, stored, with_fresh}
 use Rattle.graph_model.specs.Canon.{canon_of}
 use Rattle.image_layout.specs.declared.superblock.BadReason.{BadReason}
-use Rattle.image_layout.specs.Places.{logs, directory_line, directory_word, IsBlank, super_check}
+use Rattle.image_layout.specs.Places.{logs, root_slots, slot_line, object_line, object_word, directory_line, directory_word, IsBlank, super_check}
 use Rattle.image_meaning.specs.Checks.{Words, Bad}
 use Rattle.image_meaning.specs.Entries.{DirectoryEntry}
 use Rattle.image_meaning.specs.Directories.{Directory, no_entries, bad_entry, directory_words_of, directory_of, with_entries, spelled_all, with_all, AreEntries, BreaksOff}
 use Rattle.image_meaning.specs.Logs.{log_count, logged_at, logs_below, logs_fault, is_place, is_log_line, put_back, put_each, SameLogs}
 use Rattle.image_meaning.specs.Objects.{shape_of, kind_of, object_slot}
 use Rattle.image_meaning.specs.Meaning.{root_word, roots_fault, root_values_of, walk, empty_graph, meaning, StandsFor}
-use Rattle.image_meaning.specs.Corresponds.{LiesAt, Holds, HoldsReference, Corresponds, SameWords, SameButSlot, SameButRoot, SameObjects, Either, CanJoin, root_static}
+use Rattle.image_meaning.specs.Corresponds.{LiesAt, Holds, HoldsReference, Corresponds, SameWords, SameButSlot, SameButRoot, SameObjects, SameObjectSizes, AgreesEverywhere, Either, CanJoin, root_static}
 
 -- the relation that a test tells
 abbrev pub told_by : (ℕ → ℕ → Bool) → LiesAt
@@ -127,6 +127,25 @@ abbrev pub OtherObjectsCorrespond : Type 0
 OtherObjectsCorrespond = (lies : ℕ → ℕ → Bool) (size : ℕ) (words : Words) (directory : Directory) (heap other : Heap)
     → Corresponds (told_by lies) directory size words heap → SameObjects (told_by lies) heap other
     → Corresponds (told_by lies) directory size words other
+
+-- Words that agree with a heap place by place correspond to it, where some words correspond to one of the same sizes.
+abbrev pub AgreeingWordsCorrespond : Type 0
+AgreeingWordsCorrespond = (lies : ℕ → ℕ → Bool) (size : ℕ) (c d : Words) (directory : Directory) (heap other : Heap)
+    → Corresponds (told_by lies) directory size c heap → SameObjectSizes (told_by lies) heap other
+    → AgreesEverywhere (told_by lies) heap other c d
+    → Corresponds (told_by lies) directory size d other
+
+-- Words of slots and heads are told apart: the word of a slot is no other slot's and no head's, and no root slot lies among
+-- objects.
+pub record WordsLieApart (R : LiesAt) (heap : Heap) : Type 0 where
+  pub slots : (a b m n i j : ℕ) → R a m → R b n → i < length (values_of heap m) → j < length (values_of heap n)
+      → object_line a i ≡ object_line b j → object_word i ≡ object_word j → (m ≡ n) × (i ≡ j)
+  pub heads : (a b m n i : ℕ) → R a m → R b n → i < length (values_of heap m) → object_line a i ≡ b → object_word i ≢ 0
+  pub at_roots : (r a m i : ℕ) → r < root_slots → R a m → slot_line r ≢ object_line a i
+
+abbrev pub CorrespondingWordsLieApart : Type 0
+CorrespondingWordsLieApart = (lies : ℕ → ℕ → Bool) (size : ℕ) (words : Words) (directory : Directory) (heap : Heap)
+    → Corresponds (told_by lies) directory size words heap → WordsLieApart (told_by lies) heap
 
 -- So it is with a heap that has one object more, after a store into an object that lies nowhere, and after one into a static that is no
 -- root's.

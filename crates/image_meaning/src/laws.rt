@@ -2,9 +2,10 @@
 ghost use Rattle.std.specs.Prelude.{ℕ};
 ghost use Rattle.image_meaning.specs.Checks.{Words};
 ghost use Rattle.image_meaning.specs.Laws.{ChecksComeInOrder, PutBackOneByOne, CountedEntriesArePutBack, DirectoriesAreRead, BadDirectoriesAreTold, CorrespondingWordsStand, SameWordsStand, SameWordsCorrespond, SlotStoreCorresponds, RootStoreCorresponds, OtherObjectsCorrespond, ChangesElsewhereCorrespond, FurtherObjectsCorrespond};
-ghost use Rattle.image_meaning.specs.Appending.{AddedEntryOpens, AddedShapeCorresponds, AddedRootCorresponds, NullRootIsAdded, AddedEntryStands};
+ghost use Rattle.image_meaning.specs.Laws.{AgreeingWordsCorrespond, CorrespondingWordsLieApart};
+ghost use Rattle.image_meaning.specs.Appending.{AddedEntryOpens, AddedShapeCorresponds, AddedRootCorresponds, NullRootIsAdded, AddedEntryStands, AddedEntriesStand};
 ghost use Rattle.image_meaning.specs.Opening.{WellFormedImagesPass, StandingImageIsFound, FoundImageStands, FoundObjectsLieBefore, StandingGraphsAreCanonical};
-ghost use Rattle.image_meaning.specs.Logging.{FreePlacesAreLogged, LoggedStoresAreUndone, EmptiedLogsCommit};
+ghost use Rattle.image_meaning.specs.Logging.{FreePlacesAreLogged, LoggedStoresAreUndone, EmptiedLogsCommit, OneLogNames, SameLinesSayTheSame};
 ghost use Rattle.image_meaning.specs.Recovering.{StoppedRecoveryStands, StoppedRecoveriesAreOne};
 ghost use Rattle.image_meaning.specs.Spelling.{NumbersAreSpelled};
 ghost use Rattle.image_meaning.specs.Rows.{SuperblockRows, EntryRows, DirectoryRows, PutBackRow, LogRows, LogCountIsChecked, RootRows, ObjectRows, WordRows, WalkRows};
@@ -57,6 +58,12 @@ pub fn stores_correspond()
     ensures root { RootStoreCorresponds }
 {}
 
+/// Words correspond to a heap with which they agree place by place, and words of places are told apart.
+pub fn agreeing_words_correspond()
+    ensures agree { AgreeingWordsCorrespond }
+    ensures apart { CorrespondingWordsLieApart }
+{}
+
 /// Objects that lie nowhere don't matter, and a group of them can join those that lie somewhere.
 pub fn further_objects_correspond()
     ensures other { OtherObjectsCorrespond }
@@ -72,6 +79,7 @@ pub fn added_entries_correspond()
     ensures root { AddedRootCorresponds }
     ensures graph { NullRootIsAdded }
     ensures stands { AddedEntryStands }
+    ensures each { AddedEntriesStand }
 {}
 
 /// An image that stands for a graph corresponds to each heap that holds the graph, object by object.
@@ -91,12 +99,19 @@ pub fn standing_graphs_are_canonical()
     ensures { StandingGraphsAreCanonical }
 {}
 
-/// What is put back stays the same where a free place is logged and where logged words are stored to; where a log is
-/// emptied, the words that it named show as they are then, and all others as before.
+/// A further entry puts its word back at its place, and nothing else changes of what is put back; nor does anything where
+/// logged words are stored to. Where a log is emptied, the words that it named show as they are then, and all others as
+/// before.
 pub fn logs_undo_stores()
     ensures logged { FreePlacesAreLogged }
     ensures undone { LoggedStoresAreUndone }
     ensures emptied { EmptiedLogsCommit }
+{}
+
+/// Words are named by the logs where one of them names them, and logs whose lines are the same say the same.
+pub fn logs_name_words()
+    ensures one { OneLogNames }
+    ensures same { SameLinesSayTheSame }
 {}
 
 /// What stops within recoveries leave stands for the graph that the image stood for at first.

@@ -1,3 +1,4 @@
+pub mod Effects
 pub mod Moments
 pub mod Versions
 pub mod Generator

@@ -3,7 +3,7 @@
 -- A line write is a write-back of a cache line (CLWB), a fence is an SFENCE, and a word is an aligned store
 -- of eight bytes, which a power failure doesn't tear (Intel 64 and IA-32 Architectures Software Developer's
 -- Manual, volume 2; the AutoPersist paper, PLDI 2019, stands on the same operations).
-use Rattle.std.specs.Prelude.{◌≡◌, ◌⊎◌, ℕ, List, [], ◌∷◌, Bool, true, ◌&&◌, Option, Some, None, get_or, slice_index, if◌then◌else◌, ◌==◌, nat_lt, nat_le, length}
+use Rattle.std.specs.Prelude.{◌≡◌, ◌⊎◌, ℕ, List, [], ◌∷◌, Bool, true, ◌&&◌, Option, Some, None, get_or, slice_index, slice_set, if◌then◌else◌, ◌==◌, nat_lt, nat_le, length}
 use Rattle.line_image.specs.declared.effect.Effect.{Effect}
 use Rattle.line_image.specs.declared.effect.Done.{Done}
 use Rattle.line_image.specs.declared.effect.Done.TheVariants.{Wrote, Fenced}
@@ -30,6 +30,11 @@ versions_from first (effect ∷ done) l = versions_after effect.done l (versions
 
 abbrev pub versions : Trace → ℕ → List (List ℕ)
 versions h l = versions_from (get_or h.first l []) h.done l
+
+-- what reads give of the lines, after this was done
+abbrev pub lines_after : Done → List (List ℕ) → List (List ℕ)
+lines_after (Wrote line words) lines = slice_set lines line words
+lines_after Fenced lines = lines
 
 -- it writes one of so many lines, and eight words
 abbrev pub is_within : ℕ → Done → Bool

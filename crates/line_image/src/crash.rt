@@ -1,6 +1,6 @@
 // One outcome of a stop.
-ghost use Rattle.std.specs.Prelude.{◌≡◌, ◌<◌, ◌+◌, ◌-◌, ◌*◌, ◌^◌, ℕ, [], IfOk, OnOk, IsTrue, length, get_or, slice_index, reverse, All};
-ghost use Rattle.line_image.specs.Trace.{newest, versions_from, versions, is_within};
+ghost use Rattle.std.specs.Prelude.{◌≡◌, ◌<◌, ◌+◌, ◌-◌, ◌*◌, ◌^◌, ℕ, [], ◌∷◌, IfOk, OnOk, IsTrue, length, get_or, slice_index, reverse, All};
+ghost use Rattle.line_image.specs.Trace.{newest, versions_after, versions_from, versions, is_within};
 ghost use Rattle.line_image.specs.Crash.{next_state as state_next, state_after, state_past, choice, version_word, word_left};
 ghost use Rattle.line_image.specs.declared.effect.Effect.{Effect};
 
@@ -61,20 +61,39 @@ fn line_versions(
     let mut found = Vec::new(alloc);
     found.push(first)?;
     for effect in done {
-        match effect.done {
-            Done::Wrote { line: at, words } => {
-                if at == line {
-                    found.push(words)?;
-                }
-            }
-            Done::Fenced => {
-                let latest = found[found.len() - 1];
-                found.clear();
-                found.push(latest)?;
-            }
-        }
+        add_version(&mut found, effect.done, line)?;
     }
     Ok(found)
+}
+
+/// Adds to the versions of a line what was done.
+fn add_version(found: &mut Vec<[u64; 8]>, done: Done, line: u64) -> Result<(), AllocError>
+    requires { 0 < length found.old.items }
+    ensures some { OnOk result (0 < length found.new.items) }
+    ensures versions { OnOk result (found.new.items
+        ≡ reverse (versions_after done line (reverse found.old.items))) }
+{
+    match done {
+        Done::Wrote { line: at, words } => {
+            if at != line {
+                return Ok(());
+            }
+            found.push(words)?;
+            Ok(())
+        }
+        Done::Fenced => keep_latest(found),
+    }
+}
+
+/// Leaves the latest version alone.
+fn keep_latest(found: &mut Vec<[u64; 8]>) -> Result<(), AllocError>
+    requires { 0 < length found.old.items }
+    ensures { OnOk result (found.new.items ≡ newest (reverse found.old.items) ∷ []) }
+{
+    let latest = words_at(found, found.len() - 1);
+    found.clear();
+    found.push(latest)?;
+    Ok(())
 }
 
 #[tactic(auto, using(crate::proofs::Generator::line_steps))]

@@ -1,6 +1,6 @@
 // An image in memory, which keeps its writes and fences.
 ghost use Rattle.std.specs.Prelude.{◌≡◌, ◌<◌, ◌≤◌, ◌+◌, ◌-◌, ◌*◌, ◌/◌, ◌^◌, ◌⊎◌, ◌↔◌, ℕ, [], Some, IfOk, OnOk, OnErr, IsErr, vec_capacity, length, get_or, slice_index, reverse, replicate, All, IsTrue};
-ghost use Rattle.line_image.specs.Trace.{newest, versions_from, is_within};
+ghost use Rattle.line_image.specs.Trace.{newest, versions_from, is_within, lines_after};
 ghost use Rattle.line_image.specs.declared.effect.Effect.{Effect};
 
 use crate::crash::crash_lines;
@@ -47,9 +47,20 @@ pub struct MemoryImage {
     ghost so_far: { All (λ (effect : Effect). effect.at ≤ calls) (reverse done.items) },
 }
 
+/// Makes the lines what reads give after this was done.
+fn change_lines(lines: &mut Vec<[u64; 8]>, done: Done)
+    requires { IsTrue (is_within (length lines.old.items) done) }
+    ensures { lines.new.items ≡ lines_after done lines.old.items }
+{
+    match done {
+        Done::Wrote { line, words } => lines[line as usize] = words,
+        Done::Fenced => {}
+    }
+}
+
 impl MemoryImage {
     ghost use Rattle.line_image.specs.Memory.{size_of, trace_of, calls_of, faults_of, fails_of, room_of};
-    ghost use Rattle.line_image.specs.Trace.{LeavesNow, IsAllFenced, read_word};
+    ghost use Rattle.line_image.specs.Trace.{LeavesNow, IsAllFenced, read_word, did};
     ghost use Rattle.line_image.specs.Crash.{first_word, word_left};
 
     /// An image of so many lines, all zero. Takes the memory for all writes and fences that `fails` has room
@@ -129,6 +140,25 @@ impl MemoryImage {
         })
     }
 
+    /// Adds to the trace what the call did, for which there is room.
+    fn add(&mut self, done: Done)
+        requires room { 0 < room_of self.old }
+        requires within { IsTrue (is_within (size_of self.old) done) }
+        ensures size { size_of self.new ≡ size_of self.old }
+        ensures trace { Some (trace_of self.new) ≡ did done (calls_of self.old) (Some (trace_of self.old)) }
+        ensures calls { calls_of self.new ≡ calls_of self.old }
+        ensures faults { faults_of self.new ≡ faults_of self.old }
+        ensures fails { fails_of self.new ≡ fails_of self.old }
+        ensures room { room_of self.new ≡ room_of self.old - 1 }
+    {
+        self.room -= 1;
+        self.done.push_reserved(Effect {
+            at: self.calls,
+            done,
+        });
+        change_lines(&mut self.latest, done);
+    }
+
     /// What a read gives in a word.
     pub fn word(&self, line: u64, word: u8) -> u64
         requires line { line < size_of self.now }
@@ -201,16 +231,10 @@ impl Image for MemoryImage {
             self.faults = self.faults.saturating_add(1);
             return Err(ImageFailed);
         }
-        let effect = Effect {
-            at: self.calls,
-            done: Done::Wrote {
-                line,
-                words: *words,
-            },
-        };
-        self.room -= 1;
-        self.done.push(effect).unwrap();
-        self.latest[line as usize] = *words;
+        self.add(Done::Wrote {
+            line,
+            words: *words,
+        });
         if self.fails.has(self.calls) {
             self.faults = self.faults.saturating_add(1);
             return Err(ImageFailed);
@@ -234,16 +258,12 @@ impl Image for MemoryImage {
     {
         self.calls = self.calls.saturating_add(1);
         let full = self.room == 0;
-        self.room = self.room.saturating_sub(1);
         if full || self.fails.has(self.calls) {
+            self.room = self.room.saturating_sub(1);
             self.faults = self.faults.saturating_add(1);
             return Err(ImageFailed);
         }
-        let effect = Effect {
-            at: self.calls,
-            done: Done::Fenced,
-        };
-        self.done.push(effect).unwrap();
+        self.add(Done::Fenced);
         Ok(())
     }
 

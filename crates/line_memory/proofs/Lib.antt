@@ -3,3 +3,4 @@ pub mod Chain
 pub mod Residence
 pub mod StopSets
 pub mod Reached
+pub mod Keeps

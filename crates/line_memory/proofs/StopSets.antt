@@ -1,5 +1,5 @@
 -- Steps that follow one another, and what each does to a stop set.
-use Rattle.std.proofs.Common.{◌≡◌, ◌⊎◌, inl, inr, ⊎_elim, ℕ, suc, List, [], ◌∷◌, ◌++◌, Bool, true, false, ◌||◌, nat_eq, Option, Some, None, refl, sym, ◌∙◌, ap, subst, arith}
+use Rattle.std.proofs.Common.{◌≡◌, ◌⊎◌, inl, inr, ⊎_elim, ℕ, suc, List, [], ◌∷◌, ◌++◌, Bool, true, false, ◌||◌, nat_eq, IsTrue, Option, Some, None, refl, sym, ◌∙◌, ap, subst, arith}
 use Rattle.std.proofs.lemmas.Bool.Decides.{nat_tests}
 use Rattle.line_image.specs.Trace.{Trace, MayLeave, did}
 use Rattle.line_image.specs.declared.effect.Done.{Done}
@@ -7,13 +7,17 @@ use Rattle.line_image.specs.declared.effect.Done.TheVariants as done
 use Rattle.line_image.specs.Told.{Told}
 use Rattle.line_memory.specs.Memory.{Memory, line_shown, shown, IsResident, IsTelling, IsKnown, ReadsWord, CanLeave, IsWritten, IsDurable}
 use Rattle.line_memory.specs.Steps.{Deed, WroteBack, Fenced, Stored, Neither, Step, Stores, last, DidAs, Follows, EachFollows}
-use Rattle.line_memory.specs.StopSet.{is_fence, ShownSince, InStopSet}
-use Rattle.line_memory.specs.Laws.{NoneStores, StopsStayInside, AddsWhatIsShown, StoresAloneAdd, FencedStandsAlone, write_and_fence}
-use Rattle.line_memory.proofs.Stops.{may_leave-wrote, may_leave-fenced, reads_once, reads-kept, reads-written}
+use Rattle.line_memory.specs.StopSet.{is_fence, writes, ShownSince, InStopSet}
+use Rattle.line_memory.specs.Laws.{NoneStores, StopsStayInside, AddsWhatIsShown, StoresAloneAdd, FencedStandsAlone, FencesLeaveWhatIsRead, ReadsGiveWhatWasWritten, write_and_fence}
+use Rattle.line_memory.proofs.Stops.{may_leave-wrote, may_leave-fenced, reads-wrote, reads_once, reads-kept, reads-written, reads-fenced as reads-unfenced}
 
 pub telling-did : (o : Option Trace) (d : Done) (at : ℕ) → IsTelling o → IsTelling (did d at o)
 telling-did None d at telling = telling
 telling-did (Some h) d at telling = tt
+
+pub telling-before : (o : Option Trace) (d : Done) (at : ℕ) → IsTelling (did d at o) → IsTelling o
+telling-before None d at telling = telling
+telling-before (Some h) d at telling = tt
 
 -- an image goes on telling
 pub telling_on : (deed : Deed) (old new : Memory) → DidAs deed old new → IsTelling old.image.trace → IsTelling new.image.trace
@@ -61,6 +65,20 @@ reads_on Fenced old new l w follows reads = subst (λ (o : Option Trace). ReadsW
     (reads-fenced old.image.trace new.image.calls l w (shown old l w) reads)
 reads_on (Stored line word x) old new l w follows reads = subst (λ (t : Told). ReadsWord t.trace l w (shown old l w)) (sym follows.same.image) reads
 reads_on Neither old new l w follows reads = subst (λ (o : Option Trace). ReadsWord o l w (shown old l w)) (sym follows.nothing) reads
+
+-- What a read gives was read before, or is written now.
+reads_before : (deed : Deed) (old new : Memory) (l w v : ℕ) → DidAs deed old new → IsKnown old l → IsKnown new l → ReadsWord new.image.trace l w v
+    → ReadsWord old.image.trace l w v ⊎ (IsTrue (writes l deed) × (v ≡ shown new l w))
+reads_before (WroteBack line) old new l w v follows known after reads = ⊎_elim
+    (λ here.
+    let test : nat_eq line l ≡ true = let same = here.0 in grind (arith, nat_tests) in
+    inr (rw test refl, here.1 ∙ ap (λ (k : ℕ). shown old k w) (sym here.0) ∙ sym (follows.shows l w known after)))
+    (λ before. inl before)
+    (reads-wrote old.image.trace line new.image.calls (line_shown old line) l w v (subst (λ (o : Option Trace). ReadsWord o l w v) follows.wrote reads))
+reads_before Fenced old new l w v follows known after reads =
+    inl (reads-unfenced old.image.trace new.image.calls l w v (subst (λ (o : Option Trace). ReadsWord o l w v) follows.made reads))
+reads_before (Stored line word x) old new l w v follows known after reads = inl (subst (λ (t : Told). ReadsWord t.trace l w v) follows.same.image reads)
+reads_before Neither old new l w v follows known after reads = inl (subst (λ (o : Option Trace). ReadsWord o l w v) follows.nothing reads)
 
 -- The first of some steps, and the rest.
 first_none : (l w : ℕ) (step : Step) (steps : List Step) → NoneStores l w (step ∷ steps) → ¬ Stores l w step.deed
@@ -130,6 +148,20 @@ still_inside first (step ∷ later) steps l w v each known none within =
 pub stay_inside : StopsStayInside
 stay_inside first later steps l w v each known none left =
     still_inside first later steps l w v each known none (in_stop_set first (later ++ steps) l w v left)
+
+pub reads_what_was_written : ReadsGiveWhatWasWritten
+reads_what_was_written first [] l w v each known reads = inl reads
+reads_what_was_written first (step ∷ steps) l w v each known reads =
+    let before = known_last first steps l each.1 known in
+    ⊎_elim
+    (λ (old : ReadsWord (last first steps).image.trace l w v). ⊎_elim (λ at_first. inl at_first) (λ later. inr (inr later))
+    (reads_what_was_written first steps l w v each.1 known old))
+    (λ (here : IsTrue (writes l step.deed) × (v ≡ shown step.after l w)). inr (inl here))
+    (reads_before step.deed (last first steps) step.after l w v each.0.deed before (known_on (last first steps) step l each.0 before) reads)
+
+pub leaves_what_is_read : FencesLeaveWhatIsRead
+leaves_what_is_read old new l w v made left =
+    (may_leave-fenced old.image.trace new.image.calls l w v (subst (λ (o : Option Trace). MayLeave o l w v) made left)).0
 
 -- what stays durable without a store
 durable_on : (l w : ℕ) (old : Memory) (step : Step) → Follows old step → IsKnown old l → ¬ Stores l w step.deed → IsDurable old l w → IsDurable step.after l w

@@ -3,11 +3,11 @@
 -- A write-back that comes by itself, at any moment, adds nothing to what a stop may leave; a write-back that a
 -- fence followed takes all else away (Raad, Wickerson, Neiger and Vafeiadis, "Persistency semantics of the
 -- Intel-x86 architecture", POPL 2020).
-use Rattle.std.specs.Prelude.{◌≡◌, ◌⊎◌, ◌↔◌, ℕ, List, [], ◌∷◌, ◌++◌, All}
+use Rattle.std.specs.Prelude.{◌≡◌, ◌⊎◌, ◌↔◌, ℕ, List, [], ◌∷◌, ◌++◌, All, IsTrue}
 use Rattle.line_image.specs.Trace.{MayLeave}
-use Rattle.line_memory.specs.Memory.{Memory, shown, IsResident, IsKnown, IsTelling, CanLeave}
+use Rattle.line_memory.specs.Memory.{Memory, shown, IsResident, IsKnown, IsTelling, ReadsWord, CanLeave, MadeFence}
 use Rattle.line_memory.specs.Steps.{Step, WroteBack, Fenced, Stores, last, Follows, EachFollows}
-use Rattle.line_memory.specs.StopSet.{InStopSet}
+use Rattle.line_memory.specs.StopSet.{writes, InStopSet}
 
 -- the word isn't stored to in any of these steps
 abbrev pub NoneStores : ℕ → ℕ → List Step → Type 0
@@ -45,6 +45,23 @@ FencedStandsAlone = (first written fenced : Memory) (later between earlier : Lis
     → NoneStores l w later → NoneStores l w between
     → InStopSet first (later ++ write_and_fence l written between fenced earlier) l w v
     ↔ (v ≡ shown (last first (later ++ write_and_fence l written between fenced earlier)) l w)
+
+-- After a fence a stop leaves of each word what a read gave then: what its line's last write-back before the fence gave it, also where
+-- the word was stored to again since.
+abbrev pub FencesLeaveWhatIsRead : Type 0
+FencesLeaveWhatIsRead = (old new : Memory) (l w v : ℕ) → MadeFence old new
+    → MayLeave new.image.trace l w v → ReadsWord old.image.trace l w v
+
+-- the word showed this value at a write-back of its line, among these steps
+abbrev pub ShownAtWrite : ℕ → ℕ → ℕ → List Step → Type 0
+ShownAtWrite l w v [] = ⊥
+ShownAtWrite l w v (step ∷ steps) = (IsTrue (writes l step.deed) × (v ≡ shown step.after l w)) ⊎ ShownAtWrite l w v steps
+
+-- What a read gives was shown at a write-back, or was read at first.
+abbrev pub ReadsGiveWhatWasWritten : Type 0
+ReadsGiveWhatWasWritten = (first : Memory) (steps : List Step) (l w v : ℕ) → EachFollows first steps → IsKnown first l
+    → ReadsWord (last first steps).image.trace l w v
+    → ReadsWord first.image.trace l w v ⊎ ShownAtWrite l w v steps
 
 -- the same calls, with further write-backs among them
 pub data AddsWriteBacks : List Step → List Step → Type 0 where

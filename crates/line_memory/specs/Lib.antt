@@ -1,3 +1,4 @@
+pub mod Attached
 pub mod Laws
 pub mod Memory
 pub mod Moments

@@ -91,6 +91,10 @@ abbrev pub ReadsOrShows : Memory → Memory → Type 0
 ReadsOrShows old new = (l w v : ℕ) → ReadsWord new.image.trace l w v
     → ReadsWord old.image.trace l w v ⊎ (v ≡ shown old l w)
 
+-- a word that was written back as it is shown is so still
+abbrev pub StillWritten : Memory → Memory → Type 0
+StillWritten old new = (l w : ℕ) → IsWritten old l w → IsWritten new l w
+
 -- a stop leaves of each word only what it left before, and a read gives what it gave before
 abbrev pub LeavesNoMore : Memory → Memory → Type 0
 LeavesNoMore old new = (l w v : ℕ) → MayLeave new.image.trace l w v → MayLeave old.image.trace l w v

@@ -1,6 +1,6 @@
 // What holds of every run of calls.
 ghost use Rattle.std.specs.Prelude.{ℕ, List, ◌<◌};
-ghost use Rattle.line_memory.specs.Laws.{StopsStayInside, AddsWhatIsShown, StoresAloneAdd, FencedStandsAlone, NoneElseIsLeft, EachIsLeft};
+ghost use Rattle.line_memory.specs.Laws.{StopsStayInside, AddsWhatIsShown, StoresAloneAdd, FencedStandsAlone, FencesLeaveWhatIsRead, ReadsGiveWhatWasWritten, NoneElseIsLeft, EachIsLeft};
 ghost use Rattle.line_memory.specs.Memory.{Memory, CanLeave, IsResident};
 ghost use Rattle.line_memory.specs.Steps.{Step, last};
 ghost use Rattle.line_memory.specs.StopSet.{InStopSet};
@@ -23,6 +23,12 @@ pub fn stop_sets_gain_what_is_stored()
 /// nothing.
 pub fn a_fenced_word_stands_alone()
     ensures { FencedStandsAlone }
+{}
+
+/// What a stop leaves after a fence is what was shown at a write-back before it. Does nothing.
+pub fn fences_leave_what_was_written()
+    ensures read { FencesLeaveWhatIsRead }
+    ensures written { ReadsGiveWhatWasWritten }
 {}
 
 /// A stop set has exactly what a stop might leave where lines are written back at further moments. Does nothing.

@@ -1,9 +1,10 @@
 // The lines of an image, kept in memory.
-ghost use Rattle.std.specs.Prelude.{◌≡◌, ◌≢◌, ◌⊎◌, ◌<◌, ◌≤◌, ℕ, ◌↔◌, IsTrue, OnOk, OnErr, IfOk, IfErr, Ok};
-ghost use Rattle.ap_base.specs.Causes.{HasCause, Rose};
-ghost use Rattle.line_image.specs.Trace.{LeavesNow, IsAllFenced};
-ghost use Rattle.line_memory.specs.Memory.{Memory, shown, IsResident, IsAwaited, IsKnown, ReadsWord, CanLeave, CanLeaveAll, IsWritten, IsDurable, SameShown, SameResident, KeepsTelling, Narrows, ReadsOrShows, LeavesNoMore, SameReads, OneCall, SameImage, WroteLine, MadeFence, DidNothing};
-ghost use Rattle.line_memory.specs.Moments.{Goes, CountsFrom};
+ghost use Rattle.std.specs.Prelude.{◌≡◌, ◌≢◌, ◌⊎◌, ◌<◌, ℕ, ◌↔◌, IsTrue, OnOk, OnErr, IfOk, IfErr, Ok};
+ghost use Rattle.ap_base.specs.Causes.{HasCause};
+ghost use Rattle.line_image.specs.Trace.{LeavesNow};
+ghost use Rattle.line_memory.specs.Attached.{Attaches, GivesBack};
+ghost use Rattle.line_memory.specs.Memory.{Memory, shown, IsResident, IsAwaited, CanLeave, IsWritten, IsDurable, SameResident, LeavesNoMore, SameReads, OneCall, SameImage, WroteLine, MadeFence, DidNothing};
+ghost use Rattle.line_memory.specs.Moments.{Goes, KeepsShown};
 
 use crate::attach::{AttachFault, read_lines};
 use ap_base::Spot;
@@ -55,29 +56,9 @@ impl<I: Image> LineMemory<I> {
     /// Reads every line of an image. Gives the image back with the fault: `Size` exactly where it has fewer
     /// than 32,768 or more than 4,194,304 lines.
     pub fn attach(alloc: Global, mut image: I) -> Result<LineMemory<I>, (AttachFault, I)>
-        ensures size { IfOk result (λ m. m.size ≡ (I.told image).size) }
-        ensures range { IfOk result (λ m. (32768 ≤ m.size) × (m.size ≤ 4194304)) }
-        ensures known { IfOk result (λ m. (l : ℕ) → l < m.size → IsKnown m l) }
-        ensures shows { IfOk result (λ m. (l w : ℕ) → l < m.size
-            → ReadsWord (I.told image).trace l w (shown m l w)) }
-        ensures durable { IfOk result (λ m. IsAllFenced (I.told image).trace
-            → (l w : ℕ) → l < m.size → IsDurable m l w) }
-        ensures trace { IfOk result (λ m. m.image.trace ≡ (I.told image).trace) }
-        ensures calls { IfOk result (λ m. m.calls ≡ (I.told image).size) }
-        ensures counts { IfOk result (CountsFrom (I.told image).calls) }
-        ensures any_moment { IfOk result (λ m.
-            Goes (I.told image) m.image (LeavesNow (I.told image).trace)) }
-        ensures later { IfOk result (λ m. I.faults image ≤ m.faults) }
-
-        ensures size_fault { IfErr result (λ e. e.0 ≡ AttachFault.Size
-            ↔ (((I.told image).size < 32768) ⊎ (4194304 < (I.told image).size))) }
-        ensures cause { IfErr result (λ e. e.0 ≡ AttachFault.ImageFailed
-            → Rose (I.faults image) (I.faults e.1)) }
-        ensures same_size { IfErr result (λ e. (I.told e.1).size ≡ (I.told image).size) }
-        ensures same_trace { IfErr result (λ e. (I.told e.1).trace ≡ (I.told image).trace) }
-        ensures any_moment_of_fault { IfErr result (λ e.
-            Goes (I.told image) (I.told e.1) (LeavesNow (I.told image).trace)) }
-        ensures later_of_fault { IfErr result (λ e. I.faults image ≤ I.faults e.1) }
+        ensures attached { IfOk result (Attaches (I.told image) (I.faults image)) }
+        ensures given_back { IfErr result (λ e.
+            GivesBack (I.told image) (I.faults image) e.0 (I.told e.1) (I.faults e.1)) }
     {
         let count = image.lines();
         if count < MIN_LINES || MAX_LINES < count {
@@ -114,13 +95,9 @@ impl<I: Image> LineMemory<I> {
         ensures quiet { IsResident self.old line → SameImage self.old self.new }
         ensures resident { IsResident self.old line → SameResident self.old self.new }
         ensures failed { OnErr result (SameResident self.old self.new) }
+        ensures made { ¬ IsResident self.old line → OneCall self.old self.new }
 
-        ensures size { self.new.size ≡ self.old.size }
-        ensures shows { SameShown self.old self.new }
-        ensures telling { KeepsTelling self.old self.new }
-        ensures leaves { Narrows self.old self.new }
-        ensures reads { ReadsOrShows self.old self.new }
-        ensures any_moment { Goes self.old.image self.new.image (CanLeaveAll self.old) }
+        ensures keeps { KeepsShown self.old self.new }
         ensures count { SameImage self.old self.new ⊎ OneCall self.old self.new }
         ensures cause { HasCause self.old.faults self.new.faults result }
     {
@@ -165,13 +142,8 @@ impl<I: Image> LineMemory<I> {
         ensures failed { OnErr result (WroteLine line self.old self.new ⊎ DidNothing self.old self.new) }
         ensures written { OnOk result ((w : ℕ) → IsWritten self.new line w) }
 
-        ensures size { self.new.size ≡ self.old.size }
         ensures resident { SameResident self.old self.new }
-        ensures shows { SameShown self.old self.new }
-        ensures telling { KeepsTelling self.old self.new }
-        ensures leaves { Narrows self.old self.new }
-        ensures reads { ReadsOrShows self.old self.new }
-        ensures any_moment { Goes self.old.image self.new.image (CanLeaveAll self.old) }
+        ensures keeps { KeepsShown self.old self.new }
         ensures count { OneCall self.old self.new }
         ensures cause { HasCause self.old.faults self.new.faults result }
     {
@@ -189,13 +161,8 @@ impl<I: Image> LineMemory<I> {
         ensures same_reads { SameReads self.old self.new }
         ensures within { Goes self.old.image self.new.image (LeavesNow self.old.image.trace) }
 
-        ensures size { self.new.size ≡ self.old.size }
         ensures resident { SameResident self.old self.new }
-        ensures shows { SameShown self.old self.new }
-        ensures telling { KeepsTelling self.old self.new }
-        ensures leaves { Narrows self.old self.new }
-        ensures reads { ReadsOrShows self.old self.new }
-        ensures any_moment { Goes self.old.image self.new.image (CanLeaveAll self.old) }
+        ensures keeps { KeepsShown self.old self.new }
         ensures count { OneCall self.old self.new }
         ensures cause { HasCause self.old.faults self.new.faults result }
     {
@@ -211,13 +178,8 @@ impl<I: Image> LineMemory<I> {
         ensures failed { OnErr result (WroteLine line self.old self.new ⊎ DidNothing self.old self.new) }
         ensures written { OnOk result ((w : ℕ) → IsWritten self.new line w) }
 
-        ensures size { self.new.size ≡ self.old.size }
         ensures resident { SameResident self.old self.new }
-        ensures shows { SameShown self.old self.new }
-        ensures telling { KeepsTelling self.old self.new }
-        ensures leaves { Narrows self.old self.new }
-        ensures reads { ReadsOrShows self.old self.new }
-        ensures any_moment { Goes self.old.image self.new.image (CanLeaveAll self.old) }
+        ensures keeps { KeepsShown self.old self.new }
         ensures count { OneCall self.old self.new }
         ensures cause { HasCause self.old.faults self.new.faults result }
     {

@@ -59,7 +59,7 @@ fn end_word(alloc: Global, words: &mut Vec<Bytes>, word: &[u8]) -> Result<(), Al
 }
 
 /// The words of a line, in order.
-#[tactic(auto, using(crate::proofs::Steps::goes_between, crate::proofs::Steps::goes_on), unfolding(crate::specs::Words::words_from))]
+#[tactic(auto, unfolding(crate::specs::Words::words_from))]
 pub(crate) fn words(alloc: Global, line: &[u8]) -> Result<Vec<Bytes>, AllocError>
     ensures { IfOk result (λ v. v.items ≡ words line.now) }
 {

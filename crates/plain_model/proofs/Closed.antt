@@ -13,7 +13,8 @@ use Rattle.graph_model.specs.Heaps.{no_object, IsBelow, default_of}
 use Rattle.run_history.specs.Recorded.{Recorded}
 use Rattle.run_history.specs.Knowing.{Knowledge, next_known, known_after, is_root}
 use Rattle.run_history.specs.Wanted.{Wishes, WantsNow, IsClosed}
-use Rattle.plain_model.specs.Facts.{SetFacts, StaticFacts, narrowed}
+use Rattle.plain_model.specs.Facts.{SetFacts, StaticFacts, stream_class, arguments_class}
+use Rattle.plain_model.specs.Kinds.{narrowed}
 use Rattle.plain_model.specs.First.{IsOpening, first_known, first_world, first_heap, first_objects, first_statics, node_object, literal_object, static_value, constant_value, root_static, root_value, roots_from, is_lacking, lacking_roots, name_is}
 use Rattle.plain_model.specs.Codes.{Code, frames_after_op}
 use Rattle.plain_model.specs.Runs.{GoesOn}
@@ -46,7 +47,7 @@ module _ (set : SetFacts) (opening : Graph) (is : IsOpening set opening) where
 
   -- the objects of the first heap that are no nodes
   abbrev other_objects : List Obj
-  other_objects = record { shape = set.stream; values = [] } ∷ record { shape = set.arguments; values = [] } ∷ map (literal_object set opening) set.literals
+  other_objects = record { shape = stream_class set; values = [] } ∷ record { shape = arguments_class set; values = [] } ∷ map (literal_object set opening) set.literals
 
   pub root_value_below : (roots : List NamedValue) (name : List ℕ) → All (λ (r : NamedValue). IsBelow nodes r.value) roots → IsBelow nodes (root_value roots name)
   root_value_below [] name all = tt

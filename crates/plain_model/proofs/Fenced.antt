@@ -88,7 +88,7 @@ volatile_place run =
     let rest = gone_on (puts_target ∷ []) [] (by 0 2 (op.Asked (Slot 4 0) (Object 4)) ∷ []) run in
     elim rest.0.rule.holder [
       | inl durable ↦ (let no : false ≡ true = durable in cc)
-      | inr wanted ↦ (let (u, n, i, is, wants) = wanted in wants)
+      | inr wanted ↦ wanted.wanted
     ]
 
 pub asked_twice : RefuseToDo (puts_worker ∷ []) ([])

@@ -13,8 +13,12 @@ use Rattle.graph_model.specs.declared.types.Node.{Node}
 use Rattle.graph_model.specs.declared.types.NamedValue.{NamedValue}
 use Rattle.graph_model.specs.declared.types.Graph.{Graph}
 use Rattle.graph_model.specs.Heaps.{IsBelow, IsSound, default_of}
-use Rattle.plain_model.specs.Facts.{SetFacts, ClassFacts, StaticFacts, Constant, IntConstant, LongConstant, LiteralConstant, IsConsistent, IsConstantBelow, narrowed}
+use Rattle.plain_model.specs.Classes.{ClassFacts}
+use Rattle.plain_model.specs.Facts.{SetFacts, StaticFacts, classes_of, stream_class, arguments_class, Constant, IntConstant, LongConstant, LiteralConstant}
+use Rattle.plain_model.specs.Kinds.{narrowed}
+use Rattle.plain_model.specs.Consistent.{IsConstantBelow, IsComplete}
 use Rattle.plain_model.specs.First.{IsOpening, first_heap, first_objects, first_statics, node_object, literal_object, static_value, constant_value, root_static, root_value, roots_from, is_lacking, lacking_roots, name_is, stream_number}
+use Rattle.plain_model.proofs.Consistent.{string_there, stream_there, arguments_there}
 use Rattle.plain_model.proofs.Closed.{root_value_below}
 
 -- an object of the first so many is one of the first more
@@ -56,7 +60,7 @@ root_static_within (s ∷ ss) name k found = elim (s.is_root && name_is s.name n
       | Some j ↦ λ e g. let next : suc j ≡ k = (let it : Some (suc j) ≡ Some k = g in cc) in omega (arith, next, within j e)
     ] refl
 
-module _ (set : SetFacts) (opening : Graph) (consistent : IsConsistent set) (is : IsOpening set opening) where
+module _ (set : SetFacts) (opening : Graph) (complete : IsComplete set) (is : IsOpening set opening) where
   abbrev count : ℕ
   count = length (first_objects set opening)
 
@@ -69,7 +73,7 @@ module _ (set : SetFacts) (opening : Graph) (consistent : IsConsistent set) (is 
   counted : count ≡ length opening.nodes + (2 + length set.literals)
   counted = omega (
     arith,
-    length-append nodes (record { shape = set.stream; values = [] } ∷ record { shape = set.arguments; values = [] } ∷ literals),
+    length-append nodes (record { shape = stream_class set; values = [] } ∷ record { shape = arguments_class set; values = [] } ∷ literals),
     length-map opening.nodes (node_object set opening),
     length-map set.literals (literal_object set opening),
   )
@@ -78,14 +82,14 @@ module _ (set : SetFacts) (opening : Graph) (consistent : IsConsistent set) (is 
   more_nodes = omega (arith, counted)
 
   abbrev HasShape : Obj → Type 0
-  HasShape o = o.shape < length set.classes
+  HasShape o = o.shape < length (classes_of set)
 
   object_shapes : All HasShape (first_objects set opening)
-  object_shapes = All-append HasShape nodes (record { shape = set.stream; values = [] } ∷ record { shape = set.arguments; values = [] } ∷ literals)
+  object_shapes = All-append HasShape nodes (record { shape = stream_class set; values = [] } ∷ record { shape = arguments_class set; values = [] } ∷ literals)
       (All-map HasShape (node_object set opening) opening.nodes is.shapes)
-      (All-cons HasShape (record { shape = set.stream; values = [] }) (record { shape = set.arguments; values = [] } ∷ literals) consistent.stream
-      (All-cons HasShape (record { shape = set.arguments; values = [] }) literals consistent.arguments
-      (All-map HasShape (literal_object set opening) set.literals (λ k d within. consistent.string))))
+      (All-cons HasShape (record { shape = stream_class set; values = [] }) (record { shape = arguments_class set; values = [] } ∷ literals) (stream_there set)
+      (All-cons HasShape (record { shape = arguments_class set; values = [] }) literals (arguments_there set complete)
+      (All-map HasShape (literal_object set opening) set.literals (λ k d within. string_there set))))
 
   abbrev HasSlots : Obj → Type 0
   HasSlots o = All (IsBelow count) o.values
@@ -94,12 +98,12 @@ module _ (set : SetFacts) (opening : Graph) (consistent : IsConsistent set) (is 
   more_below value below = IsBelow-more (length opening.nodes) count value more_nodes below
 
   object_slots : All HasSlots (first_objects set opening)
-  object_slots = All-append HasSlots nodes (record { shape = set.stream; values = [] } ∷ record { shape = set.arguments; values = [] } ∷ literals)
+  object_slots = All-append HasSlots nodes (record { shape = stream_class set; values = [] } ∷ record { shape = arguments_class set; values = [] } ∷ literals)
       (All-map HasSlots (node_object set opening) opening.nodes
       (All-weaker (λ (n : Node). All (IsBelow (length opening.nodes)) n.values) (λ (n : Node). All (IsBelow count) n.values)
       (λ n. All-weaker (IsBelow (length opening.nodes)) (IsBelow count) more_below n.values) opening.nodes is.in_nodes))
-      (All-cons HasSlots (record { shape = set.stream; values = [] }) (record { shape = set.arguments; values = [] } ∷ literals) (All-nil (IsBelow count))
-      (All-cons HasSlots (record { shape = set.arguments; values = [] }) literals (All-nil (IsBelow count))
+      (All-cons HasSlots (record { shape = stream_class set; values = [] }) (record { shape = arguments_class set; values = [] } ∷ literals) (All-nil (IsBelow count))
+      (All-cons HasSlots (record { shape = arguments_class set; values = [] }) literals (All-nil (IsBelow count))
       (All-map HasSlots (literal_object set opening) set.literals
       (λ k d within. All-map (IsBelow count) (λ (c : ℕ). Int (pos c)) (get_or set.literals k d) (λ i e inside. tt)))))
 
@@ -131,7 +135,7 @@ module _ (set : SetFacts) (opening : Graph) (consistent : IsConsistent set) (is 
       (All-cons (IsBelow count) (Object (stream_number set opening)) fields (omega (arith, counted))
       (All-map (IsBelow count) (static_value set opening) set.statics
       (All-weaker (λ (s : StaticFacts). IsConstantBelow (length set.literals) s.constant) (λ (s : StaticFacts). IsBelow count (static_value set opening s))
-      static_below set.statics consistent.constants)))
+      static_below set.statics complete.constants)))
       (All-map (IsBelow count) (λ (r : NamedValue). r.value) (lacking_roots set opening)
       (All-filter (is_lacking set opening) (λ (r : NamedValue). IsBelow count r.value) opening.roots
       (All-weaker (λ (r : NamedValue). IsBelow (length opening.nodes) r.value) (λ (r : NamedValue). IsBelow count r.value)
@@ -158,7 +162,7 @@ module _ (set : SetFacts) (opening : Graph) (consistent : IsConsistent set) (is 
   unfolding first_heap
   first_heap_is_sound = record {
     few = is.few;
-    shapes = rw (length-map set.classes (λ (c : ClassFacts). c.shape)) object_shapes;
+    shapes = rw (length-map (classes_of set) (λ (c : ClassFacts). c.shape)) object_shapes;
     slots = object_slots;
     statics = statics_below;
     roots = roots_within opening.roots 0 (length (first_statics set opening)) (omega (

@@ -11,7 +11,9 @@ use Rattle.graph_model.specs.declared.types.Graph.{Graph}
 use Rattle.graph_model.specs.Heaps.{has_number}
 use Rattle.run_history.specs.Knowing.{Knowledge}
 use Rattle.run_history.specs.Wanted.{Wishes}
-use Rattle.plain_model.specs.Ends.{UsesUp, FillsImage, IsTaken, joined_of}
+use Rattle.plain_model.specs.Limits.{joined_of}
+use Rattle.plain_model.specs.Causes.{UsesUp}
+use Rattle.plain_model.specs.Ends.{FillsImage, IsTaken}
 use Rattle.plain_model.specs.EndLaws.{LogsHold1024, MonitorsAre4096}
 
 -- nothing is left of so many where as many are taken
@@ -35,9 +37,9 @@ uses_up many taken which full =
 
 pub logs_hold_1024 : LogsHold1024
 logs_hold_1024 = record {
-  full = λ set known request t f (place, value, about, durable, deep, own, up). used_up 1024 _ _ f up;
-  comes = λ set known request t place value about durable deep own full.
-      (place, value, about, durable, deep, own, uses_up 1024 _ _ full);
+  full = λ set known request t f (place, value, about, durable, kept, deep, own, up). used_up 1024 _ _ f up;
+  comes = λ set known request t place value about durable kept deep own full.
+      (place, value, about, durable, kept, deep, own, uses_up 1024 _ _ full);
 }
 
 pub monitors_are_4096 : MonitorsAre4096
@@ -72,9 +74,9 @@ claimed_once claimed n once (k, within, is) =
     (get_or_append_left claimed (n ∷ []) n k within ∙ is
     ∙ sym (get_or_at claimed n [] n (length claimed) refl))
 
-pub lines_are_for_wanted : (opening : Graph) (lines : ℕ) (known : Knowledge) (Now : Wishes) (f : RunFault)
-    → FillsImage opening lines known Now f → (n u : ℕ) × Now u n × (has_number known.durable n ≡ false)
-lines_are_for_wanted opening lines known Now f fills =
+pub lines_are_for_wanted : (opening : Graph) (lines : ℕ) (known : Knowledge) (Now : Wishes) (t : ℕ) (f : RunFault)
+    → FillsImage opening lines known Now t f → (n : ℕ) × Now t n × (has_number known.durable n ≡ false)
+lines_are_for_wanted opening lines known Now t f fills =
     let n = fills.refused in
     let last : Contains (fills.claimed ++ n ∷ []) n = Contains-append_right fills.claimed (n ∷ []) n
     (0, omega arith, refl) in
@@ -83,10 +85,7 @@ lines_are_for_wanted opening lines known Now f fills =
     claimed_once fills.claimed n fills.once
     (All-contains (λ m. Contains fills.claimed m) (joined_of opening known) n fills.joined
     (joined_from known.durable (length opening.nodes) n (omega (arith, past)) durable)) in
-    elim why [
-      | inl durable ↦ absurd (volatile durable)
-      | inr wanted ↦ (n, wanted.0, wanted.1, unless_true (has_number known.durable n) volatile)
-    ]
+    (n, fills.wanted, unless_true (has_number known.durable n) volatile)
   where
     unless_true : (b : Bool) → (b ≡ true → ⊥) → b ≡ false
     unless_true true never = absurd (never refl)

@@ -20,9 +20,10 @@ use Rattle.graph_model.proofs.Numbers.{has_number-from_Contains, Contains-from_h
 use Rattle.graph_model.proofs.FoundAfter.{found_from-numbering, found_from-only, root_values-below}
 use Rattle.std.proofs.lemmas.Cmp.{nat_eq_equiv}
 use Rattle.std.proofs.lemmas.Map.Keys.{IsDistinct-push}
-use Rattle.plain_model.specs.Facts.{SetFacts, ClassFacts, class_at, no_class, IsConsistent}
+use Rattle.plain_model.specs.Classes.{ClassFacts, no_class}
+use Rattle.plain_model.specs.Facts.{SetFacts, classes_of, class_at, stream_class, arguments_class}
+use Rattle.plain_model.specs.Consistent.{IsComplete}
 use Rattle.plain_model.specs.First.{IsOpening, class_named, numbers_to, first_heap, node_object, literal_object, roots_from}
-use Rattle.plain_model.specs.Laws.{HasShapesOf}
 use Rattle.plain_model.proofs.Places.{IsIn, AreIn, place_at, numbers-length, numbers-at, new-places, own_place, all_places}
 use Rattle.plain_model.proofs.FirstSound.{first_heap_is_sound}
 use Rattle.plain_model.proofs.RootsRead.{reading, roots_read}
@@ -41,7 +42,7 @@ module _ (set : SetFacts) (opening : Graph) (is : IsOpening set opening) where
   node_at n = slice_index_or opening.nodes n no_node
 
   abbrev other_objects : List Obj
-  other_objects = record { shape = set.stream; values = [] } ∷ record { shape = set.arguments; values = [] }
+  other_objects = record { shape = stream_class set; values = [] } ∷ record { shape = arguments_class set; values = [] }
       ∷ map (literal_object set opening) set.literals
 
   pub object_is_node : (n : ℕ) → n < count → object_at heap n ≡ node_object set opening (node_at n)
@@ -246,8 +247,7 @@ module _ (set : SetFacts) (opening : Graph) (is : IsOpening set opening) (other 
   }
 
 -- The graph by those numbers is the opening graph.
-module _ (set : SetFacts) (opening : Graph) (is : IsOpening set opening)
-    (shapes : HasShapesOf set opening) where
+module _ (set : SetFacts) (opening : Graph) (is : IsOpening set opening) where
   abbrev below_count : List ℕ
   below_count = numbers_to (length opening.nodes)
 
@@ -276,17 +276,17 @@ module _ (set : SetFacts) (opening : Graph) (is : IsOpening set opening)
   unfolding first_heap
   node_back k below =
       let n = slice_index_or opening.nodes k no_node in
-      let class = class_named set.classes n.shape.name in
-      let there : class < length set.classes =
+      let class = class_named (classes_of set) n.shape.name in
+      let there : class < length (classes_of set) =
       All-get_or
       (λ (x : Node).
-      class_named set.classes x.shape.name < length set.classes) opening.nodes k no_node below is.shapes in
+      class_named (classes_of set) x.shape.name < length (classes_of set)) opening.nodes k no_node below is.shapes in
       let object = object_is_node set opening is k below in
       let shape : shape_at (first_heap set opening) (object_at (first_heap set opening) k).shape ≡ n.shape =
       ap (λ (o : Obj). shape_at (first_heap set opening) o.shape) object
-      ∙ get_or-map (λ (c : ClassFacts). c.shape) set.classes class no_class no_shape there
-      ∙ All-get_or (λ (x : Node). (class_at set (class_named set.classes x.shape.name)).shape
-      ≡ x.shape) opening.nodes k no_node below shapes in
+      ∙ get_or-map (λ (c : ClassFacts). c.shape) (classes_of set) class no_class no_shape there
+      ∙ All-get_or (λ (x : Node). (class_at set (class_named (classes_of set) x.shape.name)).shape
+      ≡ x.shape) opening.nodes k no_node below is.agree in
       let values : map (renumbered below_count) (values_of (first_heap set opening) k) ≡ n.values =
       ap (λ (o : Obj). map (renumbered below_count) o.values) object
       ∙ own_values (length opening.nodes) n.values
@@ -322,12 +322,12 @@ module _ (set : SetFacts) (opening : Graph) (is : IsOpening set opening)
       }) roots_back
       ∙ ap (λ ns. record { roots = opening.roots; nodes = ns }) nodes_back
 
-  pub own_graph : IsConsistent set → (other : Heap) → IsSound other → opening ≡ canon_of other
+  pub own_graph : IsComplete set → (other : Heap) → IsSound other → opening ≡ canon_of other
       → canon_of (first_heap set opening) ≡ opening
   unfolding canon_of
-  own_graph consistent other sound canonical =
+  own_graph complete other sound canonical =
       let heap = first_heap set opening in
-      let first_sound = first_heap_is_sound set opening consistent is in
+      let first_sound = first_heap_is_sound set opening complete is in
       ap (graph_by heap)
       (sym (found_from-only heap (root_values heap) first_sound (root_values-below heap first_sound)
       below_count (numbered set opening is other sound canonical)))

@@ -23,7 +23,7 @@ region_done = (
         record {
           later = lit≤ tt;
           rule = record {
-            is_about = (Object 0, refl);
+            is_about = (Object 0, refl, refl);
             is_open = λ none. let no : 1 ≡ 0 = none in cc;
             not_closing = refl;
             durable = refl;

@@ -17,12 +17,12 @@ unfolding first_world first_heap known_after_op frames_after_op step
 one_after_the_other = go_on (in_region 7) (in_region 8)
     (region_of 0 7 ++ region_of 1 8 ++ leaves 0 ∷ leaves 1 ∷ [])
     (may refl refl refl refl refl
-    ▸ may refl (guard_rule (int 7) refl refl refl refl refl) refl refl refl
+    ▸ may refl (guard_rule (int 7) refl refl refl refl refl refl) refl refl refl
     ▸ may refl (to_guarded refl refl) refl refl refl
     ▸ may refl (close_rule refl refl refl refl) refl refl refl
     ▸ may refl (end_rule refl refl) refl refl refl
     ▸ may refl refl refl refl refl
-    ▸ may refl (guard_rule (int 8) refl refl refl refl refl) refl refl refl
+    ▸ may refl (guard_rule (int 8) refl refl refl refl refl refl) refl refl refl
     ▸ may refl (to_guarded refl refl) refl refl refl
     ▸ may refl (close_rule refl refl refl refl) refl refl refl
     ▸ may refl (end_rule refl refl) refl refl refl
@@ -53,12 +53,12 @@ unfolding first_world first_heap known_after_op frames_after_op step
 in_turn = go_on (in_region 7 ++ in_region 9) ([])
     (region_of 0 7 ++ region_of 0 9)
     (may refl refl refl refl refl
-    ▸ may refl (guard_rule (int 7) refl refl refl refl refl) refl refl refl
+    ▸ may refl (guard_rule (int 7) refl refl refl refl refl refl) refl refl refl
     ▸ may refl (to_guarded refl refl) refl refl refl
     ▸ may refl (close_rule refl refl refl refl) refl refl refl
     ▸ may refl (end_rule refl refl) refl refl refl
     ▸ may refl refl refl refl refl
-    ▸ may refl (guard_rule (int 9) refl refl refl refl refl) refl refl refl
+    ▸ may refl (guard_rule (int 9) refl refl refl refl refl refl) refl refl refl
     ▸ may refl (to_guarded refl refl) refl refl refl
     ▸ may refl (close_rule refl refl refl refl) refl refl refl
     ▸ may refl (end_rule refl refl) refl refl refl
@@ -88,7 +88,7 @@ guards_outside_refused run = (gone_on (puts_amount 0 7 ∷ []) [] (guards 0 0 �
 pub guards_another_place_refused : RefuseToDo (in_region 7) [] (begins 0 ∷ guards 0 1 ∷ [])
 unfolding first_world first_heap known_after_op frames_after_op step
 guards_another_place_refused run =
-    let (value, about) = (gone_on (in_region 7) [] (begins 0 ∷ guards 0 1 ∷ []) run).1.0.rule.is_about in
+    let (value, about, kept) = (gone_on (in_region 7) [] (begins 0 ∷ guards 0 1 ∷ []) run).1.0.rule.is_about in
     let no : Some (op.Stored (amount_of 0) (int 7)) ≡ Some (op.Stored (amount_of 1) value) = about in cc
 
 pub closes_twice_refused : RefuseToDo (in_region 7) ([])
@@ -122,7 +122,7 @@ nested_run = go_on (nested) ([])
     (inner_ended ++ closes 0 ∷ ends 0 ∷ leaves 0 ∷ [])
     (may refl refl refl refl refl
     ▸ may refl refl refl refl refl
-    ▸ may refl (guard_rule (int 7) refl refl refl refl refl) refl refl refl
+    ▸ may refl (guard_rule (int 7) refl refl refl refl refl refl) refl refl refl
     ▸ may refl (to_guarded refl refl) refl refl refl
     ▸ may refl (inner_end refl refl) refl refl refl
     ▸ may refl (close_rule refl refl refl refl) refl refl refl

@@ -9,14 +9,14 @@ use Rattle.graph_model.specs.declared.types.Value.TheVariants.{Obj as Object}
 use Rattle.graph_model.specs.declared.types.Graph.{Graph}
 use Rattle.graph_model.specs.Heaps.{has_number}
 use Rattle.run_history.specs.declared.act.Op.TheVariants as op
-use Rattle.run_history.specs.Recorded.{Recorded}
+use Rattle.run_history.specs.Recorded.{Recorded, NamesRightly}
 use Rattle.run_history.specs.Worlds.{depth_of}
-use Rattle.run_history.specs.Knowing.{Knowledge, next_known, known_after, durable_at, pending_of, guard_of, has_guards, is_outermost}
+use Rattle.run_history.specs.Knowing.{owes_fence, Knowledge, next_known, known_after, durable_at, pending_of, guard_of, has_guards, is_outermost}
 use Rattle.run_history.specs.Wanted.{Wishes, WantsNow, WantsAfter}
 use Rattle.plain_model.specs.Facts.{SetFacts}
 use Rattle.plain_model.specs.Requests.{PlainRequest}
 use Rattle.plain_model.specs.Codes.{Code, frames_after_op, frames_after}
-use Rattle.plain_model.specs.Runs.{IsAbout, MayAsk, MayJoin, MayGuard, MayStore, MayClose, MayEnd, Rule, NamesRightly, MayAct, GoesOn, is_fenced, has_guarded}
+use Rattle.plain_model.specs.Runs.{IsAbout, MayAsk, MayJoin, MayGuard, MayStore, MayClose, MayEnd, Rule, MayAct, GoesOn, is_fenced, has_guarded, is_volatile}
 use Rattle.plain_model.proofs.ClosedTest.{is_closed, closed_by_test}
 
 -- an act that may come, and what may come after it
@@ -29,7 +29,7 @@ pub may : {set : SetFacts} {known : Knowledge} {Now : Wishes} {request : Option 
     → nat_le known.at a.act.at ≡ true
     → Rule set known Now request a.act.thread a.named a.act.op
     → NamesRightly a.act.op a.named
-    → is_fenced a.act.op ≡ has_number known.unfenced a.act.thread
+    → is_fenced a.act.op ≡ owes_fence known.unfenced a.act.thread
     → is_closed (next_known known a) ≡ true
     → MayAct set known Now request a
 may {known = known} {a = a} later rule named fence closed = record {
@@ -43,11 +43,11 @@ may {known = known} {a = a} later rule named fence closed = record {
 -- the rules of the operations by their tests
 pub guard_rule : {set : SetFacts} {known : Knowledge} {request : Option PlainRequest} {t : ℕ}
     {place : Place} (value : Value)
-    → IsAbout set known request t (op.Stored place value) → nat_eq (depth_of known.world t) 0 ≡ false
-    → has_number known.closing t ≡ false → durable_at known place ≡ true → guard_of known.guards place ≡ None
+    → IsAbout set known request t (op.Stored place value) → is_volatile known.durable value ≡ false
+    → nat_eq (depth_of known.world t) 0 ≡ false → has_number known.closing t ≡ false → durable_at known place ≡ true → guard_of known.guards place ≡ None
     → MayGuard set known request t place
-guard_rule {known = known} {t = t} value about deep not_closing durable unguarded = record {
-  is_about = (value, about);
+guard_rule {known = known} {t = t} value about kept deep not_closing durable unguarded = record {
+  is_about = (value, about, kept);
   is_open = λ none. eqb-false (depth_of known.world t) 0 deep none;
   not_closing = not_closing;
   durable = durable;

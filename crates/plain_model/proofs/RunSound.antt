@@ -11,7 +11,8 @@ use Rattle.run_history.specs.declared.act.Op.TheVariants as op
 use Rattle.run_history.specs.Recorded.{Recorded}
 use Rattle.run_history.specs.Worlds.{World, heap_after_op, after}
 use Rattle.run_history.specs.Knowing.{Knowledge, next_known, known_after}
-use Rattle.plain_model.specs.Facts.{SetFacts, IsConsistent, shapes_of}
+use Rattle.plain_model.specs.Facts.{SetFacts, shapes_of}
+use Rattle.plain_model.specs.Consistent.{IsComplete}
 use Rattle.plain_model.specs.First.{IsOpening, first_known, first_world, first_heap}
 use Rattle.plain_model.specs.Requests.{PlainRequest, PlainReply}
 use Rattle.plain_model.specs.Steps.{Step, Does, Waits, WrongOperand, IsOver, step, op_of}
@@ -34,17 +35,17 @@ objects_stay heap (op.Stored (Static n) value) = omega arith
 objects_stay heap (op.Stored (Slot n i) value) = omega (arith, length-set heap.objects n (with_slot (object_at heap n) i value))
 objects_stay heap o = omega arith
 
-shapes_stay : (heap : Heap) (o : Op) → (heap_after_op heap o).shapes ≡ heap.shapes
+pub shapes_stay : (heap : Heap) (o : Op) → (heap_after_op heap o).shapes ≡ heap.shapes
 shapes_stay heap (op.Alloc n shape count) = refl
 shapes_stay heap (op.Throw n class) = refl
 shapes_stay heap (op.Stored (Static n) value) = refl
 shapes_stay heap (op.Stored (Slot n i) value) = refl
 shapes_stay heap o = refl
 
-abbrev world_next : World → Recorded → Bool → World
+abbrev pub world_next : World → Recorded → Bool → World
 world_next world a persistent = if persistent then world else after world a.act.thread a.act.op
 
-world_of_next : (known : Knowledge) (a : Recorded) → (next_known known a).world ≡ world_next known.world a (is_persistent a.act.op)
+pub world_of_next : (known : Knowledge) (a : Recorded) → (next_known known a).world ≡ world_next known.world a (is_persistent a.act.op)
 world_of_next known a = world-known_after_op known a.act.thread a.named a.act.op
 
 objects_stay_next : (known : Knowledge) (a : Recorded) → length known.world.heap.objects ≤ length (next_known known a).world.heap.objects
@@ -57,7 +58,7 @@ objects_stay_after known [] = omega arith
 objects_stay_after known (a ∷ acts) = omega (arith, objects_stay_next known a, objects_stay_after (next_known known a) acts)
 
 -- a step that does an operation replies
-replies : (s : Step) (o : Op) → op_of s ≡ Some o → (r : PlainReply) × (s ≡ Does o r)
+pub replies : (s : Step) (o : Op) → op_of s ≡ Some o → (r : PlainReply) × (s ≡ Does o r)
 replies (Does p r) o is = (r, (let same : p ≡ o = (let it : Some p ≡ Some o = is in cc) in ap (λ q. Does q r) same))
 replies (Waits on) o is = absurd (let no : None ≡ Some o = is in cc)
 replies WrongOperand o is = absurd (let no : None ≡ Some o = is in cc)
@@ -68,7 +69,7 @@ record IsGood (set : SetFacts) (world : World) : Type 0 where
   shapes : world.heap.shapes ≡ shapes_of set
   sound : IsSound world.heap
 
-module _ (set : SetFacts) (main : ℕ) (opening : Graph) {Frames : Type 0} (code : Code set main opening Frames) (consistent : IsConsistent set) where
+module _ (set : SetFacts) (main : ℕ) (opening : Graph) {Frames : Type 0} (code : Code set main opening Frames) (complete : IsComplete set) where
   good_step : (world : World) (t : ℕ) (request : Option PlainRequest) (o : Op) → IsGood set world
       → ((asked : PlainRequest) → request ≡ Some asked → IsFit set world t asked)
       → op_given set world t (taken_by o) request ≡ Some o → length (heap_after_op world.heap o).objects < 2 ^ 32
@@ -78,7 +79,7 @@ module _ (set : SetFacts) (main : ℕ) (opening : Graph) {Frames : Type 0} (code
       let (r, does) = replies (step set world t (taken_by o) asked) o is in
       record {
         shapes = shapes_stay world.heap o ∙ good.shapes;
-        sound = keeps-step set world consistent good.shapes good.sound t (taken_by o) asked (fit asked refl) o r does few;
+        sound = keeps-step set world complete good.shapes good.sound t (taken_by o) asked (fit asked refl) o r does few;
       }
 
   good_next : (front : List Recorded) (a : Recorded) (rest : List Recorded) → KeepsDuties set main opening code
@@ -96,7 +97,7 @@ module _ (set : SetFacts) (main : ℕ) (opening : Graph) {Frames : Type 0} (code
             (visible_is_step set main opening code front a rest run e) f
       ] refl (rw is_next at few))
 
-  known_of-push : (front : List Recorded) (a : Recorded)
+  pub known_of-push : (front : List Recorded) (a : Recorded)
       → known_of set main opening code (front ++ a ∷ []) ≡ next_known (known_of set main opening code front) a
   known_of-push front a = known_after-append (first_known set opening) front (a ∷ [])
 
@@ -120,7 +121,7 @@ module _ (set : SetFacts) (main : ℕ) (opening : Graph) {Frames : Type 0} (code
 
   good_first : IsOpening set opening → IsGood set (first_world set opening)
   unfolding first_world first_heap
-  good_first is = record { shapes = refl; sound = first_heap_is_sound set opening consistent is }
+  good_first is = record { shapes = refl; sound = first_heap_is_sound set opening complete is }
 
   pub sound_after : (acts : List Recorded) → IsOpening set opening → KeepsDuties set main opening code → IsPlainRun set main opening code acts
       → length (known_of set main opening code acts).world.heap.objects < 2 ^ 32 → IsSound (known_of set main opening code acts).world.heap

@@ -1,7 +1,7 @@
--- What the steps of Ends, Enters and Exits say of the world.
-use Rattle.std.proofs.Common.{◌≡◌, ◌⊎◌, ℕ, zero, suc, ℤ, pos, negsuc, Bool, true, false, List, refl, subst, inl, inr, nat_eq, nat_lt, nat_le, ◌&&◌, if◌then◌else◌, length, take, arith}
+-- What the steps of Ends, Enters, Exits and Starts say of the world.
+use Rattle.std.proofs.Common.{◌≡◌, ◌⊎◌, ℕ, zero, suc, ◌<◌, ℤ, pos, negsuc, Bool, true, false, List, refl, subst, inl, inr, nat_eq, nat_lt, nat_le, ◌&&◌, if◌then◌else◌, length, take, arith}
 use Rattle.std.specs.Prelude.{◌≢◌, Option, Some, None, slice_get}
-use Rattle.std.proofs.lemmas.Bool.{eqb-true}
+use Rattle.std.proofs.lemmas.Bool.{eqb-true, ltb-true}
 use Rattle.ap_base.specs.declared.kind.Kind.{Kind}
 use Rattle.ap_base.specs.declared.place.Place.{Place}
 use Rattle.ap_base.specs.declared.place.Place.TheVariants.{Static, Slot}
@@ -26,8 +26,10 @@ use Rattle.run_history.specs.Worlds.{Thread, World, held, depth_of}
 use Rattle.run_history.specs.Knowing.{Knowledge}
 use Rattle.plain_model.specs.declared.throws.Throws.{Throws}
 use Rattle.plain_model.specs.declared.throws.Throws.TheVariants as exception
-use Rattle.plain_model.specs.Facts.{SetFacts, thrown_class, narrowed}
+use Rattle.plain_model.specs.Facts.{SetFacts, string_number, thrown_class}
+use Rattle.plain_model.specs.Kinds.{narrowed}
 use Rattle.plain_model.specs.Requests.{PlainRequest, PlainReply}
+use Rattle.plain_model.specs.Limits.{most_threads, threads_left}
 use Rattle.plain_model.specs.Steps.{Step, Does, Waits, WrongOperand, IsOver, step, op_of, is_same, with_object, with_reference, with_index, with_progress, with_class, new_array, new_length, allocates, throwing, throws, stores, own_kind, next_number, enters_held, exits_held, starts_thread, joins_thread, thread_of, puts_element, casts, compares, prints, ends_region, has_elements, is_of, past_end, any_object, is_thread, may_store, reads, measures, tests, class_act, null_class, bool_value, has_length, enters, exits, shape_of}
 use Rattle.plain_model.specs.Codes.{taken_by}
 use Rattle.plain_model.specs.Runs.{IsAbout}
@@ -36,12 +38,13 @@ use Rattle.plain_model.specs.Runs.{IsAbout}
 abbrev pub Owns : List Monitor → ℕ → PlainKey → Type 0
 Owns monitors t key = (m : Monitor) × (held monitors key ≡ Some m) × (m.owner ≡ t)
 
--- An End is within a region, an Enter of a monitor that no other thread has, and an Exit of one that the
--- thread has.
+-- An End is within a region, an Enter of a monitor that no other thread has, an Exit of one that the
+-- thread has, and a Start where there may be a further thread.
 abbrev pub Sanctioned : World → ℕ → Op → Type 0
 Sanctioned world t op.End = depth_of world t ≢ 0
 Sanctioned world t (op.Enter key) = (held world.monitors key ≡ None) ⊎ Owns world.monitors t key
 Sanctioned world t (op.Exit key) = Owns world.monitors t key
+Sanctioned world t (op.Start n child) = length world.threads < most_threads
 Sanctioned world t o = Unit {0}
 
 module _ (set : SetFacts) (world : World) (t : ℕ) where
@@ -141,9 +144,13 @@ module _ (set : SetFacts) (world : World) (t : ℕ) where
   starts_ok : (n : ℕ) (started : Option (ℕ × Thread)) → Ok (starts_thread set world n started)
   starts_ok n (Some started) = throws_ok exception.IllegalThreadState
   starts_ok n None =
-      let full : Step = IsOver (fault.Full (record { which = which.Threads; need = 1; left = 0 })) in
-      either (nat_lt (length world.threads) 64) (Does (op.Start n (length world.threads)) reply.Done) full
-      (does (op.Start n (length world.threads)) reply.Done tt) (nothing full refl)
+      let full : Step = IsOver (fault.Full (record { which = which.Threads; need = 1; left = threads_left world.threads })) in
+      elim (nat_lt (length world.threads) most_threads) as (λ b. nat_lt (length world.threads) most_threads ≡ b
+      → Ok (if b then Does (op.Start n (length world.threads)) reply.Done else full)) [
+        | true ↦ λ below. does (op.Start n (length world.threads)) reply.Done
+            (ltb-true (length world.threads) most_threads below)
+        | false ↦ λ past. nothing full refl
+      ] refl
 
   joins_ok : (n : ℕ) (started : Option (ℕ × Thread)) → Ok (joins_thread set world n started)
   joins_ok n None = does (op.Join n) reply.Done tt
@@ -182,7 +189,7 @@ module _ (set : SetFacts) (world : World) (t : ℕ) where
       class_ok class (allocates set world class (new_length set world class))
       (makes_ok class (new_length set world class))
   step_ok taken (ask.NewArray from shape count) = array_ok shape count
-  step_ok taken (ask.NewText from count) = array_ok set.known.string count
+  step_ok taken (ask.NewText from count) = array_ok (string_number set) count
   step_ok taken (ask.GetStatic from field) =
       class_ok field.class (reads set world (Static field.at)) (reads_ok (Static field.at))
   step_ok taken (ask.PutStatic from field value) = class_ok field.class

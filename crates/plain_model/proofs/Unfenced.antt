@@ -1,14 +1,15 @@
 -- Of each thread at most one store outside regions isn't fenced.
 use Rattle.std.proofs.Common.{◌≡◌, ℕ, suc, ◌+◌, ◌≤◌, Bool, true, false, List, [], ◌∷◌, ◌++◌, refl, sym, ◌∙◌, subst, arith, nat_eq, ◌||◌, if◌then◌else◌}
 use Rattle.std.proofs.lemmas.Bool.{eqb-true, false≢true, eq-eqb}
+use Rattle.ap_base.specs.declared.place.Place.{Place}
 use Rattle.graph_model.specs.declared.types.Graph.{Graph}
 use Rattle.graph_model.specs.Heaps.{has_number}
 use Rattle.run_history.specs.declared.act.Op.{Op}
 use Rattle.run_history.specs.declared.act.Op.TheVariants as op
 use Rattle.run_history.specs.Recorded.{Recorded}
 use Rattle.run_history.specs.Worlds.{depth_of}
-use Rattle.run_history.specs.Knowing.{Fate, Sure, Open, Closing, Single, Mark, Knowledge, known_after_op, after_end, is_outermost, each_fate, fenced, closed, ended, is_single, fate_of, durable_at, without_number}
-use Rattle.run_history.proofs.Grown.{has_number-without, store_fate-single}
+use Rattle.run_history.specs.Knowing.{Fate, Sure, Open, Closing, Single, Mark, Knowledge, known_after_op, after_end, is_outermost, each_fate, fenced, closed, ended, is_single, fate_of, durable_at, Unfenced, owes_fence, without_fenced}
+use Rattle.run_history.proofs.Grown.{owes_fence-without, store_fate-single}
 use Rattle.plain_model.specs.Facts.{SetFacts}
 use Rattle.plain_model.specs.Codes.{Code}
 use Rattle.plain_model.specs.Runs.{IsPlainRun, known_of, is_fenced}
@@ -86,78 +87,81 @@ fenced-own t (Single v) = elim (nat_eq v t) as (λ b. nat_eq v t ≡ b
       | false ↦ λ differ. differ
     ] refl
 
-has-pushed : (ns : List ℕ) (n m : ℕ) → has_number ns m ≡ true → has_number (ns ++ n ∷ []) m ≡ true
-has-pushed [] n m has = absurd (false≢true has)
-has-pushed (k ∷ ns) n m has = elim (nat_eq k m) as (λ b. (b || has_number ns m) ≡ true
-    → (b || has_number (ns ++ n ∷ []) m) ≡ true) [
+owes-pushed : (us : List Unfenced) (new : Unfenced) (t : ℕ) → owes_fence us t ≡ true → owes_fence (us ++ new ∷ []) t ≡ true
+owes-pushed [] new t has = absurd (false≢true has)
+owes-pushed (u ∷ us) new t has = elim (nat_eq u.thread t) as (λ b. (b || owes_fence us t) ≡ true
+    → (b || owes_fence (us ++ new ∷ []) t) ≡ true) [
       | true ↦ λ h. refl
-      | false ↦ λ h. has-pushed ns n m h
+      | false ↦ λ h. owes-pushed us new t h
     ] has
 
-has-own : (ns : List ℕ) (n : ℕ) → has_number (ns ++ n ∷ []) n ≡ true
-has-own [] n = rw (eq-eqb n n refl) refl
-has-own (k ∷ ns) n = elim (nat_eq k n) as (λ b. (b || has_number (ns ++ n ∷ []) n)
-    ≡ true) [ true ↦ refl | false ↦ has-own ns n ]
+owes-own : (us : List Unfenced) (new : Unfenced) → owes_fence (us ++ new ∷ []) new.thread ≡ true
+owes-own [] new = rw (eq-eqb new.thread new.thread refl) refl
+owes-own (u ∷ us) new = elim (nat_eq u.thread new.thread) as (λ b. (b || owes_fence (us ++ new ∷ []) new.thread)
+    ≡ true) [ true ↦ refl | false ↦ owes-own us new ]
 
-abbrev Owed : List ℕ → List Mark → Type 0
-Owed unfenced ms = (t : ℕ) → singles t ms ≤ one_if (has_number unfenced t)
+abbrev stored_by : ℕ → Place → Unfenced
+stored_by u place = record { thread = u; place = place }
 
-sure_owed : (unfenced : List ℕ) (ms : List Mark) (o : Op) → Owed unfenced ms
+abbrev Owed : List Unfenced → List Mark → Type 0
+Owed unfenced ms = (t : ℕ) → singles t ms ≤ one_if (owes_fence unfenced t)
+
+sure_owed : (unfenced : List Unfenced) (ms : List Mark) (o : Op) → Owed unfenced ms
     → Owed unfenced (ms ++ record { fate = Sure; op = o } ∷ [])
 sure_owed unfenced ms o owed t =
     let more = singles-push t ms (record { fate = Sure; op = o }) in let was = owed t in
     omega (arith, more, was)
 
-each_owed : (unfenced : List ℕ) (ms : List Mark) (f : Fate → Fate)
+each_owed : (unfenced : List Unfenced) (ms : List Mark) (f : Fate → Fate)
     → ((t : ℕ) (fate : Fate) → is_single_of t (f fate) ≡ is_single_of t fate) → Owed unfenced ms
     → Owed unfenced (each_fate f ms)
 each_owed unfenced ms f same owed t = rw (singles-each t f (same t) ms) (owed t)
 
-stored_owed : (unfenced : List ℕ) (ms : List Mark) (u : ℕ) (o : Op) (fate : Fate)
+stored_owed : (unfenced : List Unfenced) (ms : List Mark) (u : ℕ) (place : Place) (o : Op) (fate : Fate)
     → (is_single fate ≡ true → fate ≡ Single u)
-    → has_number unfenced u ≡ false → Owed unfenced ms
-    → Owed (if is_single fate then unfenced ++ u ∷ [] else unfenced) (ms ++ record { fate = fate; op = o }
+    → owes_fence unfenced u ≡ false → Owed unfenced ms
+    → Owed (if is_single fate then unfenced ++ stored_by u place ∷ [] else unfenced) (ms ++ record { fate = fate; op = o }
     ∷ [])
-stored_owed unfenced ms u o Sure own none owed t = sure_owed unfenced ms o owed t
-stored_owed unfenced ms u o (Open v) own none owed t =
+stored_owed unfenced ms u place o Sure own none owed t = sure_owed unfenced ms o owed t
+stored_owed unfenced ms u place o (Open v) own none owed t =
     let more = singles-push t ms (record { fate = Open v; op = o }) in let was = owed t in
     omega (arith, more, was)
-stored_owed unfenced ms u o (Closing v) own none owed t =
+stored_owed unfenced ms u place o (Closing v) own none owed t =
     let more = singles-push t ms (record { fate = Closing v; op = o }) in let was = owed t in
     omega (arith, more, was)
-stored_owed unfenced ms u o (Single v) own none owed t =
+stored_owed unfenced ms u place o (Single v) own none owed t =
     let is : Single v ≡ Single u = own refl in
     let same : v ≡ u = cc in
     rw (singles-push t ms (record { fate = Single v; op = o }), same)
     (elim (nat_eq u t) as (λ b. nat_eq u t ≡ b
-    → singles t ms + one_if b ≤ one_if (has_number (unfenced ++ u ∷ []) t)) [
+    → singles t ms + one_if b ≤ one_if (owes_fence (unfenced ++ stored_by u place ∷ []) t)) [
       | true ↦ λ e.
-          let was : singles t ms ≤ one_if (has_number unfenced t) = owed t in
-          let nothing : has_number unfenced t ≡ false = subst (λ n. has_number unfenced n ≡ false)
+          let was : singles t ms ≤ one_if (owes_fence unfenced t) = owed t in
+          let nothing : owes_fence unfenced t ≡ false = subst (λ n. owes_fence unfenced n ≡ false)
           (eqb-true u t e) none in
           let zero_were : singles t ms ≤ 0 = rw nothing at was in
-          let there : has_number (unfenced ++ u ∷ []) t ≡ true =
-          subst (λ n. has_number (unfenced ++ u ∷ []) n ≡ true) (eqb-true u t e) (has-own unfenced u) in
+          let there : owes_fence (unfenced ++ stored_by u place ∷ []) t ≡ true =
+          subst (λ n. owes_fence (unfenced ++ stored_by u place ∷ []) n ≡ true) (eqb-true u t e) (owes-own unfenced (stored_by u place)) in
           rw there (omega (arith, zero_were))
-      | false ↦ λ e. still (has_number unfenced t) refl (owed t)
+      | false ↦ λ e. still (owes_fence unfenced t) refl (owed t)
     ] refl)
   where
-    still : (b : Bool) → has_number unfenced t ≡ b → singles t ms ≤ one_if b
-        → singles t ms + 0 ≤ one_if (has_number (unfenced ++ u ∷ []) t)
-    still true has was = rw (has-pushed unfenced u t has) (omega (arith, was))
+    still : (b : Bool) → owes_fence unfenced t ≡ b → singles t ms ≤ one_if b
+        → singles t ms + 0 ≤ one_if (owes_fence (unfenced ++ stored_by u place ∷ []) t)
+    still true has was = rw (owes-pushed unfenced (stored_by u place) t has) (omega (arith, was))
     still false has was = omega (arith, was)
 
-fenced_owed : (unfenced : List ℕ) (ms : List Mark) (u : ℕ) → Owed unfenced ms
-    → Owed (without_number unfenced u) (each_fate (fenced u) ms)
+fenced_owed : (unfenced : List Unfenced) (ms : List Mark) (u : ℕ) → Owed unfenced ms
+    → Owed (without_fenced unfenced u) (each_fate (fenced u) ms)
 fenced_owed unfenced ms u owed t = elim (nat_eq t u) as (λ b. nat_eq t u ≡ b
-    → singles t (each_fate (fenced u) ms) ≤ one_if (has_number (without_number unfenced u) t)) [
+    → singles t (each_fate (fenced u) ms) ≤ one_if (owes_fence (without_fenced unfenced u) t)) [
       | true ↦ λ same.
           let none : singles u (each_fate (fenced u) ms) ≡ 0 = singles-none u (fenced u) (fenced-own u) ms in
           let own : singles t (each_fate (fenced u) ms) ≡ 0 =
           subst (λ n. singles n (each_fate (fenced u) ms) ≡ 0) (sym (eqb-true t u same)) none in
           omega (arith, own)
       | false ↦ λ other.
-          rw (singles-each t (fenced u) (fenced-single u t other) ms, has_number-without unfenced u t other)
+          rw (singles-each t (fenced u) (fenced-single u t other) ms, owes_fence-without unfenced u t other)
           (owed t)
     ] refl
 
@@ -170,17 +174,17 @@ end_owed known u false owed = sure_owed known.unfenced known.marks op.End owed
 abbrev OwedBy : Knowledge → Type 0
 OwedBy known = Owed known.unfenced known.marks
 
-owed_after : (known : Knowledge) (u : ℕ) (named : List ℕ) (o : Op) → is_fenced o ≡ has_number known.unfenced u
+owed_after : (known : Knowledge) (u : ℕ) (named : List ℕ) (o : Op) → is_fenced o ≡ owes_fence known.unfenced u
     → OwedBy known → OwedBy (known_after_op known u named o)
 unfolding known_after_op
 owed_after known u named op.Closing fence owed t = sure_owed known.unfenced
     (each_fate (closed u) known.marks) op.Closing
     (each_owed known.unfenced known.marks (closed u) (λ n fate. closed-single u n fate) owed) t
 owed_after known u named op.Fenced fence owed t =
-    sure_owed (without_number known.unfenced u) (each_fate (fenced u) known.marks) op.Fenced
+    sure_owed (without_fenced known.unfenced u) (each_fate (fenced u) known.marks) op.Fenced
     (fenced_owed known.unfenced known.marks u owed) t
 owed_after known u named (op.Stored place value) fence owed t =
-    stored_owed known.unfenced known.marks u (op.Stored place value) (fate_of known u place)
+    stored_owed known.unfenced known.marks u place (op.Stored place value) (fate_of known u place)
     (store_fate-single u (durable_at known place) (depth_of known.world u) (has_number known.closing u))
     (sym fence) owed t
 owed_after known u named op.End fence owed t = end_owed known u (is_outermost known u) owed t
@@ -196,7 +200,7 @@ module _ (set : SetFacts) (main : ℕ) (opening : Graph) {Frames : Type 0}
       → singles t (known_of set main opening code acts).marks ≤ 1
   one_store_is_unfenced acts t run =
       let known = known_of set main opening code acts in
-      at_most_one (has_number known.unfenced t) (singles t known.marks)
+      at_most_one (owes_fence known.unfenced t) (singles t known.marks)
       (run_keeps set main opening code (λ k before. OwedBy k)
       (λ k frames Now before a may owed. owed_after k a.act.thread a.named a.act.op may.fence owed)
       (λ u. omega arith) acts run t)

@@ -1,11 +1,10 @@
--- The built-in classes, by their names' bytes, as docs/MODEL.md lists them: which classes each is a subtype of, and its fields.
--- Their numbers follow those of the program's classes, of which there are `first`.
-use Rattle.std.specs.Prelude.{ℕ, ◌+◌, Bool, true, false, List, [], ◌∷◌, map, codes, Option, Some, None}
+-- The built-in classes, by their names' bytes, as docs/MODEL.md lists them. Their numbers follow those of
+-- the program's classes, of which there are `first`.
+use Rattle.std.specs.Prelude.{ℕ, ◌+◌, true, false, List, [], ◌∷◌, codes, Some, None}
 use Rattle.ap_base.specs.declared.kind.Kind.{Kind}
 use Rattle.ap_base.specs.declared.kind.Kind.TheVariants.{C, I, L}
-use Rattle.run_types.specs.declared.known.Known.{Known as KnownClasses}
 use Rattle.graph_model.specs.declared.types.Field.{Field}
-use Rattle.plain_model.specs.Facts.{ClassFacts, ThrowableNumbers}
+use Rattle.plain_model.specs.Classes.{ClassFacts, ArrayType, Numbers, Objects, element_kind}
 
 -- how many there are
 abbrev pub built_in_count : ℕ
@@ -102,93 +101,112 @@ field name kind = record { name = name; kind = kind; kept = true }
 abbrev pub message : List Field
 message = field (codes "message") L ∷ []
 
--- a built-in class of this name, with these fields, subtype of the built-in classes at these places
-abbrev pub built_in : ℕ → List ℕ → List Field → Option Kind → Bool → List ℕ → ClassFacts
-built_in first name fields element is_made places = record {
-  shape = record { name = name; fields = fields; element = element };
-  supertypes = map (λ place. first + place) places;
-  may_hold = [];
-  is_made = is_made;
-  of_program = false;
+-- a built-in class of this name and superclass, which others may extend, without superinterfaces, fields
+-- and elements
+abbrev pub class_under : ℕ → List ℕ → ℕ → ClassFacts
+class_under first name super = record {
+  shape = record { name = name; fields = []; element = None };
+  superclass = Some (first + super);
+  interfaces = [];
+  is_interface = false;
+  is_abstract = false;
+  is_final = false;
 }
+
+abbrev pub final_class : ℕ → List ℕ → ClassFacts
+final_class first name = record (class_under first name object_place) { is_final = true }
+
+abbrev pub interface : ℕ → List ℕ → ClassFacts
+interface first name = record (class_under first name object_place) { is_interface = true; is_abstract = true }
+
+-- a throwable has its message
+abbrev pub throwable_under : ℕ → List ℕ → ℕ → ClassFacts
+throwable_under first name super =
+    record (class_under first name super) { shape = record { name = name; fields = message; element = None } }
+
+abbrev pub object_class : ℕ → ClassFacts
+object_class first = record (class_under first (codes "java/lang/Object") object_place) { superclass = None }
+
+-- a String's elements are its chars
+abbrev pub string_class : ℕ → ClassFacts
+string_class first = record (final_class first (codes "java/lang/String")) {
+  shape = record { name = codes "java/lang/String"; fields = []; element = Some C };
+  interfaces = (first + serializable_place) ∷ [];
+}
+
+abbrev pub string_builder_fields : List Field
+string_builder_fields = field (codes "value") L ∷ field (codes "count") I ∷ []
+
+abbrev pub string_builder_class : ℕ → ClassFacts
+string_builder_class first = record (final_class first (codes "java/lang/StringBuilder")) {
+  shape = record { name = codes "java/lang/StringBuilder"; fields = string_builder_fields; element = None };
+  interfaces = (first + serializable_place) ∷ [];
+}
+
+abbrev pub thread_class : ℕ → ClassFacts
+thread_class first = record (class_under first (codes "java/lang/Thread") object_place) {
+  shape = record { name = codes "java/lang/Thread"; fields = field (codes "target") L ∷ []; element = None };
+  interfaces = (first + runnable_place) ∷ [];
+}
+
+abbrev pub throwable_class : ℕ → ClassFacts
+throwable_class first =
+    record (throwable_under first (codes "java/lang/Throwable") object_place) { interfaces = (first + serializable_place) ∷ [] }
 
 -- the built-in classes, in the order of their numbers
 abbrev pub built_in_classes : ℕ → List ClassFacts
 built_in_classes first =
-    built_in first (codes "autopersist/Region") [] None true (region_place ∷ object_place ∷ [])
-    ∷ built_in first (codes "java/io/PrintStream") [] None true (print_stream_place ∷ object_place ∷ [])
-    ∷ built_in first (codes "java/io/Serializable") [] None false (serializable_place ∷ object_place ∷ [])
-    ∷ built_in first (codes "java/lang/ArithmeticException") message None true (arithmetic_exception_place ∷ runtime_exception_place ∷ exception_place ∷ throwable_place ∷ serializable_place ∷ object_place ∷ [])
-    ∷ built_in first (codes "java/lang/ArrayIndexOutOfBoundsException") message None true (array_index_out_of_bounds_exception_place ∷ index_out_of_bounds_exception_place ∷ runtime_exception_place ∷ exception_place ∷ throwable_place ∷ serializable_place ∷ object_place ∷ [])
-    ∷ built_in first (codes "java/lang/ArrayStoreException") message None true (array_store_exception_place ∷ runtime_exception_place ∷ exception_place ∷ throwable_place ∷ serializable_place ∷ object_place ∷ [])
-    ∷ built_in first (codes "java/lang/ClassCastException") message None true (class_cast_exception_place ∷ runtime_exception_place ∷ exception_place ∷ throwable_place ∷ serializable_place ∷ object_place ∷ [])
-    ∷ built_in first (codes "java/lang/Cloneable") [] None false (cloneable_place ∷ object_place ∷ [])
-    ∷ built_in first (codes "java/lang/Error") message None true (error_place ∷ throwable_place ∷ serializable_place ∷ object_place ∷ [])
-    ∷ built_in first (codes "java/lang/Exception") message None true (exception_place ∷ throwable_place ∷ serializable_place ∷ object_place ∷ [])
-    ∷ built_in first (codes "java/lang/IllegalArgumentException") message None true (illegal_argument_exception_place ∷ runtime_exception_place ∷ exception_place ∷ throwable_place ∷ serializable_place ∷ object_place ∷ [])
-    ∷ built_in first (codes "java/lang/IllegalMonitorStateException") message None true (illegal_monitor_state_exception_place ∷ runtime_exception_place ∷ exception_place ∷ throwable_place ∷ serializable_place ∷ object_place ∷ [])
-    ∷ built_in first (codes "java/lang/IllegalStateException") message None true (illegal_state_exception_place ∷ runtime_exception_place ∷ exception_place ∷ throwable_place ∷ serializable_place ∷ object_place ∷ [])
-    ∷ built_in first (codes "java/lang/IllegalThreadStateException") message None true (illegal_thread_state_exception_place ∷ illegal_argument_exception_place ∷ runtime_exception_place ∷ exception_place ∷ throwable_place ∷ serializable_place ∷ object_place ∷ [])
-    ∷ built_in first (codes "java/lang/IndexOutOfBoundsException") message None true (index_out_of_bounds_exception_place ∷ runtime_exception_place ∷ exception_place ∷ throwable_place ∷ serializable_place ∷ object_place ∷ [])
-    ∷ built_in first (codes "java/lang/InterruptedException") message None true (interrupted_exception_place ∷ exception_place ∷ throwable_place ∷ serializable_place ∷ object_place ∷ [])
-    ∷ built_in first (codes "java/lang/NegativeArraySizeException") message None true (negative_array_size_exception_place ∷ runtime_exception_place ∷ exception_place ∷ throwable_place ∷ serializable_place ∷ object_place ∷ [])
-    ∷ built_in first (codes "java/lang/NullPointerException") message None true (null_pointer_exception_place ∷ runtime_exception_place ∷ exception_place ∷ throwable_place ∷ serializable_place ∷ object_place ∷ [])
-    ∷ built_in first (codes "java/lang/Object") [] None true (object_place ∷ [])
-    ∷ built_in first (codes "java/lang/Runnable") [] None false (runnable_place ∷ object_place ∷ [])
-    ∷ built_in first (codes "java/lang/RuntimeException") message None true (runtime_exception_place ∷ exception_place ∷ throwable_place ∷ serializable_place ∷ object_place ∷ [])
-    ∷ built_in first (codes "java/lang/String") [] (Some C) true (string_place ∷ serializable_place ∷ object_place ∷ [])
-    ∷ built_in first (codes "java/lang/StringBuilder") (field (codes "value") L ∷ field (codes "count") I ∷ []) None true (string_builder_place ∷ serializable_place ∷ object_place ∷ [])
-    ∷ built_in first (codes "java/lang/StringIndexOutOfBoundsException") message None true (string_index_out_of_bounds_exception_place ∷ index_out_of_bounds_exception_place ∷ runtime_exception_place ∷ exception_place ∷ throwable_place ∷ serializable_place ∷ object_place ∷ [])
-    ∷ built_in first (codes "java/lang/System") [] None true (system_place ∷ object_place ∷ [])
-    ∷ built_in first (codes "java/lang/Thread") (field (codes "target") L ∷ []) None true (thread_place ∷ runnable_place ∷ object_place ∷ [])
-    ∷ built_in first (codes "java/lang/Throwable") message None true (throwable_place ∷ serializable_place ∷ object_place ∷ [])
-    ∷ built_in first (codes "java/lang/UnsupportedOperationException") message None true (unsupported_operation_exception_place ∷ runtime_exception_place ∷ exception_place ∷ throwable_place ∷ serializable_place ∷ object_place ∷ [])
+    final_class first (codes "autopersist/Region")
+    ∷ class_under first (codes "java/io/PrintStream") object_place
+    ∷ interface first (codes "java/io/Serializable")
+    ∷ throwable_under first (codes "java/lang/ArithmeticException") runtime_exception_place
+    ∷ throwable_under first (codes "java/lang/ArrayIndexOutOfBoundsException") index_out_of_bounds_exception_place
+    ∷ throwable_under first (codes "java/lang/ArrayStoreException") runtime_exception_place
+    ∷ throwable_under first (codes "java/lang/ClassCastException") runtime_exception_place
+    ∷ interface first (codes "java/lang/Cloneable")
+    ∷ throwable_under first (codes "java/lang/Error") throwable_place
+    ∷ throwable_under first (codes "java/lang/Exception") throwable_place
+    ∷ throwable_under first (codes "java/lang/IllegalArgumentException") runtime_exception_place
+    ∷ throwable_under first (codes "java/lang/IllegalMonitorStateException") runtime_exception_place
+    ∷ throwable_under first (codes "java/lang/IllegalStateException") runtime_exception_place
+    ∷ throwable_under first (codes "java/lang/IllegalThreadStateException") illegal_argument_exception_place
+    ∷ throwable_under first (codes "java/lang/IndexOutOfBoundsException") runtime_exception_place
+    ∷ throwable_under first (codes "java/lang/InterruptedException") exception_place
+    ∷ throwable_under first (codes "java/lang/NegativeArraySizeException") runtime_exception_place
+    ∷ throwable_under first (codes "java/lang/NullPointerException") runtime_exception_place
+    ∷ object_class first
+    ∷ interface first (codes "java/lang/Runnable")
+    ∷ throwable_under first (codes "java/lang/RuntimeException") exception_place
+    ∷ string_class first
+    ∷ string_builder_class first
+    ∷ throwable_under first (codes "java/lang/StringIndexOutOfBoundsException") index_out_of_bounds_exception_place
+    ∷ final_class first (codes "java/lang/System")
+    ∷ thread_class first
+    ∷ throwable_class first
+    ∷ throwable_under first (codes "java/lang/UnsupportedOperationException") runtime_exception_place
     ∷ []
 
--- An array type is a subtype of itself, Object, Cloneable and Serializable (JVMS 4.10.1.2).
-abbrev pub array_type : ℕ → ℕ → List ℕ → Kind → List ℕ → ClassFacts
-array_type first own name element may_hold = record {
-  shape = record { name = name; fields = []; element = Some element };
-  supertypes = own ∷ map (λ place. first + place) (object_place ∷ cloneable_place ∷ serializable_place ∷ []);
-  may_hold = may_hold;
-  is_made = false;
-  of_program = false;
+-- An array type is a class of its own under Object, Cloneable and Serializable, of which `new` makes
+-- nothing (JVMS 4.10.1.2).
+abbrev pub array_class : ℕ → ArrayType → ClassFacts
+array_class first a = record {
+  shape = record { name = a.descriptor; fields = []; element = Some (element_kind a.dimensions a.innermost) };
+  superclass = Some (first + object_place);
+  interfaces = (first + cloneable_place) ∷ (first + serializable_place) ∷ [];
+  is_interface = false;
+  is_abstract = true;
+  is_final = true;
 }
+
+abbrev pub array_of_kind : List ℕ → Kind → ArrayType
+array_of_kind descriptor kind = record { descriptor = descriptor; dimensions = 1; innermost = Numbers kind }
+
+abbrev pub array_of_objects : List ℕ → ℕ → ArrayType
+array_of_objects descriptor class = record { descriptor = descriptor; dimensions = 1; innermost = Objects class }
 
 -- The two array types that every class set has: the chars of a StringBuilder, and the arguments of `main`.
-abbrev pub chars_number : ℕ → ℕ
-chars_number first = first + built_in_count
+abbrev pub chars_array : ArrayType
+chars_array = array_of_kind (codes "[C") C
 
-abbrev pub arguments_type_number : ℕ → ℕ
-arguments_type_number first = first + built_in_count + 1
-
-abbrev pub given_arrays : ℕ → List ClassFacts
-given_arrays first =
-    array_type first (chars_number first) (codes "[C") C []
-    ∷ array_type first (arguments_type_number first) (codes "[Ljava/lang/String;") L ((first + string_place) ∷ [])
-    ∷ []
-
-abbrev pub known_classes : ℕ → KnownClasses
-known_classes first = record {
-  chars = chars_number first;
-  string = first + string_place;
-  object = first + object_place;
-  runnable = first + runnable_place;
-  builder = first + string_builder_place;
-  thread = first + thread_place;
-  throwable = first + throwable_place;
-}
-
-abbrev pub throwable_numbers : ℕ → ThrowableNumbers
-throwable_numbers first = record {
-  negative_array_size = first + negative_array_size_exception_place;
-  null_pointer = first + null_pointer_exception_place;
-  array_index = first + array_index_out_of_bounds_exception_place;
-  string_index = first + string_index_out_of_bounds_exception_place;
-  array_store = first + array_store_exception_place;
-  class_cast = first + class_cast_exception_place;
-  illegal_monitor_state = first + illegal_monitor_state_exception_place;
-  illegal_thread_state = first + illegal_thread_state_exception_place;
-  illegal_state = first + illegal_state_exception_place;
-  arithmetic = first + arithmetic_exception_place;
-}
+abbrev pub arguments_array : ℕ → ArrayType
+arguments_array first = array_of_objects (codes "[Ljava/lang/String;") (first + string_place)

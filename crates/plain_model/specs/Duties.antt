@@ -1,8 +1,10 @@
--- The duties of a turn: what the requests of code name is there, and is of the sort that the request needs. A `new` of an interface,
--- an abstract class or an array type is no request: the turn itself finds it a wrong operand (JVMS 6.5, new).
-use Rattle.std.specs.Prelude.{◌≡◌, ◌⊎◌, ℕ, suc, ◌<◌, true, false, List, length, slice_get, Some, None, IsSome}
+-- The duties of a turn: what the requests of code name is there, and is of the sort that the request needs.
+-- A `new` of an interface, an abstract class or an array type is no request: the turn itself finds it a
+-- wrong operand (JVMS 6.5, new).
+use Rattle.std.specs.Prelude.{◌≡◌, ◌≢◌, ◌⊎◌, ℕ, suc, ◌<◌, ◌≤◌, true, false, List, [], length, slice_get, Some, None, IsSome}
 use Rattle.ap_base.specs.declared.kind.Kind.{Kind}
 use Rattle.ap_base.specs.declared.kind.Kind.TheVariants.{J, L}
+use Rattle.ap_base.specs.Pieces.{IsPiece}
 use Rattle.run_types.specs.declared.resolved.FieldAt.{FieldAt}
 use Rattle.run_types.specs.declared.key.Key.TheVariants as key
 use Rattle.run_types.specs.declared.fault.RunFault.{RunFault}
@@ -17,17 +19,20 @@ use Rattle.natives.specs.declared.requests.Request.TheVariants as ask
 use Rattle.run_history.specs.declared.plain.Progress.TheVariants.{BegunBy}
 use Rattle.run_history.specs.Recorded.{Recorded}
 use Rattle.run_history.specs.Worlds.{World}
-use Rattle.plain_model.specs.Facts.{SetFacts, StaticFacts, class_at, element_of, is_sub}
+use Rattle.plain_model.specs.Classes.{is_made}
+use Rattle.plain_model.specs.BuiltIn.{system_place, throwable_place}
+use Rattle.plain_model.specs.Facts.{SetFacts, StaticFacts, built_in_number, classes_of, class_at, element_of, is_sub, string_number}
 use Rattle.plain_model.specs.Requests.{PlainRequest}
+use Rattle.plain_model.specs.Limits.{most_frame_slots}
 use Rattle.plain_model.specs.Codes.{Code}
 use Rattle.plain_model.specs.Runs.{IsPlainRun, known_of, request_after}
 
 -- the class has a number
 abbrev pub IsClass : SetFacts → ℕ → Type 0
-IsClass set n = n < length set.classes
+IsClass set n = n < length (classes_of set)
 
 abbrev pub IsThrowable : SetFacts → ℕ → Type 0
-IsThrowable set n = IsClass set n × (is_sub set n set.known.throwable ≡ true)
+IsThrowable set n = IsClass set n × (is_sub set n (built_in_number set throwable_place) ≡ true)
 
 -- null, or an object of the heap
 abbrev pub IsReferenceIn : World → Value → Type 0
@@ -44,35 +49,48 @@ IsOfKind world J value = ⊥
 IsOfKind world kind (Int i) = Unit {0}
 IsOfKind world kind value = ⊥
 
--- a static field by its number: System.out of kind L, or one of the set's
-abbrev pub StaticHas : SetFacts → ℕ → Kind → Type 0
-StaticHas set n kind = ((n ≡ 0) × (kind ≡ L)) ⊎ ((k : ℕ) × (s : StaticFacts) × (n ≡ suc k) × (slice_get set.statics k ≡ Some s) × (s.kind ≡ kind))
+-- System.out
+abbrev pub IsStream : SetFacts → FieldAt → Type 0
+IsStream set field = (field.at ≡ 0) × (field.kind ≡ L) × (field.class ≡ built_in_number set system_place)
+
+-- one of the set's static fields, by its number, kind and class
+abbrev pub IsStaticOf : SetFacts → FieldAt → Type 0
+IsStaticOf set field =
+    (k : ℕ) × (s : StaticFacts) × (field.at ≡ suc k) × (slice_get set.statics k ≡ Some s) × (s.kind ≡ field.kind)
+    × (s.class ≡ field.class)
 
 abbrev pub IsStaticField : SetFacts → FieldAt → Type 0
-IsStaticField set field = IsClass set field.class × (field.is_static ≡ true) × StaticHas set field.at field.kind
+IsStaticField set field =
+    IsClass set field.class × (field.is_static ≡ true) × (IsStream set field ⊎ IsStaticOf set field)
 
+-- A field of an interface is static (JVMS 4.5), so its instances have no slot for it.
 abbrev pub IsInstanceField : SetFacts → FieldAt → Type 0
 IsInstanceField set field =
-    IsClass set field.class × (field.is_static ≡ false)
+    IsClass set field.class × (field.is_static ≡ false) × ((class_at set field.class).is_interface ≡ false)
     × ((f : Field) × (slice_get (class_at set field.class).shape.fields field.at ≡ Some f) × (f.kind ≡ field.kind))
 
 abbrev pub IsFrameSlots : Which → Type 0
 IsFrameSlots which.FrameSlots = Unit {0}
 IsFrameSlots other = ⊥
 
+-- more frame slots are needed than are left of those that a thread may take
+abbrev pub IsLackOfFrames : ℕ → ℕ → Which → Type 0
+IsLackOfFrames need left which = IsFrameSlots which × (left < need) × (left ≤ most_frame_slots)
+
 -- the faults with which a turn may itself end the run
 abbrev pub IsFaultOfTurn : RunFault → Type 0
 IsFaultOfTurn (fault.BadCode from) = Unit {0}
 IsFaultOfTurn (fault.LinkFault kind class index) = Unit {0}
-IsFaultOfTurn (fault.Full full) = IsFrameSlots full.which
+IsFaultOfTurn (fault.Full full) = IsLackOfFrames full.need full.left full.which
 IsFaultOfTurn f = ⊥
 
 -- What a request of thread t may name.
 abbrev pub IsFit : SetFacts → World → ℕ → PlainRequest → Type 0
 IsFit set world t ask.Pause = Unit {0}
 IsFit set world t (ask.Broken f) = IsFaultOfTurn f
-IsFit set world t (ask.New from class) = IsClass set class × ((class_at set class).is_made ≡ true)
-IsFit set world t (ask.NewArray from shape count) = IsClass set shape × IsSome (element_of set shape)
+IsFit set world t (ask.New from class) = IsClass set class × (is_made (class_at set class) ≡ true)
+IsFit set world t (ask.NewArray from shape count) =
+    IsClass set shape × IsSome (element_of set shape) × (shape ≢ string_number set)
 IsFit set world t (ask.NewText from count) = Unit {0}
 IsFit set world t (ask.GetStatic from field) = IsStaticField set field
 IsFit set world t (ask.PutStatic from field value) = IsStaticField set field × IsOfKind world field.kind value
@@ -93,7 +111,7 @@ IsFit set world t (ask.Start from thread) = IsReferenceIn world thread
 IsFit set world t (ask.Join from thread) = IsReferenceIn world thread
 IsFit set world t (ask.Init from class) = IsClass set class
 IsFit set world t (ask.InitDone from class) = slice_get world.classes class ≡ Some (BegunBy t)
-IsFit set world t (ask.Print from piece) = Unit {0}
+IsFit set world t (ask.Print from piece) = IsPiece piece
 IsFit set world t (ask.Raise from class) = IsThrowable set class
 IsFit set world t (ask.Begin from) = Unit {0}
 IsFit set world t (ask.End from) = Unit {0}

@@ -16,8 +16,10 @@ use Rattle.run_history.specs.Knowing.{Knowledge, durable_at}
 use Rattle.plain_model.specs.Facts.{SetFacts}
 use Rattle.plain_model.specs.Requests.{PlainRequest}
 use Rattle.plain_model.specs.Codes.{Code}
-use Rattle.plain_model.specs.Runs.{IsAbout, has_guarded, known_of, wants_of}
-use Rattle.plain_model.specs.Ends.{FillsLog, FillsMonitors, FillsImage, guards_of}
+use Rattle.plain_model.specs.Runs.{IsAbout, is_volatile, has_guarded, known_of, wants_of}
+use Rattle.plain_model.specs.Limits.{guards_of}
+use Rattle.plain_model.specs.Causes.{FillsLog, FillsMonitors}
+use Rattle.plain_model.specs.Ends.{FillsImage}
 
 abbrev pub full_log : RunFault
 full_log = fault.Full (record { which = which.LogEntries; need = 1; left = 0 })
@@ -31,6 +33,7 @@ pub record LogsHold1024 : Type 0 where
       → FillsLog set known request t f → (1024 ≤ length (guards_of known.guards t)) × (f ≡ full_log)
   pub comes : (set : SetFacts) (known : Knowledge) (request : Option PlainRequest) (t : ℕ) (place : Place)
       (value : Value) → IsAbout set known request t (op.Stored place value) → durable_at known place ≡ true
+      → is_volatile known.durable value ≡ false
       → depth_of known.world t ≢ 0 → has_guarded known t place ≡ false
       → 1024 ≤ length (guards_of known.guards t) → FillsLog set known request t full_log
 
@@ -42,9 +45,9 @@ pub record MonitorsAre4096 : Type 0 where
       → IsAbout set known request t (op.Enter key) → held known.world.monitors key ≡ None
       → 4096 ≤ length known.world.monitors → FillsMonitors set known request t full_monitors
 
--- Where the image's lines are used up, it's for an object that is wanted and isn't durable yet.
+-- Where the image's lines are used up, it's for an object that the thread wants and that isn't durable yet.
 abbrev pub LinesAreForWanted : Type 0 → Type 0
 LinesAreForWanted Frames = (set : SetFacts) (main : ℕ) (opening : Graph) (code : Code set main opening Frames)
-    (lines : ℕ) (acts : List Recorded) (f : RunFault)
+    (lines : ℕ) (acts : List Recorded) (t : ℕ) (f : RunFault)
     → let known = known_of set main opening code acts in let wants = wants_of set main opening code acts in
-    FillsImage opening lines known wants f → (n u : ℕ) × wants u n × (has_number known.durable n ≡ false)
+    FillsImage opening lines known wants t f → (n : ℕ) × wants t n × (has_number known.durable n ≡ false)

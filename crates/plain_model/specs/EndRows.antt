@@ -9,7 +9,7 @@ use Rattle.run_types.specs.declared.fault.RunFault.{RunFault}
 use Rattle.run_types.specs.declared.fault.RunFault.TheVariants as fault
 use Rattle.run_types.specs.declared.fault.Which.TheVariants as which
 use Rattle.run_types.specs.declared.fault.LinkKind.TheVariants.{NoCode}
-use Rattle.ap_base.specs.declared.place.Place.TheVariants.{Static}
+use Rattle.ap_base.specs.declared.place.Place.TheVariants.{Static, Slot}
 use Rattle.graph_model.specs.declared.types.Value.TheVariants.{Obj as Object}
 use Rattle.graph_model.specs.declared.types.Graph.{Graph}
 use Rattle.natives.specs.declared.requests.Request.TheVariants as ask
@@ -19,11 +19,11 @@ use Rattle.run_history.specs.declared.act.Op.TheVariants as op
 use Rattle.run_history.specs.Recorded.{Recorded}
 use Rattle.plain_model.specs.Requests.{PlainRequest}
 use Rattle.plain_model.specs.Codes.{Code}
-use Rattle.plain_model.specs.Runs.{IsPlainRun, IsAllowed, output_of, known_of, request_after}
-use Rattle.plain_model.specs.Ends.{Uncaught, Finished, Races, IsStuck, FillsHeap, FillsHistory, FaultComes, EndsAs, wait_at}
+use Rattle.plain_model.specs.Runs.{IsPlainRun, IsAllowed, output_of}
+use Rattle.plain_model.specs.Ends.{Uncaught, Finished, full, fault_after, FaultComes, EndsAs}
 use Rattle.plain_model.specs.StepWorld.{boxes, main_class, print_stream, runtime_exception, here, int, system_out, amount}
-use Rattle.plain_model.specs.RunRows.{two_boxes, box_graph, scripts, both, by, started, in_region, puts_amount, amount_of, begins, guards}
-use Rattle.plain_model.specs.RunRows.{ends, closes, leaves, inner_ended, enters, entered, awaits}
+use Rattle.plain_model.specs.RunRows.{two_boxes, box_graph, scripts, both, by, started, in_region, puts_amount, amount_of, begins, guards, puts, fences}
+use Rattle.plain_model.specs.RunRows.{ends, closes, leaves, inner_ended, enters, entered, awaits, puts_worker, asks_worker}
 
 -- System.out
 abbrev pub stream : ℕ
@@ -86,20 +86,19 @@ abbrev pub Ends : List PlainRequest → List PlainRequest → Limits → List Re
 Ends mains workers limits acts t f =
     FaultComes boxes main_class two_boxes (both mains workers) limits 100 (started ++ acts) t f
 
--- thread t's request and what is known after the start and these acts
-abbrev pub asked_after : List PlainRequest → List PlainRequest → List Recorded → ℕ → Option PlainRequest
-asked_after mains workers acts = request_after boxes main_class two_boxes (both mains workers)
-    (started ++ acts)
+-- the event of thread t after the start and these acts ends the run by no fault that acts tell
+abbrev pub HasNoFault : List PlainRequest → List PlainRequest → Limits → List Recorded → ℕ → Type 0
+HasNoFault mains workers limits acts t =
+    fault_after boxes main_class two_boxes (both mains workers) limits 100 (started ++ acts) t ≡ None
 
 -- A store to a place that another thread's open region has guarded is a race, and one of the region's own
 -- thread isn't.
 pub record RegionsRace : Type 0 where
   pub races : Ends (in_region 7) (puts_amount 0 8 ∷ []) no_limits (begins 0 ∷ guards 0 0 ∷ []) 1
       (fault.RegionRace 1 0 (amount_of 0))
-  pub own_place : (f : RunFault)
-      → Races boxes (known_of boxes main_class two_boxes (both (in_region 7) []) (started ++ begins 0
-      ∷ guards 0 0 ∷ []))
-      (asked_after (in_region 7) [] (begins 0 ∷ guards 0 0 ∷ []) 0) 0 f → ⊥
+  pub in_own_region : Ends (in_region 7) (in_region 8) no_limits (begins 0 ∷ guards 0 0 ∷ begins 1 ∷ []) 1
+      (fault.RegionRace 1 0 (amount_of 0))
+  pub own_place : HasNoFault (in_region 7) [] no_limits (begins 0 ∷ guards 0 0 ∷ []) 0
 
 abbrev pub waits : On → On → List (Option On)
 waits first second = Some first ∷ Some second ∷ replicate 62 None
@@ -110,34 +109,65 @@ first_two = enters 0 ∷ enters 1 ∷ []
 abbrev pub second_two : List PlainRequest
 second_two = enters 1 ∷ enters 0 ∷ []
 
--- thread t waits for this after the start and these acts
-abbrev pub waiting : List PlainRequest → List PlainRequest → List Recorded → ℕ → Option On
-waiting mains workers acts t =
-    wait_at boxes (known_of boxes main_class two_boxes (both mains workers) (started ++ acts)).world t
-    (asked_after mains workers acts t)
-
 -- Two threads that wait for each other are stuck, and one that waits alone isn't.
 pub record ThreadsAreStuck : Type 0 where
   pub crosswise : Ends first_two second_two no_limits (entered 0 0 ∷ entered 1 1 ∷ []) 1
       (fault.Stuck (waits (on.Monitor 1) (on.Monitor 0)))
-  pub one_waits : (f : RunFault) → IsStuck (waiting first_two second_two (entered 0 0 ∷ []))
-      (asked_after first_two second_two (entered 0 0 ∷ [])) f → ⊥
+  pub one_waits : HasNoFault first_two first_two no_limits (entered 0 0 ∷ []) 1
+  pub none_waits : HasNoFault first_two second_two no_limits (entered 0 0 ∷ []) 1
   pub joining : Ends (enters 0 ∷ awaits ∷ []) (enters 0 ∷ []) no_limits (entered 0 0 ∷ []) 0
       (fault.Stuck (waits (on.Join 1) (on.Monitor 0)))
+
+abbrev pub six_acts : Limits
+six_acts = record no_limits { acts = 6 }
 
 -- A history of six acts that may have six is full. The stream, the arguments and the worker take ten words,
 -- and a further worker four.
 pub record RunsFill : Type 0 where
-  pub history : Ends [] [] (record no_limits { acts = 6 }) [] 1
-      (fault.Full (record { which = which.Acts; need = 1; left = 0 }))
-  pub one_act_left : (f : RunFault)
-      → FillsHistory (record no_limits { acts = 7 })
-      (known_of boxes main_class two_boxes (both [] []) started) f → ⊥
+  pub history : Ends [] [] six_acts [] 1 (full which.Acts 1 0)
+  pub one_act_left : HasNoFault [] [] (record no_limits { acts = 7 }) [] 1
   pub heap : Ends (ask.New here 5 ∷ []) [] (record no_limits { heap_words = 13 }) [] 0
-      (fault.Full (record { which = which.VolatileWords; need = 4; left = 3 }))
-  pub enough_words : (f : RunFault) → FillsHeap boxes two_boxes (record no_limits { heap_words = 14 })
-      (known_of boxes main_class two_boxes (both (ask.New here 5 ∷ []) []) started)
-      (asked_after (ask.New here 5 ∷ []) [] [] 0) 0 f → ⊥
+      (full which.VolatileWords 4 3)
+  pub enough_words : HasNoFault (ask.New here 5 ∷ []) [] (record no_limits { heap_words = 14 }) [] 0
+
+-- the worker's Thread object, which needs a line
+abbrev pub LinesEnd : ℕ → Type 0
+LinesEnd t = FaultComes boxes main_class two_boxes (both (puts_worker ∷ []) []) no_limits 0
+    (started ++ asks_worker ∷ []) t (full which.ImageLines 1 0)
+
+-- The thread that makes an object durable ends for want of lines, and no other.
+pub record LinesAreWanted : Type 0 where
+  pub converts : LinesEnd 0
+  pub another : LinesEnd 1 → ⊥
+
+-- A full history ends a run before all else, and a race before the stored object is made durable.
+pub record CausesAreInOrder : Type 0 where
+  pub operand : Ends [] (ask.GetField here (Object stream) amount ∷ []) six_acts [] 1 (full which.Acts 1 0)
+  pub turn : Ends (ask.Broken (fault.LinkFault NoCode 1 2) ∷ []) [] six_acts [] 0 (full which.Acts 1 0)
+  pub sink : Ends [] (ask.Print here (55 ∷ []) ∷ []) six_acts [] 1 fault.SinkFault → ⊥
+  pub image : Ends [] [] six_acts [] 1 fault.ImageFault → ⊥
+  pub race : Ends (ask.Begin here ∷ puts_worker ∷ []) (puts_worker ∷ []) no_limits
+      (begins 0 ∷ by 0 2 (op.Guarded (Slot 0 1)) ∷ []) 1 (fault.RegionRace 1 0 (Slot 0 1))
+
+-- the box's durable place is stored outside regions, and a fence is owed
+abbrev pub stored_8 : List Recorded
+stored_8 = puts 0 0 8 ∷ []
+
+abbrev pub then_wrong : List PlainRequest
+then_wrong = puts_amount 0 8 ∷ ask.GetField here (Object stream) amount ∷ []
+
+-- A thread that owes a fence makes it before its next request ends the run, and isn't stuck. A full history
+-- comes first.
+pub record FencesComeFirst : Type 0 where
+  pub owed : HasNoFault then_wrong [] no_limits stored_8 0
+  pub fenced : Ends then_wrong [] no_limits (stored_8 ++ fences 0 ∷ []) 0 (fault.BadCode here)
+  pub full : Ends then_wrong [] (record no_limits { acts = 7 }) stored_8 0 (full which.Acts 1 0)
+  pub sink : Ends (puts_amount 0 8 ∷ ask.Print here (55 ∷ []) ∷ []) [] no_limits stored_8 0
+      fault.SinkFault → ⊥
+  pub not_stuck : HasNoFault (puts_amount 0 8 ∷ enters 0 ∷ []) (enters 0 ∷ awaits ∷ []) no_limits
+      (entered 1 0 ∷ stored_8) 1
+  pub stuck : Ends (puts_amount 0 8 ∷ enters 0 ∷ []) (enters 0 ∷ awaits ∷ []) no_limits
+      (entered 1 0 ∷ stored_8 ++ fences 0 ∷ []) 1 (fault.Stuck (waits (on.Monitor 1) (on.Join 1)))
 
 -- A wrong operand, a fault of the turn, and the sink where a thread prints.
 pub record FaultsCome : Type 0 where

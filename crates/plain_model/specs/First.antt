@@ -1,13 +1,10 @@
--- The first heap and the first world of a class set and an opening graph. Objects are numbered: the nodes of the graph, the
--- object of `System.out`, the empty argument array, the literals. Statics are numbered: `System.out`, the set's static
--- fields, and the graph's roots that the set lacks.
-use Rattle.std.specs.Prelude.{◌≡◌, ◌≢◌, ℕ, zero, suc, pos, ◌+◌, ◌<◌, ◌^◌, Bool, true, false, ◌&&◌, List, [], ◌∷◌, ◌++◌, map, length, filter, Option, Some, None, if◌then◌else◌, nat_eq, All, AllPairs, Contains}
-use Rattle.std.specs.List.{AllZip}
-use Rattle.ap_base.specs.declared.kind.Kind.{Kind}
-use Rattle.ap_base.specs.declared.kind.Kind.TheVariants.{J, L}
+-- The first heap and the first world of a class set and an opening graph. Objects are numbered: the nodes
+-- of the graph, the object of `System.out`, the empty argument array, the literals. Statics are numbered:
+-- `System.out`, the set's static fields, and the graph's roots that the set lacks.
+use Rattle.std.specs.Prelude.{◌≡◌, ◌≢◌, ℕ, zero, suc, pos, ◌+◌, ◌<◌, ◌^◌, Bool, true, false, ◌&&◌, List, [], ◌∷◌, ◌++◌, map, length, replicate, filter, Option, Some, None, if◌then◌else◌, nat_eq, All, AllPairs, Contains}
+use Rattle.ap_base.specs.declared.kind.Kind.TheVariants.{L}
 use Rattle.graph_model.specs.declared.types.Value.{Value}
 use Rattle.graph_model.specs.declared.types.Value.TheVariants.{Int, Long, Null, Obj as Object}
-use Rattle.graph_model.specs.declared.types.Field.{Field}
 use Rattle.graph_model.specs.declared.types.Obj.{Obj}
 use Rattle.graph_model.specs.declared.types.Root.{Root}
 use Rattle.graph_model.specs.declared.types.Heap.{Heap}
@@ -19,7 +16,10 @@ use Rattle.run_history.specs.declared.plain.Progress.{Progress}
 use Rattle.run_history.specs.declared.plain.Progress.TheVariants.{Untouched, Finished}
 use Rattle.run_history.specs.Worlds.{World, new_thread}
 use Rattle.run_history.specs.Knowing.{Knowledge, known_at_first}
-use Rattle.plain_model.specs.Facts.{ClassFacts, StaticFacts, Constant, IntConstant, LongConstant, LiteralConstant, SetFacts, class_at, shapes_of, narrowed}
+use Rattle.plain_model.specs.Classes.{ClassFacts}
+use Rattle.plain_model.specs.BuiltIn.{built_in_count}
+use Rattle.plain_model.specs.Facts.{StaticFacts, Constant, IntConstant, LongConstant, LiteralConstant, SetFacts, classes_of, class_at, shapes_of, stream_class, arguments_class, string_number}
+use Rattle.plain_model.specs.Kinds.{HasKind, AreOf, narrowed}
 
 -- equal names, byte by byte
 abbrev pub name_is : List ℕ → List ℕ → Bool
@@ -57,16 +57,16 @@ module _ (set : SetFacts) (opening : Graph) where
   literal_number k = suc arguments_number + k
 
   abbrev pub node_object : Node → Obj
-  node_object node = record { shape = class_named set.classes node.shape.name; values = node.values }
+  node_object node = record { shape = class_named (classes_of set) node.shape.name; values = node.values }
 
   abbrev pub literal_object : List ℕ → Obj
-  literal_object chars = record { shape = set.known.string; values = map (λ c. Int (pos c)) chars }
+  literal_object chars = record { shape = string_number set; values = map (λ c. Int (pos c)) chars }
 
   abbrev pub first_objects : List Obj
   first_objects =
       map node_object opening.nodes
-      ++ record { shape = set.stream; values = [] }
-      ∷ record { shape = set.arguments; values = [] }
+      ++ record { shape = stream_class set; values = [] }
+      ∷ record { shape = arguments_class set; values = [] }
       ∷ map literal_object set.literals
 
   abbrev pub constant_value : Constant → Value
@@ -74,8 +74,8 @@ module _ (set : SetFacts) (opening : Graph) where
   constant_value (LongConstant i) = Long i
   constant_value (LiteralConstant k) = Object (literal_number k)
 
-  -- A durable root has the graph's value, and its constant is passed over. Any other field has its constant, narrowed to its
-  -- kind, or the default.
+  -- A durable root has the graph's value, and its constant is passed over. Any other field has its
+  -- constant, narrowed to its kind, or the default.
   abbrev pub static_value : StaticFacts → Value
   static_value field = if field.is_root then root_value opening.roots field.name else (elim field.constant [
     | None ↦ default_of field.kind
@@ -110,14 +110,15 @@ module _ (set : SetFacts) (opening : Graph) where
   }
 
   -- The program's classes are untouched; the built-in ones and the array types are done from the start.
-  abbrev pub first_progress : ClassFacts → Progress
-  first_progress c = if c.of_program then Untouched else Finished
+  abbrev pub first_progress : List Progress
+  first_progress =
+      replicate (length set.program) Untouched ++ replicate (built_in_count + length set.arrays) Finished
 
   unfoldable pub first_world : World
   first_world = record {
     heap = first_heap;
     monitors = [];
-    classes = map first_progress set.classes;
+    classes = first_progress;
     threads = new_thread None ∷ [];
   }
 
@@ -125,28 +126,15 @@ module _ (set : SetFacts) (opening : Graph) where
   abbrev pub first_known : Knowledge
   first_known = known_at_first first_world (numbers_to (length opening.nodes))
 
--- a value of a graph that is of this kind: a reference, a long, or an int for every other kind
-abbrev pub HasKind : Kind → Value → Type 0
-HasKind L Null = Unit {0}
-HasKind L (Object n) = Unit {0}
-HasKind L value = ⊥
-HasKind J (Long i) = Unit {0}
-HasKind J value = ⊥
-HasKind kind (Int i) = Unit {0}
-HasKind kind value = ⊥
-
--- values of an object with these elements or, where it has none, these fields
-abbrev pub Fills : Option Kind → List Field → List Value → Type 0
-Fills None fields values = AllZip (λ (f : Field) value. HasKind f.kind value) fields values
-Fills (Some kind) fields values = All (HasKind kind) values
-
 -- What an opening graph of a class set fulfils.
 pub record IsOpening (set : SetFacts) (opening : Graph) : Type 0 where
   -- each node's shape has the name of a class of the set
-  pub shapes : All (λ (n : Node). class_named set.classes n.shape.name < length set.classes) opening.nodes
-  -- each node has a value of its kind for each field of that class, or for each element
-  pub values : All (λ (n : Node). let shape = (class_at set (class_named set.classes n.shape.name)).shape in
-      Fills shape.element shape.fields n.values) opening.nodes
+  pub shapes : All (λ (n : Node). class_named (classes_of set) n.shape.name < length (classes_of set)) opening.nodes
+  -- which is that class's shape
+  pub agree : All (λ (n : Node). (class_at set (class_named (classes_of set) n.shape.name)).shape ≡ n.shape) opening.nodes
+  -- each node has a value of its kind, in its range, for each field of that class, or for each element
+  pub values : All (λ (n : Node). let shape = (class_at set (class_named (classes_of set) n.shape.name)).shape in
+      AreOf shape.element shape.fields n.values) opening.nodes
   -- each durable root of the set is one of the graph's roots, and no two of these have one name
   pub has_roots : All (λ (s : StaticFacts). s.is_root ≡ true
       → Contains (map (λ (r : NamedValue). r.name) opening.roots) s.name) set.statics

@@ -1,11 +1,11 @@
 -- What holds of every plain run and of every history, whatever the class set, the opening graph and the code.
-use Rattle.std.specs.Prelude.{◌≡◌, ◌⊎◌, ◌↔◌, ℕ, ◌<◌, true, false, not, ◌^◌, List, [], ◌∷◌, ◌++◌, map, filter, length, Some, All}
+use Rattle.std.specs.Prelude.{◌≡◌, ◌⊎◌, ◌↔◌, ℕ, ◌<◌, true, false, not, ◌^◌, List, [], ◌∷◌, ◌++◌, map, filter, length, Some, None, All}
 use Rattle.graph_model.specs.declared.types.Value.TheVariants.{Obj as Object}
+use Rattle.graph_model.specs.declared.types.Obj.{Obj}
 use Rattle.graph_model.specs.declared.types.Heap.{Heap}
-use Rattle.graph_model.specs.declared.types.Node.{Node}
 use Rattle.graph_model.specs.declared.types.Graph.{Graph}
 use Rattle.graph_model.specs.Canon.{canon_of}
-use Rattle.graph_model.specs.Heaps.{has_number, IsSound}
+use Rattle.graph_model.specs.Heaps.{has_number, shape_at, IsSound}
 use Rattle.graph_model.specs.Reach.{Reaches}
 use Rattle.run_history.specs.declared.act.Op.{Op}
 use Rattle.run_history.specs.declared.act.Op.TheVariants as op
@@ -13,8 +13,9 @@ use Rattle.run_history.specs.Recorded.{Recorded}
 use Rattle.run_history.specs.Worlds.{World, after, heap_after_op}
 use Rattle.run_history.specs.Knowing.{Knowledge, Pending, pending_of, known_after_op, next_known, known_after}
 use Rattle.run_history.specs.Wanted.{Wishes, WantsNow, IsClosed}
-use Rattle.plain_model.specs.Facts.{SetFacts, class_at, shapes_of, IsConsistent}
-use Rattle.plain_model.specs.First.{class_named, first_heap, IsOpening}
+use Rattle.plain_model.specs.Facts.{SetFacts, shapes_of}
+use Rattle.plain_model.specs.Consistent.{IsComplete}
+use Rattle.plain_model.specs.First.{first_heap, IsOpening}
 use Rattle.plain_model.specs.Requests.{PlainRequest, PlainReply}
 use Rattle.plain_model.specs.Steps.{Does, step}
 use Rattle.plain_model.specs.Codes.{Code, is_persistent, frames_after_op}
@@ -154,35 +155,41 @@ PersistenceLeavesTheWorld = (known : Knowledge) (t : ℕ) (named : List ℕ) (o 
 
 -- The first heap of a class set and its opening graph is sound.
 abbrev pub FirstHeapIsSound : Type 0
-FirstHeapIsSound = (set : SetFacts) (opening : Graph) → IsConsistent set → IsOpening set opening
+FirstHeapIsSound = (set : SetFacts) (opening : Graph) → IsComplete set → IsOpening set opening
     → IsSound (first_heap set opening)
 
 -- a graph is canonical where it is the graph of some sound heap
 abbrev pub IsCanonical : Graph → Type 0
 IsCanonical graph = (heap : Heap) × IsSound heap × (graph ≡ canon_of heap)
 
--- each node's shape is that of the class with its name
-abbrev pub HasShapesOf : SetFacts → Graph → Type 0
-HasShapesOf set graph =
-    All (λ (n : Node). (class_at set (class_named set.classes n.shape.name)).shape ≡ n.shape) graph.nodes
-
 -- The first heap of a canonical opening graph has that graph.
 abbrev pub FirstHeapHasItsGraph : Type 0
-FirstHeapHasItsGraph = (set : SetFacts) (opening : Graph) → IsConsistent set → IsOpening set opening
-    → HasShapesOf set opening → IsCanonical opening → canon_of (first_heap set opening) ≡ opening
+FirstHeapHasItsGraph = (set : SetFacts) (opening : Graph) → IsComplete set → IsOpening set opening
+    → IsCanonical opening → canon_of (first_heap set opening) ≡ opening
+
+-- an object without elements has as many slots as its class has fields
+abbrev pub HasItsSlots : Heap → Obj → Type 0
+HasItsSlots heap o = (shape_at heap o.shape).element ≡ None → length o.values ≡ length (shape_at heap o.shape).fields
+
+-- After a plain run each object has the slots of its class.
+abbrev pub ObjectsHaveTheirSlots : Type 0 → Type 0
+ObjectsHaveTheirSlots Frames = (set : SetFacts) (main : ℕ) (opening : Graph)
+    (code : Code set main opening Frames) (acts : List Recorded) → IsComplete set → IsOpening set opening
+    → IsPlainRun set main opening code acts
+    → let heap = (known_of set main opening code acts).world.heap in All (HasItsSlots heap) heap.objects
 
 -- A fit request's step leaves the heap sound, where it leaves it fewer than 2^32 objects.
 abbrev pub FitStepsKeepHeapsSound : Type 0
 FitStepsKeepHeapsSound = (set : SetFacts) (world : World) (t taken : ℕ) (request : PlainRequest)
     (o : Op) (r : PlainReply)
-    → IsConsistent set → world.heap.shapes ≡ shapes_of set → IsSound world.heap → IsFit set world t request
+    → IsComplete set → world.heap.shapes ≡ shapes_of set → IsSound world.heap → IsFit set world t request
     → step set world t taken request ≡ Does o r → length (heap_after_op world.heap o).objects < 2 ^ 32
     → IsSound (heap_after_op world.heap o)
 
 -- After a plain run of code that keeps its duties the heap is sound, where it has fewer than 2^32 objects.
 abbrev pub HeapsOfRunsAreSound : Type 0 → Type 0
 HeapsOfRunsAreSound Frames = (set : SetFacts) (main : ℕ) (opening : Graph)
-    (code : Code set main opening Frames) (acts : List Recorded) → IsConsistent set → IsOpening set opening
+    (code : Code set main opening Frames) (acts : List Recorded) → IsComplete set → IsOpening set opening
     → KeepsDuties set main opening code → IsPlainRun set main opening code acts
     → length (known_of set main opening code acts).world.heap.objects < 2 ^ 32
     → IsSound (known_of set main opening code acts).world.heap

@@ -1,9 +1,9 @@
 -- Small class sets, code that follows a script, and what it may and may not do.
-use Rattle.std.specs.Prelude.{◌≡◌, ◌⊎◌, ◌↔◌, ℕ, suc, ℤ, Bool, true, false, List, [], ◌∷◌, ◌++◌, length, slice_index_or, slice_get, Option, Some, None, codes}
+use Rattle.std.specs.Prelude.{◌≡◌, ◌⊎◌, ◌↔◌, ℕ, suc, ℤ, true, false, List, [], ◌∷◌, ◌++◌, length, slice_index_or, slice_get, Some, None, codes}
 use Rattle.run_types.specs.declared.resolved.At.{At}
 use Rattle.run_types.specs.declared.resolved.FieldAt.{FieldAt}
 use Rattle.ap_base.specs.declared.kind.Kind.{Kind}
-use Rattle.ap_base.specs.declared.kind.Kind.TheVariants.{C, L}
+use Rattle.ap_base.specs.declared.kind.Kind.TheVariants.{L}
 use Rattle.ap_base.specs.declared.place.Place.TheVariants.{Static, Slot}
 use Rattle.graph_model.specs.declared.types.Value.{Value}
 use Rattle.graph_model.specs.declared.types.Value.TheVariants.{Int, Null, Obj as Object}
@@ -17,7 +17,9 @@ use Rattle.run_history.specs.declared.act.Op.TheVariants as op
 use Rattle.run_history.specs.declared.plain.Progress.TheVariants.{Finished}
 use Rattle.run_history.specs.Recorded.{Recorded}
 use Rattle.run_history.specs.Worlds.{World}
-use Rattle.plain_model.specs.Facts.{ClassFacts, SetFacts}
+use Rattle.plain_model.specs.Classes.{ClassFacts}
+use Rattle.plain_model.specs.Facts.{SetFacts}
+use Rattle.plain_model.specs.BuiltIn.{class_under, chars_array, arguments_array, object_place}
 use Rattle.plain_model.specs.Requests.{PlainRequest}
 use Rattle.plain_model.specs.Steps.{Does, step}
 use Rattle.plain_model.specs.Codes.{Code}
@@ -33,53 +35,19 @@ scripted set main opening requests = record {
   thread_frames = λ n. length requests;
 }
 
-abbrev pub class_of : List ℕ → List Field → Option Kind → List ℕ → Bool → ClassFacts
-class_of name fields element supertypes of_program = record {
-  shape = record { name = name; fields = fields; element = element };
-  supertypes = supertypes;
-  may_hold = [];
-  is_made = true;
-  of_program = of_program;
-}
-
-abbrev pub strings : ClassFacts
-strings = record (class_of (codes "[Ljava/lang/String;") [] (Some L) (5 ∷ 2 ∷ []) false) {
-  may_hold = 4 ∷ [];
-  is_made = false;
-}
+abbrev pub class_of : List ℕ → List Field → ClassFacts
+class_of name fields = record (class_under 2 name object_place) { shape = record { name = name; fields = fields; element = None } }
 
 abbrev pub next_field : Field
 next_field = record { name = codes "next"; kind = L; kept = true }
 
--- A program with `class Node { Node next; }` and `class Main { @DurableRoot static Node head; }`. The classes that no
--- row asks for are Object.
+-- A program with `class Main { @DurableRoot static Node head; }` and `class Node { Node next; }`.
 abbrev pub nodes : SetFacts
 nodes = record {
-  classes =
-      class_of (codes "Main") [] None (0 ∷ 2 ∷ []) true
-      ∷ class_of (codes "Node") (next_field ∷ []) None (1 ∷ 2 ∷ []) true
-      ∷ class_of (codes "java/lang/Object") [] None (2 ∷ []) false
-      ∷ class_of (codes "java/io/PrintStream") [] None (3 ∷ 2 ∷ []) false
-      ∷ class_of (codes "java/lang/String") [] (Some C) (4 ∷ 2 ∷ []) false
-      ∷ strings
-      ∷ [];
+  program = class_of (codes "Main") [] ∷ class_of (codes "Node") (next_field ∷ []) ∷ [];
+  arrays = chars_array ∷ arguments_array 2 ∷ [];
   statics = record { name = codes "Main.head"; class = 0; kind = L; constant = None; is_root = true } ∷ [];
   literals = [];
-  known = record { chars = 2; string = 4; object = 2; runnable = 2; builder = 2; thread = 2; throwable = 2 };
-  stream = 3;
-  arguments = 5;
-  throwables = record {
-    negative_array_size = 2;
-    null_pointer = 2;
-    array_index = 2;
-    string_index = 2;
-    array_store = 2;
-    class_cast = 2;
-    illegal_monitor_state = 2;
-    illegal_thread_state = 2;
-    illegal_state = 2;
-    arithmetic = 2;
-  };
 }
 
 abbrev pub in_main : At

@@ -1,21 +1,23 @@
 -- What holds of every plain run, said of its acts alone: which stores aren't fenced, how deep regions are
 -- and what they guard, and who owns the monitors.
-use Rattle.std.specs.Prelude.{◌≡◌, ◌⊎◌, ℕ, suc, ◌+◌, ◌≤◌, ◌<◌, Bool, true, false, nat_eq, ◌&&◌, List, [], ◌∷◌, ◌++◌, if◌then◌else◌, Some, ◌≢◌}
+use Rattle.std.specs.Prelude.{◌≡◌, ◌⊎◌, ℕ, suc, length, ◌+◌, ◌≤◌, ◌<◌, Bool, true, false, nat_eq, ◌&&◌, List, [], ◌∷◌, ◌++◌, if◌then◌else◌, Some, None, ◌≢◌}
 use Rattle.ap_base.specs.declared.place.Place.{Place}
 use Rattle.graph_model.specs.declared.types.Value.{Value}
 use Rattle.graph_model.specs.declared.types.Graph.{Graph}
 use Rattle.graph_model.specs.Heaps.{place_is}
 use Rattle.run_history.specs.declared.act.PlainKey.{PlainKey}
+use Rattle.run_history.specs.declared.plain.Monitor.{Monitor}
 use Rattle.run_history.specs.declared.act.Op.{Op}
 use Rattle.run_history.specs.declared.act.Op.TheVariants as op
 use Rattle.run_types.specs.declared.fault.RunFault.{RunFault}
 use Rattle.run_history.specs.Recorded.{Recorded}
-use Rattle.run_history.specs.Worlds.{depth_of, key_is}
+use Rattle.run_history.specs.Worlds.{World, depth_of, held, key_is}
 use Rattle.run_history.specs.Knowing.{Fate, Single, Mark, Guard, has_guards, durable_at, guard_of}
 use Rattle.plain_model.specs.Facts.{SetFacts}
 use Rattle.plain_model.specs.Codes.{Code}
 use Rattle.plain_model.specs.Runs.{MayAct, IsPlainRun, known_of, wants_of, request_after}
-use Rattle.plain_model.specs.Ends.{IsStuck, wait_at}
+use Rattle.plain_model.specs.Ends.{waits_of}
+use Rattle.plain_model.specs.Causes.{IsStuck}
 
 -- how many acts pass the test
 abbrev pub how_many : (Recorded → Bool) → List Recorded → ℕ
@@ -139,13 +141,26 @@ OneOwnerAKey Frames = (set : SetFacts) (main : ℕ) (opening : Graph) (code : Co
     (acts : List Recorded) (key : PlainKey) (t u : ℕ) → IsPlainRun set main opening code acts
     → exits t key acts < enters t key acts → exits u key acts < enters u key acts → t ≡ u
 
--- Where all live threads wait, nothing comes but what becomes durable for them and what is fenced.
+-- a region is nested, and a monitor entered, at most so many times; and at most so many monitors are held
+pub record CountsAtMost (most : ℕ) (world : World) : Type 0 where
+  pub depth : (t : ℕ) → depth_of world t ≤ most
+  pub entries : (key : PlainKey) (m : Monitor) → held world.monitors key ≡ Some m → m.count ≤ most
+  pub monitors : length world.monitors ≤ most
+
+-- Regions, entries of a monitor and monitors that are held are no more than there are acts.
+abbrev pub CountsAreAtMostActs : Type 0 → Type 0
+CountsAreAtMostActs Frames = (set : SetFacts) (main : ℕ) (opening : Graph) (code : Code set main opening Frames)
+    (acts : List Recorded) → IsPlainRun set main opening code acts
+    → CountsAtMost (length acts) (known_of set main opening code acts).world
+
+-- Where all live threads wait, nothing comes but what becomes durable for them, and no live thread owes a
+-- fence.
 abbrev pub StuckThreadsDoNothing : Type 0 → Type 0
 StuckThreadsDoNothing Frames = (set : SetFacts) (main : ℕ) (opening : Graph)
     (code : Code set main opening Frames)
     (acts : List Recorded) (a : Recorded) (f : RunFault)
     → let known = known_of set main opening code acts in let request =
     request_after set main opening code acts in
-    IsStuck (λ t. wait_at set known.world t (request t)) request f
+    IsStuck (waits_of set known request) request f
     → MayAct set known (wants_of set main opening code acts) (request a.act.thread) a
-    → (a.act.op ≡ op.Joined) ⊎ (a.act.op ≡ op.Fenced)
+    → (a.act.op ≡ op.Joined) ⊎ ((a.act.op ≡ op.Fenced) × (request a.act.thread ≡ None))

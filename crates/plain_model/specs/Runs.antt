@@ -1,17 +1,17 @@
 -- Plain runs: each visible act is the act of the plain step for its thread, and the operations of persistence keep their rules
 -- (Shull, Huang and Torrellas, "AutoPersist", PLDI 2019, in the form that docs/MODEL.md gives).
-use Rattle.std.specs.Prelude.{◌≡◌, ◌≢◌, ◌⊎◌, ℕ, ◌≤◌, Bool, true, false, List, [], ◌∷◌, ◌++◌, Option, Some, None, All, AllPairs}
+use Rattle.std.specs.Prelude.{◌≡◌, ◌≢◌, ◌⊎◌, ℕ, ◌≤◌, Bool, true, false, not, List, [], ◌∷◌, ◌++◌, Option, Some, None, All, AllPairs}
 use Rattle.ap_base.specs.declared.place.Place.{Place}
 use Rattle.ap_base.specs.declared.place.Place.TheVariants.{Slot}
 use Rattle.graph_model.specs.declared.types.Value.{Value}
-use Rattle.graph_model.specs.declared.types.Value.TheVariants.{Obj as Object}
+use Rattle.graph_model.specs.declared.types.Value.TheVariants.{Int, Long, Null, Obj as Object}
 use Rattle.graph_model.specs.declared.types.Graph.{Graph}
-use Rattle.graph_model.specs.Heaps.{has_number}
+use Rattle.graph_model.specs.Heaps.{has_number, is_kept_slot}
 use Rattle.run_history.specs.declared.act.Op.{Op}
 use Rattle.run_history.specs.declared.act.Op.TheVariants as op
-use Rattle.run_history.specs.Recorded.{Recorded}
+use Rattle.run_history.specs.Recorded.{Recorded, NamesRightly}
 use Rattle.run_history.specs.Worlds.{World, depth_of}
-use Rattle.run_history.specs.Knowing.{Knowledge, next_known, known_after, durable_at, pending_of, guard_of, has_guards, is_outermost}
+use Rattle.run_history.specs.Knowing.{Knowledge, next_known, known_after, durable_at, pending_of, guard_of, has_guards, owes_fence, is_outermost}
 use Rattle.run_history.specs.Wanted.{Wishes, NoWish, WantsNow, WantsAfter, IsClosed}
 use Rattle.run_history.specs.Kept.{IsAllowedFrom}
 use Rattle.plain_model.specs.Facts.{SetFacts}
@@ -37,13 +37,22 @@ is_guarded_by t (Some u) = has_number (u ∷ []) t
 abbrev pub has_guarded : Knowledge → ℕ → Place → Bool
 has_guarded known t place = is_guarded_by t (guard_of known.guards place)
 
+-- the place is a kept slot of an object that some thread wants
+pub record IsKeptSlotOfWanted (known : Knowledge) (Now : Wishes) (place : Place) : Type 0 where
+  pub thread : ℕ
+  pub object : ℕ
+  pub slot : ℕ
+  pub is_slot : place ≡ Slot object slot
+  pub is_kept : is_kept_slot known.world.heap object slot ≡ true
+  pub wanted : Now thread object
+
 -- Asked: none of the thread's Asked acts is pending, its request is one whose step stores this value there, the value is an
--- object that isn't durable, and the place is durable or a slot of a wanted object.
+-- object that isn't durable, and the place is durable or a kept slot of a wanted object.
 pub record MayAsk (set : SetFacts) (known : Knowledge) (Now : Wishes) (request : Option PlainRequest) (t : ℕ) (place : Place) (value : Value) : Type 0 where
   pub none_pending : pending_of known.asked t ≡ None
   pub is_about : IsAbout set known request t (op.Stored place value)
   pub volatile : (n : ℕ) × (value ≡ Object n) × (has_number known.durable n ≡ false)
-  pub holder : (durable_at known place ≡ true) ⊎ ((u n i : ℕ) × (place ≡ Slot n i) × Now u n)
+  pub holder : (durable_at known place ≡ true) ⊎ IsKeptSlotOfWanted known Now place
 
 -- Joined: it names at least one object, each once; each is wanted and wasn't durable.
 pub record MayJoin (known : Knowledge) (Now : Wishes) (named : List ℕ) : Type 0 where
@@ -52,10 +61,18 @@ pub record MayJoin (known : Knowledge) (Now : Wishes) (named : List ℕ) : Type 
   pub volatile : All (λ n. has_number known.durable n ≡ false) named
   pub wanted : All (λ n. (u : ℕ) × Now u n) named
 
--- Guarded: the thread's request is one whose step stores at this durable place, its region is open and isn't closing, and no open
--- region has guarded the place.
+-- the value is an object that isn't durable
+abbrev pub is_volatile : List ℕ → Value → Bool
+is_volatile durable (Object n) = not (has_number durable n)
+is_volatile durable (Int i) = false
+is_volatile durable (Long i) = false
+is_volatile durable Null = false
+
+-- Guarded: the thread's request is one whose step stores no volatile object at this durable place, its region is open and isn't
+-- closing, and no open region has guarded the place.
 pub record MayGuard (set : SetFacts) (known : Knowledge) (request : Option PlainRequest) (t : ℕ) (place : Place) : Type 0 where
   pub is_about : (value : Value) × IsAbout set known request t (op.Stored place value)
+      × (is_volatile known.durable value ≡ false)
   pub is_open : depth_of known.world t ≢ 0
   pub not_closing : has_number known.closing t ≡ false
   pub durable : durable_at known place ≡ true
@@ -95,11 +112,6 @@ abbrev pub is_fenced : Op → Bool
 is_fenced op.Fenced = true
 is_fenced o = false
 
--- only a Joined act names objects
-abbrev pub NamesRightly : Op → List ℕ → Type 0
-NamesRightly op.Joined named = Unit {0}
-NamesRightly o named = named ≡ []
-
 -- What may come next, where the act's thread asks this request.
 pub record MayAct (set : SetFacts) (known : Knowledge) (Now : Wishes) (request : Option PlainRequest) (a : Recorded) : Type 0 where
   -- the count of image calls never falls
@@ -107,7 +119,7 @@ pub record MayAct (set : SetFacts) (known : Knowledge) (Now : Wishes) (request :
   pub rule : Rule set known Now request a.act.thread a.named a.act.op
   pub named : NamesRightly a.act.op a.named
   -- a thread's next act after its durable store outside regions is Fenced, and Fenced comes nowhere else
-  pub fence : is_fenced a.act.op ≡ has_number known.unfenced a.act.thread
+  pub fence : is_fenced a.act.op ≡ owes_fence known.unfenced a.act.thread
   -- what a durable place refers to is durable
   pub is_closed : IsClosed (next_known known a)
 

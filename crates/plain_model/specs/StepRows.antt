@@ -1,6 +1,7 @@
 -- What each request comes to in one world, as a table: what it does and replies, what it throws and after
 -- which tests, for whom it waits, and what it finds wrong (JVMS 6.5, 5.5 and 2.11.10).
-use Rattle.std.specs.Prelude.{◌≡◌, ℕ, pos, negsuc, true, false, List, [], ◌∷◌, map, Some, None}
+use Rattle.std.specs.Prelude.{◌≡◌, ℕ, pos, negsuc, true, false, List, [], ◌∷◌, map, filter, Some, None}
+use Rattle.ap_base.specs.declared.kind.Kind.{Kind}
 use Rattle.ap_base.specs.declared.kind.Kind.TheVariants.{Z, B, C, S, I, J, L, Text}
 use Rattle.ap_base.specs.declared.place.Place.{Place}
 use Rattle.ap_base.specs.declared.place.Place.TheVariants.{Static, Slot}
@@ -18,7 +19,7 @@ use Rattle.run_history.specs.declared.act.Stage.TheVariants as stage
 use Rattle.run_history.specs.declared.act.Op.TheVariants as op
 use Rattle.run_history.specs.Worlds.{World}
 use Rattle.plain_model.specs.Requests.{PlainRequest}
-use Rattle.plain_model.specs.Steps.{Step, Does, Waits, WrongOperand, IsOver, step}
+use Rattle.plain_model.specs.Steps.{Step, Does, Waits, WrongOperand, IsOver, step, is_kind}
 use Rattle.plain_model.specs.StepWorld.{boxes, box_world, here, int, next_object}
 use Rattle.plain_model.specs.StepWorld.{main_class, box_class, crate_class, late_class, early_class, worker_class}
 use Rattle.plain_model.specs.StepWorld.{object_class, runnable, runtime_exception, string_class, string_builder, thread_class, throwable}
@@ -312,6 +313,15 @@ others =
 -- the step of a print of two bytes that takes so many
 abbrev pub prints : ℕ → Step
 prints taken = step boxes box_world 0 taken (ask.Print here (55 ∷ 10 ∷ []))
+
+abbrev pub every_kind : List Kind
+every_kind = Z ∷ B ∷ C ∷ S ∷ I ∷ J ∷ L ∷ Text ∷ []
+
+-- The elements that serve a request for each kind: none but its own, and booleans as bytes. A String's chars
+-- are no array's.
+abbrev pub KindsServeTheirOwn : Type 0
+KindsServeTheirOwn = map (λ asked. filter (is_kind asked) every_kind) every_kind
+    ≡ ((Z ∷ []) ∷ (Z ∷ B ∷ []) ∷ (C ∷ []) ∷ (S ∷ []) ∷ (I ∷ []) ∷ (J ∷ []) ∷ (L ∷ []) ∷ [] ∷ [])
 
 -- A print of a piece of two bytes takes one or both.
 pub record PrintsAFront : Type 0 where

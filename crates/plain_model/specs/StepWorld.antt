@@ -3,7 +3,7 @@
 -- classes in each state of initialisation.
 use Rattle.std.specs.Prelude.{ℕ, pos, negsuc, Bool, true, false, List, [], ◌∷◌, ◌++◌, replicate, Some, None, codes}
 use Rattle.ap_base.specs.declared.kind.Kind.{Kind}
-use Rattle.ap_base.specs.declared.kind.Kind.TheVariants.{Z, B, C, S, I, J, L}
+use Rattle.ap_base.specs.declared.kind.Kind.TheVariants.{Z, B, S, I, J, L}
 use Rattle.run_types.specs.declared.resolved.At.{At}
 use Rattle.run_types.specs.declared.resolved.FieldAt.{FieldAt}
 use Rattle.graph_model.specs.declared.types.Value.{Value}
@@ -13,9 +13,9 @@ use Rattle.graph_model.specs.declared.types.Obj.{Obj}
 use Rattle.run_history.specs.declared.act.PlainKey.TheVariants.{Object as ObjectKey, Class as ClassKey}
 use Rattle.run_history.specs.declared.plain.Progress.TheVariants.{Untouched, BegunBy, Finished}
 use Rattle.run_history.specs.Worlds.{Thread, World, new_thread}
-use Rattle.plain_model.specs.Facts.{ClassFacts, StaticFacts, SetFacts, shapes_of}
-use Rattle.plain_model.specs.First.{numbers_to}
-use Rattle.plain_model.specs.BuiltIn.{field, built_in_classes, array_type, known_classes, throwable_numbers}
+use Rattle.plain_model.specs.Classes.{ClassFacts, ArrayType}
+use Rattle.plain_model.specs.Facts.{StaticFacts, SetFacts, shapes_of}
+use Rattle.plain_model.specs.BuiltIn.{field, class_under, array_of_kind, array_of_objects, chars_array, arguments_array, object_place}
 
 -- The program's classes are 0 to 5. The built-in ones follow by their names' bytes, and then the array
 -- types by descriptor.
@@ -115,13 +115,10 @@ shorts_type = 40
 abbrev pub booleans_type : ℕ
 booleans_type = 41
 
-abbrev pub program_class : List ℕ → List Field → List ℕ → ClassFacts
-program_class name fields supertypes = record {
+abbrev pub program_class : List ℕ → List Field → ℕ → ClassFacts
+program_class name fields super = record (class_under 6 name object_place) {
   shape = record { name = name; fields = fields; element = None };
-  supertypes = supertypes;
-  may_hold = [];
-  is_made = true;
-  of_program = true;
+  superclass = Some super;
 }
 
 abbrev pub box_fields : List Field
@@ -131,32 +128,24 @@ box_fields = field (codes "amount") I ∷ field (codes "content") L ∷ field (c
 -- }; class Late; class Early { long when; }; class Worker extends Thread
 abbrev pub program_classes : List ClassFacts
 program_classes =
-    program_class (codes "Main") [] (main_class ∷ object_class ∷ [])
-    ∷ program_class (codes "Box") box_fields (box_class ∷ object_class ∷ [])
-    ∷ program_class (codes "Crate") (box_fields ++ field (codes "open") Z ∷ []) (crate_class ∷ box_class
-    ∷ object_class ∷ [])
-    ∷ program_class (codes "Late") [] (late_class ∷ object_class ∷ [])
-    ∷ program_class (codes "Early") (field (codes "when") J ∷ []) (early_class ∷ object_class ∷ [])
-    ∷ program_class (codes "Worker") (field (codes "target") L ∷ [])
-    (worker_class ∷ thread_class ∷ runnable ∷ object_class ∷ [])
+    program_class (codes "Main") [] object_class
+    ∷ program_class (codes "Box") box_fields object_class
+    ∷ program_class (codes "Crate") (box_fields ++ field (codes "open") Z ∷ []) box_class
+    ∷ program_class (codes "Late") [] object_class
+    ∷ program_class (codes "Early") (field (codes "when") J ∷ []) object_class
+    ∷ program_class (codes "Worker") (field (codes "target") L ∷ []) thread_class
     ∷ []
 
--- a String[] is an Object[] (JVMS 4.10.1.2)
-abbrev pub strings_facts : ClassFacts
-strings_facts = record (array_type 6 strings_type (codes "[Ljava/lang/String;") L (string_class ∷ [])) {
-  supertypes = strings_type ∷ objects_type ∷ object_class ∷ 13 ∷ 8 ∷ [];
-}
-
-abbrev pub array_types : List ClassFacts
+abbrev pub array_types : List ArrayType
 array_types =
-    array_type 6 bytes_type (codes "[B") B []
-    ∷ array_type 6 chars_type (codes "[C") C []
-    ∷ array_type 6 ints_type (codes "[I") I []
-    ∷ array_type 6 longs_type (codes "[J") J []
-    ∷ array_type 6 objects_type (codes "[Ljava/lang/Object;") L (numbers_to 42)
-    ∷ strings_facts
-    ∷ array_type 6 shorts_type (codes "[S") S []
-    ∷ array_type 6 booleans_type (codes "[Z") Z []
+    array_of_kind (codes "[B") B
+    ∷ chars_array
+    ∷ array_of_kind (codes "[I") I
+    ∷ array_of_kind (codes "[J") J
+    ∷ array_of_objects (codes "[Ljava/lang/Object;") object_class
+    ∷ arguments_array 6
+    ∷ array_of_kind (codes "[S") S
+    ∷ array_of_kind (codes "[Z") Z
     ∷ []
 
 abbrev pub static_of : List ℕ → ℕ → Kind → Bool → StaticFacts
@@ -174,13 +163,10 @@ box_statics =
 
 abbrev pub boxes : SetFacts
 boxes = record {
-  classes = program_classes ++ built_in_classes 6 ++ array_types;
+  program = program_classes;
+  arrays = array_types;
   statics = box_statics;
   literals = [];
-  known = record (known_classes 6) { chars = chars_type };
-  stream = print_stream;
-  arguments = strings_type;
-  throwables = throwable_numbers 6;
 }
 
 -- the objects, by number

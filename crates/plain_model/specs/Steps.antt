@@ -29,8 +29,11 @@ use Rattle.run_history.specs.declared.plain.Monitor.{Monitor}
 use Rattle.run_history.specs.Worlds.{Thread, World, held, depth_of}
 use Rattle.plain_model.specs.declared.throws.Throws.{Throws}
 use Rattle.plain_model.specs.declared.throws.Throws.TheVariants as exception
-use Rattle.plain_model.specs.Facts.{SetFacts, class_at, element_of, is_sub, may_hold, thrown_class, narrowed}
+use Rattle.plain_model.specs.BuiltIn.{thread_place}
+use Rattle.plain_model.specs.Facts.{SetFacts, built_in_number, class_at, element_of, is_sub, may_hold, string_number, thrown_class}
+use Rattle.plain_model.specs.Kinds.{narrowed}
 use Rattle.plain_model.specs.Requests.{PlainRequest, PlainReply}
+use Rattle.plain_model.specs.Limits.{most_threads, threads_left}
 
 -- What a step comes to: it does an operation and replies, it waits for another thread, it finds a wrong operand, or the run is
 -- over by a fault.
@@ -146,7 +149,7 @@ module _ (set : SetFacts) (world : World) where
   is_of class n = is_sub set (shape_of n) class
 
   abbrev pub is_string : ℕ → Bool
-  is_string n = nat_eq (shape_of n) set.known.string
+  is_string n = nat_eq (shape_of n) (string_number set)
 
   abbrev pub is_array_of : Kind → Option Kind → Bool
   is_array_of kind None = false
@@ -195,13 +198,13 @@ module _ (set : SetFacts) (world : World) where
   abbrev pub exits : ℕ → PlainKey → Step
   exits t key = exits_held t key (held world.monitors key)
 
-  -- A Thread object is started once. There are at most 64 threads.
+  -- A Thread object is started once. There are at most `most_threads`.
   abbrev pub starts_thread : ℕ → Option (ℕ × Thread) → Step
   starts_thread n (Some started) = throws exception.IllegalThreadState
   starts_thread n None =
-      if nat_lt (length world.threads) 64
+      if nat_lt (length world.threads) most_threads
       then Does (op.Start n (length world.threads)) reply.Done
-      else IsOver (fault.Full (record { which = which.Threads; need = 1; left = 0 }))
+      else IsOver (fault.Full (record { which = which.Threads; need = 1; left = threads_left world.threads }))
 
   -- the join of a thread that was never started, or has ended, returns at once
   abbrev pub joins_thread : ℕ → Option (ℕ × Thread) → Step
@@ -209,7 +212,7 @@ module _ (set : SetFacts) (world : World) where
   joins_thread n (Some started) = if started.1.ended then Does (op.Join n) reply.Done else Waits (on.Join started.0)
 
   abbrev pub is_thread : ℕ → Bool
-  is_thread n = is_of set.known.thread n
+  is_thread n = is_of (built_in_number set thread_place) n
 
   abbrev pub any_object : ℕ → Bool
   any_object n = true
@@ -244,7 +247,7 @@ module _ (set : SetFacts) (world : World) where
   step t taken (ask.Broken fault) = IsOver fault
   step t taken (ask.New from class) = with_class t class (allocates class (new_length class))
   step t taken (ask.NewArray from shape count) = new_array shape count
-  step t taken (ask.NewText from count) = new_array set.known.string count
+  step t taken (ask.NewText from count) = new_array (string_number set) count
   step t taken (ask.GetStatic from field) = with_class t field.class (reads (Static field.at))
   step t taken (ask.PutStatic from field value) = with_class t field.class (stores field.kind (Static field.at) value)
   step t taken (ask.GetField from holder field) = with_object holder (is_of field.class) (λ n. reads (Slot n field.at))

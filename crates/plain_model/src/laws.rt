@@ -3,6 +3,8 @@
 ghost use Rattle.plain_model.specs.Laws.{OneMoreAct, FrontsArePlainRuns, VisibleActsAreSteps, OutputOfParts, OutputByOperations};
 ghost use Rattle.plain_model.specs.Laws.{DurableReferToDurable, OnlyWantedBecomesDurable, WantsForTheAsked, WantsNothingAtFirst};
 ghost use Rattle.plain_model.specs.Laws.{PendingWasAsked, DurableObjectsStay, WorldByVisibleActs, PersistenceLeavesTheWorld};
+ghost use Rattle.plain_model.specs.Laws.{ObjectsHaveTheirSlots};
+ghost use Rattle.plain_model.specs.Typed.{FirstHeapIsTyped};
 ghost use Rattle.plain_model.specs.Laws.{FirstHeapHasItsGraph, FirstHeapIsSound, FitStepsKeepHeapsSound, HeapsOfRunsAreSound};
 
 /// A plain run goes on by exactly the acts that may come next.
@@ -47,6 +49,11 @@ pub fn the_first_heap_is_sound()
     ensures { FirstHeapIsSound }
 {}
 
+/// The first heap is typed: each slot and each static field has a value of its kind, in its range.
+pub fn the_first_heap_is_typed()
+    ensures { FirstHeapIsTyped }
+{}
+
 /// The first heap of a canonical opening graph has that graph.
 pub fn the_first_heap_has_its_graph()
     ensures { FirstHeapHasItsGraph }
@@ -60,4 +67,9 @@ pub fn a_fit_step_keeps_the_heap_sound()
 /// The heap is sound after every plain run of code that keeps its duties.
 pub fn the_heap_of_a_plain_run_is_sound<Frames>()
     ensures { HeapsOfRunsAreSound Frames }
+{}
+
+/// An object has the slots of its class at every point of a plain run.
+pub fn objects_have_their_slots<Frames>()
+    ensures { ObjectsHaveTheirSlots Frames }
 {}

@@ -1,17 +1,43 @@
 // Small programs by computation: what they may do, and what they may not.
 ghost use Rattle.std.specs.Prelude.{pos, negsuc, [], ◌∷◌};
 ghost use Rattle.ap_base.specs.declared.kind.Kind.TheVariants.{Z, B, C, S};
-ghost use Rattle.plain_model.specs.Facts.{IsConsistent};
+ghost use Rattle.plain_model.specs.BuiltInRows.{BuiltInsAreClasses, BuiltInsAreThoseOfTheTable, BuiltInsOfSetsLink, SupertypesAreFollowed};
+ghost use Rattle.plain_model.specs.Consistent.{IsConsistent};
 ghost use Rattle.plain_model.specs.First.{IsOpening};
+ghost use Rattle.plain_model.specs.FirstRows.{FirstHeapHasConstants};
 ghost use Rattle.plain_model.specs.Rows.{nodes, null_root, one_node, Publishes, asked, joined, stored, fenced, left};
 ghost use Rattle.plain_model.specs.Rows.{DoesInRegion, guarded, linked, closing, ended, Narrows, LeavesEither, LeavesTheNode};
+ghost use Rattle.plain_model.specs.SubtypeRows.{AreHeld, AreSubtypes, ElementsHaveKinds, drawing, of_arrays, of_classes, of_elements};
 ghost use Rattle.graph_model.specs.declared.types.Value.TheVariants.{Null};
+
+/// The names of the built-in classes ascend, each has the superclass, superinterfaces and fields of the
+/// table, superclasses' fields stand first, and a few of them by their supertypes.
+pub fn the_built_in_classes_are_classes()
+    ensures classes { BuiltInsAreClasses }
+    ensures table { BuiltInsAreThoseOfTheTable }
+    ensures links { BuiltInsOfSetsLink }
+    ensures supertypes { SupertypesAreFollowed }
+{}
+
+/// Which types are subtypes of which, and what an array may hold (JVMS 4.10.1.2).
+pub fn subtypes_are_those_of_the_table()
+    ensures set { IsConsistent drawing }
+    ensures classes { AreSubtypes of_classes }
+    ensures arrays { AreSubtypes of_arrays }
+    ensures elements { AreHeld of_elements }
+    ensures kinds { ElementsHaveKinds }
+{}
 
 /// The class set of these programs is one, and their graphs are opening graphs of it.
 pub fn the_programs_are_sound()
     ensures set { IsConsistent nodes }
     ensures null_root { IsOpening nodes null_root }
     ensures one_node { IsOpening nodes (one_node Null) }
+{}
+
+/// The first heap of a set with constants and literals, from a graph with a root that the set lacks.
+pub fn the_first_heap_has_the_constants()
+    ensures { FirstHeapHasConstants }
 {}
 
 /// A new node is asked, joined, stored to the root and fenced, in this order.

@@ -1,8 +1,10 @@
 // Laws of plain runs, said of their acts alone. `Frames` is what code keeps of a thread.
 ghost use Rattle.plain_model.specs.RunLaws.{OneStoreIsUnfenced, DepthIsBeginsLessEnds, GuardsAreOfOpenRegions, OneGuardAPlace};
 ghost use Rattle.plain_model.specs.RunLaws.{GuardsWereMadeInTheirRegion, StoresOfRegionsWereGuarded};
-ghost use Rattle.plain_model.specs.RunLaws.{ExitsFollowEnters, OneOwnerAKey, StuckThreadsDoNothing};
+ghost use Rattle.plain_model.specs.RunLaws.{ExitsFollowEnters, OneOwnerAKey, CountsAreAtMostActs, StuckThreadsDoNothing};
 ghost use Rattle.plain_model.specs.EndLaws.{LogsHold1024, MonitorsAre4096, LinesAreForWanted};
+ghost use Rattle.plain_model.specs.Causes.{FaultsHaveCauses};
+ghost use Rattle.plain_model.specs.LimitLaws.{RunsStayWithin, EachActLeavesAMark};
 
 /// Of each thread at most one durable store outside regions isn't fenced.
 pub fn one_store_of_a_thread_is_unfenced<Frames>()
@@ -24,6 +26,11 @@ pub fn monitors_have_one_owner<Frames>()
     ensures one_owner { OneOwnerAKey Frames }
 {}
 
+/// What is held or nested is no more than there are acts.
+pub fn counts_are_at_most_the_acts<Frames>()
+    ensures { CountsAreAtMostActs Frames }
+{}
+
 /// Where all live threads wait, no thread does anything.
 pub fn stuck_threads_do_nothing<Frames>()
     ensures { StuckThreadsDoNothing Frames }
@@ -33,6 +40,17 @@ pub fn stuck_threads_do_nothing<Frames>()
 pub fn limits_are_reached()
     ensures logs { LogsHold1024 }
     ensures monitors { MonitorsAre4096 }
+{}
+
+/// A fault that acts tell comes of what its name says.
+pub fn faults_have_causes<Frames>()
+    ensures { FaultsHaveCauses Frames }
+{}
+
+/// A run whose events end by no fault stays within its limits of words, acts, monitors and threads.
+pub fn runs_stay_within_their_limits<Frames>()
+    ensures within { RunsStayWithin Frames }
+    ensures marks { EachActLeavesAMark }
 {}
 
 /// Lines of the image are used up for objects that are wanted.

@@ -1,13 +1,12 @@
 // Programs of two threads by computation: what they may do, and what they may not.
 ghost use Rattle.plain_model.specs.RunRows.{RegionsGuard, RegionsNest, StoresAreFenced, OnlyDurablePlacesAreAsked};
-ghost use Rattle.plain_model.specs.Facts.{IsConsistent};
+ghost use Rattle.plain_model.specs.Consistent.{IsConsistent};
 ghost use Rattle.plain_model.specs.First.{IsOpening};
-ghost use Rattle.plain_model.specs.Laws.{HasShapesOf};
 ghost use Rattle.plain_model.specs.StepWorld.{boxes};
 ghost use Rattle.plain_model.specs.RunRows.{two_boxes};
 ghost use Rattle.plain_model.specs.RunRows.{ActsAreInOrder, ThreadsWait, MonitorsExclude};
-ghost use Rattle.plain_model.specs.EndRows.{Prints7, RegionsCommitAtTheirEnd, RegionsRace, ThreadsAreStuck, RunsFill};
-ghost use Rattle.plain_model.specs.EndRows.{FaultsCome, ThreadsEnd};
+ghost use Rattle.plain_model.specs.EndRows.{Prints7, RegionsCommitAtTheirEnd, RegionsRace, ThreadsAreStuck, RunsFill, LinesAreWanted};
+ghost use Rattle.plain_model.specs.EndRows.{CausesAreInOrder, FencesComeFirst, FaultsCome, ThreadsEnd};
 
 /// Regions guard their places, nest, and close at their outermost end.
 pub fn regions_keep_their_rules()
@@ -43,6 +42,9 @@ pub fn runs_end_by_their_rules()
     ensures races { RegionsRace }
     ensures stuck { ThreadsAreStuck }
     ensures fill { RunsFill }
+    ensures lines { LinesAreWanted }
+    ensures order { CausesAreInOrder }
+    ensures fences { FencesComeFirst }
     ensures faults { FaultsCome }
     ensures ends { ThreadsEnd }
 {}
@@ -51,5 +53,4 @@ pub fn runs_end_by_their_rules()
 pub fn the_boxes_are_sound()
     ensures set { IsConsistent boxes }
     ensures graph { IsOpening boxes two_boxes }
-    ensures shapes { HasShapesOf boxes two_boxes }
 {}

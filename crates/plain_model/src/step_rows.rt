@@ -1,9 +1,9 @@
 // The step of each request in one world, by computation.
 ghost use Rattle.plain_model.specs.StepWorld.{box_world, crowded_world};
-ghost use Rattle.plain_model.specs.StepRows.{AreSteps, PrintsAFront, making, statics, fields, element_reads, element_stores};
+ghost use Rattle.plain_model.specs.StepRows.{AreSteps, KindsServeTheirOwn, PrintsAFront, making, statics, fields, element_reads, element_stores};
 ghost use Rattle.plain_model.specs.StepRows.{tests, monitors, threads, crowded, others};
 ghost use Rattle.plain_model.specs.FitRows.{MadeClassesAreMade, BegunClassesAreDone, ThrowablesAreThrown};
-ghost use Rattle.plain_model.specs.FitRows.{FieldsAreOfTheirKind, TurnsBreakBy};
+ghost use Rattle.plain_model.specs.FitRows.{FieldsAreOfTheirKind, PiecesArePrinted, TurnsBreakBy};
 
 /// What objects, static fields and instance fields are asked for (JVMS 6.5).
 pub fn objects_and_fields_step_by_the_table()
@@ -16,6 +16,7 @@ pub fn objects_and_fields_step_by_the_table()
 pub fn elements_step_by_the_table()
     ensures reads { AreSteps box_world element_reads }
     ensures stores { AreSteps box_world element_stores }
+    ensures kinds { KindsServeTheirOwn }
 {}
 
 /// Lengths, classes, casts and comparisons (JVMS 6.5).
@@ -38,5 +39,6 @@ pub fn fit_requests_are_those_of_the_table()
     ensures begun { BegunClassesAreDone }
     ensures thrown { ThrowablesAreThrown }
     ensures fields { FieldsAreOfTheirKind }
+    ensures pieces { PiecesArePrinted }
     ensures broken { TurnsBreakBy }
 {}

@@ -2,12 +2,13 @@
 -- thread that owes no fence has no single store, and one whose region is closing has no store of an open region.
 use Rattle.std.proofs.Common.{◌≡◌, ℕ, zero, suc, Bool, true, false, List, [], ◌∷◌, ◌++◌, refl, ap, sym, ◌∙◌, cond, nat_eq, if◌then◌else◌, ◌||◌, not, arith}
 use Rattle.std.proofs.lemmas.Bool.{eqb-true, or_parts}
+use Rattle.ap_base.specs.declared.place.Place.{Place}
 use Rattle.graph_model.specs.Heaps.{has_number}
 use Rattle.run_history.specs.declared.act.Op.{Op}
 use Rattle.run_history.specs.declared.act.Op.TheVariants as op
 use Rattle.run_history.specs.Recorded.{Recorded}
 use Rattle.run_history.specs.Worlds.{depth_of}
-use Rattle.run_history.specs.Knowing.{Fate, Sure, Open, Closing, Single, Mark, Knowledge, known_at_first, known_after, known_after_op, next_known, fenced, closed, ended, each_fate, with_sure, fate_of, store_fate, durable_at, is_outermost, is_single, without_number, after_end}
+use Rattle.run_history.specs.Knowing.{Fate, Sure, Open, Closing, Single, Mark, Knowledge, known_at_first, known_after, known_after_op, next_known, fenced, closed, ended, each_fate, with_sure, fate_of, store_fate, durable_at, is_outermost, is_single, without_number, Unfenced, owes_fence, without_fenced, after_end}
 use Rattle.run_history.specs.Laws.{Past, further, known_in, marks_in}
 use Rattle.run_history.proofs.KeptLists.{OfEach, Any, OfEach-any, OfEach-more, OfEach-each_fate}
 
@@ -54,13 +55,27 @@ has_number-without_own (n ∷ ns) t =
       | false ↦ λ e. rw e (has_number-without_own ns t)
     ] refl
 
--- a number that isn't in the longer list is neither in the list nor the new one
-has_number-neither : (ns : List ℕ) (t u : ℕ)
-    → has_number (ns ++ t ∷ []) u ≡ false → (has_number ns u ≡ false) × (nat_eq t u ≡ false)
-has_number-neither [] t u h = (refl, (or_parts (nat_eq t u) false h).0)
-has_number-neither (n ∷ ns) t u h =
-    let parts = or_parts (nat_eq n u) (has_number (ns ++ t ∷ []) u) h in
-    let rest = has_number-neither ns t u parts.1 in
+-- Stores that aren't fenced: another thread's fence leaves them.
+pub owes_fence-without : (us : List Unfenced) (t u : ℕ) → nat_eq u t ≡ false → owes_fence (without_fenced us t) u ≡ owes_fence us u
+owes_fence-without [] t u d = refl
+owes_fence-without (n ∷ us) t u d =
+    let Same : Bool → Type 0 = λ b.
+    owes_fence (cond (not b) (n ∷ without_fenced us t) (without_fenced us t)) u ≡ (nat_eq n.thread u || owes_fence us u) in
+    elim (nat_eq n.thread t) as (λ b. nat_eq n.thread t ≡ b → Same b) [
+      | true ↦ λ e.
+          let same : n.thread ≡ t = eqb-true n.thread t e in
+          let other : nat_eq n.thread u ≡ false = grind (arith, same, d) in
+          rw other (owes_fence-without us t u d)
+      | false ↦ λ e. ap (λ b. nat_eq n.thread u || b) (owes_fence-without us t u d)
+    ] refl
+
+-- a thread that owes no fence once a store was added owed none before, and the store isn't its own
+pub owes_fence-neither : (us : List Unfenced) (new : Unfenced) (u : ℕ)
+    → owes_fence (us ++ new ∷ []) u ≡ false → (owes_fence us u ≡ false) × (nat_eq new.thread u ≡ false)
+owes_fence-neither [] new u h = (refl, (or_parts (nat_eq new.thread u) false h).0)
+owes_fence-neither (n ∷ us) new u h =
+    let parts = or_parts (nat_eq n.thread u) (owes_fence (us ++ new ∷ []) u) h in
+    let rest = owes_fence-neither us new u parts.1 in
     (rw parts.0 rest.0, rest.1)
 
 -- a number other than the new one is in the longer list where it is in the list
@@ -168,27 +183,27 @@ OfEach-with_sure P f keeps sure ms o all = OfEach-more P (each_fate f ms) Sure o
 
 -- A thread that owes no fence has no single store.
 abbrev pub OwesForSingles : Knowledge → Type 0
-OwesForSingles known = (t : ℕ) → has_number known.unfenced t ≡ false → OfEach (NoSingle t) known.marks
+OwesForSingles known = (t : ℕ) → owes_fence known.unfenced t ≡ false → OfEach (NoSingle t) known.marks
 
-owes-stored : (known : Knowledge) (t : ℕ) (o : Op) (fate : Fate) → (is_single fate ≡ true → fate ≡ Single t)
+owes-stored : (known : Knowledge) (t : ℕ) (place : Place) (o : Op) (fate : Fate) → (is_single fate ≡ true → fate ≡ Single t)
     → OwesForSingles known → (u : ℕ)
-    → has_number (if is_single fate then known.unfenced ++ t ∷ [] else known.unfenced) u ≡ false
+    → owes_fence (if is_single fate then known.unfenced ++ record { thread = t; place = place } ∷ [] else known.unfenced) u ≡ false
     → OfEach (NoSingle u) (known.marks ++ record { fate = fate; op = o } ∷ [])
-owes-stored known t o Sure own owes u h = OfEach-more (NoSingle u) known.marks Sure o (owes u h) refl
-owes-stored known t o (Open v) own owes u h = OfEach-more (NoSingle u) known.marks (Open v) o (owes u h) refl
-owes-stored known t o (Closing v) own owes u h = OfEach-more (NoSingle u) known.marks (Closing v) o (owes u h) refl
-owes-stored known t o (Single v) own owes u h =
-    let neither = has_number-neither known.unfenced t u h in
+owes-stored known t place o Sure own owes u h = OfEach-more (NoSingle u) known.marks Sure o (owes u h) refl
+owes-stored known t place o (Open v) own owes u h = OfEach-more (NoSingle u) known.marks (Open v) o (owes u h) refl
+owes-stored known t place o (Closing v) own owes u h = OfEach-more (NoSingle u) known.marks (Closing v) o (owes u h) refl
+owes-stored known t place o (Single v) own owes u h =
+    let neither = owes_fence-neither known.unfenced (record { thread = t; place = place }) u h in
     rw (own refl) (OfEach-more (NoSingle u) known.marks (Single t) o (owes u neither.0) neither.1)
 
 owes-fenced : (known : Knowledge) (t : ℕ) → OwesForSingles known → (u : ℕ)
-    → has_number (without_number known.unfenced t) u ≡ false → OfEach (NoSingle u) (each_fate (fenced t) known.marks)
+    → owes_fence (without_fenced known.unfenced t) u ≡ false → OfEach (NoSingle u) (each_fate (fenced t) known.marks)
 owes-fenced known t owes u h =
     let own = OfEach-each_fate Any (NoSingle t) (fenced t) (λ fate _. fenced-own t fate) known.marks (OfEach-any known.marks) in
     elim (nat_eq u t) as (λ b. nat_eq u t ≡ b → OfEach (NoSingle u) (each_fate (fenced t) known.marks)) [
       | true ↦ λ e. rw (eqb-true u t e) own
       | false ↦ λ e.
-          let owed = owes u (sym (has_number-without known.unfenced t u e) ∙ h) in
+          let owed = owes u (sym (owes_fence-without known.unfenced t u e) ∙ h) in
           OfEach-each_fate (NoSingle u) (NoSingle u) (fenced t) (fenced-no_single t u) known.marks owed
     ] refl
 
@@ -206,7 +221,7 @@ owes-op known t named op.Fenced owes u h =
     OfEach-more (NoSingle u) (each_fate (fenced t) known.marks) Sure op.Fenced (owes-fenced known t owes u h) refl
 owes-op known t named (op.Stored place value) owes u h =
     let own = store_fate-single t (durable_at known place) (depth_of known.world t) (has_number known.closing t) in
-    owes-stored known t (op.Stored place value) (fate_of known t place) own owes u h
+    owes-stored known t place (op.Stored place value) (fate_of known t place) own owes u h
 owes-op known t named op.End owes u h = owes-end known t (is_outermost known t) owes u h
 owes-op known t named o owes u h = OfEach-more (NoSingle u) known.marks Sure o (owes u h) refl
 

@@ -4,4 +4,5 @@ pub mod Grown
 pub mod HeldLaws
 pub mod KeptLists
 pub mod RegionLaws
+pub mod Sizes
 pub mod StoreLaws

@@ -1,13 +1,13 @@
 -- What is known after each act of a history, read from its front: the world, the durable objects, what was asked and is
 -- pending, guarded places, regions that are closing, stores that aren't fenced, and what a stop may do to each act
 -- (Shull, Huang and Torrellas, "AutoPersist", PLDI 2019, for durability by reachability and failure-atomic regions).
-use Rattle.std.specs.Prelude.{ℕ, zero, suc, Bool, true, false, nat_eq, ◌||◌, not, List, [], ◌∷◌, ◌++◌, filter, Option, Some, None, if◌then◌else◌}
+use Rattle.std.specs.Prelude.{ℕ, zero, suc, Bool, true, false, nat_eq, ◌||◌, ◌&&◌, not, List, [], ◌∷◌, ◌++◌, filter, Option, Some, None, if◌then◌else◌}
 use Rattle.ap_base.specs.declared.place.Place.{Place}
 use Rattle.ap_base.specs.declared.place.Place.TheVariants.{Static, Slot}
 use Rattle.graph_model.specs.declared.types.Value.{Value}
 use Rattle.graph_model.specs.declared.types.Root.{Root}
 use Rattle.graph_model.specs.declared.types.Heap.{Heap}
-use Rattle.graph_model.specs.Heaps.{has_number, place_is}
+use Rattle.graph_model.specs.Heaps.{has_number, is_kept_slot, place_is}
 use Rattle.run_history.specs.declared.act.Op.{Op}
 use Rattle.run_history.specs.declared.act.Op.TheVariants as op
 use Rattle.run_history.specs.Recorded.{Recorded}
@@ -36,6 +36,11 @@ pub record Guard : Type 0 where
   pub thread : ℕ
   pub place : Place
 
+-- a durable store of the thread at this place, outside regions, isn't fenced
+pub record Unfenced : Type 0 where
+  pub thread : ℕ
+  pub place : Place
+
 pub record Knowledge : Type 0 where
   pub world : World
   pub durable : List ℕ
@@ -43,8 +48,8 @@ pub record Knowledge : Type 0 where
   pub guards : List Guard
   -- the threads whose region is closing
   pub closing : List ℕ
-  -- the threads with a durable store outside regions that isn't fenced
-  pub unfenced : List ℕ
+  -- the durable stores outside regions that aren't fenced
+  pub unfenced : List Unfenced
   pub marks : List Mark
   -- how many durable stores there were
   pub stores : ℕ
@@ -59,14 +64,28 @@ known_at_first world durable =
 abbrev pub without_number : List ℕ → ℕ → List ℕ
 without_number ns t = filter (λ n. not (nat_eq n t)) ns
 
+-- whether the thread owes a fence
+abbrev pub owes_fence : List Unfenced → ℕ → Bool
+owes_fence [] t = false
+owes_fence (u ∷ us) t = nat_eq u.thread t || owes_fence us t
+
+-- where the thread has stored, if it owes a fence
+abbrev pub unfenced_at : List Unfenced → ℕ → Option Place
+unfenced_at [] t = None
+unfenced_at (u ∷ us) t = if nat_eq u.thread t then Some u.place else unfenced_at us t
+
+-- what is unfenced after a fence of the thread
+abbrev pub without_fenced : List Unfenced → ℕ → List Unfenced
+without_fenced us t = filter (λ u. not (nat_eq u.thread t)) us
+
 abbrev pub is_root : List Root → ℕ → Bool
 is_root [] n = false
 is_root (r ∷ rs) n = nat_eq r.at n || is_root rs n
 
--- A durable place is a durable root, or a slot of a durable object.
+-- A durable place is a durable root, or a kept slot of a durable object.
 abbrev pub is_durable : Heap → List ℕ → Place → Bool
 is_durable heap durable (Static n) = is_root heap.roots n
-is_durable heap durable (Slot n i) = has_number durable n
+is_durable heap durable (Slot n i) = is_kept_slot heap n i && has_number durable n
 
 abbrev pub durable_at : Knowledge → Place → Bool
 durable_at known place = is_durable known.world.heap known.durable place
@@ -128,7 +147,7 @@ abbrev pub after_stored : Knowledge → ℕ → Place → Value → Fate → Kno
 after_stored known t place value fate = record known {
   world = after known.world t (op.Stored place value);
   asked = filter (λ p. not (nat_eq p.thread t)) known.asked;
-  unfenced = (if is_single fate then known.unfenced ++ t ∷ [] else known.unfenced);
+  unfenced = (if is_single fate then known.unfenced ++ record { thread = t; place = place } ∷ [] else known.unfenced);
   marks = known.marks ++ record { fate = fate; op = op.Stored place value } ∷ [];
   stores = (if durable_at known place then suc known.stores else known.stores);
 }
@@ -158,7 +177,7 @@ known_after_op known t named (op.Guarded place) =
 known_after_op known t named op.Closing =
     record known { closing = known.closing ++ t ∷ []; marks = with_sure (each_fate (closed t) known.marks) op.Closing }
 known_after_op known t named op.Fenced =
-    record known { unfenced = without_number known.unfenced t; marks = with_sure (each_fate (fenced t) known.marks) op.Fenced }
+    record known { unfenced = without_fenced known.unfenced t; marks = with_sure (each_fate (fenced t) known.marks) op.Fenced }
 known_after_op known t named (op.Stored place value) = after_stored known t place value (fate_of known t place)
 known_after_op known t named op.End = after_end known t (is_outermost known t)
 known_after_op known t named o = record known { world = after known.world t o; marks = with_sure known.marks o }

@@ -7,7 +7,7 @@ use Rattle.graph_model.specs.declared.types.Value.TheVariants.{Int, Obj as Objec
 use Rattle.run_history.specs.declared.act.Op.{Op}
 use Rattle.run_history.specs.declared.act.Op.TheVariants as op
 use Rattle.run_history.specs.Recorded.{Recorded}
-use Rattle.run_history.specs.Knowing.{Fate, Sure, Open, Closing, Single, Mark, Pending, Guard, Knowledge}
+use Rattle.run_history.specs.Knowing.{Fate, Sure, Open, Closing, Single, Mark, Pending, Guard, Unfenced, Knowledge}
 use Rattle.run_history.specs.Knowing.{known_at_first, next_known}
 use Rattle.run_history.specs.WorldRows.{ring_world}
 
@@ -19,7 +19,7 @@ pub record Seen : Type 0 where
   pub asked : List Pending
   pub guards : List Guard
   pub closing : List ℕ
-  pub unfenced : List ℕ
+  pub unfenced : List Unfenced
   pub stores : ℕ
   pub at : ℕ
 
@@ -76,6 +76,9 @@ nothing = record {
 abbrev pub guard : Place → Guard
 guard place = record { thread = 0; place = place }
 
+abbrev pub owes : ℕ → Place → Unfenced
+owes t place = record { thread = t; place = place }
+
 abbrev pub wish : Pending
 wish = record { thread = 1; place = Slot 2 1; value = Object 1 }
 
@@ -97,7 +100,7 @@ abbrev pub both_stored : Seen
 both_stored = record joined {
   fates = Open 0 ∷ Single 1 ∷ [];
   asked = [];
-  unfenced = 1 ∷ [];
+  unfenced = owes 1 (Slot 2 1) ∷ [];
   stores = 2;
   at = 4;
 }
@@ -153,7 +156,7 @@ publishing =
     ∷ told (by 0 7 op.Closing) is_closing
     ∷ told (by 0 8 op.End) outer_ended
     ∷ told (by 0 9 (op.Stored (Slot 1 0) (Int (pos 3))))
-    (record outer_ended { fates = Sure ∷ Sure ∷ Sure ∷ Single 0 ∷ []; unfenced = 0 ∷ []; stores = 4; at = 9 })
+    (record outer_ended { fates = Sure ∷ Sure ∷ Sure ∷ Single 0 ∷ []; unfenced = owes 0 (Slot 1 0) ∷ []; stores = 4; at = 9 })
     ∷ []
 
 -- what is known after each act is what stands beside it

@@ -11,7 +11,7 @@ use Rattle.run_history.specs.declared.act.Op.{Op}
 use Rattle.run_history.specs.declared.act.Op.TheVariants as op
 use Rattle.run_history.specs.Recorded.{Recorded}
 use Rattle.run_history.specs.Worlds.{World, heap_after, heap_after_op_checked}
-use Rattle.run_history.specs.Knowing.{Fate, Sure, Open, Closing, Single, Mark, Knowledge, known_at_first, known_after, fate_of, each_fate, is_outermost}
+use Rattle.run_history.specs.Knowing.{Fate, Sure, Open, Closing, Single, Mark, Knowledge, known_at_first, known_after, owes_fence, fate_of, each_fate, is_outermost}
 use Rattle.run_history.specs.Kept.{kept, MayRemain, MayRemainWith, IsAllowedFrom, acts_before}
 
 -- A past: a first world, the objects that are durable there, and the acts since then.
@@ -45,7 +45,7 @@ graph_left first marks regions singles = canon_of (heap_after first (kept region
 
 -- A single store: thread t owes no fence, and its store at this place is a durable one outside regions.
 pub record IsSingleStore (known : Knowledge) (t : ℕ) (place : Place) : Type 0 where
-  pub owes_none : has_number known.unfenced t ≡ false
+  pub owes_none : owes_fence known.unfenced t ≡ false
   pub fate : fate_of known t place ≡ Single t
 
 -- A single store adds to the graphs that may be left those with the store, and takes none away.

@@ -1,10 +1,11 @@
 pub mod HeldActs
 pub mod Kept
-pub mod KnowledgeRows
 pub mod Knowing
+pub mod KnowledgeRows
 pub mod Laws
 pub mod Recorded
 pub mod Ring
+pub mod Sizes
 pub mod Wanted
 pub mod WorldRows
 pub mod Worlds

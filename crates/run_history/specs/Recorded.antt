@@ -1,5 +1,5 @@
 -- A history: a list of acts, each with the objects that it names.
-use Rattle.std.specs.Prelude.{ℕ, List, [], ◌∷◌, ◌++◌, map, slice_get, Option, Some, None}
+use Rattle.std.specs.Prelude.{◌≡◌, ℕ, List, [], ◌∷◌, ◌++◌, map, slice_get, Option, Some, None}
 use Rattle.run_history.specs.declared.act.Op.{Op}
 use Rattle.run_history.specs.declared.act.Op.TheVariants as op
 use Rattle.run_history.specs.declared.act.Act.{Act}
@@ -8,6 +8,11 @@ use Rattle.run_history.specs.declared.act.Act.{Act}
 pub record Recorded : Type 0 where
   pub act : Act
   pub named : List ℕ
+
+-- only a Joined act names objects
+abbrev pub NamesRightly : Op → List ℕ → Type 0
+NamesRightly op.Joined named = Unit {0}
+NamesRightly o named = named ≡ []
 
 -- A history that is being written: its acts, the objects that were named for the next Joined act, how many acts it may
 -- have, and how many further objects may be named.

@@ -1,8 +1,8 @@
 -- Wanted objects, and durability by reachability: what a durable place refers to is durable.
-use Rattle.std.specs.Prelude.{◌≡◌, ◌⊎◌, ℕ, true, List, [], ◌∷◌, slice_get, Option, Some, None, Contains}
+use Rattle.std.specs.Prelude.{◌≡◌, ◌⊎◌, ℕ, true, List, [], ◌∷◌, slice_get, Option, Some, None}
 use Rattle.graph_model.specs.declared.types.Value.TheVariants.{Obj as Object}
-use Rattle.graph_model.specs.Heaps.{has_number, values_of}
-use Rattle.graph_model.specs.Reach.{Reaches}
+use Rattle.graph_model.specs.Heaps.{has_number}
+use Rattle.graph_model.specs.Reach.{Reaches, Refers}
 use Rattle.run_history.specs.Recorded.{Recorded}
 use Rattle.run_history.specs.Knowing.{Knowledge, Pending, pending_of, next_known, is_root}
 
@@ -29,7 +29,7 @@ WantsAfter known Now (a ∷ acts) = WantsAfter (next_known known a) (WantsNow (n
 
 -- Whatever a durable object or a durable root refers to is durable.
 pub record IsClosed (known : Knowledge) : Type 0 where
-  pub objects : (m n : ℕ) → has_number known.durable m ≡ true → Contains (values_of known.world.heap m) (Object n)
+  pub objects : (m n : ℕ) → has_number known.durable m ≡ true → Refers known.world.heap m n
       → has_number known.durable n ≡ true
   pub roots : (k n : ℕ) → is_root known.world.heap.roots k ≡ true → slice_get known.world.heap.statics k ≡ Some (Object n)
       → has_number known.durable n ≡ true

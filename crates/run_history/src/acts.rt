@@ -1,6 +1,6 @@
 // The history as a list that takes no memory once its room was reserved.
-ghost use Rattle.std.specs.Prelude.{◌≡◌, ◌<◌, ◌≤◌, ◌+◌, ◌-◌, ◌^◌, ◌↔◌, [], ◌∷◌, ◌++◌, length, OnOk, OnErr, IfErr, IsErr, IfSome, IsNone, slice_get, option_copied};
-ghost use Rattle.run_history.specs.Recorded.{History, with_act, acts_of, named_at};
+ghost use Rattle.std.specs.Prelude.{◌≡◌, ◌<◌, ◌≤◌, ◌+◌, ◌-◌, ◌^◌, ◌↔◌, [], ◌∷◌, ◌++◌, length, OnOk, OnErr, IfErr, IsErr, IfSome, IsNone, All, slice_get, option_copied};
+ghost use Rattle.run_history.specs.Recorded.{History, NamesRightly, with_act, acts_of, named_at};
 ghost use Rattle.run_types.specs.declared.fault.Which.TheVariants.{Acts as ActsLimit};
 
 use crate::{Act, Op};
@@ -109,6 +109,7 @@ impl Acts {
     /// The objects of act `i`: none where it isn't a Joined act.
     pub fn named(&self, i: u32) -> &[u32]
         ensures named { result.now ≡ named_at self.now i }
+        ensures rightly { All (λ r. NamesRightly r.act.op r.named) self.now.acts }
     {
         match self.held.get(i as usize) {
             Some(held) => &self.objects[held.from..held.to],

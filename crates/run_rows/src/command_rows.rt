@@ -113,6 +113,7 @@ fn words_and_files(rt: HostRuntime) -> Result<(), Fail> {
     let usage = "autopersist: usage\n";
     let fault = "autopersist: source fault\n";
     let not_built = "autopersist: not built\n";
+    let twice = "autopersist: refused DuplicateClass Main\n";
     let trailing = "autopersist: class A.class TrailingBytes 53\n";
     let index = "autopersist: class A.class BadIndex 43 5\n";
     let version = "autopersist: class A.class BadVersion 53 0\n";
@@ -139,7 +140,8 @@ fn words_and_files(rt: HostRuntime) -> Result<(), Fail> {
         (run, seven, None, 2, fault, 0, 0),
         (OTHER.as_slice(), seven, None, 9, not_built, 0, 0),
         (run, None, None, 9, not_built, 0, 0),
-        (run, seven, seven, 9, not_built, 0, 0),
+        (run, seven, seven, 9, twice, 0, 0),
+        (run, seven, Some(CLASS_A.as_slice()), 9, not_built, 0, 0),
         (run, Some(CLASS_A.as_slice()), None, 9, not_built, 0, 0),
         (run, longer, None, 9, trailing, 0, 0),
         (run, Some(superless.as_slice()), None, 9, index, 0, 0),
@@ -187,7 +189,7 @@ fn many_files_and_large_ones(rt: HostRuntime) -> Result<(), Fail> {
     let rows = [
         (
             copies(alloc, 4_096, &CLASS_A)?,
-            "autopersist: not built\n",
+            "autopersist: refused DuplicateClass A\n",
             0,
         ),
         (

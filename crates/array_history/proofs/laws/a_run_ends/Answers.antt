@@ -9,8 +9,9 @@ pub returns-clause-uncaught : goal.returns-clause-uncaught
 returns-clause-uncaught c program opening acts class state at limits lines stands = ends_uncaught class stands limits lines
 
 pub returns-clause-heap : goal.returns-clause-heap
-returns-clause-heap c program opening acts uncaught state at count make put gs limits lines stands more = full_array stands limits lines more
+returns-clause-heap c program opening acts uncaught state at count make put gs limits lines stands fenced few more =
+    full_array stands fenced limits lines more few
 
 pub returns-clause-image : goal.returns-clause-image
-returns-clause-image c program opening acts frame uncaught state at k limits lines stands lives owes volatile more =
-    full_image stands lives owes volatile limits lines _ _ refl refl more
+returns-clause-image c program opening acts frame uncaught state at k limits lines stands few owes volatile more =
+    full_image stands owes volatile limits lines _ _ refl refl more few

@@ -21,7 +21,8 @@ returns-then-left-lines-clause-goes g c = λ s make put gs root stands.
     let has = c.in_ok-array.ensures.goes s make put gs root stands in
     let count = ap (λ (a : DurableArray). a.length) c.in_ok-array.ensures.array in
     no_lines s array put gs c.allocate.new.run.acts.acts c.visible.new.run.acts.acts c.allocate.new.objects c.allocate.new.run.memory c.visible.new.run.memory
-    root has c.visible.ensures.acts c.visible.ensures.memory c.from.result c.from-then-left-lines.result
+    root has c.visible.ensures.acts c.visible.ensures.memory
+    (omega (arith, c.requires.room.fits, c.requires.room.limited, c.allocate.ensures.spent.few, c.visible.ensures.spent.few)) c.from.result c.from-then-left-lines.result
     (omega (arith, c.from-then-left-lines.ensures, c.lines.ensures)) (omega (arith, c.from.ensures, c.lines_of-lines.ensures, count))
     (omega (arith, c.from-then-left-lines.ensures, c.from.ensures, c.if-left-lines.true))
 
@@ -70,7 +71,8 @@ returns-in_err-place_zeros-clause-goes g c = λ s make put gs root stands.
     let p = err_from_is_err_and c.from_residual-in_err-place_zeros.result c.from_residual-in_err-place_zeros.ensures.1 in
     subst (λ (r : Result DurableArray RunEnd). PlacesOn s put gs c.visible.new.run.acts.acts c.allocate.new.objects new r) (sym (p.1 ∙ ap Err p.2))
     (place_failed s array put gs c.allocate.new.run.acts.acts c.visible.new.run.acts.acts c.allocate.new.objects c.allocate.new.run.memory old
-    root has c.visible.ensures.acts c.visible.ensures.memory new
+    root has c.visible.ensures.acts c.visible.ensures.memory
+    (omega (arith, c.requires.room.fits, c.requires.room.limited, c.allocate.ensures.spent.few, c.visible.ensures.spent.few)) new
     (omega (arith, line, c.requires.range.low))
     (omega (arith, line, count, c.if-left-lines.false, c.lines.ensures, c.lines_of-lines.ensures, c.allocate.ensures.free, c.requires.range.high))
     c.place_zeros.ensures.size_after c.place_zeros.ensures.counts (c.place_zeros.ensures.later (omega (arith, calls, c.visible.ensures.fits)))
@@ -87,7 +89,8 @@ returns-clause-goes g c = λ s make put gs root stands.
     let old = c.visible.new.run.memory in
     let new = c.place_zeros.new.memory in
     placed s array put gs c.allocate.new.run.acts.acts c.visible.new.run.acts.acts c.allocate.new.objects c.allocate.new.run.memory old
-    root has c.visible.ensures.acts c.visible.ensures.memory new
+    root has c.visible.ensures.acts c.visible.ensures.memory
+    (omega (arith, c.requires.room.fits, c.requires.room.limited, c.allocate.ensures.spent.few, c.visible.ensures.spent.few)) new
     (omega (arith, line, c.requires.range.low))
     (omega (arith, line, count, c.if-left-lines.false, c.lines.ensures, c.lines_of-lines.ensures, c.allocate.ensures.free, c.requires.range.high))
     c.place_zeros.ensures.size_after c.place_zeros.ensures.counts (c.place_zeros.ensures.later (omega (arith, calls, c.visible.ensures.fits)))

@@ -3,7 +3,7 @@ use Rattle.std.proofs.Common.{◌≡◌, ℕ, List, Option, Err, sym, subst, ap,
 use Rattle.std.proofs.Common.{length, ◌<◌}
 use Rattle.std.specs.Prelude.{IfSome}
 use Rattle.graph_model.specs.declared.types.Value.TheVariants.{Obj as Object}
-use Rattle.run_history.specs.Recorded.{History}
+use Rattle.run_history.specs.Recorded.{History, Recorded}
 use Rattle.array_program.specs.Running.{Leaving, print_rest}
 use Rattle.array_history.specs.Standing.{Nothing, stream_of}
 use Rattle.array_run.specs.declared.run.RunEnd.TheVariants as end
@@ -27,7 +27,10 @@ returns-in_err-count-clause-goes g c = λ s objects gs stands.
     (p.1 ∙ ap Err p.2)
     (sink_ends s c.in-Some.text gs c.print_some.new.run.acts.acts objects c.print_some.new.run.memory some
     (stands_same s frame Nothing c.loop-left.run.acts.acts c.print_some.new.run.acts.acts objects c.loop-left.run.memory c.print_some.new.run.memory
-    same c.print_some.ensures.memory here))
+    same c.print_some.ensures.memory here)
+    (let was = ap (λ (left : Option (List ℕ)). length (text_left left)) c.in-Some.is in
+    let long = ap (λ (acts : List Recorded). length acts) same in
+    omega (arith, was, long, some, c.loop-left.invariant.few, c.requires.room.fits, c.requires.room.limited)))
 
 pub returns-in_err-count-clause-told : goal.returns-in_err-count-clause-told
 returns-in_err-count-clause-told g c = tells_on c.loop-left.invariant.told c.print_some.ensures.told
@@ -45,7 +48,7 @@ loop-left-preserved g c =
           c.in-Some.is (c.loop-left.invariant.goes s objects gs stands) in
           subst (λ (r : List ℕ). Stands s (print_rest (Object (stream_of s.opening)) r gs) Nothing c.print_some.new.run.acts.acts objects c.print_some.new.run.memory) (sym rest)
           (prints_more s text c.in_ok-count.count gs c.loop-left.run.acts.acts c.print_some.new.run.acts.acts objects c.loop-left.run.memory c.print_some.new.run.memory
-          some.0 some.1 now c.in_ok-count.ensures.acts c.in_ok-count.ensures.memory);
+          some.0 some.1 some.2 now c.in_ok-count.ensures.acts c.in_ok-count.ensures.memory);
       some = some_after c.rest-left.result text c.in_ok-count.count c.rest-left.ensures.some c.rest-left.ensures.same;
       unnamed = spent.unnamed;
       limit = spent.limit ∙ c.loop-left.invariant.limit;

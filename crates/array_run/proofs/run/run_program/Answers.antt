@@ -56,6 +56,7 @@ loop-group-init g c =
           record { stream = e.stream; next = e.next; words = e.words; free = e.free; array = e.array } c.requires.free.1)));
       unnamed = spent.unnamed;
       fits = let zero_is = ap (length {A = Recorded}) none in omega (arith, zero_is, room.fits, spent.few, spent.limit);
+      limited = omega (arith, room.limited, spent.limit);
       nameable = omega (arith, room.nameable, spent.nameable);
       range =
           subst (λ (m : Memory). AreInRange c.in_ok-objects.objects m.size) (sym c.begin.ensures.memory)
@@ -75,6 +76,7 @@ run_group-requires-clause-room g c =
     record {
       unnamed = now.unnamed;
       fits = omega (arith, now.fits, c.loop-group-test.true);
+      limited = now.limited;
       nameable = omega (arith, now.nameable, c.loop-group-test.true);
     }
 
@@ -167,6 +169,7 @@ loop-group-preserved g c =
           (now.stands is));
       unnamed = spent.unnamed;
       fits = omega (arith, now.fits, few, spent.few, spent.limit);
+      limited = omega (arith, now.limited, spent.limit);
       nameable = omega (arith, now.nameable, few, spent.nameable);
       range = c.run_group.ensures.range_after;
       next = omega (arith, now.next, c.run_group.ensures.next_after);
@@ -180,7 +183,7 @@ loop-group-preserved g c =
 pub visible-requires-clause-room : goal.visible-requires-clause-room
 visible-requires-clause-room g c =
     let now = c.loop-group.invariant in
-    record { unnamed = now.unnamed; fits = omega (arith, now.fits); nameable = omega arith }
+    record { unnamed = now.unnamed; fits = omega (arith, now.fits); limited = now.limited; nameable = omega arith }
 
 -- the thread has ended
 left : (g : _) (c : goal.After-visible g) → IsOpened c.args.program.now c.args.opened.now c.args.run.now.memory
@@ -204,6 +207,7 @@ pub returns-clause-within : goal.returns-clause-within
 returns-clause-within g c = λ is.
     keeps (setting c.args.program.now c.args.opened.now.graph c.args.run.now.memory c.args.opened.now.free) Left Nothing c.visible.new.run.acts.acts
     c.loop-group.objects c.visible.new.run.memory (left g c is)
+    (omega (arith, c.loop-group.invariant.fits, c.loop-group.invariant.limited, c.visible.ensures.spent.few))
 
 pub returns-clause-made : goal.returns-clause-made
 returns-clause-made g c = λ is. (left g c is).timed.made

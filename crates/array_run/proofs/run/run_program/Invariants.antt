@@ -2,7 +2,7 @@
 use Rattle.std.proofs.Common.{◌≡◌, ◌<◌, ◌≤◌, ◌+◌, ◌*◌, ◌-◌, [], length, drop}
 use Rattle.array_program.specs.Running.{Before}
 use Rattle.array_history.specs.Standing.{Nothing}
-use Rattle.array_run.specs.Opening.{IsOpened}
+use Rattle.array_run.specs.Opening.{IsOpened, default_limits}
 use Rattle.array_run.specs.Telling.{Tells}
 use Rattle.array_run.specs.Going.{Stands, AreInRange}
 use Rattle.array_run.proofs.Starting.{setting}
@@ -14,6 +14,7 @@ invariant-loop-group g l = record {
       → Stands (setting l.program l.opened.graph l.fn.run.memory l.opened.free) (Before (drop l.group-index l.groups)) Nothing l.run.acts.acts l.objects l.run.memory;
   unnamed : l.run.acts.named ≡ [];
   fits : length l.run.acts.acts + 1 + 30 * (length l.groups - l.group-index) ≤ l.run.acts.limit;
+  limited : l.run.acts.limit ≤ default_limits.acts;
   nameable : length l.groups - l.group-index ≤ l.run.acts.room;
   range : AreInRange l.objects l.run.memory.size;
   next : l.objects.next ≤ 2147483650 + l.group-index;

@@ -42,6 +42,7 @@ returns-clause-goes g c = λ s store gs objects root is stands.
     (subst (λ z. OnElement c.visible.new.run.memory c.args.array.line c.args.index z (λ R directory heap after. IsSettledFor R heap c.visible.new.run.memory
     → TurnedInto R directory heap after (object_line c.args.array.line c.args.index) (object_word c.args.index) c.store_element.new.memory)) same c.store_element.ensures.turned)
     c.store_element.ensures.others c.store_element.ensures.same c.store_element.ensures.size_after
+    (omega (arith, c.requires.room.fits, c.requires.room.limited, c.visible.ensures.spent.few))
     c.further.new.run.acts.acts c.make_durable.new.memory c.further.new.run.memory c.make_durable.ensures.writes
     (let line = rw c.unwrap-spot.ensures at c.object_slot.ensures.line in
     subst (λ l. IsDurable c.make_durable.new.memory l (object_word c.args.index)) line (c.in_ok-make_durable.ensures.durable (object_word c.args.index)))
@@ -62,6 +63,7 @@ returns-in_err-make_durable-clause-goes g c = λ s store gs objects root is stan
     (subst (λ z. OnElement c.visible.new.run.memory c.args.array.line c.args.index z (λ R directory heap after. IsSettledFor R heap c.visible.new.run.memory
     → TurnedInto R directory heap after (object_line c.args.array.line c.args.index) (object_word c.args.index) c.store_element.new.memory)) same c.store_element.ensures.turned)
     c.store_element.ensures.others c.store_element.ensures.same c.store_element.ensures.size_after
+    (omega (arith, c.requires.room.fits, c.requires.room.limited, c.visible.ensures.spent.few))
     c.make_durable.new.memory c.make_durable.ensures.writes)
 
 pub returns-clause-told : goal.returns-clause-told

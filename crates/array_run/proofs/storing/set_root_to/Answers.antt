@@ -27,6 +27,7 @@ returns-clause-goes g c = λ s put gs root placed.
     root_fenced s c.args.run.now.acts.acts c.further.new.run.acts.acts c.args.objects.now c.args.array put gs
     c.args.run.now.memory c.further.new.run.memory c.store_root.new.memory root placed c.further.ensures.fits
     c.further.ensures.acts c.further.ensures.memory c.store_root.ensures.shows c.store_root.ensures.turned c.store_root.ensures.others c.store_root.ensures.same c.store_root.ensures.size
+    (omega (arith, c.requires.room.fits, c.requires.room.limited, c.further.ensures.spent.few))
     c.further-2.new.run.acts.acts c.make_durable.new.memory c.further-2.new.run.memory c.make_durable.ensures.writes
     (c.in_ok-make_durable.ensures.durable (slot_word 0))
     c.further-2.ensures.acts c.further-2.ensures.memory
@@ -39,6 +40,7 @@ returns-in_err-make_durable-clause-goes g c = λ s put gs root placed.
     (root_stopped s c.args.run.now.acts.acts c.further.new.run.acts.acts c.args.objects.now c.args.array put gs
     c.args.run.now.memory c.further.new.run.memory c.store_root.new.memory root placed c.further.ensures.fits
     c.further.ensures.acts c.further.ensures.memory c.store_root.ensures.shows c.store_root.ensures.turned c.store_root.ensures.others c.store_root.ensures.same c.store_root.ensures.size
+    (omega (arith, c.requires.room.fits, c.requires.room.limited, c.further.ensures.spent.few))
     c.make_durable.new.memory c.make_durable.ensures.writes)
 
 pub returns-clause-told : goal.returns-clause-told

@@ -5,6 +5,6 @@ use Rattle.autopersist.proofs.files.read_files.Given as goal
 
 abbrev pub invariant-loop : goal.invariant-loop
 invariant-loop g l = record {
-  read : HasRead (g.C.ClassSource.left l.fn.source) (g.C.ClassSource.left l.source) (4096 - l.counter) l.before;
+  read : HasRead (g.C.ClassSource.left l.fn.source) (g.C.ClassSource.left l.source) (4096 - l.counter) l.classes.items;
   later : g.C.ClassSource.faults l.fn.source ≤ g.C.ClassSource.faults l.source;
 }

@@ -17,13 +17,14 @@ both size (Some array) low high = (low, high)
 -- the image couldn't be attached
 pub returns-in-Err-clause-refused : goal.returns-in-Err-clause-refused
 returns-in-Err-clause-refused g c =
+    let back = c.in-Err.ensures.given_back in
     never_attached c.args.chosen.now.program (g.I.Image.told c.args.image) (g.I.Image.told c.in-Err.image) c.of_attach.result c.of_attach.ensures.of_run
-    c.of_attach.ensures.early c.in-Err.ensures.same_size (λ is. c.in-Err.ensures.size_fault.0 (c.of_attach.ensures.size is)) c.in-Err.ensures.same_trace c.in-Err.ensures.any_moment_of_fault
+    c.of_attach.ensures.early back.same_size (λ is. back.size_fault.0 (c.of_attach.ensures.size is)) back.same_trace back.any_moment
 
 pub returns-in-Ok-open_image-clause-opened : goal.returns-in-Ok-open_image-clause-opened
 returns-in-Ok-open_image-clause-opened g c =
     let ok = c.in-Ok-open_image.ensures in
-    let there = c.in-Ok.ensures in
+    let there = c.in-Ok.ensures.attached in
     record {
       before = c.in-Ok.memory;
       attached = is_attached (g.I.Image.told c.args.image) c.in-Ok.memory there.size there.range there.shows there.trace there.counts there.calls there.any_moment there.durable;
@@ -51,7 +52,7 @@ failed f = Err f
 pub returns-in-Err-open_image-clause-refused : goal.returns-in-Err-open_image-clause-refused
 returns-in-Err-open_image-clause-refused g c =
     let err = c.in-Err-open_image.ensures in
-    let there = c.in-Ok.ensures in
+    let there = c.in-Ok.ensures.attached in
     let un : IsUnopenedOn (g.I.Image.told c.args.image) c.args.chosen.now.root c.open_image.new.memory = record {
       before = c.in-Ok.memory;
       attached = is_attached (g.I.Image.told c.args.image) c.in-Ok.memory there.size there.range there.shows there.trace there.counts there.calls there.any_moment there.durable;

@@ -7,4 +7,4 @@ returns-clause-writes g c =
     let fenced = c.fence.new.self in
     let fence = c.fence.ensures in
     writes_more c.args.memory.now between fenced c.write_back_lines.ensures.writes
-    (one_write between fenced fence.shows fence.leaves fence.any_moment fence.resident fence.telling fence.size fence.count)
+    (one_write between fenced fence.keeps fence.resident fence.count)

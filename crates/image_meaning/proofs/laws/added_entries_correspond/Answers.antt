@@ -1,5 +1,6 @@
 use Rattle.image_meaning.specs.Laws.{told_by}
 use Rattle.image_meaning.proofs.Appending.{opens-more, corresponds-more_shapes, corresponds-more_roots, canon-more_roots}
+use Rattle.image_meaning.proofs.Adding.{each-added}
 use Rattle.image_meaning.proofs.Standings.{added-stands}
 use Rattle.image_meaning.proofs.laws.added_entries_correspond.Goals as goal
 
@@ -19,3 +20,6 @@ returns-clause-graph _ heap name static null = canon-more_roots heap name static
 pub returns-clause-stands : goal.returns-clause-stands
 returns-clause-stands _ size c d directory entry graph opens stand is accepted adds logs same =
     added-stands size c d directory entry graph opens stand is accepted adds logs same
+
+pub returns-clause-each : goal.returns-clause-each
+returns-clause-each _ size c d directory entries graph opens stand adds = each-added size c d directory entries graph opens stand adds

@@ -2,7 +2,7 @@ use Rattle.image_meaning.proofs.Logging.{free-logged, logged_stores, emptied-log
 use Rattle.image_meaning.proofs.laws.logs_undo_stores.Goals as goal
 
 pub returns-clause-logged : goal.returns-clause-logged
-returns-clause-logged _ size c d t place pass there room free adds = free-logged size c d t place pass there room free adds
+returns-clause-logged _ size c d t entry pass there room free adds = free-logged size c d t entry pass there room free adds
 
 pub returns-clause-undone : goal.returns-clause-undone
 returns-clause-undone _ c d same = logged_stores c d same

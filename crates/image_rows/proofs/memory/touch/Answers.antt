@@ -8,6 +8,6 @@ unfolding IsResident
 returns g c =
     let quiet = c.touch.ensures.quiet c.requires in
     record {
-      size = c.touch.ensures.size;
-      deed = record { nothing = ap (λ (told : Told). told.trace) quiet.image; shows = c.touch.ensures.shows; count = inl quiet };
+      size = c.touch.ensures.keeps.size;
+      deed = record { nothing = ap (λ (told : Told). told.trace) quiet.image; shows = c.touch.ensures.keeps.shows; count = inl quiet };
     }

@@ -1,4 +1,4 @@
-use Rattle.plain_model.proofs.Ending.{regions_race, threads_are_stuck, runs_fill, faults_come, threads_end}
+use Rattle.plain_model.proofs.Ending.{regions_race, threads_are_stuck, runs_fill, lines_are_wanted, causes_are_in_order, fences_come_first, faults_come, threads_end}
 use Rattle.plain_model.proofs.run_rows.runs_end_by_their_rules.Goals as goal
 
 pub returns : goal.returns
@@ -6,6 +6,9 @@ returns c = record {
   races = regions_race;
   stuck = threads_are_stuck;
   fill = runs_fill;
+  lines = lines_are_wanted;
+  order = causes_are_in_order;
+  fences = fences_come_first;
   faults = faults_come;
   ends = threads_end;
 }

@@ -10,3 +10,6 @@ returns-clause-reads c = refl
 pub returns-clause-stores : goal.returns-clause-stores
 unfolding step int_wrap
 returns-clause-stores c = refl
+
+pub returns-clause-kinds : goal.returns-clause-kinds
+returns-clause-kinds c = refl

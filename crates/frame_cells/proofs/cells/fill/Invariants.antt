@@ -1,0 +1,6 @@
+use Rattle.std.proofs.Common.{◌≡◌, ◌++◌, replicate}
+use Rattle.frame_cells.specs.declared.cell.Cell.TheVariants.{Empty}
+use Rattle.frame_cells.proofs.cells.fill.Given as goal
+
+abbrev pub invariant-loop : goal.invariant-loop
+invariant-loop g l = l.items ≡ l.fn.items ++ replicate l.counter Empty

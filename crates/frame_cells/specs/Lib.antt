@@ -1,0 +1,5 @@
+pub mod Own
+pub mod Window
+pub mod Numbers
+pub mod Families
+pub mod Rows

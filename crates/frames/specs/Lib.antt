@@ -1,0 +1,12 @@
+pub mod Tables
+pub mod Settings
+pub mod Private
+pub mod Requests
+pub mod Calls
+pub mod Turns
+pub mod Maps
+pub mod Rows
+pub mod RequestRows
+pub mod CallRows
+pub mod PrivateRows
+pub mod NativeRows

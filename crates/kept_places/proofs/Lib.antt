@@ -1,0 +1,7 @@
+pub mod Agree
+pub mod Having
+pub mod Joint
+pub mod Marks
+pub mod Ordered
+pub mod Own
+pub mod Runs

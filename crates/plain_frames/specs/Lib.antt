@@ -1,0 +1,4 @@
+pub mod Codes
+pub mod Tables
+pub mod Sound
+pub mod DutyLaws

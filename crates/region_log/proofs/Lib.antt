@@ -1,0 +1,9 @@
+mod Ending
+mod Frames
+mod Left
+mod Others
+mod Placed
+mod Puts
+mod Regions
+mod Said
+mod Stepping

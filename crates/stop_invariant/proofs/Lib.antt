@@ -1,0 +1,11 @@
+pub mod Acting
+pub mod Allowed
+pub mod Apart
+pub mod Calls
+pub mod Changed
+pub mod Held
+pub mod Places
+pub mod Rebuilt
+pub mod Showing
+pub mod Stored
+pub mod Visible

@@ -1,0 +1,10 @@
+pub mod Begun
+pub mod Fenced
+pub mod Found
+pub mod Given
+pub mod Images
+pub mod Moments
+pub mod Recovered
+pub mod Running
+pub mod Starting
+pub mod WrongOrders

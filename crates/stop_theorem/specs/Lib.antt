@@ -1,0 +1,7 @@
+pub mod Conditions
+pub mod Given
+pub mod Laws
+pub mod Moments
+pub mod Running
+pub mod Starts
+pub mod WrongOrders

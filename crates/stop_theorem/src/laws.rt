@@ -1,0 +1,54 @@
+//! The stop theorem. Each function states a part of it in its contract, and does nothing.
+ghost use Rattle.stop_theorem.specs.Laws.{CallsKeepMoments, StoresKeepMoments, ActsKeepMoments, StartsStand, RecoveryKeepsAllowed, FoundImagesStart};
+ghost use Rattle.stop_theorem.specs.Given.{FencedStoresAreEvents, LinesMayBeFenced, RunBegins, OneStoreIsFenced, BeginIsAnEvent, EntryWordsAreEvents, CountedEntriesAreEvents, RegionStoresAreEvents, ClosingIsAnEvent, EmptiedLogsAreEvents, EndedRegionsAreEvents};
+ghost use Rattle.stop_theorem.specs.WrongOrders.{WrongOrdersAreRefused};
+ghost use Rattle.stop_theorem.specs.Running.{RunsStart, EventsKeep, EveryStopIsAllowed, EventsKeepWhereTold, RunningStopsAreAllowed};
+
+/// The moments so far.
+pub fn events_keep_moments()
+    ensures calls { CallsKeepMoments }
+    ensures stores { StoresKeepMoments }
+    ensures acts { ActsKeepMoments }
+{}
+
+/// A run starts in the invariant, over an image that was opened.
+pub fn a_run_starts_settled()
+    ensures starts { StartsStand }
+    ensures found { FoundImagesStart }
+{}
+
+/// Recoveries, stopped any number of times.
+pub fn recovery_keeps_what_is_allowed()
+    ensures { RecoveryKeepsAllowed }
+{}
+
+/// Whatever the events, each stop leaves what is allowed.
+pub fn every_stop_is_allowed()
+    ensures start { RunsStart }
+    ensures event { EventsKeep }
+    ensures events { EveryStopIsAllowed }
+    ensures running { RunningStopsAreAllowed }
+    ensures told { EventsKeepWhereTold }
+{}
+
+/// Stores, write-backs and fences that succeed are events: of a durable store outside regions with its
+/// fence, and of a region, from the words of an entry to its end.
+pub fn what_layers_do_are_events()
+    ensures stored { FencedStoresAreEvents }
+    ensures lines { LinesMayBeFenced }
+    ensures start { RunBegins }
+    ensures one { OneStoreIsFenced }
+    ensures begun { BeginIsAnEvent }
+    ensures entry { EntryWordsAreEvents }
+    ensures counted { CountedEntriesAreEvents }
+    ensures region { RegionStoresAreEvents }
+    ensures closing { ClosingIsAnEvent }
+    ensures emptied { EmptiedLogsAreEvents }
+    ensures ended { EndedRegionsAreEvents }
+{}
+
+/// Wrong orders: a root before its copy is fenced, part of a group, a count before its entry, a log that
+/// is cleared too early, an inner End that commits, and a store without the fence before it.
+pub fn wrong_orders_are_refused()
+    ensures { WrongOrdersAreRefused }
+{}

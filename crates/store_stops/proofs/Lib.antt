@@ -1,0 +1,4 @@
+pub mod Single
+pub mod Waiting
+pub mod Fencing
+pub mod Joined
