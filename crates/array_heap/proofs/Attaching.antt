@@ -12,12 +12,12 @@ use Rattle.image_meaning.specs.Meaning.{StandsFor}
 use Rattle.image_meaning.specs.Corresponds.{LiesAt, Corresponds, SameWords}
 use Rattle.image_meaning.specs.Laws.{told_by}
 use Rattle.image_meaning.specs.Opening.{found_at, FoundImage, HoldsGraph}
-use Rattle.image_meaning.proofs.Changes.{corresponds-same}
+use Rattle.image_meaning.proofs.Changes.{corresponds-same, corresponds-along}
 use Rattle.image_meaning.proofs.Logs.{put_back-none, not_log_before, not_log_after}
 use Rattle.image_meaning.proofs.Standings.{standing-found}
 use Rattle.array_heap.specs.Holding.{ShowsHeap, HoldsFound}
 use Rattle.array_heap.proofs.Held.{counted-inside}
-use Rattle.array_heap.proofs.Placing.{corresponds-along, and_true}
+use Rattle.array_heap.proofs.Placing.{and_true}
 
 -- a test of what is found
 abbrev found_test : List ℕ → ℕ → ℕ → Bool
@@ -36,7 +36,7 @@ words_put_back : (R : LiesAt) (directory : Directory) (size : ℕ) (words : Word
     → Corresponds R directory size (put_back words) heap → SameWords R heap (put_back words) words
 words_put_back R directory size words heap none k = record {
   heads = λ line n r. sym (put_back-none words none line 0 (not_log_after line (k.objects line n r).low));
-  slots = λ line n r i h.
+  slots = λ line n r i h kept.
       let low = (k.objects line n r).low in
       sym (put_back-none words none (object_line line i) (object_word i) (not_log_after (object_line line i) (omega (arith, low))));
   at_roots = λ r h. sym (put_back-none words none (slot_line r) (slot_word r) (not_log_before (slot_line r) (omega (arith, h))));

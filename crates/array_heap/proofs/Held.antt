@@ -39,7 +39,7 @@ agrees-logs R heap c d same none = record {
 pub agrees-words : (R : LiesAt) (heap : Heap) (c d : Words) → Agrees R heap c d → SameWords R heap c d
 agrees-words R heap c d same = record {
   heads = λ line n r. same line 0 (ObjectHead n r refl);
-  slots = λ line n r i h. same (object_line line i) (object_word i) (ObjectSlot line n i r h refl refl);
+  slots = λ line n r i h kept. same (object_line line i) (object_word i) (ObjectSlot line n i r h refl refl);
   at_roots = λ r h. same (slot_line r) (slot_word r) (RootSlot r h refl refl);
 }
 

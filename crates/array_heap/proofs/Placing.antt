@@ -5,9 +5,8 @@ use Rattle.std.specs.Int.{w32, cast_unsigned}
 use Rattle.std.proofs.lemmas.Bool.{eq-eqb, eqb-true}
 use Rattle.std.proofs.lemmas.List.{get_or-map, length-map, get_or_append_left}
 use Rattle.ap_base.specs.declared.kind.Kind.{Kind}
-use Rattle.ap_base.specs.declared.kind.Kind.TheVariants.{Z, B, C, S, I, J, L, Text}
-use Rattle.graph_model.specs.declared.types.Value.{Value}
-use Rattle.graph_model.specs.declared.types.Value.TheVariants.{Int, Long, Null, Obj as Object}
+use Rattle.ap_base.specs.declared.kind.Kind.TheVariants.{I}
+use Rattle.graph_model.specs.declared.types.Value.TheVariants.{Int, Null}
 use Rattle.graph_model.specs.declared.types.Field.{Field}
 use Rattle.graph_model.specs.declared.types.Obj.{Obj}
 use Rattle.graph_model.specs.declared.types.Heap.{Heap}
@@ -22,10 +21,9 @@ use Rattle.image_meaning.specs.Checks.{Words}
 use Rattle.image_meaning.specs.Directories.{Directory}
 use Rattle.image_meaning.specs.Objects.{length_at, shape_of, object_slot, kind_of, has_length}
 use Rattle.image_meaning.specs.Arrays.{int_value}
-use Rattle.image_meaning.specs.Meaning.{root_word}
-use Rattle.image_meaning.specs.Corresponds.{LiesAt, HoldsReference, Holds, IsObject, Corresponds, root_value_at, Either, CanJoin}
+use Rattle.image_meaning.specs.Corresponds.{LiesAt, Holds, IsObject, Corresponds, Either, CanJoin}
 use Rattle.image_meaning.specs.Laws.{told_by}
-use Rattle.image_meaning.proofs.Changes.{corresponds-other, corresponds-grow}
+use Rattle.image_meaning.proofs.Changes.{corresponds-other, corresponds-grow, corresponds-along}
 use Rattle.image_meaning.proofs.Spelling.{spelled_number}
 use Rattle.image_meaning.proofs.Standing.{use-within}
 use Rattle.durable_word.specs.Writes.{WritesOn}
@@ -34,48 +32,6 @@ use Rattle.array_heap.specs.Holding.{Counts, InSuperblock, InDirectory, CountOfL
 use Rattle.array_heap.specs.Calls.{with_ints, lies_too, IsRoom, IsIn, StoresIn}
 use Rattle.array_heap.proofs.Held.{Agrees, agrees-image, shows-again, counts-again, shows-on, durable-on, counts-on}
 use Rattle.array_heap.proofs.Storing.{int_kind}
-
--- ---- a relation that says the same
-
-holds_along : (R Q : LiesAt) → ((line n : ℕ) → R line n → Q line n) → (w : ℕ) (v : Value) → HoldsReference R w v → HoldsReference Q w v
-holds_along R Q f w Null hold = hold
-holds_along R Q f w (Object n) hold = (hold.0, hold.1, f hold.0 n hold.2)
-holds_along R Q f w (Int i) hold = absurd hold
-holds_along R Q f w (Long i) hold = absurd hold
-
-holds_kind : (R Q : LiesAt) → ((line n : ℕ) → R line n → Q line n) → (kind : Kind) (w : ℕ) (v : Value) → Holds R kind w v → Holds Q kind w v
-holds_kind R Q f Z w v hold = hold
-holds_kind R Q f B w v hold = hold
-holds_kind R Q f C w v hold = hold
-holds_kind R Q f S w v hold = hold
-holds_kind R Q f I w v hold = hold
-holds_kind R Q f J w v hold = hold
-holds_kind R Q f Text w v hold = hold
-holds_kind R Q f L w v hold = holds_along R Q f w v hold
-
-pub corresponds-along : (R Q : LiesAt) (directory : Directory) (size : ℕ) (words : Words) (heap : Heap)
-    → ((line n : ℕ) → R line n → Q line n) → ((line n : ℕ) → Q line n → R line n)
-    → Corresponds R directory size words heap → Corresponds Q directory size words heap
-corresponds-along R Q directory size words heap f b k = record {
-  one_object = λ line m n x y. k.one_object line m n (b line m x) (b line n y);
-  one_line = λ x y n p q. k.one_line x y n (b x n p) (b y n q);
-  objects = λ line n q. let o = k.objects line n (b line n q) in record {
-    there = o.there;
-    known = o.known;
-    shape = o.shape;
-    count = o.count;
-    full = o.full;
-    low = o.low;
-    high = o.high;
-    slots = λ i h. holds_kind R Q f (kind_of (shape_of directory.shapes words line) i) (object_slot words line i)
-        (slice_index_or (values_of heap n) i Null) (o.slots i h);
-  };
-  apart = λ x y m n p q ne. k.apart x y m n (b x m p) (b y n q) ne;
-  few = k.few;
-  names = k.names;
-  at_roots = λ r h. holds_along R Q f (root_word words r) (root_value_at heap r) (k.at_roots r h);
-  unused = k.unused;
-}
 
 -- ---- tests of the relation
 
@@ -132,7 +88,9 @@ corresponds-more R directory size words heap shape ints k =
       values = refl;
       there = λ line n r. let h = (k.objects line n r).there in omega (arith, h, more);
       shapes = λ line n r. ap (λ (o : Obj). shape_at heap o.shape) (old_object heap shape n ints (k.objects line n r).there);
-      slots = λ line n r. ap (λ (o : Obj). o.values) (old_object heap shape n ints (k.objects line n r).there);
+      counts = λ line n r. ap (λ (o : Obj). length o.values) (old_object heap shape n ints (k.objects line n r).there);
+      slots = λ line n i r below kept.
+          ap (λ (o : Obj). slice_index_or o.values i Null) (old_object heap shape n ints (k.objects line n r).there);
     }
 
 full_ints : (element : Option Kind) (fields : List Field) (n : ℕ) → element ≡ Some I → has_length element fields n ≡ true
@@ -229,7 +187,7 @@ module _ (lies : ℕ → ℕ → Bool) (directory : Directory) (heap : Heap) (ol
         (length (values_of after n)) element_new;
     low = room.low;
     high = rw length_new room.high;
-    slots = λ i h. slot_new i (rw length_new at h);
+    slots = λ i h kept. slot_new i (rw length_new at h);
   }
 
   not_here : (m : ℕ) → R line m → ⊥

@@ -35,7 +35,7 @@ module _ (R : LiesAt) (directory : Directory) (heap : Heap) (old new : Memory) (
   same_words : SameButRoot R heap (shown old) (shown new) 0
   same_words = record {
     heads = heads;
-    slots = λ l m r i h.
+    slots = λ l m r i h kept.
         let low = (shows.corresponds.objects l m r).low in
         others (object_line l i) (object_word i) (λ e z. omega (arith, low, e));
     at_roots = λ r h ne. others (slot_line r) (slot_word r) (λ e z. ne (omega (arith, e, z)));

@@ -80,7 +80,7 @@ module _ (R : LiesAt) (directory : Directory) (heap : Heap) (old new : Memory) (
   same_words : SameButSlot R heap (shown old) (shown new) line i
   same_words = record {
     heads = heads;
-    slots = slots;
+    slots = λ l m r j h kept. slots l m r j h;
     at_roots = λ r h. let first = low in others (slot_line r) (slot_word r) (λ e z. omega (arith, first, h, e));
   }
 

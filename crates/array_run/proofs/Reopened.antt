@@ -12,6 +12,7 @@ use Rattle.graph_model.specs.declared.types.Value.{Value}
 use Rattle.graph_model.specs.declared.types.Value.TheVariants.{Int, Null, Obj as Object}
 use Rattle.graph_model.specs.declared.types.Graph.{Graph}
 use Rattle.graph_model.specs.Heaps.{no_shape, values_of, has_number}
+use Rattle.image_meaning.proofs.KeptSlots.{each_slot_is_kept}
 use Rattle.line_image.specs.Trace.{Outcome}
 use Rattle.image_meaning.specs.Checks.{Words}
 use Rattle.image_meaning.specs.Objects.{object_slot, shape_of, kind_of}
@@ -84,7 +85,7 @@ module _ (R : LiesAt) (directory : Directory) (size : ℕ) (c : Words) (heap : H
       ap (λ (vs : List Value). slice_index_or vs i Null) values ∙ get_or-map int_value ints i (pos 0) Null below in
       int_word R (shape_of directory.shapes c line) i (object_slot c line i) (slice_index_or ints i (pos 0)) shape
       (subst (λ (v : Value). Holds R (kind_of (shape_of directory.shapes c line) i) (object_slot c line i) v) value
-      (object.slots i (omega (arith, below, count)))) in
+      (object.slots i (omega (arith, below, count)) (each_slot_is_kept heap n i))) in
       record {
         refers = refers;
         is_array = record {

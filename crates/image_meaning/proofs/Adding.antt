@@ -1,5 +1,5 @@
 -- Any number of entries added to a directory.
-use Rattle.std.proofs.Common.{List, [], ◌∷◌, ℕ}
+use Rattle.std.proofs.Common.{List, ℕ}
 use Rattle.graph_model.specs.declared.types.Graph.{Graph}
 use Rattle.image_meaning.specs.Checks.{Words}
 use Rattle.image_meaning.specs.Entries.{DirectoryEntry}

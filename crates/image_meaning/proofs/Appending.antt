@@ -110,7 +110,7 @@ object-more_shapes R shapes shape size words heap line n o =
       full = rw e o.full;
       low = o.low;
       high = o.high;
-      slots = λ i h. rw e (o.slots i h);
+      slots = λ i h kept. rw e (o.slots i h kept);
     }
 
 pub corresponds-more_shapes : (R : LiesAt) (directory : Directory) (size : ℕ) (words : Words) (heap : Heap) (shape : Shape)

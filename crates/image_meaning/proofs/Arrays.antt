@@ -164,7 +164,7 @@ array_object R size words name line ints is =
       full = rw number refl;
       low = is.low;
       high = rw (array_count name ints) is.high;
-      slots = λ i h.
+      slots = λ i h kept.
           let within : i < length ints = rw (array_count name ints) at h in
           rw number (
             lt-ltb (object_slot words line i) (2 ^ 32) (is.word i within),

@@ -118,7 +118,7 @@ module _ (size : ℕ) (words : Words) (directory : Directory) (lines : List ℕ)
           full = rw count at p.full;
           low = low_line n h;
           high = rw count at p.high;
-          slots = λ i below.
+          slots = λ i below kept.
               let within : i < length_at words line = rw count below in
               let held : slice_index_or (values_of heap n) i Null ≡ renumbered lines (value_of (kind_of (shape_of directory.shapes words line) i) (object_slot words line i)) =
               ap (λ (vs : List Value). slice_index_or vs i Null) (object_values n h) ∙ value_read line i within in

@@ -9,6 +9,7 @@ pub mod Elsewhere
 pub mod Entries
 pub mod Faults
 pub mod FoundImage
+pub mod KeptSlots
 pub mod Logging
 pub mod Logs
 pub mod Naming

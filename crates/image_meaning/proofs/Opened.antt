@@ -36,7 +36,7 @@ pub put_back-same_words : (R : LiesAt) (directory : Directory) (size : ℕ) (wor
 put_back-same_words R directory size words heap none same =
     corresponds-same R directory size words (put_back words) heap same record {
       heads = λ line n r. put_back-none words none line 0 (not_log_after line (same.objects line n r).low);
-      slots = λ line n r i h.
+      slots = λ line n r i h kept.
           let low = (same.objects line n r).low in
           put_back-none words none (object_line line i) (object_word i) (not_log_after (object_line line i) (omega (arith, low)));
       at_roots = λ r h. root_outside words none r h;
@@ -47,7 +47,7 @@ pub put_back-agrees : (R : LiesAt) (directory : Directory) (size : ℕ) (c d : W
     → Corresponds R directory size (put_back c) heap → SameWords R heap c d → SameWords R heap (put_back c) (put_back d)
 put_back-agrees R directory size c d heap logs k same = record {
   heads = λ line n r. put_back-same c d logs line 0 (same.heads line n r);
-  slots = λ line n r i h. put_back-same c d logs (object_line line i) (object_word i) (same.slots line n r i h);
+  slots = λ line n r i h kept. put_back-same c d logs (object_line line i) (object_word i) (same.slots line n r i h kept);
   at_roots = λ r h. put_back-same c d logs (slot_line r) (slot_word r) (same.at_roots r h);
 }
 

@@ -175,7 +175,7 @@ heap_kept size c d directory graph lines k logs same =
     let heap = heap_of graph in
     let words : SameWords (found_at lines) heap c d = record {
       heads = λ line n r. same.objects line 0 (k.objects line n r).low;
-      slots = λ line n r i h. let low = (k.objects line n r).low in same.objects (object_line line i) (object_word i) (omega (arith, low));
+      slots = λ line n r i h kept. let low = (k.objects line n r).low in same.objects (object_line line i) (object_word i) (omega (arith, low));
       at_roots = same.roots;
     } in
     corresponds-same (found_at lines) directory size (put_back c) (put_back d) heap k
@@ -230,7 +230,7 @@ stands-within size c d graph enough most stand same = elim (cases_eq (c 0 0) 0) 
       } in
       let words : SameWords (found_at found.0) (heap_of graph) c d = record {
         heads = λ line n r. let high = (k.objects line n r).high in same line 0 (omega (arith, high));
-        slots = λ line n r i h. let high = (k.objects line n r).high in same (object_line line i) (object_word i) (omega (arith, high, h));
+        slots = λ line n r i h kept. let high = (k.objects line n r).high in same (object_line line i) (object_word i) (omega (arith, high, h));
         at_roots = λ r h. same (slot_line r) (slot_word r) (omega (arith, enough, h));
       } in
       subst (λ g. StandsFor size d g) found.2

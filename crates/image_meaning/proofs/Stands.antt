@@ -25,6 +25,7 @@ use Rattle.image_meaning.specs.Directories.{Directory}
 use Rattle.image_meaning.specs.Objects.{is_reference, is_within, shape_number, shape_of, length_at, object_slot, kind_of, values_at, line_fault, slot_fault, object_fault}
 use Rattle.image_meaning.specs.Meaning.{root_word, root_fault, roots_fault, root_value, root_values_of, look_at, walk, root_at, node_at, graph_found, graph_from}
 use Rattle.image_meaning.specs.Corresponds.{LiesAt, Holds, Corresponds, root_value_at}
+use Rattle.image_meaning.proofs.KeptSlots.{each_slot_is_kept}
 use Rattle.image_meaning.proofs.Faults.{first_fault-none, passes_if}
 use Rattle.image_meaning.proofs.Ranges.{get_or_any, mapped_alike}
 use Rattle.image_meaning.proofs.Pairs.{Pairs, none_left, pair, Alike, pairs-with_new, pairs-at, pairs-length, pairs-object, pairs-line, alike-renumbered}
@@ -48,11 +49,11 @@ module _ (R : LiesAt) (directory : Directory) (size : ℕ) (words : Words) (heap
   in_image : (a n : ℕ) → R a n → (first_object_line ≤ a) × (a < size)
   in_image a n r = let o = same.objects a n r in (o.low, omega (arith, o.high))
 
-  -- ---- one object
+  -- ---- one object: all its slots are kept, so that all of them count in what the image stands for
 
   slots_hold : (a n : ℕ) → R a n → (j : ℕ) → j < length (values_of heap n)
       → Holds R (kind_of (shape_of directory.shapes words a) (0 + j)) (object_slot words a (0 + j)) (slice_index_or (values_of heap n) j Null)
-  slots_hold a n r j h = let e : 0 + j ≡ j = omega arith in rw e ((same.objects a n r).slots j h)
+  slots_hold a n r j h = let e : 0 + j ≡ j = omega arith in rw e ((same.objects a n r).slots j h (each_slot_is_kept heap n j))
 
   values_alike : (a n : ℕ) → R a n → Alike R (values_at directory.shapes words a) (values_of heap n)
   unfolding in_image
@@ -64,7 +65,7 @@ module _ (R : LiesAt) (directory : Directory) (size : ℕ) (words : Words) (heap
   slots_pass a n r =
       first_fault-none (slot_fault size words (shape_of directory.shapes words a) a) (length (values_of heap n))
       (λ i h. word_passes R size in_image (kind_of (shape_of directory.shapes words a) i) (object_line a i) (object_slot words a i)
-      (slice_index_or (values_of heap n) i Null) ((same.objects a n r).slots i h))
+      (slice_index_or (values_of heap n) i Null) ((same.objects a n r).slots i h (each_slot_is_kept heap n i)))
 
   -- a line of an object belongs to no other
   not_within : (a b m n j : ℕ) → R a m → R b n → a ≢ b → j < lines_of (length_at words b) → is_within words (b + j) a ≡ false

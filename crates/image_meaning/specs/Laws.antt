@@ -4,7 +4,7 @@ use Rattle.std.specs.Prelude.{◌≡◌, ◌≢◌, ℕ, ◌/◌, ◌%◌, ◌<�
 use Rattle.ap_base.specs.declared.place.Place.TheVariants.{Static, Slot}
 use Rattle.graph_model.specs.declared.types.Value.{Value}
 use Rattle.graph_model.specs.declared.types.Heap.{Heap}
-use Rattle.graph_model.specs.Heaps.{values_of, stored, with_fresh}
+use Rattle.graph_model.specs.Heaps.{values_of, is_kept_slot, stored, with_fresh}
 use Rattle.graph_model.specs.Canon.{canon_of}
 use Rattle.image_layout.specs.declared.superblock.BadReason.{BadReason}
 use Rattle.image_layout.specs.Places.{logs, root_slots, slot_line, object_line, object_word, directory_line, directory_word, IsBlank, super_check}
@@ -90,7 +90,8 @@ CorrespondingWordsStand = (lies : ℕ → ℕ → Bool) (size : ℕ) (words : Wo
     → Opens size words directory → Corresponds (told_by lies) directory size (put_back words) heap
     → StandsFor size words (canon_of heap)
 
--- Other words that agree in the front, the logs, all objects and the root slots stand for the same graph, whatever else they say.
+-- Other words that agree in the front, the logs, the heads and kept slots of all objects and the root slots
+-- stand for the same graph, whatever else they say.
 abbrev pub SameWordsStand : Type 0
 SameWordsStand = (lies : ℕ → ℕ → Bool) (size : ℕ) (c d : Words) (directory : Directory) (heap : Heap)
     → Opens size c directory → Corresponds (told_by lies) directory size (put_back c) heap
@@ -122,7 +123,8 @@ RootStoreCorresponds = (lies : ℕ → ℕ → Bool) (size : ℕ) (c d : Words) 
     → SameButRoot (told_by lies) heap c d r → HoldsReference (told_by lies) (root_word d r) value
     → Corresponds (told_by lies) directory size d (stored heap (Static (root_static heap r)) value)
 
--- The words correspond to any heap that is the same in the roots and in the objects that lie somewhere.
+-- The words correspond to any heap that is the same in the roots and in the kept slots of the objects that lie
+-- somewhere.
 abbrev pub OtherObjectsCorrespond : Type 0
 OtherObjectsCorrespond = (lies : ℕ → ℕ → Bool) (size : ℕ) (words : Words) (directory : Directory) (heap other : Heap)
     → Corresponds (told_by lies) directory size words heap → SameObjects (told_by lies) heap other
@@ -147,14 +149,15 @@ abbrev pub CorrespondingWordsLieApart : Type 0
 CorrespondingWordsLieApart = (lies : ℕ → ℕ → Bool) (size : ℕ) (words : Words) (directory : Directory) (heap : Heap)
     → Corresponds (told_by lies) directory size words heap → WordsLieApart (told_by lies) heap
 
--- So it is with a heap that has one object more, after a store into an object that lies nowhere, and after one into a static that is no
--- root's.
+-- So it is with a heap that has one object more, after a store into a slot that isn't kept or whose object lies
+-- nowhere, and after one into a static that is no root's.
 pub record ChangesElsewhereCorrespond : Type 0 where
   pub fresh : (lies : ℕ → ℕ → Bool) (size : ℕ) (words : Words) (directory : Directory) (heap : Heap) (shape count : ℕ)
       → Corresponds (told_by lies) directory size words heap
       → Corresponds (told_by lies) directory size words (with_fresh heap shape count)
   pub slot : (lies : ℕ → ℕ → Bool) (size : ℕ) (words : Words) (directory : Directory) (heap : Heap) (m i : ℕ) (value : Value)
-      → Corresponds (told_by lies) directory size words heap → ((line n : ℕ) → told_by lies line n → n ≢ m)
+      → Corresponds (told_by lies) directory size words heap
+      → ((line : ℕ) → told_by lies line m → is_kept_slot heap m i ≡ false)
       → Corresponds (told_by lies) directory size words (stored heap (Slot m i) value)
   pub static : (lies : ℕ → ℕ → Bool) (size : ℕ) (words : Words) (directory : Directory) (heap : Heap) (s : ℕ) (value : Value)
       → Corresponds (told_by lies) directory size words heap → ((r : ℕ) → r < length heap.roots → root_static heap r ≢ s)

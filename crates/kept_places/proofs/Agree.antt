@@ -45,24 +45,43 @@ module _ (p : Place) (k l : Mark → Bool) where
       → SameAt p (next b m.op h) (next c m.op h')
   next_same m agrees true true x y h h' s = same_op p m.op h h' s
   next_same m agrees false false x y h h' s = s
-  next_same m agrees true false x y h h' s = same_trans (same_sym (skipped p m.op h (stored x y) (other x y))) s
+  next_same m agrees true false x y h h' s =
+      same_trans (same_sym (skipped p m.op h (stored x y) (other x y))) s
     where
       stored : k m ≡ true → l m ≡ false → is_store m.op ≡ true
-      stored x y = elim (cases_Bool (is_store m.op)) [ inl is ↦ is | inr isnt ↦ absurd (true≢false (sym (agrees.sure isnt).1 ∙ y)) ]
+      stored x y = elim (cases_Bool (is_store m.op)) [
+        | inl is ↦ is
+        | inr isnt ↦ absurd (true≢false (sym (agrees.sure isnt).1 ∙ y))
+      ]
 
       other : k m ≡ true → l m ≡ false → stores_at p m.op ≡ false
-      other x y = elim (cases_Bool (stores_at p m.op)) [ inl is ↦ absurd (true≢false (sym x ∙ agrees.here is ∙ y)) | inr isnt ↦ isnt ]
+      other x y = elim (cases_Bool (stores_at p m.op)) [
+        | inl is ↦
+            absurd (true≢false (sym x ∙ agrees.here is ∙ y))
+        | inr isnt ↦ isnt
+      ]
   next_same m agrees false true x y h h' s = same_trans s (skipped p m.op h' (stored x y) (other x y))
     where
       stored : k m ≡ false → l m ≡ true → is_store m.op ≡ true
-      stored x y = elim (cases_Bool (is_store m.op)) [ inl is ↦ is | inr isnt ↦ absurd (true≢false (sym (agrees.sure isnt).0 ∙ x)) ]
+      stored x y = elim (cases_Bool (is_store m.op)) [
+        | inl is ↦ is
+        | inr isnt ↦ absurd (true≢false (sym (agrees.sure isnt).0 ∙ x))
+      ]
 
       other : k m ≡ false → l m ≡ true → stores_at p m.op ≡ false
-      other x y = elim (cases_Bool (stores_at p m.op)) [ inl is ↦ absurd (true≢false (sym y ∙ sym (agrees.here is) ∙ x)) | inr isnt ↦ isnt ]
+      other x y = elim (cases_Bool (stores_at p m.op)) [
+        | inl is ↦
+            absurd (true≢false (sym y ∙ sym (agrees.here is) ∙ x))
+        | inr isnt ↦ isnt
+      ]
 
   after_next : (j : Mark → Bool) (m : Mark) (ms : List Mark) (h : Heap)
       → heap_after h (pick j (m ∷ ms)) ≡ heap_after (next (j m) m.op h) (pick j ms)
-  after_next j m ms h = elim (j m) as (λ b. heap_after h (if b then m.op ∷ pick j ms else pick j ms) ≡ heap_after (next b m.op h) (pick j ms)) [ true ↦ refl | false ↦ refl ]
+  after_next j m ms h = elim (j m) as (λ b. heap_after h
+      (if b then m.op ∷ pick j ms else pick j ms) ≡ heap_after (next b m.op h) (pick j ms)) [
+        | true ↦ refl
+        | false ↦ refl
+      ]
 
   -- the same is left at the place
   pub picked_same : (ms : List Mark) → AllByRecursion (λ m. Agrees p k l m) ms → (h h' : Heap) → SameAt p h h'
@@ -70,7 +89,8 @@ module _ (p : Place) (k l : Mark → Bool) where
   picked_same [] all h h' s = s
   picked_same (m ∷ ms) all h h' s =
       rw (after_next k m ms h, after_next l m ms h')
-      (picked_same ms all.1 (next (k m) m.op h) (next (l m) m.op h') (next_same m all.0 (k m) (l m) refl refl h h' s))
+      (picked_same ms all.1 (next (k m) m.op h) (next (l m) m.op h')
+      (next_same m all.0 (k m) (l m) refl refl h h' s))
 
 -- ---- by choices
 
@@ -83,7 +103,8 @@ sure_survives r s fate is = rw is refl
 
 all_agree : (p : Place) (r s r' s' : ℕ → Bool) (ms : List Mark) → AllByRecursion LosesStores ms
     → AllByRecursion (ChoicesAgree p r s r' s') ms
-    → AllByRecursion (λ m. Agrees p (λ (n : Mark). survives r s n.fate) (λ (n : Mark). survives r' s' n.fate) m) ms
+    → AllByRecursion (λ m. Agrees p (λ (n : Mark). survives r s n.fate)
+    (λ (n : Mark). survives r' s' n.fate) m) ms
 all_agree p r s r' s' [] lost agree = tt
 all_agree p r s r' s' (m ∷ ms) lost agree = (
   record {
@@ -98,7 +119,8 @@ pub left_same : (p : Place) (r s r' s' : ℕ → Bool) (ms : List Mark) → AllB
     → (h : Heap) → SameAt p (left_heap h ms r s) (left_heap h ms r' s')
 left_same p r s r' s' ms lost agree h =
     rw (kept-pick r s ms, kept-pick r' s' ms)
-    (picked_same p (λ (n : Mark). survives r s n.fate) (λ (n : Mark). survives r' s' n.fate) ms (all_agree p r s r' s' ms lost agree) h h (same_refl p h))
+    (picked_same p (λ (n : Mark). survives r s n.fate) (λ (n : Mark). survives r' s' n.fate) ms
+    (all_agree p r s r' s' ms lost agree) h h (same_refl p h))
 
 -- the whole heap, and what is left by choices that keep all at the place
 whole_agrees : (p : Place) (r s : ℕ → Bool) (ms : List Mark) → AllByRecursion LosesStores ms
@@ -115,4 +137,5 @@ pub whole_same : (p : Place) (r s : ℕ → Bool) (ms : List Mark) → AllByRecu
     → (h : Heap) → SameAt p (left_heap h ms r s) (heap_after h (ops_of_marks ms))
 whole_same p r s ms lost keeps h =
     rw (kept-pick r s ms, ops-pick ms)
-    (picked_same p (λ (n : Mark). survives r s n.fate) (λ n. true) ms (whole_agrees p r s ms lost keeps) h h (same_refl p h))
+    (picked_same p (λ (n : Mark). survives r s n.fate) (λ n. true) ms (whole_agrees p r s ms lost keeps) h h
+    (same_refl p h))

@@ -28,16 +28,20 @@ kept_sizes : (r s : ℕ → Bool) (ms : List Mark) → AllByRecursion LosesStore
     → SameSizes (heap_after h (ops_of_marks ms)) (left_heap k ms r s)
 kept_sizes r s [] lost h k same = same
 kept_sizes r s (m ∷ ms) lost h k same =
-    let Same : Bool → Type 0 = λ b. SameSizes (heap_after (heap_after_op h m.op) (ops_of_marks ms)) (heap_after k (if b then m.op ∷ kept r s ms else kept r s ms)) in
+    let Same : Bool → Type 0 = λ b. SameSizes (heap_after (heap_after_op h m.op) (ops_of_marks ms))
+    (heap_after k (if b then m.op ∷ kept r s ms else kept r s ms)) in
     elim (survives r s m.fate) as (λ b. survives r s m.fate ≡ b → Same b) [
-      | true ↦ λ e. kept_sizes r s ms lost.1 (heap_after_op h m.op) (heap_after_op k m.op) (sizes_op m.op h k same)
-      | false ↦ λ e. kept_sizes r s ms lost.1 (heap_after_op h m.op) k (sizes_trans (sizes_sym (skip_sizes m.op h (dropped e))) same)
+      | true ↦ λ e. kept_sizes r s ms lost.1 (heap_after_op h m.op) (heap_after_op k m.op)
+          (sizes_op m.op h k same)
+      | false ↦ λ e. kept_sizes r s ms lost.1 (heap_after_op h m.op) k
+          (sizes_trans (sizes_sym (skip_sizes m.op h (dropped e))) same)
     ] refl
   where
     dropped : survives r s m.fate ≡ false → is_store m.op ≡ true
     dropped e = elim (cases_Bool (is_store m.op)) [
       | inl is ↦ is
-      | inr isnt ↦ absurd (true≢false (sym (let sure : survives r s m.fate ≡ true = rw (lost.0 isnt) refl in sure) ∙ e))
+      | inr isnt ↦ absurd (true≢false (sym
+          (let sure : survives r s m.fate ≡ true = rw (lost.0 isnt) refl in sure) ∙ e))
     ]
 
 -- what is left has the sizes of the whole heap
@@ -48,11 +52,14 @@ left_sizes first r s ms lost = kept_sizes r s ms lost first first (sizes_refl fi
 -- ---- one more mark
 
 pub left_more : (first : Heap) (ms : List Mark) (m : Mark) (r s : ℕ → Bool)
-    → left_heap first (ms ++ m ∷ []) r s ≡ (if survives r s m.fate then heap_after_op (left_heap first ms r s) m.op else left_heap first ms r s)
+    → left_heap first (ms ++ m ∷ []) r s ≡ (if survives r s m.fate then heap_after_op
+    (left_heap first ms r s) m.op else left_heap first ms r s)
 left_more first ms m r s =
     ap (heap_after first) (kept-append r s ms (m ∷ []))
     ∙ heap_after-append first (kept r s ms) (kept r s (m ∷ []))
-    ∙ elim (survives r s m.fate) as (λ b. heap_after (left_heap first ms r s) (if b then m.op ∷ [] else []) ≡ (if b then heap_after_op (left_heap first ms r s) m.op else left_heap first ms r s)) [ true ↦ refl | false ↦ refl ]
+    ∙ elim (survives r s m.fate) as (λ b. heap_after (left_heap first ms r s)
+    (if b then m.op ∷ [] else []) ≡ (if b then heap_after_op
+    (left_heap first ms r s) m.op else left_heap first ms r s)) [ true ↦ refl | false ↦ refl ]
 
 -- an operation that isn't a store there
 pub value_op : (p : Place) (o : Op) (h : Heap) → has_place h p ≡ true → stores_at p o ≡ false
@@ -69,12 +76,19 @@ module _ (first : Heap) (ms : List Mark) (r : ℕ → Bool) (K : Threads) (p : P
       → MayHave first ms r K p v → MayHave first (ms ++ record { fate = fate; op = o } ∷ []) r K p v
   having_elsewhere fate o lost is other h =
       let left = left_heap first ms r h.singles in
-      let is_there : has_place left p ≡ true = same_has (heap_after first (ops_of_marks ms)) left p (left_sizes first r h.singles ms lost) ∙ is in
+      let is_there : has_place left p ≡ true =
+      same_has (heap_after first (ops_of_marks ms)) left p (left_sizes first r h.singles ms lost) ∙ is in
       record {
         singles = h.singles;
         keeps = h.keeps;
-        is = h.is ∙ sym (ap (λ (k : Heap). value_at k p) (left_more first ms (record { fate = fate; op = o }) r h.singles)
-            ∙ elim (survives r h.singles fate) as (λ b. value_at (if b then heap_after_op left o else left) p ≡ value_at left p) [ true ↦ value_op p o left is_there other | false ↦ refl ]);
+        is = h.is ∙ sym (ap (λ (k : Heap). value_at k p)
+            (left_more first ms (record { fate = fate; op = o }) r h.singles)
+            ∙ elim (survives r h.singles fate) as (λ b. value_at
+            (if b then heap_after_op left o else left) p ≡ value_at left p) [
+              | true ↦
+                  value_op p o left is_there other
+              | false ↦ refl
+            ]);
       }
 
   -- a store of an open region is dropped
@@ -83,7 +97,8 @@ module _ (first : Heap) (ms : List Mark) (r : ℕ → Bool) (K : Threads) (p : P
   having_open t o h = record {
     singles = h.singles;
     keeps = h.keeps;
-    is = h.is ∙ sym (ap (λ (k : Heap). value_at k p) (left_more first ms (record { fate = Open t; op = o }) r h.singles));
+    is = h.is ∙ sym (ap (λ (k : Heap). value_at k p)
+        (left_more first ms (record { fate = Open t; op = o }) r h.singles));
   }
 
   -- fewer threads need be kept
@@ -101,7 +116,8 @@ no_single t b r s (Single u) none = rw none refl
 single_elsewhere : (p : Place) (t : ℕ) (b : Bool) (r s : ℕ → Bool) (ms : List Mark) → NoSingleAt p t ms
     → AllByRecursion (ChoicesAgree p r (but t b s) r s) ms
 single_elsewhere p t b r s [] none = tt
-single_elsewhere p t b r s (m ∷ ms) none = (λ is. sym (no_single t b r s m.fate (none.0 is)), single_elsewhere p t b r s ms none.1)
+single_elsewhere p t b r s (m ∷ ms) none =
+    (λ is. sym (no_single t b r s m.fate (none.0 is)), single_elsewhere p t b r s ms none.1)
 
 none_at : (p : Place) (t : ℕ) (ms : List Mark) → NoSingleOf t ms → NoSingleAt p t ms
 none_at p t [] none = tt
@@ -112,7 +128,8 @@ but_true t s u is = elim (nat_eq u t) as (λ b. (if b then true else s u) ≡ tr
 
 but_with : (t : ℕ) (K : Threads) (s : ℕ → Bool) (u : ℕ) → (K u ≡ true → s u ≡ true) → with_thread t K u ≡ true
     → but t true s u ≡ true
-but_with t K s u keeps = elim (nat_eq u t) as (λ b. (if b then true else K u) ≡ true → (if b then true else s u) ≡ true) [ true ↦ λ e. refl | false ↦ keeps ]
+but_with t K s u keeps = elim (nat_eq u t) as (λ b. (if b then true else K u) ≡ true
+    → (if b then true else s u) ≡ true) [ true ↦ λ e. refl | false ↦ keeps ]
 
 -- the choice of a thread that has no single store there is free
 pub having_with : (first : Heap) (ms : List Mark) (r : ℕ → Bool) (K : Threads) (p : Place) (v : Value) (t : ℕ)
@@ -121,7 +138,8 @@ pub having_with : (first : Heap) (ms : List Mark) (r : ℕ → Bool) (K : Thread
 having_with first ms r K p v t lost none h = record {
   singles = but t true h.singles;
   keeps = λ u is. but_with t K h.singles u (h.keeps u) is;
-  is = h.is ∙ (left_same p r (but t true h.singles) r h.singles ms lost (single_elsewhere p t true r h.singles ms none) first).value;
+  is = h.is ∙ (left_same p r (but t true h.singles) r h.singles ms lost
+      (single_elsewhere p t true r h.singles ms none) first).value;
 }
 
 -- a further single store is dropped, where the thread had none
@@ -134,16 +152,19 @@ having_single first ms r K p v t o lost none free h =
     record {
       singles = s;
       keeps = λ u is. but_not u is (h.keeps u is);
-      is = h.is ∙ (left_same p r s r h.singles ms lost (single_elsewhere p t false r h.singles ms (none_at p t ms none)) first).value
+      is = h.is ∙ (left_same p r s r h.singles ms lost
+          (single_elsewhere p t false r h.singles ms (none_at p t ms none)) first).value
           ∙ sym (ap (λ (k : Heap). value_at k p) (left_more first ms (record { fate = Single t; op = o }) r s)
-          ∙ ap (λ b. value_at (if b then heap_after_op (left_heap first ms r s) o else left_heap first ms r s) p) (but-own t false h.singles));
+          ∙ ap (λ b. value_at (if b then heap_after_op
+          (left_heap first ms r s) o else left_heap first ms r s) p) (but-own t false h.singles));
     }
   where
     but_not : (u : ℕ) → K u ≡ true → h.singles u ≡ true → but t false h.singles u ≡ true
-    but_not u is one = elim (nat_eq u t) as (λ b. nat_eq u t ≡ b → (if b then false else h.singles u) ≡ true) [
-      | true ↦ λ e. absurd (true≢false (sym (ap K (sym (eqb-true u t e)) ∙ is) ∙ free))
-      | false ↦ λ e. one
-    ] refl
+    but_not u is one = elim (nat_eq u t) as (λ b. nat_eq u t ≡ b
+        → (if b then false else h.singles u) ≡ true) [
+          | true ↦ λ e. absurd (true≢false (sym (ap K (sym (eqb-true u t e)) ∙ is) ∙ free))
+          | false ↦ λ e. one
+        ] refl
 
 -- all is kept there
 abbrev all_singles : ℕ → Bool
@@ -190,7 +211,9 @@ module _ (first : Heap) (ms : List Mark) (r : ℕ → Bool) (K : Threads) (p : P
   having_fenced is h = record {
     singles = h.singles;
     keeps = h.keeps;
-    is = h.is ∙ ap (λ ops. value_at (heap_after first ops) p) (sym (kept-each_fate r h.singles (fenced t) r h.singles (fenced_survives t r h.singles (h.keeps t is)) ms));
+    is = h.is ∙ ap (λ ops. value_at (heap_after first ops) p)
+        (sym (kept-each_fate r h.singles (fenced t) r h.singles
+        (fenced_survives t r h.singles (h.keeps t is)) ms));
   }
 
   -- a region becomes closing while its log counts entries
@@ -198,7 +221,8 @@ module _ (first : Heap) (ms : List Mark) (r : ℕ → Bool) (K : Threads) (p : P
   having_closed is h = record {
     singles = h.singles;
     keeps = h.keeps;
-    is = h.is ∙ ap (λ ops. value_at (heap_after first ops) p) (sym (kept-each_fate r h.singles (closed t) r h.singles (closed_survives t r h.singles is) ms));
+    is = h.is ∙ ap (λ ops. value_at (heap_after first ops) p)
+        (sym (kept-each_fate r h.singles (closed t) r h.singles (closed_survives t r h.singles is) ms));
   }
 
 -- a closing region ends, where it is kept
@@ -232,6 +256,7 @@ having_ended first ms r K p v t is none h = record {
   singles = h.singles;
   keeps = h.keeps;
   is = h.is ∙ ap (λ ops. value_at (heap_after first ops) p)
-      (sym (ap (λ marks. kept r h.singles marks) (each_fate-agree (ended t) (settle t) (NotOpen t) (ended_settles t) ms none)
+      (sym (ap (λ marks. kept r h.singles marks)
+      (each_fate-agree (ended t) (settle t) (NotOpen t) (ended_settles t) ms none)
       ∙ kept-each_fate r h.singles (settle t) r h.singles (settled_survives t r h.singles is) ms));
 }

@@ -56,7 +56,11 @@ module _ (S : Place → ℕ → Bool) where
         → AllByRecursion (Same (choice ms)) ns → AllByRecursion (Same (choice (m ∷ ms))) ns
     unfolding choice single_place
     later m ms [] apart all = tt
-    later m ms (n ∷ ns) apart all = (λ is. one n.fate (λ t e. (apart t e).0) (all.0 is), later m ms ns (λ t e. (apart t e).1) all.1)
+    later m ms (n ∷ ns) apart all = (
+      λ is. one n.fate (λ t e. (apart t e).0) (all.0 is),
+      later m ms ns
+          (λ t e. (apart t e).1) all.1,
+    )
       where
         one : (fate : Fate) → ((t : ℕ) → is_single_of t m.fate ≡ true → is_single_of t fate ≡ false)
             → survives r (choice ms) fate ≡ survives r (S p) fate
@@ -64,10 +68,11 @@ module _ (S : Place → ℕ → Bool) where
         one Sure off same = same
         one (Open u) off same = same
         one (Closing u) off same = same
-        one (Single u) off same = elim (is_single_of u m.fate) as (λ b. is_single_of u m.fate ≡ b → choice_at u (if b then op_place m.op else single_place ms u) ≡ S p u) [
-          | true ↦ λ e. absurd (true≢false (sym (eq-eqb u u refl) ∙ off u e))
-          | false ↦ λ e. same
-        ] refl
+        one (Single u) off same = elim (is_single_of u m.fate) as (λ b. is_single_of u m.fate ≡ b
+            → choice_at u (if b then op_place m.op else single_place ms u) ≡ S p u) [
+              | true ↦ λ e. absurd (true≢false (sym (eq-eqb u u refl) ∙ off u e))
+              | false ↦ λ e. same
+            ] refl
 
     first_one : (m : Mark) (ms : List Mark) → Same (choice (m ∷ ms)) m
     unfolding choice single_place choice_at

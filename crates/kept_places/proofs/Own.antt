@@ -44,7 +44,8 @@ no_guard [] t p none is = let wrong : None ≡ Some t = is in cc
 no_guard (g ∷ gs) t p none is =
     let parts = or_parts (nat_eq g.thread t) (has_guards gs t) none in
     elim (place_is g.place p) as (λ b. (if b then Some g.thread else guard_of gs p) ≡ Some t → ⊥) [
-      | true ↦ λ mine. true≢false (sym (eq-eqb g.thread t (ap (λ (o : Option ℕ). elim o [ None ↦ g.thread | Some k ↦ k ]) mine)) ∙ parts.0)
+      | true ↦ λ mine. true≢false (sym (eq-eqb g.thread t
+          (ap (λ (o : Option ℕ). elim o [ None ↦ g.thread | Some k ↦ k ]) mine)) ∙ parts.0)
       | false ↦ λ rest. no_guard gs t p parts.1 rest
     ] is
 
@@ -64,13 +65,20 @@ none_open known t (m ∷ ms) none lost all = (one m.fate refl, none_open known t
     one (Open u) is = elim (cases_Bool (nat_eq u t)) [
       | inr isnt ↦ isnt
       | inl mine ↦ absurd (
-          let stored : is_store m.op ≡ true = elim (cases_Bool (is_store m.op)) [ inl s ↦ s | inr isnt ↦ absurd (let wrong : Open u ≡ Sure = sym is ∙ lost.0 isnt in not_sure u wrong) ] in
+          let stored : is_store m.op ≡ true =
+          elim (cases_Bool (is_store m.op)) [
+            | inl s ↦ s
+            | inr isnt ↦ absurd (let wrong : Open u ≡ Sure = sym is ∙ lost.0 isnt in
+                not_sure u wrong)
+          ] in
           let place = store_place m.op stored in
-          no_guard known.guards t place.0 none (all.0 t place.0 (ap (λ k. is_region_of t k) is ∙ mine) place.1))
+          no_guard known.guards t place.0 none
+          (all.0 t place.0 (ap (λ k. is_region_of t k) is ∙ mine) place.1))
     ]
       where
         not_sure : (k : ℕ) → Open k ≡ Sure → ⊥
-        not_sure k e = true≢false (ap (λ (fate : Fate). elim fate [ Sure ↦ false | Open n ↦ true | Closing n ↦ true | Single n ↦ true ]) e)
+        not_sure k e = true≢false (ap (λ (fate : Fate).
+            elim fate [ Sure ↦ false | Open n ↦ true | Closing n ↦ true | Single n ↦ true ]) e)
 
 -- where a region that has guarded a place is closing, nothing of an open region is there at its end
 pub none_open_at_end : (first : Heap) (known : Knowledge) (t : ℕ) → IsOrderly first known

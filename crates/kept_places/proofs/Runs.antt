@@ -32,7 +32,8 @@ rule_kept set known Now request t named o rule fence = tt
 
 pub rule_of : (set : SetFacts) (known : Knowledge) (Now : Wishes) (request : Option PlainRequest)
     (a : Recorded) → MayAct set known Now request a → KeepsRule known a.act.thread a.act.op
-rule_of set known Now request a may = rule_kept set known Now request a.act.thread a.named a.act.op may.rule may.fence
+rule_of set known Now request a may =
+    rule_kept set known Now request a.act.thread a.named a.act.op may.rule may.fence
 
 pub orderly_run : (set : SetFacts) (main : ℕ)
     (opening : Graph) {Frames : Type 0} (code : Code set main opening Frames) (first : Heap)
@@ -41,8 +42,11 @@ pub orderly_run : (set : SetFacts) (main : ℕ)
     → IsOrderly first (known_after known acts)
 orderly_run set main opening code first known frames Now [] s run = s
 orderly_run set main opening code first known frames Now (a ∷ acts) s run =
-    orderly_run set main opening code first (next_known known a) (frames_after_op set main opening code known.world frames a.act.thread a.act.op) (WantsNow (next_known known a) Now) acts
-    (orderly_next first known a s (rule_of set known Now (request_of set main opening code known.world frames a.act.thread) a run.0)) run.1
+    orderly_run set main opening code first (next_known known a)
+    (frames_after_op set main opening code known.world frames a.act.thread a.act.op)
+    (WantsNow (next_known known a) Now) acts
+    (orderly_next first known a s (rule_of set known Now
+    (request_of set main opening code known.world frames a.act.thread) a run.0)) run.1
 
 pub orderly_first : (known : Knowledge) → known.marks ≡ [] → IsOrderly known.world.heap known
 orderly_first known none = record {

@@ -4,12 +4,13 @@
 use Rattle.std.specs.Prelude.{◌≡◌, ◌≢◌, ℕ, Bool, true, false, List, [], ◌∷◌, map, Some, nat_eq}
 use Rattle.std.specs.List.{AllByRecursion}
 use Rattle.ap_base.specs.declared.place.Place.{Place}
+use Rattle.ap_base.specs.declared.place.Place.TheVariants.{Static, Slot}
 use Rattle.graph_model.specs.declared.types.Heap.{Heap}
 use Rattle.graph_model.specs.Heaps.{has_number}
 use Rattle.run_history.specs.declared.act.Op.{Op}
 use Rattle.run_history.specs.declared.act.Op.TheVariants as op
 use Rattle.run_history.specs.Worlds.{heap_after, depth_of}
-use Rattle.run_history.specs.Knowing.{Fate, Sure, Open, Closing, Single, Mark, Knowledge, owes_fence, unfenced_at, guard_of, durable_at}
+use Rattle.run_history.specs.Knowing.{Fate, Sure, Open, Closing, Single, Mark, Knowledge, owes_fence, unfenced_at, guard_of, is_root, durable_at}
 use Rattle.run_history.specs.Laws.{is_closing_of}
 use Rattle.kept_places.specs.Choices.{stores_at, is_store}
 
@@ -53,9 +54,15 @@ abbrev pub IsGuardedStore : Knowledge → Mark → Type 0
 IsGuardedStore known m = (t : ℕ) (p : Place) → is_region_of t m.fate ≡ true → stores_at p m.op ≡ true
     → guard_of known.guards p ≡ Some t
 
--- what a place that isn't durable was given is sure
+-- the place is a durable root, or a slot of a durable object, whether that slot is kept or not
+abbrev pub is_among_durable : Heap → List ℕ → Place → Bool
+is_among_durable heap durable (Static n) = is_root heap.roots n
+is_among_durable heap durable (Slot n i) = has_number durable n
+
+-- what any other place was given is sure
 abbrev pub IsSureElsewhere : Knowledge → Mark → Type 0
-IsSureElsewhere known m = (p : Place) → stores_at p m.op ≡ true → durable_at known p ≡ false → m.fate ≡ Sure
+IsSureElsewhere known m = (p : Place) → stores_at p m.op ≡ true
+    → is_among_durable known.world.heap known.durable p ≡ false → m.fate ≡ Sure
 
 -- the store of this fate is one of thread t's open region
 abbrev pub is_open_of : ℕ → Fate → Bool

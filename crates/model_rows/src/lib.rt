@@ -9,4 +9,6 @@ mod heaps;
 #[cfg(test)]
 mod links;
 #[cfg(test)]
+mod spaces;
+#[cfg(test)]
 mod walks;

@@ -1,0 +1,12 @@
+pub mod Methods
+pub mod Groups
+pub mod Values
+pub mod Texts
+pub mod Scripts
+pub mod Positions
+pub mod States
+pub mod Coded
+pub mod Listed
+pub mod Follows
+pub mod Printed
+pub mod Rows

@@ -1,10 +1,13 @@
-// Requests and replies, over references R and values V: those of the code, or those of the plain heap.
+// Requests and replies, over references R and values V: those of the code, or those of the plain
+// heap.
 use ap_base::{Item, Kind, Piece, Ref};
 use run_types::{At, FieldAt, Key, RunFault};
 
-/// What one shared instruction, or a step of a native method, asks of the heap. `from` is the instruction that asks.
+/// What one shared instruction, or a step of a native method, asks of the heap. `from` is the
+/// instruction that asks.
 ///
-/// The references are operands, so they may be null; a request says which throwable comes of that (JVMS 6.5).
+/// The references are operands, so they may be null; a request says which throwable comes of that
+/// (JVMS 6.5).
 #[derive(Drop)]
 pub enum Request<R = Ref, V = Item> {
     /// A turn ended without a shared instruction.
@@ -47,7 +50,8 @@ pub enum Request<R = Ref, V = Item> {
         field: FieldAt,
         value: V,
     },
-    /// An element of an array of this kind, where `B` reads byte and boolean arrays, or a char of a String for `Text`.
+    /// An element of an array of this kind, where `B` reads byte and boolean arrays, or a char of
+    /// a String for `Text`.
     GetElement {
         from: At,
         array: R,

@@ -36,7 +36,7 @@ use Rattle.frames.specs.Calls.{Stepped, goes_on, asks_so, after, returns_to, cal
 use Rattle.frames.specs.Requests.{taken_by}
 use Rattle.frames.specs.Turns.{at_of, class_of, is_yes, is_so, gives_back, throws_top, calls_selected, replied, instruction_answered, native_answered, frame_answered, answered, settled, answer_of, answer_if, answer}
 use Rattle.plain_frames.specs.Codes.{PlainNatives, plain_cells, plain_setting}
-use Rattle.plain_frames.specs.Tables.{IsProgramOf}
+use Rattle.plain_frames.specs.Tables.{NamesWhatIsThere}
 use Rattle.plain_frames.specs.Sound.{IsCellIn, IsOwnIn, IsGivenIn, IsNativeIn, IsHeldIn, IsBegun, IsFrameIn, IsInitialiser, IsDoingIn, AreIn, KeepIn, initialised_by}
 use Rattle.plain_frames.specs.DutyLaws.{IsFitIfAsked, IsTurnIn, IsAnswerIn}
 use Rattle.plain_frames.proofs.Cells.{reference-in, put-in, one-in, long-in, nothing-put}
@@ -45,7 +45,7 @@ use Rattle.plain_frames.proofs.Frames.{entry-in, IsResultIn, result-in}
 
 module _ (set : SetFacts) (opening : Graph) {M N : Type 0} (p : Program M) (natives : PlainNatives M N)
     (method : ℕ) (is_in : ℕ → N → Bool)
-    (tables : IsProgramOf set p) (keeps : KeepIn set natives is_in) (world : World) (t : ℕ) where
+    (tables : NamesWhatIsThere set p) (keeps : KeepIn set natives is_in) (world : World) (t : ℕ) where
   abbrev x : Setting M Value N Value
   x = plain_setting set opening p natives method
 
@@ -303,7 +303,8 @@ module _ (set : SetFacts) (opening : Graph) {M N : Type 0} (p : Program M) (nati
   drop-in (frame ∷ below) in_frames = tail-in frame below in_frames
 
   module _ (fs : Frames Value N) (r : PlainReply) (is : AreIn set is_in world t fs)
-      (known : IsAnswerIn set p natives world t fs r) where
+      (known : IsAnswerIn set p natives world t fs r) (runs : fs.doing ≡ Runs)
+      (goes : fs.paused ≡ false) where
     frame_answered-in : (list : List (Frame Value N)) → fs.frames ≡ list → FramesIn list →
         InTurn (frame_answered x list r)
     frame_answered-in [] e in_frames = goes_on-in Runs [] tt in_frames
@@ -317,10 +318,10 @@ module _ (set : SetFacts) (opening : Graph) {M N : Type 0} (p : Program M) (nati
           thrown = known.thrown;
           begins = λ class q. subst (λ all. IsBegun set is_in world t class × All (λ n. class ≢ n)
               (initialised_by all)) e (known.begins class q);
-          athrow = known.athrow m at own held below e;
+          athrow = known.athrow runs goes m at own held below e;
         })
     frame_answered-in (Native from state ∷ below) e in_frames =
-        let (replied, there) = known.native from state below e in
+        let (replied, there) = known.native runs goes from state below e in
         native-in from state below r (head-in (Native from state) below in_frames)
         (tail-in (Native from state) below in_frames) replied there known.thrown
     frame_answered-in (Initialiser class from ∷ below) e in_frames = goes_on-in Runs _ tt in_frames
@@ -328,13 +329,13 @@ module _ (set : SetFacts) (opening : Graph) {M N : Type 0} (p : Program M) (nati
 
   answered-in : (doing : Doing Value) (list : List (Frame Value N)) (r : PlainReply) →
       IsDoingIn set is_in world t doing list → FramesIn list →
-      InTurn (frame_answered x list r) →
+      (doing ≡ Runs → InTurn (frame_answered x list r)) →
       ((object : Value) (class : ℕ) → r ≡ reply.Thrown object class →
       IsReferenceIn world object × IsThrowable set class) →
       ((class : ℕ) → r ≡ reply.Init class →
       IsBegun set is_in world t class × All (λ n. class ≢ n) (initialised_by list)) →
       InTurn (answered x doing list r)
-  answered-in Runs list r is in_frames answered_is thrown begins = answered_is
+  answered-in Runs list r is in_frames answered_is thrown begins = answered_is refl
   answered-in (BeginsMain class) list (reply.Init c) is in_frames answered_is thrown begins =
       let (begun, fresh) = begins c refl in initialises-in c x.main list begun fresh in_frames
   answered-in (BeginsMain class) list r is in_frames answered_is thrown begins = resumes-in list in_frames
@@ -367,21 +368,21 @@ module _ (set : SetFacts) (opening : Graph) {M N : Type 0} (p : Program M) (nati
   settled-in (Some (ask.Broken f)) fs fit is = record { doing = fit; frames = is.frames; once = is.once }
   settled-in (Some request) fs fit is = is
 
-  answer_if-in : (paused : Bool) (fs : Frames Value N) (r : PlainReply) → AreIn set is_in world t fs →
-      IsAnswerIn set p natives world t fs r →
+  answer_if-in : (paused : Bool) (fs : Frames Value N) (r : PlainReply) → fs.paused ≡ paused →
+      AreIn set is_in world t fs → IsAnswerIn set p natives world t fs r →
       AreIn set is_in world t (answer_if x paused fs r)
-  answer_if-in true fs r is known = record { doing = is.doing; frames = is.frames; once = is.once }
-  answer_if-in false fs r is known =
+  answer_if-in true fs r e is known = record { doing = is.doing; frames = is.frames; once = is.once }
+  answer_if-in false fs r e is known =
       let list_in : FramesIn fs.frames = record { all = is.frames; once = is.once } in
       let stepped = answered-in fs.doing fs.frames r is.doing list_in
-      (frame_answered-in fs r is known fs.frames refl list_in) known.thrown known.begins in
+      (λ runs. frame_answered-in fs r is known runs e fs.frames refl list_in) known.thrown known.begins in
       settled-in (answered x fs.doing fs.frames r).asks (answered x fs.doing fs.frames r).frames stepped.fit
       stepped.frames
 
   pub answer-in : (fs : Frames Value N) (r : PlainReply) → AreIn set is_in world t fs →
       IsAnswerIn set p natives world t fs r → AreIn set is_in world t (answer x fs r)
   unfolding answer
-  answer-in fs r is known = answer_if-in fs.paused fs r is known
+  answer-in fs r is known = answer_if-in fs.paused fs r refl is known
 
   done-in : (list : List (Frame Value N)) (r : PlainReply) → FramesIn (drop 1 list) →
       AreIn set is_in world t (answer_of x (answered x Initialised list r))

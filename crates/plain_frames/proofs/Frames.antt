@@ -40,7 +40,7 @@ use Rattle.frames.specs.Tables.{no_method, method_at, start_of, dispatched}
 use Rattle.frames.specs.Settings.{Frame, Running, Native, Initialiser, Main, Doing, Runs, Enters, Initialised, Ends, NativeStep, Asks, Calls, Gives, Setting, slots_left}
 use Rattle.frames.specs.Calls.{Stepped, goes_on, asks_so, arguments_on, cells_taken, cells_of, given_of, result_of, object_in, monitor_of, first_own, value_of, reply_of, done_so, after, if_room, breaks, begins_body, begins, begins_with, begins_found, signature_of, native_does, returns_to, calls_with, calls}
 use Rattle.plain_frames.specs.Codes.{PlainNatives, plain_setting}
-use Rattle.plain_frames.specs.Tables.{IsProgramOf}
+use Rattle.plain_frames.specs.Tables.{NamesWhatIsThere}
 use Rattle.plain_frames.specs.Sound.{IsCellIn, IsOwnIn, IsGivenIn, IsNativeIn, IsHeldIn, IsFrameIn, IsDoingIn, IsStepIn, IsResult, KeepIn, initialised_by}
 use Rattle.plain_frames.specs.DutyLaws.{IsTurnIn}
 use Rattle.plain_frames.proofs.Cells.{All-slice_get, reference-in, put-in, one-in, long-in}
@@ -122,7 +122,7 @@ module _ (world : World) where
 
 module _ (set : SetFacts) (opening : Graph) {M N : Type 0} (p : Program M) (natives : PlainNatives M N)
     (method : ℕ) (is_in : ℕ → N → Bool)
-    (tables : IsProgramOf set p) (keeps : KeepIn set natives is_in) (world : World) (t : ℕ) where
+    (tables : NamesWhatIsThere set p) (keeps : KeepIn set natives is_in) (world : World) (t : ℕ) where
   abbrev pub x : Setting M Value N Value
   x = plain_setting set opening p natives method
 

@@ -3,3 +3,10 @@ pub mod Frames
 pub mod Turns
 pub mod Answers
 pub mod Later
+pub mod Asking
+pub mod Progressing
+pub mod References
+pub mod Stepping
+pub mod Runs
+pub mod Small
+pub mod SmallRun

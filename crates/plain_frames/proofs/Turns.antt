@@ -37,7 +37,7 @@ use Rattle.frames.specs.Requests.{given, value_so, request_of}
 use Rattle.frames.specs.Calls.{Stepped, asks_so, after, calls, cells_taken, result_of, returns_held, returns}
 use Rattle.frames.specs.Turns.{asks_or, calls_special, does, at_of, key_of, class_of, frame_does, asked_by, one_of, one, turn_of, turn_if, turn}
 use Rattle.plain_frames.specs.Codes.{PlainNatives, is_null, plain_setting}
-use Rattle.plain_frames.specs.Tables.{IsOpOf, IsProgramOf}
+use Rattle.plain_frames.specs.Tables.{IsOpOf, NamesWhatIsThere}
 use Rattle.plain_frames.specs.Sound.{IsOwnIn, IsGivenIn, IsHeldIn, IsFrameIn, IsInitialiser, IsDoingIn, AreIn, KeepIn}
 use Rattle.plain_frames.specs.DutyLaws.{HasLiterals, IsFitIfAsked, IsTurnIn}
 use Rattle.plain_frames.proofs.Cells as cells
@@ -47,7 +47,7 @@ use Rattle.plain_frames.proofs.Frames.{entry-in, IsResultIn, result-in}
 
 module _ (set : SetFacts) (opening : Graph) {M N : Type 0} (p : Program M) (natives : PlainNatives M N)
     (method : ℕ) (is_in : ℕ → N → Bool)
-    (tables : IsProgramOf set p) (keeps : KeepIn set natives is_in) (world : World) (t : ℕ)
+    (tables : NamesWhatIsThere set p) (keeps : KeepIn set natives is_in) (world : World) (t : ℕ)
     (literals : HasLiterals set opening world) where
   abbrev x : Setting M Value N Value
   x = plain_setting set opening p natives method
@@ -266,7 +266,7 @@ module _ (set : SetFacts) (opening : Graph) {M N : Type 0} (p : Program M) (nati
       held_in in_frames
   does-in (op.InvokeStatic n) m at own held below is_op own_in held_in in_frames =
       asks_or-in (request_of x (op.InvokeStatic n) (from_of p m at) own) _ _
-      (request_of-fit own own_in (op.InvokeStatic n) (from_of p m at) tt)
+      (request_of-fit own own_in (op.InvokeStatic n) (from_of p m at) is_op)
       (running-in m at own held below own_in held_in in_frames)
       (calls-in n m at own held below own_in held_in in_frames)
   does-in (op.Unlinked link) m at own held below is_op own_in held_in in_frames =

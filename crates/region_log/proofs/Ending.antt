@@ -22,7 +22,8 @@ use Rattle.region_log.specs.Steps.{StepsOn, FencesRegion}
 use Rattle.region_log.proofs.Frames.{undisturbed-call, ending-on}
 use Rattle.region_log.proofs.Left.{underway_left, ending_left}
 use Rattle.region_log.proofs.Placed.{puts-image, puts-size, puts-elsewhere, end_words_of_log, fails-ending, placed-ending, made-ending, ended-last}
-use Rattle.region_log.proofs.Stepping.{keeps_itself, steps-by}
+use Rattle.line_memory.proofs.Keeps.{keeps_itself}
+use Rattle.region_log.proofs.Stepping.{steps-by}
 
 ends : (m : Memory) (t : ℕ) (entries : List Entry) (underway : Underway) → CanEnd underway
     → HoldsUnderway m t entries underway → HoldsEnding m t entries (end_stage underway)

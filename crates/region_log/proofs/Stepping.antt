@@ -9,7 +9,7 @@ use Rattle.line_image.specs.Trace.{Trace, Outcome, LeftWithin}
 use Rattle.line_image.specs.Told.{Told}
 use Rattle.line_memory.specs.Memory.{Memory, IsTelling, CanLeave, CanLeaveAll}
 use Rattle.line_memory.specs.Moments.{Goes, KeepsShown}
-use Rattle.line_memory.proofs.Chain.{goes_nowhere}
+use Rattle.line_memory.proofs.Keeps.{keeps_itself}
 use Rattle.region_log.specs.declared.entry.Entry.{Entry}
 use Rattle.region_log.specs.declared.entry.EntryStage.{EntryStage}
 use Rattle.region_log.specs.declared.entry.EntryStage.TheVariants.{Begun, Written, Fenced, Counting, Counted}
@@ -23,18 +23,6 @@ use Rattle.region_log.specs.Steps.{StepsOn}
 use Rattle.region_log.proofs.Frames.{undisturbed-call, adding-on}
 use Rattle.region_log.proofs.Left.{underway_left, adding_left}
 use Rattle.region_log.proofs.Placed.{puts-image, puts-size, puts-elsewhere, words_of_log, fails-adding, placed-adding, made-adding, made-last}
-
-pub keeps_itself : (m : Memory) → KeepsShown m m
-keeps_itself m = record {
-  size = refl;
-  shows = λ l w before after. refl;
-  telling = λ tells. tells;
-  leaves = λ l w v left. left;
-  reads = λ l w v reads. inl reads;
-  any_moment = goes_nowhere m.image (CanLeaveAll m);
-  silent = λ tells. tells;
-  written = λ l w is. is;
-}
 
 -- a stop leaves something only where the image tells what was done to it
 left_tells : (o : Option Trace) (n : ℕ) (c : Outcome) → LeftWithin o n c → IsTelling o

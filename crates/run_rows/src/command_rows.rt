@@ -1,7 +1,6 @@
-// What the top call prints, and how it ends, by its words, its source of class files and its sink.
-use crate::class_bytes;
+// What the top call prints, and how it ends, by its words, its files and its sink.
 use crate::class_files::SEVEN;
-use crate::fixture::{PRINTS, RUN, STORES, blank, file, main_class, source, words};
+use crate::fixture::{PRINTS, RUN, Run, STORES, blank, file, listed_classes, main_class, words};
 use ap_base::{Bytes, ClassSource, MemorySink, MemorySource, NamedBytes, NoGate};
 use autopersist::{Status, autopersist, read_words, status_text};
 use class_rows::{CLASS_A, SEVERAL};
@@ -11,293 +10,566 @@ use std::sync::Wait;
 use std::test::Fail;
 use std::thread::Threads;
 
-const SEVERAL_WORDS: [&str; 7] = [
-    "autopersist",
-    "run",
-    "--image",
-    "work.img",
-    "--main",
-    "Several",
-    "classes",
-];
+/// What a source gives.
+#[derive(Clone, Copy)]
+enum Given {
+    /// The program that prints 7.
+    Seven,
+    /// The program that prints several numbers.
+    Several,
+    ClassA,
+    /// Class A with a byte behind it.
+    Longer,
+    /// Class A with another index of its superclass.
+    Superless,
+    /// Class A of a later version.
+    Newer,
+    /// So many zeros.
+    Zeros(usize),
+    /// So many bytes that were read of a file of this size.
+    Front(usize, u64),
+    /// Class A so many times.
+    Copies(u32),
+    /// A class Main with this body and the durable root `data`.
+    Main(&'static [&'static str]),
+    /// The classes of a listing, a file each.
+    Listed(&'static str),
+}
 
-const OTHER: [&str; 7] = [
-    "autopersist",
-    "run",
-    "--image",
-    "work.img",
-    "--main",
-    "Other",
-    "classes",
-];
-
-const MISSPELLED: [&str; 7] = [
-    "autopersist",
-    "run",
-    "--imago",
-    "work.img",
-    "--main",
-    "Main",
-    "classes",
-];
-
-const NO_MAIN: [&str; 5] = ["autopersist", "run", "--image", "F", "DIR"];
-
-/// A source of at most two files, which fails at one call.
-fn files(
-    alloc: Global,
-    first: Option<&[u8]>,
-    second: Option<&[u8]>,
-    fails: u64,
-) -> Result<MemorySource, AllocError> {
-    let mut files = Vec::new(alloc);
-    if let Some(bytes) = first {
-        files.push(file(alloc, b"A.class", bytes)?)?;
+/// Class A with one byte changed.
+fn changed(alloc: Global, at: usize, byte: u8) -> Result<Vec<u8>, AllocError> {
+    let mut bytes = CLASS_A.to_vec(alloc)?;
+    if at < bytes.len() {
+        bytes[at] = byte;
     }
-    if let Some(bytes) = second {
-        files.push(file(alloc, b"B.class", bytes)?)?;
+    Ok(bytes)
+}
+
+/// Class A with a byte behind it.
+fn longer(alloc: Global) -> Result<Vec<u8>, AllocError> {
+    let mut bytes = CLASS_A.to_vec(alloc)?;
+    bytes.push(0)?;
+    Ok(bytes)
+}
+
+/// The bytes of a file.
+fn bytes_of(alloc: Global, given: Given) -> Result<Vec<u8>, Fail> {
+    match given {
+        Given::Seven => Ok(SEVEN.to_vec(alloc)?),
+        Given::Several => Ok(SEVERAL.to_vec(alloc)?),
+        Given::Longer => Ok(longer(alloc)?),
+        Given::Superless => Ok(changed(alloc, 44, 5)?),
+        Given::Newer => Ok(changed(alloc, 7, 53)?),
+        Given::Zeros(count) => Ok(Vec::from_elem(alloc, 0, count)?),
+        Given::Main(body) => main_class(alloc, body),
+        _ => Ok(CLASS_A.to_vec(alloc)?),
+    }
+}
+
+/// Adds the classes of a listing, a file each.
+fn push_listed(alloc: Global, files: &mut Vec<NamedBytes>, listing: &str) -> Result<(), Fail> {
+    for bytes in &listed_classes(alloc, listing.as_bytes())? {
+        files.push(file(alloc, b"A.class", bytes.as_slice())?)?;
+    }
+    Ok(())
+}
+
+/// A file of which the front was read.
+fn front(alloc: Global, read: usize, size: u64) -> Result<NamedBytes, AllocError> {
+    let name = Bytes::copy(alloc, b"A.class")?;
+    let bytes = Bytes::from_vec(Vec::from_elem(alloc, 0_u8, read)?);
+    Ok(NamedBytes::read_so_far(name, bytes, size))
+}
+
+/// Adds copies of class A.
+fn push_copies(alloc: Global, files: &mut Vec<NamedBytes>, count: u32) -> Result<(), AllocError> {
+    for _ in 0..count {
+        files.push(file(alloc, b"A.class", &CLASS_A)?)?;
+    }
+    Ok(())
+}
+
+/// Adds what is given.
+fn push(alloc: Global, files: &mut Vec<NamedBytes>, given: Given) -> Result<(), Fail> {
+    match given {
+        Given::Listed(listing) => push_listed(alloc, files, listing),
+        Given::Copies(count) => Ok(push_copies(alloc, files, count)?),
+        Given::Front(read, size) => Ok(files.push(front(alloc, read, size)?)?),
+        _ => {
+            let bytes = bytes_of(alloc, given)?;
+            Ok(files.push(file(alloc, b"A.class", bytes.as_slice())?)?)
+        }
+    }
+}
+
+/// A source of these files, which fails at one call.
+fn source(alloc: Global, all: &[Given], fails: u64) -> Result<MemorySource, Fail> {
+    let mut files = Vec::new(alloc);
+    for given in all {
+        push(alloc, &mut files, *given)?;
     }
     Ok(MemorySource::new(files, [fails].to_vec(alloc)?))
 }
 
-/// What a run on a blank image prints, five bytes at most at once, and its status line behind that; the number of its acts, and of the files
-/// that are left of its source.
-fn outcome<R>(
-    rt: &R,
-    alloc: Global,
-    all: &[&str],
-    source: MemorySource,
-) -> Result<(Vec<u8>, u32, u32), AllocError>
+/// The words, the files, and the source's call that fails; what is printed, with the status line behind it, how many acts were made,
+/// and how many files are left of the source.
+type Row = (
+    &'static [&'static str],
+    &'static [Given],
+    u64,
+    &'static str,
+    u32,
+    u32,
+);
+
+const SEVERAL_WORDS: &[&str] = &[
+    "autopersist",
+    "run",
+    "--image",
+    "F",
+    "--main",
+    "Several",
+    "DIR",
+];
+
+const OTHER: &[&str] = &[
+    "autopersist",
+    "run",
+    "--image",
+    "F",
+    "--main",
+    "Other",
+    "DIR",
+];
+
+const MISSPELLED: &[&str] = &[
+    "autopersist",
+    "run",
+    "--imago",
+    "F",
+    "--main",
+    "Main",
+    "DIR",
+];
+
+const NO_MAIN: &[&str] = &["autopersist", "run", "--image", "F", "DIR"];
+
+const NO_COMMAND: &[&str] = &["autopersist"];
+
+const DOTTED: &[&str] = &[
+    "autopersist",
+    "run",
+    "--image",
+    "F",
+    "--main",
+    "p.Main",
+    "DIR",
+];
+
+const SLASHED: &[&str] = &[
+    "autopersist",
+    "run",
+    "--image",
+    "F",
+    "--main",
+    "p/Main",
+    "DIR",
+];
+
+/// p.Main, which prints 7.
+const IN_PACKAGE: &str = ".class p/Main\n.super java/lang/Object\n\
+    .method main ([Ljava/lang/String;)V 2 1 static\n\
+    getstatic java/lang/System out Ljava/io/PrintStream;\nbipush 7\n\
+    invokevirtual java/io/PrintStream println (I)V\nreturn\n.end\n";
+
+const NOT_BUILT: &str = "autopersist: not built\n";
+
+const USAGE: &str = "autopersist: usage\n";
+
+const FAULT: &str = "autopersist: source fault\n";
+
+const TRAILING: &str = "autopersist: class A.class TrailingBytes 53\n";
+
+const TOO_LONG: &str = "autopersist: full FileBytes 1048577 1048576\n";
+
+const TOO_MANY: &str = "autopersist: full Files 1 0\n";
+
+static COMMANDS: [Row; 29] = [
+    (&RUN, &[Given::Seven], 9, "7\n", 8, 0),
+    // the source isn't asked past its end
+    (&RUN, &[Given::Seven], 3, "7\n", 8, 0),
+    (
+        SEVERAL_WORDS,
+        &[Given::Several],
+        9,
+        "7\n-1\n200\n-32768\n70000\n2147483647\n-2147483648\n0\n",
+        49,
+        0,
+    ),
+    // a dot in a name counts as a slash
+    (DOTTED, &[Given::Listed(IN_PACKAGE)], 9, "7\n", 8, 0),
+    (SLASHED, &[Given::Listed(IN_PACKAGE)], 9, "7\n", 8, 0),
+    (&RUN, &[Given::Listed(IN_PACKAGE)], 9, NOT_BUILT, 0, 0),
+    (NO_MAIN, &[Given::Seven], 9, USAGE, 0, 1),
+    (MISSPELLED, &[Given::Seven], 9, USAGE, 0, 1),
+    (NO_COMMAND, &[Given::Seven], 9, USAGE, 0, 1),
+    (&RUN, &[Given::Seven], 1, FAULT, 0, 1),
+    (&RUN, &[Given::Seven], 2, FAULT, 0, 0),
+    (OTHER, &[Given::Seven], 9, NOT_BUILT, 0, 0),
+    (&RUN, &[], 9, NOT_BUILT, 0, 0),
+    (&RUN, &[Given::Seven, Given::ClassA], 9, NOT_BUILT, 0, 0),
+    (&RUN, &[Given::ClassA], 9, NOT_BUILT, 0, 0),
+    (
+        &RUN,
+        &[Given::Seven, Given::Seven],
+        9,
+        "autopersist: refused DuplicateClass Main\n",
+        0,
+        0,
+    ),
+    (&RUN, &[Given::Longer], 9, TRAILING, 0, 0),
+    (
+        &RUN,
+        &[Given::Superless],
+        9,
+        "autopersist: class A.class BadIndex 43 5\n",
+        0,
+        0,
+    ),
+    (
+        &RUN,
+        &[Given::Newer],
+        9,
+        "autopersist: class A.class BadVersion 53 0\n",
+        0,
+        0,
+    ),
+    (
+        &RUN,
+        &[Given::Zeros(1_048_576)],
+        9,
+        "autopersist: class A.class BadMagic\n",
+        0,
+        0,
+    ),
+    (&RUN, &[Given::Zeros(1_048_577)], 9, TOO_LONG, 0, 0),
+    (
+        &RUN,
+        &[Given::Zeros(1_048_577), Given::Seven],
+        9,
+        TOO_LONG,
+        0,
+        1,
+    ),
+    (
+        &RUN,
+        &[Given::Front(1_048_577, 4_294_967_296)],
+        9,
+        "autopersist: full FileBytes 4294967296 1048576\n",
+        0,
+        0,
+    ),
+    (
+        &RUN,
+        &[Given::Copies(4_096)],
+        9_000,
+        "autopersist: refused DuplicateClass A\n",
+        0,
+        0,
+    ),
+    (&RUN, &[Given::Copies(4_097)], 9_000, TOO_MANY, 0, 0),
+    (&RUN, &[Given::Copies(4_099)], 9_000, TOO_MANY, 0, 2),
+    // The first of two is refused, and not the second; nor does a source fail that isn't asked for it.
+    (&RUN, &[Given::Longer, Given::Zeros(9)], 9, TRAILING, 0, 1),
+    (&RUN, &[Given::Longer, Given::Seven], 2, TRAILING, 0, 1),
+    (&RUN, &[Given::Seven, Given::Longer], 2, FAULT, 0, 1),
+];
+
+/// Runs of a class Main with these bodies on a blank image.
+static BODIES: [Row; 6] = [
+    (&RUN, &[Given::Main(&[STORES, PRINTS])], 9, "7\n", 18, 0),
+    (
+        &RUN,
+        &[Given::Main(&["iconst_m1\nnewarray int\nputstatic Main data [I\n"])],
+        9,
+        "autopersist: uncaught 0 java/lang/NegativeArraySizeException\n",
+        4,
+        0,
+    ),
+    (
+        &RUN,
+        &[Given::Main(&["iconst_1\nnewarray int\nputstatic Main data [I\n", PRINTS])],
+        9,
+        "autopersist: uncaught 0 java/lang/ArrayIndexOutOfBoundsException\n",
+        11,
+        0,
+    ),
+    (
+        &RUN,
+        &[Given::Main(&[PRINTS])],
+        9,
+        "autopersist: uncaught 0 java/lang/NullPointerException\n",
+        6,
+        0,
+    ),
+    (
+        &RUN,
+        &[Given::Main(&["ldc 97528\nnewarray int\nputstatic Main data [I\n"])],
+        9,
+        "autopersist: full ImageLines 12192 12191\n",
+        4,
+        0,
+    ),
+    (
+        &RUN,
+        &[Given::Main(&["ldc 97527\nnewarray int\nputstatic Main data [I\n"])],
+        9,
+        "",
+        8,
+        0,
+    ),
+];
+
+/// Class files that don't link, alone and beside a class that would run, and those that are left aside.
+static LINKS: [Row; 17] = [
+    (
+        &RUN,
+        &[Given::Listed(".class A\n.super java/lang/Object\n.class A\n.super java/lang/Object\n")],
+        9,
+        "autopersist: refused DuplicateClass A\n",
+        0,
+        0,
+    ),
+    (
+        &RUN,
+        &[
+            Given::Seven,
+            Given::Listed(".class java/lang/String\n.super java/lang/Object\n"),
+        ],
+        9,
+        "autopersist: refused DuplicateClass java/lang/String\n",
+        0,
+        0,
+    ),
+    (
+        &RUN,
+        &[Given::Listed(".class A\n.super B\n")],
+        9,
+        "autopersist: refused MissingSuper A B\n",
+        0,
+        0,
+    ),
+    (
+        &RUN,
+        &[
+            Given::Seven,
+            Given::Listed(".class A\n.super java/lang/Object\n.implements I\n"),
+        ],
+        9,
+        "autopersist: refused MissingSuper A I\n",
+        0,
+        0,
+    ),
+    (
+        &RUN,
+        &[Given::Listed(".class A\n.super java/lang/Runnable\n")],
+        9,
+        "autopersist: refused SuperKind A java/lang/Runnable\n",
+        0,
+        0,
+    ),
+    (
+        &RUN,
+        &[
+            Given::Seven,
+            Given::Listed(".class A\n.super java/lang/Object\n.implements java/lang/Thread\n"),
+        ],
+        9,
+        "autopersist: refused SuperKind A java/lang/Thread\n",
+        0,
+        0,
+    ),
+    (
+        &RUN,
+        &[
+            Given::Seven,
+            Given::Listed(".class A\n.super java/lang/String\n"),
+        ],
+        9,
+        "autopersist: refused FinalSuper A java/lang/String\n",
+        0,
+        0,
+    ),
+    (
+        &RUN,
+        &[Given::Listed(".class C\n.super A\n.class A\n.super B\n.class B\n.super A\n")],
+        9,
+        "autopersist: refused CircularSuper A\n",
+        0,
+        0,
+    ),
+    (
+        &RUN,
+        &[
+            Given::Seven,
+            Given::Listed(
+                ".interface I\n.super java/lang/Object\n.method m ()V 0 1\nreturn\n.end\n.class A\n\
+                .super java/lang/Object\n.implements I\n",
+            ),
+        ],
+        9,
+        "autopersist: refused InterfaceCode I\n",
+        0,
+        0,
+    ),
+    // as a compiler writes an annotation, whose superinterface no class set has
+    (&RUN, &[Given::Seven, Given::Listed(ROOT)], 9, "7\n", 8, 0),
+    (
+        &RUN,
+        &[
+            Given::Listed(ROOT),
+            Given::Listed(REGION),
+            Given::Seven,
+            Given::Listed(UNRECOVERABLE),
+            Given::Listed(ROOT),
+        ],
+        9,
+        "7\n",
+        8,
+        0,
+    ),
+    (&RUN, &[Given::Listed(ROOT)], 9, NOT_BUILT, 0, 0),
+    (
+        &RUN,
+        &[Given::Seven, Given::Listed(REGIONS)],
+        9,
+        NOT_BUILT,
+        0,
+        0,
+    ),
+    (
+        &RUN,
+        &[Given::Listed(REGIONS), Given::Listed(REGION)],
+        9,
+        NOT_BUILT,
+        0,
+        0,
+    ),
+    (
+        &RUN,
+        &[
+            Given::Seven,
+            Given::Listed(
+                ".interface autopersist/Root\n.super java/lang/Object\n\
+                .implements java/lang/annotation/Annotation\n",
+            ),
+        ],
+        9,
+        "autopersist: refused MissingSuper autopersist/Root java/lang/annotation/Annotation\n",
+        0,
+        0,
+    ),
+    (
+        &RUN,
+        &[Given::Listed(ROOT), Given::ClassA, Given::ClassA],
+        9,
+        "autopersist: refused DuplicateClass A\n",
+        0,
+        0,
+    ),
+    (
+        &RUN,
+        &[Given::Listed(REGION), Given::Longer],
+        9,
+        TRAILING,
+        0,
+        0,
+    ),
+];
+
+const ROOT: &str = ".interface autopersist/DurableRoot\n.super java/lang/Object\n\
+    .implements java/lang/annotation/Annotation\n";
+
+const UNRECOVERABLE: &str = ".interface autopersist/Unrecoverable\n.super java/lang/Object\n\
+    .implements java/lang/annotation/Annotation\n";
+
+const REGION: &str = ".final autopersist/Region\n.super java/lang/Object\n";
+
+const REGIONS: &str = ".class autopersist/Regions\n.super java/lang/Object\n";
+
+/// Runs a command on a blank image, with a sink that takes five bytes at once.
+fn run<R>(rt: &R, alloc: Global, all: &[&str], source: MemorySource) -> Result<Run, AllocError>
 where
     R: Threads + Wait + Clone + Send + Sync + Drop,
 {
     let words = words(alloc, all)?;
     let sink = MemorySink::new(alloc, 100, 5, Vec::new(alloc))?;
-    let mut ended = autopersist(
-        rt,
-        alloc,
-        &words,
-        source,
-        blank(alloc)?,
-        sink,
-        &NoGate,
-        NoWatch,
-    );
-    let mut text = ended.sink.as_slice().to_vec(alloc)?;
-    text.extend_from_slice(status_text(alloc, &ended.status)?.as_slice())?;
+    let image = blank(alloc)?;
+    Ok(autopersist(rt, alloc, &words, source, image, sink, &NoGate, NoWatch))
+}
+
+/// What was printed, with the status line behind it.
+fn told(alloc: Global, run: &Run) -> Result<Vec<u8>, AllocError> {
+    let mut text = run.sink.as_slice().to_vec(alloc)?;
+    text.extend_from_slice(status_text(alloc, &run.status)?.as_slice())?;
+    Ok(text)
+}
+
+/// How many files are left of a source, twelve at most.
+fn left(alloc: Global, source: &mut MemorySource) -> u32 {
     let mut left: u32 = 0;
     for _ in 0..12 {
-        if let Ok(Some(_)) = ended.source.next(alloc) {
+        if let Ok(Some(_)) = source.next(alloc) {
             left = left.saturating_add(1);
         }
     }
-    Ok((text, ended.acts.len(), left))
+    left
 }
 
-#[test]
-fn words_and_files(rt: HostRuntime) -> Result<(), Fail> {
-    let alloc = rt.alloc();
-    let run = RUN.as_slice();
-    let seven = Some(SEVEN.as_slice());
-    let mut longer = CLASS_A.to_vec(alloc)?;
-    longer.push(0)?;
-    let longer = Some(longer.as_slice());
-    let mut superless = CLASS_A.to_vec(alloc)?;
-    superless[44] = 5;
-    let mut newer = CLASS_A.to_vec(alloc)?;
-    newer[7] = 53;
-    let zeros = Vec::from_elem(alloc, 0_u8, 1_048_576)?;
-    let zeros = Some(zeros.as_slice());
-    let many = Vec::from_elem(alloc, 0_u8, 1_048_577)?;
-    let several = "7\n-1\n200\n-32768\n70000\n2147483647\n-2147483648\n0\n";
-    let usage = "autopersist: usage\n";
-    let fault = "autopersist: source fault\n";
-    let not_built = "autopersist: not built\n";
-    let twice = "autopersist: refused DuplicateClass Main\n";
-    let trailing = "autopersist: class A.class TrailingBytes 53\n";
-    let index = "autopersist: class A.class BadIndex 43 5\n";
-    let version = "autopersist: class A.class BadVersion 53 0\n";
-    let magic = "autopersist: class A.class BadMagic\n";
-    let full = "autopersist: full FileBytes 1048577 1048576\n";
-    // The words, the files, the source's call that fails, and what is told; the number of acts, and of the files that are left.
-    let rows = [
-        (run, seven, None, 9, "7\n", 8, 0),
-        // the source isn't asked past its end
-        (run, seven, None, 3, "7\n", 8, 0),
-        (
-            SEVERAL_WORDS.as_slice(),
-            Some(SEVERAL.as_slice()),
-            None,
-            9,
-            several,
-            49,
-            0,
-        ),
-        (NO_MAIN.as_slice(), seven, None, 9, usage, 0, 1),
-        (MISSPELLED.as_slice(), seven, None, 9, usage, 0, 1),
-        (&RUN[..1], seven, None, 9, usage, 0, 1),
-        (run, seven, None, 1, fault, 0, 1),
-        (run, seven, None, 2, fault, 0, 0),
-        (OTHER.as_slice(), seven, None, 9, not_built, 0, 0),
-        (run, None, None, 9, not_built, 0, 0),
-        (run, seven, seven, 9, twice, 0, 0),
-        (run, seven, Some(CLASS_A.as_slice()), 9, not_built, 0, 0),
-        (run, Some(CLASS_A.as_slice()), None, 9, not_built, 0, 0),
-        (run, longer, None, 9, trailing, 0, 0),
-        (run, Some(superless.as_slice()), None, 9, index, 0, 0),
-        (run, Some(newer.as_slice()), None, 9, version, 0, 0),
-        (run, zeros, None, 9, magic, 0, 0),
-        (run, Some(many.as_slice()), None, 9, full, 0, 0),
-        (run, Some(many.as_slice()), seven, 9, full, 0, 1),
-        // The first of two is refused, and not the second; nor does a source fail that isn't asked for it.
-        (run, longer, zeros, 9, trailing, 0, 1),
-        (run, longer, seven, 2, trailing, 0, 1),
-        (run, seven, longer, 2, fault, 0, 1),
-    ];
-    for (i, (all, first, second, fails, text, acts, left)) in rows.into_iter().enumerate() {
-        let (found, made, others) = outcome(&rt, alloc, all, files(alloc, first, second, fails)?)?;
-        assert_eq!(rt;
-            (found.as_slice(), made, others),
-            (text.as_bytes(), acts, left),
-            "row {i}"
-        );
-    }
-    Ok(())
-}
-
-/// A source of so many copies of a file.
-fn copies(alloc: Global, count: u32, bytes: &[u8]) -> Result<MemorySource, AllocError> {
-    let mut files = Vec::new(alloc);
-    for _ in 0..count {
-        files.push(file(alloc, b"A.class", bytes)?)?;
-    }
-    Ok(MemorySource::new(files, Vec::new(alloc)))
-}
-
-/// A source of one file of which only the front was read.
-fn front(alloc: Global, read: usize, size: u64) -> Result<MemorySource, AllocError> {
-    let bytes = Vec::from_elem(alloc, 0_u8, read)?;
-    let bytes = Bytes::copy(alloc, bytes.as_slice())?;
-    let mut files = Vec::new(alloc);
-    files.push(NamedBytes::read_so_far(Bytes::copy(alloc, b"A.class")?, bytes, size))?;
-    Ok(MemorySource::new(files, Vec::new(alloc)))
-}
-
-#[test]
-fn many_files_and_large_ones(rt: HostRuntime) -> Result<(), Fail> {
-    let alloc = rt.alloc();
-    let rows = [
-        (
-            copies(alloc, 4_096, &CLASS_A)?,
-            "autopersist: refused DuplicateClass A\n",
-            0,
-        ),
-        (
-            copies(alloc, 4_097, &CLASS_A)?,
-            "autopersist: full Files 1 0\n",
-            0,
-        ),
-        (
-            copies(alloc, 4_099, &CLASS_A)?,
-            "autopersist: full Files 1 0\n",
-            2,
-        ),
-        (
-            front(alloc, 1_048_577, 4_294_967_296)?,
-            "autopersist: full FileBytes 4294967296 1048576\n",
-            0,
-        ),
-    ];
-    for (i, (source, text, left)) in rows.into_iter().enumerate() {
-        let (found, made, others) = outcome(&rt, alloc, &RUN, source)?;
-        assert_eq!(rt;
-            (found.as_slice(), made, others),
-            (text.as_bytes(), 0, left),
-            "row {i}"
-        );
-    }
-    Ok(())
-}
-
-#[test]
-fn the_words_are_read(rt: HostRuntime) -> Result<(), Fail> {
-    let alloc = rt.alloc();
-    let words = words(alloc, &RUN)?;
-    let command = read_words(words.as_slice()).ok_or("a command")?;
-    assert_eq!(rt;
-        (command.image, command.main, command.folder),
-        ("work.img", "Main", "classes")
-    );
-    Ok(())
-}
-
-#[test]
-fn a_dot_in_a_name_counts_as_a_slash(rt: HostRuntime) -> Result<(), Fail> {
-    let alloc = rt.alloc();
-    let listing = ".class p/Main\n.super java/lang/Object\n\
-        .method main ([Ljava/lang/String;)V 2 1 static\n\
-        getstatic java/lang/System out Ljava/io/PrintStream;\nbipush 7\n\
-        invokevirtual java/io/PrintStream println (I)V\nreturn\n.end\n";
-    let class = class_bytes(alloc, listing.as_bytes())?.ok_or("a class")?;
-    let mut named = RUN;
-    for (main, text) in [
-        ("p.Main", "7\n"),
-        ("p/Main", "7\n"),
-        ("Main", "autopersist: not built\n"),
-    ] {
-        named[5] = main;
-        let (found, _, _) = outcome(&rt, alloc, &named, source(alloc, &class)?)?;
-        assert_eq!(rt; found.as_slice(), text.as_bytes(), "{main}");
-    }
-    Ok(())
-}
-
-#[test]
-fn programs_on_a_blank_image(rt: HostRuntime) -> Result<(), Fail> {
-    let alloc = rt.alloc();
-    let rows: [(&[&str], &str); 6] = [
-        (&[STORES, PRINTS], "7\n"),
-        (
-            &["iconst_m1\nnewarray int\nputstatic Main data [I\n"],
-            "autopersist: uncaught 0 java/lang/NegativeArraySizeException\n",
-        ),
-        (
-            &["iconst_1\nnewarray int\nputstatic Main data [I\n", PRINTS],
-            "autopersist: uncaught 0 java/lang/ArrayIndexOutOfBoundsException\n",
-        ),
-        (
-            &[PRINTS],
-            "autopersist: uncaught 0 java/lang/NullPointerException\n",
-        ),
-        (
-            &["ldc 97528\nnewarray int\nputstatic Main data [I\n"],
-            "autopersist: full ImageLines 12192 12191\n",
-        ),
-        (&["ldc 97527\nnewarray int\nputstatic Main data [I\n"], ""),
-    ];
-    for (body, text) in rows {
-        let class = main_class(alloc, body)?;
-        let (found, _, _) = outcome(&rt, alloc, &RUN, source(alloc, &class)?)?;
-        assert_eq!(rt; found.as_slice(), text.as_bytes(), "{text}");
-    }
-    Ok(())
-}
-
-/// How the program that prints 7 ends, and how many acts it made, on a sink that takes so many bytes a call and fails at one call.
-fn on_sink<R>(rt: &R, alloc: Global, most: u64, fails: u64) -> Result<(u8, u32), AllocError>
+/// Whether a row is right.
+fn is_right<R>(rt: &R, alloc: Global, row: &Row) -> Result<bool, Fail>
 where
     R: Threads + Wait + Clone + Send + Sync + Drop,
 {
-    let words = words(alloc, &RUN)?;
-    let sink = MemorySink::new(alloc, 100, most.max(1), [fails].to_vec(alloc)?)?;
-    let files = source(alloc, &SEVEN)?;
+    let (words, files, fails, text, acts, others) = *row;
+    let source = source(alloc, files, fails)?;
+    let mut run = run(rt, alloc, words, source)?;
+    let found = told(alloc, &run)?;
+    Ok(
+        found.as_slice() == text.as_bytes()
+            && run.acts.len() == acts
+            && left(alloc, &mut run.source) == others,
+    )
+}
+
+#[test]
+fn commands_are_run(rt: HostRuntime) -> Result<(), Fail> {
+    for rows in [COMMANDS.as_slice(), BODIES.as_slice(), LINKS.as_slice()] {
+        for (i, row) in rows.iter().enumerate() {
+            assert!(rt; is_right(&rt, rt.alloc(), row)?, "row {i}: {}", row.3);
+        }
+    }
+    Ok(())
+}
+
+/// A sink that takes so many bytes a call and fails at one call.
+fn sink(alloc: Global, most: u64, fails: u64) -> Result<MemorySink, AllocError> {
+    MemorySink::new(alloc, 100, most.max(1), [fails].to_vec(alloc)?)
+}
+
+/// How the program that prints 7 ends, and how many acts it made, on a sink that takes so many bytes a call and fails at one call.
+fn on_sink<R>(rt: &R, alloc: Global, most: u64, fails: u64) -> Result<(u8, u32), Fail>
+where
+    R: Threads + Wait + Clone + Send + Sync + Drop,
+{
+    let source = source(alloc, &[Given::Seven], 9)?;
     let ended = autopersist(
         rt,
         alloc,
-        &words,
-        files,
+        &words(alloc, &RUN)?,
+        source,
         blank(alloc)?,
-        sink,
+        sink(alloc, most, fails)?,
         &NoGate,
         NoWatch,
     );
@@ -306,30 +578,41 @@ where
 
 #[test]
 fn a_sink_may_take_one_byte_or_fail(rt: HostRuntime) -> Result<(), Fail> {
-    let alloc = rt.alloc();
     for (most, fails, status, acts) in [(1, 9, 0, 9), (24, 1, 12, 5), (1, 2, 12, 6)] {
-        assert_eq!(rt;
-            on_sink(&rt, alloc, most, fails)?,
-            (status, acts),
-            "{most} bytes, call {fails} fails"
-        );
+        let found = on_sink(&rt, rt.alloc(), most, fails)?;
+        assert!(rt; found == (status, acts), "{most} bytes, call {fails} fails");
     }
     Ok(())
 }
 
 #[test]
-fn texts(rt: HostRuntime) -> Result<(), Fail> {
+fn the_words_are_read(rt: HostRuntime) -> Result<(), Fail> {
+    let words = words(rt.alloc(), &RUN)?;
+    let is_read = match read_words(words.as_slice()) {
+        Some(command) => {
+            command.image == "work.img" && command.main == "Main" && command.folder == "classes"
+        }
+        None => false,
+    };
+    assert!(rt; is_read, "the words of a run");
+    Ok(())
+}
+
+/// Whether a status has this number and this line.
+fn is_told(alloc: Global, status: &Status, number: u8, text: &str) -> Result<bool, AllocError> {
+    let line = status_text(alloc, status)?;
+    Ok(line.as_slice() == text.as_bytes() && status.number() == number)
+}
+
+#[test]
+fn statuses_are_told(rt: HostRuntime) -> Result<(), Fail> {
     let alloc = rt.alloc();
-    for (status, number, text) in [
-        (Status::Ok, 0, ""),
-        (Status::Usage, 2, "autopersist: usage\n"),
-        (Status::SourceFault, 10, "autopersist: source fault\n"),
-        (Status::SinkFault, 12, "autopersist: sink fault\n"),
-        (Status::OutOfMemory, 13, "autopersist: no memory\n"),
-        (Status::NotBuilt, 17, "autopersist: not built\n"),
-    ] {
-        let is_text = status_text(alloc, &status)?.as_slice() == text.as_bytes();
-        assert_eq!(rt; (status.number(), is_text), (number, true), "{text}");
-    }
+    let are_told = is_told(alloc, &Status::Ok, 0, "")?
+        && is_told(alloc, &Status::Usage, 2, USAGE)?
+        && is_told(alloc, &Status::SourceFault, 10, FAULT)?
+        && is_told(alloc, &Status::SinkFault, 12, "autopersist: sink fault\n")?
+        && is_told(alloc, &Status::OutOfMemory, 13, "autopersist: no memory\n")?
+        && is_told(alloc, &Status::NotBuilt, 17, NOT_BUILT)?;
+    assert!(rt; are_told, "numbers and lines");
     Ok(())
 }

@@ -2,7 +2,9 @@
 use crate::class_bytes;
 use ap_base::{Bytes, MemorySink, MemorySource, NamedBytes, NoGate};
 use autopersist::{Ended, autopersist};
+use class_file::write_class;
 use line_image::{Fails, MemoryImage};
+use listing::assemble;
 use run_history::NoWatch;
 use std::alloc::{AllocError, Global};
 use std::sync::Wait;
@@ -64,6 +66,16 @@ pub(crate) fn words(alloc: Global, all: &[&str]) -> Result<Vec<String>, AllocErr
 
 pub(crate) fn file(alloc: Global, name: &[u8], bytes: &[u8]) -> Result<NamedBytes, AllocError> {
     Ok(NamedBytes::whole(Bytes::copy(alloc, name)?, Bytes::copy(alloc, bytes)?))
+}
+
+/// The bytes of the classes of a listing.
+pub(crate) fn listed_classes(alloc: Global, listing: &[u8]) -> Result<Vec<Vec<u8>>, Fail> {
+    let classes = assemble(alloc, listing).ok().ok_or("a listing")?;
+    let mut all = Vec::new(alloc);
+    for class in &classes {
+        all.push(write_class(alloc, class)?)?;
+    }
+    Ok(all)
 }
 
 /// The bytes of a class Main with these instructions in `main`.

@@ -8,7 +8,7 @@ use ap_base::{Bytes, ListOf, MemorySink, NoGate, Piece, Place};
 use array_program::{Group, Program};
 use array_run::{Run, RunEnd, run_program};
 use graph_model::Value;
-use image_opening::{FoundArray, open_image};
+use image_opening::{FoundArray, Opened, open_image};
 use line_image::{Fails, MemoryImage};
 use line_memory::LineMemory;
 use plain_model::Throws;
@@ -212,30 +212,50 @@ fn an_element_is_stored_and_printed(rt: HostRuntime) -> Result<(), Fail> {
     Ok(())
 }
 
+/// The image that a run of these groups leaves, as a memory over it shows it.
+fn left_by(alloc: Global, groups: &[Group]) -> Result<LineMemory<MemoryImage>, Fail>
+    ensures enough { IfOk result (λ memory. min_lines ≤ memory.size) }
+    ensures most { IfOk result (λ memory. memory.size ≤ max_lines) }
+{
+    let image = run_groups(alloc, groups, no_fails(alloc), 100)?
+        .run
+        .memory
+        .into_image();
+    attached(alloc, image.crash(alloc, 0, no_fails(alloc))?)
+}
+
+/// Whether it was opened with one array, of these values.
+fn has_array(opened: &Opened, array: FoundArray, values: &[Value]) -> bool {
+    match opened.graph.nodes.as_slice() {
+        [node] => opened.array == Some(array) && node.values.as_slice() == values,
+        _ => false,
+    }
+}
+
 #[test]
 fn what_a_run_stores_stays_in_the_image(rt: HostRuntime) -> Result<(), Fail> {
     let alloc = rt.alloc();
-    let groups = [MAKES_THREE, STORES_SEVEN];
-    let Ran { run, .. } = run_groups(alloc, &groups, no_fails(alloc), 100)?;
-    let left = run.memory.into_image().crash(alloc, 0, no_fails(alloc))?;
-    let mut again = attached(alloc, left)?;
-    let root = main_data(alloc)?;
-    let opened = open_image(alloc, &mut again, &root)?;
-    let node = opened.graph.nodes.as_slice().first().ok_or("an array")?;
+    let mut again = left_by(alloc, &[MAKES_THREE, STORES_SEVEN])?;
+    let opened = open_image(alloc, &mut again, &main_data(alloc)?)?;
     let array = FoundArray {
         line: 20_577,
         length: 3,
     };
     let values = [Value::Int(0), Value::Int(7), Value::Int(0)];
-    assert_eq!(rt;
-        (
-            opened.array,
-            opened.graph.nodes.len(),
-            node.values.as_slice()
-        ),
-        (Some(array), 1, values.as_slice())
-    );
+    assert!(rt; has_array(&opened, array, &values), "0, 7 and 0");
     Ok(())
+}
+
+/// How a run of these groups ended, how many acts it made, and what it printed.
+fn told(
+    alloc: Global,
+    groups: &[Group],
+    fails: Fails,
+    room: u64,
+) -> Result<(Result<(), RunEnd>, u32, Vec<u8>), Fail> {
+    let ran = run_groups(alloc, groups, fails, room)?;
+    let printed = ran.run.sink.as_slice().to_vec(alloc)?;
+    Ok((ran.answer, ran.run.acts.len(), printed))
 }
 
 #[test]
@@ -260,8 +280,8 @@ fn runs_end_by_what_they_do(rt: HostRuntime) -> Result<(), Fail> {
         ),
     ];
     for (i, (groups, answer)) in rows.into_iter().enumerate() {
-        let ran = run_groups(alloc, groups, no_fails(alloc), 100)?;
-        assert_eq!(rt; ran.answer, answer, "row {i}");
+        let (found, _, _) = told(alloc, groups, no_fails(alloc), 100)?;
+        assert!(rt; found == answer, "row {i}");
     }
     Ok(())
 }
@@ -283,16 +303,11 @@ fn the_image_and_the_sink_fail(rt: HostRuntime) -> Result<(), Fail> {
         (never, 1, RunEnd::SinkFailed, 16, "7"),
     ] {
         let fails = fails_from(alloc, before.saturating_add(call));
-        let Ran {
-            answer: found,
-            run,
-            ..
-        } = run_groups(alloc, &groups, fails, room)?;
-        assert_eq!(rt;
-            (found, run.acts.len(), run.sink.as_slice()),
-            (Err(answer), acts, printed.as_bytes()),
-            "call {call}"
-        );
+        let (found, made, text) = told(alloc, &groups, fails, room)?;
+        let is_right = found == Err(answer)
+            && made == acts
+            && text.as_slice() == printed.as_bytes();
+        assert!(rt; is_right, "call {call}");
     }
     Ok(())
 }

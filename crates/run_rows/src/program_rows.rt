@@ -10,48 +10,51 @@ fn program(alloc: Global, bytes: &[u8]) -> Result<Option<Program>, Fail> {
     Ok(read_program(alloc, &class)?)
 }
 
+static GROUPS: [Group; 4] = [
+    Group::MakesArray {
+        count: 3,
+        make: 1,
+        put: 3,
+    },
+    Group::StoresElement {
+        fetch: 6,
+        index: 1,
+        number: 7,
+        store: 12,
+    },
+    Group::PrintsElement {
+        out: 13,
+        fetch: 16,
+        index: 1,
+        load: 20,
+        call: 21,
+    },
+    Group::PrintsNumber {
+        out: 24,
+        number: -1,
+        call: 28,
+    },
+];
+
+/// Whether it is the program of the class, by its names and its one literal.
+fn is_main(program: &Program) -> bool {
+    let is_data = match &program.root {
+        Some(root) => root.as_slice() == b"data".as_slice(),
+        None => false,
+    };
+    let is_literal = match program.literals.as_slice() {
+        [literal] => literal.as_slice() == [0x41_u16, 0xe9, 0x20ac].as_slice(),
+        _ => false,
+    };
+    let is_named = program.name.as_slice() == b"Main".as_slice();
+    is_named && is_data && is_literal && program.is_made && program.main == 1
+}
+
 #[test]
 fn the_program_is_read(rt: HostRuntime) -> Result<(), Fail> {
     let found = program(rt.alloc(), &STORES_SEVEN)?.ok_or("a program")?;
-    let root = found.root.ok_or("a root")?;
-    let literal = found.literals.as_slice().first().ok_or("a literal")?;
-    let groups = [
-        Group::MakesArray {
-            count: 3,
-            make: 1,
-            put: 3,
-        },
-        Group::StoresElement {
-            fetch: 6,
-            index: 1,
-            number: 7,
-            store: 12,
-        },
-        Group::PrintsElement {
-            out: 13,
-            fetch: 16,
-            index: 1,
-            load: 20,
-            call: 21,
-        },
-        Group::PrintsNumber {
-            out: 24,
-            number: -1,
-            call: 28,
-        },
-    ];
-    let chars: &[u16] = &[0x41, 0xe9, 0x20ac];
-    assert_eq!(rt;
-        (
-            found.name.as_slice(),
-            found.is_made,
-            found.main,
-            root.as_slice(),
-            found.literals.len()
-        ),
-        (b"Main".as_slice(), true, 1, b"data".as_slice(), 1)
-    );
-    assert!(rt; literal.as_slice() == chars && found.groups.as_slice() == groups.as_slice());
+    let is_right = is_main(&found) && found.groups.as_slice() == GROUPS.as_slice();
+    assert!(rt; is_right, "the program that stores 7");
     Ok(())
 }
 

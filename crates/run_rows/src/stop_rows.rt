@@ -2,33 +2,67 @@
 use crate::fixture::{LINES, PRINTS, STORES, blank, fails_from, no_fails, run};
 use graph_model::{Graph, Value};
 use line_image::{Fails, Image, MemoryImage};
-use std::alloc::Global;
+use std::alloc::{AllocError, Global};
 use std::sync::Wait;
 use std::test::Fail;
 use std::thread::Threads;
 
+/// How a run of this body ends on an image, and what is left of the image.
+fn left_by<R>(
+    rt: &R,
+    alloc: Global,
+    body: &[&str],
+    image: MemoryImage,
+) -> Result<(u8, MemoryImage), Fail>
+where
+    R: Threads + Wait + Clone + Send + Sync + Drop,
+{
+    let ended = run(rt, alloc, body, image)?;
+    Ok((ended.status.number(), ended.image))
+}
+
+/// How a run of this body ends on an image, and what it prints.
+fn printed<R>(
+    rt: &R,
+    alloc: Global,
+    body: &[&str],
+    image: MemoryImage,
+) -> Result<(u8, Vec<u8>), Fail>
+where
+    R: Threads + Wait + Clone + Send + Sync + Drop,
+{
+    let ended = run(rt, alloc, body, image)?;
+    let text = ended.sink.as_slice().to_vec(alloc)?;
+    Ok((ended.status.number(), text))
+}
+
+/// How a run of an empty body ends on an image, and the graph that it found there.
+fn opened<R>(rt: &R, alloc: Global, image: MemoryImage) -> Result<(u8, Graph), Fail>
+where
+    R: Threads + Wait + Clone + Send + Sync + Drop,
+{
+    let ended = run(rt, alloc, &[], image)?;
+    Ok((ended.status.number(), ended.opening))
+}
+
+/// The root's slot, the directory's words in use, and element 1 of the array.
+fn stored_words(image: &MemoryImage) -> (u64, u64, u64) {
+    if image.lines() != LINES {
+        return (0, 0, 0);
+    }
+    (image.word(1, 0), image.word(0, 3), image.word(20_577, 2))
+}
+
 #[test]
 fn a_second_run_reads_what_the_first_stored(rt: HostRuntime) -> Result<(), Fail> {
     let alloc = rt.alloc();
-    let first = run(&rt, alloc, &[STORES], blank(alloc)?)?;
-    let is_whole = first.image.lines() == LINES;
-    let mut found = (0, 0, 0);
-    if is_whole {
-        // The root's slot, the directory's words in use, and element 1 of the array.
-        found = (
-            first.image.word(1, 0),
-            first.image.word(0, 3),
-            first.image.word(20_577, 2),
-        );
-    }
-    assert_eq!(rt;
-        (first.status.number(), is_whole, found),
-        (0, true, (41_154, 7, 7))
-    );
-    let second = run(&rt, alloc, &[PRINTS], first.image)?;
-    assert_eq!(rt;
-        (second.status.number(), second.sink.as_slice()),
-        (0, b"7\n".as_slice())
+    let (status, image) = left_by(&rt, alloc, &[STORES], blank(alloc)?)?;
+    let found = stored_words(&image);
+    assert!(rt; status == 0 && found == (41_154, 7, 7), "the first run");
+    let (status, text) = printed(&rt, alloc, &[PRINTS], image)?;
+    assert!(rt;
+        status == 0 && text.as_slice() == b"7\n".as_slice(),
+        "the second run"
     );
     Ok(())
 }
@@ -62,19 +96,22 @@ where
     R: Threads + Wait + Clone + Send + Sync + Drop,
 {
     let fails = fails_from(alloc, LINES.saturating_add(call));
-    let stopped = run(
-        rt,
-        alloc,
-        &[STORES, PRINTS],
-        prepared.crash(alloc, 1, fails)?,
-    )?;
-    let outcome = stopped.image.crash(alloc, pick, no_fails(alloc))?;
-    let reopened = run(rt, alloc, &[PRINTS], outcome)?;
+    let image = prepared.crash(alloc, 1, fails)?;
+    let (_, stopped) = left_by(rt, alloc, &[STORES, PRINTS], image)?;
+    reopened(rt, alloc, stopped.crash(alloc, pick, no_fails(alloc))?)
+}
+
+/// What the graph of an image has of the root, and whether a program that prints element 1 prints it.
+fn reopened<R>(rt: &R, alloc: Global, image: MemoryImage) -> Result<(Option<Value>, bool), Fail>
+where
+    R: Threads + Wait + Clone + Send + Sync + Drop,
+{
+    let reopened = run(rt, alloc, &[PRINTS], image)?;
     let found = element_of(&reopened.opening);
-    let says = match found {
-        Some(Value::Int(0)) => b"0\n".as_slice(),
-        Some(Value::Int(7)) => b"7\n".as_slice(),
-        _ => b"".as_slice(),
+    let says: &[u8] = match found {
+        Some(Value::Int(0)) => b"0\n",
+        Some(Value::Int(7)) => b"7\n",
+        _ => b"",
     };
     Ok((found, reopened.sink.as_slice() == says))
 }
@@ -95,7 +132,7 @@ fn stops_leave_what_the_acts_allow(rt: HostRuntime) -> Result<(), Fail> {
         (6, zero, seven),
         (7, seven, seven),
     ];
-    let prepared = run(&rt, alloc, &[], blank(alloc)?)?.image;
+    let (_, prepared) = left_by(&rt, alloc, &[], blank(alloc)?)?;
     for (call, one, other) in rows {
         for pick in 0..8 {
             let (found, is_printed) = left(&rt, alloc, &prepared, call, pick)?;
@@ -106,14 +143,19 @@ fn stops_leave_what_the_acts_allow(rt: HostRuntime) -> Result<(), Fail> {
                 _ if found == one => one,
                 _ => other,
             };
-            assert_eq!(rt;
-                (found, is_printed),
-                (wanted, true),
-                "call {call}, pick {pick}"
-            );
+            assert!(rt; found == wanted && is_printed, "call {call}, pick {pick}");
         }
     }
     Ok(())
+}
+
+/// The call of this number fails, or that one and all later ones.
+fn fails_at(alloc: Global, call: u64, later: bool) -> Result<Fails, AllocError> {
+    Ok(Fails {
+        calls: [call].to_vec(alloc)?,
+        since: if later { call } else { u64::MAX },
+        room: 300,
+    })
 }
 
 /// How a run ends whose call of this number fails, or that one and all later ones, and to which graph what a stop then leaves opens; none
@@ -128,22 +170,10 @@ fn failing<R>(
 where
     R: Threads + Wait + Clone + Send + Sync + Drop,
 {
-    let mut calls = Vec::new(alloc);
-    calls.push(call)?;
-    let fails = Fails {
-        calls,
-        since: if later { call } else { u64::MAX },
-        room: 300,
-    };
-    let image = MemoryImage::new(alloc, LINES, fails)?;
-    let ended = run(rt, alloc, &[STORES, PRINTS], image)?;
-    let outcome = ended.image.crash(alloc, pick, no_fails(alloc))?;
-    let reopened = run(rt, alloc, &[], outcome)?;
-    let graph = match reopened.status.number() {
-        0 => Some(reopened.opening),
-        _ => None,
-    };
-    Ok((ended.status.number(), graph))
+    let image = MemoryImage::new(alloc, LINES, fails_at(alloc, call, later)?)?;
+    let (status, left) = left_by(rt, alloc, &[STORES, PRINTS], image)?;
+    let (again, graph) = opened(rt, alloc, left.crash(alloc, pick, no_fails(alloc))?)?;
+    Ok((status, if again == 0 { Some(graph) } else { None }))
 }
 
 /// Whether the run ends with an image fault, and what a stop leaves opens to a graph that is allowed, where these calls fail and the run's
@@ -182,20 +212,37 @@ fn a_failing_call_ends_the_run_by_name(rt: HostRuntime) -> Result<(), Fail> {
         } else {
             true
         };
-        assert_eq!(rt; (alone, with_later), (true, true), "call {call}");
+        assert!(rt; alone && with_later, "call {call}");
     }
     for (call, later, status) in [
         (1, false, 11),
         (LINES, true, 11),
         (last.saturating_add(1), true, 0),
     ] {
-        assert_eq!(rt;
-            failing(&rt, alloc, call, later, 0)?.0,
-            status,
-            "call {call}"
-        );
+        let (found, _) = failing(&rt, alloc, call, later, 0)?;
+        assert!(rt; found == status, "call {call}");
     }
     Ok(())
+}
+
+/// The words of an image.
+fn words_of(alloc: Global, image: &MemoryImage) -> Result<Vec<u64>, AllocError> {
+    let mut words = Vec::with_capacity(alloc, 262_144)?;
+    for line in 0..image.lines() {
+        words.extend_from_slice(&line_of(image, line))?;
+    }
+    Ok(words)
+}
+
+/// The words of a line, zeros behind the last.
+fn line_of(image: &MemoryImage, line: u64) -> [u64; 8] {
+    let mut words = [0; 8];
+    if line < image.lines() {
+        for word in 0..8 {
+            words[word as usize] = image.word(line, word);
+        }
+    }
+    words
 }
 
 /// An image of the words of another, but for one.
@@ -204,24 +251,19 @@ fn with_word(
     image: &MemoryImage,
     at: usize,
     value: u64,
-) -> Result<MemoryImage, Fail> {
-    let mut words = Vec::with_capacity(alloc, 262_144)?;
-    for line in 0..image.lines() {
-        for word in 0..8 {
-            words.push(image.word(line, word))?;
-        }
-    }
+) -> Result<MemoryImage, AllocError> {
+    let mut words = words_of(alloc, image)?;
     if at < words.len() {
         words[at] = value;
     }
-    Ok(MemoryImage::of_words(alloc, &words, no_fails(alloc))?)
+    MemoryImage::of_words(alloc, &words, no_fails(alloc))
 }
 
 #[test]
 fn images_of_another_form_are_refused(rt: HostRuntime) -> Result<(), Fail> {
     let alloc = rt.alloc();
     let small = MemoryImage::new(alloc, 40, no_fails(alloc))?;
-    let stored = run(&rt, alloc, &[STORES], blank(alloc)?)?.image;
+    let (_, stored) = left_by(&rt, alloc, &[STORES], blank(alloc)?)?;
     // An image of 40 lines; word 3 of the superblock, root slots 0 and 1, the count of log 0, and the array's head and element 1.
     let rows = [
         (0, 0, 17),
@@ -237,11 +279,8 @@ fn images_of_another_form_are_refused(rt: HostRuntime) -> Result<(), Fail> {
     for (at, value, status) in rows {
         let image = if at == 0 { &small } else { &stored };
         let changed = with_word(alloc, image, at, value)?;
-        assert_eq!(rt;
-            run(&rt, alloc, &[PRINTS], changed)?.status.number(),
-            status,
-            "word {at}"
-        );
+        let (found, _) = left_by(&rt, alloc, &[PRINTS], changed)?;
+        assert!(rt; found == status, "word {at}");
     }
     Ok(())
 }

@@ -25,7 +25,8 @@ use Rattle.stop_invariant.specs.Events.{known_by}
 -- the heap has a kept place
 pub kept_there : (first : Heap) (known : Knowledge) (p : Place) → IsOrderly first known
     → is_kept_place known p ≡ true → has_place (heap_after first (ops_of_marks known.marks)) p ≡ true
-kept_there first known p orderly is = ap (λ (h : Heap). has_place h p) (sym orderly.heap) ∙ (and_parts (durable_at known p) (has_place known.world.heap p) is).1
+kept_there first known p orderly is = ap (λ (h : Heap). has_place h p) (sym orderly.heap)
+    ∙ (and_parts (durable_at known p) (has_place known.world.heap p) is).1
 
 pub keeps_more : (K : Threads) (n : Option ℕ) (t : ℕ) → K t ≡ true → keeps_of K n t ≡ true
 keeps_more K None t is = is
@@ -40,7 +41,8 @@ abbrev pub act_of : ℕ → ℕ → Op → List ℕ → Recorded
 act_of t at o named = record { act = record { thread = t; at = at; op = o }; named = named }
 
 pub without_fewer : (t : ℕ) (K : Threads) (u : ℕ) → without_thread t K u ≡ true → K u ≡ true
-without_fewer t K u = elim (nat_eq u t) as (λ b. (if b then false else K u) ≡ true → K u ≡ true) [ true ↦ λ e. absurd (true≢false (sym e)) | false ↦ λ e. e ]
+without_fewer t K u = elim (nat_eq u t) as (λ b. (if b then false else K u) ≡ true
+    → K u ≡ true) [ true ↦ λ e. absurd (true≢false (sym e)) | false ↦ λ e. e ]
 
 pub none_fewer : (K : Threads) (u : ℕ) → NoThread u ≡ true → K u ≡ true
 none_fewer K u is = absurd (true≢false (sym is))
@@ -53,9 +55,11 @@ module _ (first : Heap) (known : Knowledge) (lay : Layout) (m : Memory) where
       → MayHave first (each_fate f known.marks) r (keeps_of K n) p v
       → MayHave first (with_sure (each_fate f known.marks) o) r (keeps_of K' n) p v
   changed r K K' f o p v n orderly lost is other fewer has =
-      having_fewer first (with_sure (each_fate f known.marks) o) r (keeps_of K n) p v (keeps_of K' n) (keeps_fewer K K' fewer n)
+      having_fewer first (with_sure (each_fate f known.marks) o) r (keeps_of K n) p v (keeps_of K' n)
+      (keeps_fewer K K' fewer n)
       (having_elsewhere first (each_fate f known.marks) r (keeps_of K n) p v Sure o lost
-      (ap (λ ops. has_place (heap_after first ops) p) (ops_each f known.marks) ∙ kept_there first known p orderly is) other has)
+      (ap (λ ops. has_place (heap_after first ops) p) (ops_each f known.marks)
+      ∙ kept_there first known p orderly is) other has)
 
 -- a store leaves each durable place where it was
 pub store_places : (known : Knowledge) (lay : Layout) (t at : ℕ) (p : Place) (v : Value)
@@ -68,4 +72,5 @@ store_places known lay t at p v =
 -- an act that keeps the rule keeps the order
 pub order_by : (first : Heap) (known : Knowledge) (t at : ℕ) (named : List ℕ) (o : Op) → IsOrderly first known
     → KeepsRule known t o → IsOrderly first (known_by known t at o named)
-order_by first known t at named o s rule = orderly_next first known (record { act = record { thread = t; at = at; op = o }; named = named }) s rule
+order_by first known t at named o s rule =
+    orderly_next first known (record { act = record { thread = t; at = at; op = o }; named = named }) s rule

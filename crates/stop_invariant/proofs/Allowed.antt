@@ -1,10 +1,10 @@
 -- What is covered stands for a graph that the acts allow.
-use Rattle.std.proofs.Common.{◌≡◌, ℕ, ◌<◌, ◌==◌, Bool, true, false, List, length, refl, sym, ◌∙◌, ap, subst}
-use Rattle.std.proofs.lemmas.Bool.{true≢false, eqb-true, and_parts, lt-ltb}
+use Rattle.std.proofs.Common.{◌≡◌, ℕ, ◌==◌, Bool, true, false, List, refl, sym, ◌∙◌, ap, subst}
+use Rattle.std.proofs.lemmas.Bool.{true≢false, eqb-true, and_parts}
 use Rattle.ap_base.specs.declared.place.Place.{Place}
 use Rattle.ap_base.specs.declared.place.Place.TheVariants.{Static, Slot}
 use Rattle.graph_model.specs.declared.types.Heap.{Heap}
-use Rattle.graph_model.specs.Heaps.{has_number, object_at, shape_at, values_of, value_at}
+use Rattle.graph_model.specs.Heaps.{has_number, object_at, shape_at, value_at}
 use Rattle.graph_model.specs.Canon.{canon_of}
 use Rattle.line_image.specs.Trace.{Outcome}
 use Rattle.line_memory.specs.Memory.{Memory, shown, CanLeaveAll}
@@ -14,7 +14,7 @@ use Rattle.image_meaning.specs.Objects.{kind_of, object_slot}
 use Rattle.image_meaning.specs.Corresponds.{Holds, HoldsReference, Corresponds, root_static}
 use Rattle.image_meaning.proofs.Opened.{stands}
 use Rattle.run_history.specs.Recorded.{Recorded}
-use Rattle.run_history.specs.Knowing.{Knowledge, known_after, is_root}
+use Rattle.run_history.specs.Knowing.{Knowledge, known_after}
 use Rattle.run_history.proofs.KeptLists.{remains}
 use Rattle.kept_places.specs.Choices.{left_heap, Threads, NoThread}
 use Rattle.run_history.specs.Sizes.{SameSizes}
@@ -23,6 +23,7 @@ use Rattle.kept_places.proofs.Having.{left_sizes}
 use Rattle.kept_places.proofs.Joint.{choice, joint}
 use Rattle.stop_invariant.specs.Layouts.{Layout, Lies, place_line, place_word, place_kind, is_kept_place}
 use Rattle.stop_invariant.specs.Stops.{regions_of, PlaceIsCovered, IsCovered, Stands, IsAllowedImage}
+use Rattle.stop_invariant.proofs.KeptPlaces.{slot_kept, root_kept}
 use Rattle.stop_invariant.proofs.Rebuilt.{rebuilt}
 
 -- where an object lies
@@ -31,16 +32,6 @@ pub lies_parts : (lay : Layout) (known : Knowledge) (line n : ℕ) → Lies lay 
 lies_parts lay known line n is =
     let parts = and_parts (has_number known.durable n) (lay.line_of n == line) is in
     (parts.0, eqb-true (lay.line_of n) line parts.1)
-
--- a slot of a durable object and a root are kept places
-pub slot_kept : (known : Knowledge) (n i : ℕ) → has_number known.durable n ≡ true
-    → n < length known.world.heap.objects → i < length (values_of known.world.heap n)
-    → is_kept_place known (Slot n i) ≡ true
-slot_kept known n i durable there inside = rw (durable, lt-ltb n (length known.world.heap.objects) there, lt-ltb i (length (values_of known.world.heap n)) inside) refl
-
-pub root_kept : (known : Knowledge) (s : ℕ) → is_root known.world.heap.roots s ≡ true
-    → s < length known.world.heap.statics → is_kept_place known (Static s) ≡ true
-root_kept known s root there = rw (root, lt-ltb s (length known.world.heap.statics) there) refl
 
 module _ (first : Heap) (known : Knowledge) (lay : Layout) (Waits Keeps : Threads) (m : Memory) (c : Outcome)
     (s : Stands first known lay Waits m) (covered : IsCovered first known lay Keeps c) where
@@ -78,27 +69,37 @@ module _ (first : Heap) (known : Knowledge) (lay : Layout) (Waits Keeps : Thread
   place_left p is =
       let found = chosen_has p (is_kept_place known p) (covered.places p) is in
       let at = found.0 in
-      let agree = left_same p regions singles regions (at_place p) known.marks s.orderly.lost (joint at_place regions p known.marks s.orderly.singles) first in
+      let agree = left_same p regions singles regions (at_place p) known.marks s.orderly.lost
+      (joint at_place regions p known.marks s.orderly.singles) first in
       let value : at.value ≡ value_at left p =
-      at.has.is ∙ ap (λ (choices : ℕ → Bool). value_at (left_heap first known.marks regions choices) p) (sym found.1) ∙ agree.value in
-      subst (λ v. Holds (Lies lay known) (place_kind known.world.heap p) (put_back c (place_line lay known.world.heap p) (place_word known.world.heap p)) v) value at.holds
+      at.has.is ∙ ap (λ (choices : ℕ → Bool). value_at (left_heap first known.marks regions choices) p)
+      (sym found.1) ∙ agree.value in
+      subst (λ v. Holds (Lies lay known) (place_kind known.world.heap p)
+      (put_back c (place_line lay known.world.heap p) (place_word known.world.heap p)) v) value at.holds
 
   sizes : SameSizes known.world.heap left
   unfolding left
-  sizes = subst (λ h. SameSizes h left) (sym s.orderly.heap) (left_sizes first regions singles known.marks s.orderly.lost)
+  sizes = subst (λ h. SameSizes h left) (sym s.orderly.heap)
+      (left_sizes first regions singles known.marks s.orderly.lost)
 
   pub corresponds : Corresponds (Lies lay known) lay.directory lay.size (put_back c) left
-  corresponds = rebuilt (Lies lay known) lay.directory lay.size (shown m) (put_back c) known.world.heap left s.shows sizes
+  corresponds = rebuilt (Lies lay known) lay.directory lay.size (shown m)
+      (put_back c) known.world.heap left s.shows sizes
       (λ line n y.
       let parts = lies_parts lay known line n y in
-      ap (λ l. put_back c l 0) (sym parts.1) ∙ covered.heads n parts.0 ∙ sym (s.heads n parts.0) ∙ ap (λ l. shown m l 0) parts.1)
-      (λ line n i y below.
+      ap (λ l. put_back c l 0) (sym parts.1) ∙ covered.heads n parts.0 ∙ sym (s.heads n parts.0)
+      ∙ ap (λ l. shown m l 0) parts.1)
+      (λ line n i y below mark.
       let parts = lies_parts lay known line n y in
-      subst (λ l. Holds (Lies lay known) (kind_of (shape_at known.world.heap (object_at known.world.heap n).shape) i) (object_slot (put_back c) l i) (value_at left (Slot n i))) parts.1
-      (place_left (Slot n i) (slot_kept known n i parts.0 (s.shows.objects line n y).there below)))
+      subst (λ l. Holds (Lies lay known) (kind_of
+      (shape_at known.world.heap (object_at known.world.heap n).shape) i) (object_slot (put_back c) l i)
+      (value_at left (Slot n i))) parts.1
+      (place_left (Slot n i) (slot_kept known n i mark parts.0 (s.shows.objects line n y).there below)))
       (λ r below.
-      subst (λ k. HoldsReference (Lies lay known) (put_back c (slot_line k) (slot_word k)) (value_at left (Static (root_static known.world.heap r)))) (s.roots.numbers r below)
-      (place_left (Static (root_static known.world.heap r)) (root_kept known (root_static known.world.heap r) (s.roots.roots r below) (s.roots.statics r below))))
+      subst (λ k. HoldsReference (Lies lay known) (put_back c (slot_line k) (slot_word k))
+      (value_at left (Static (root_static known.world.heap r)))) (s.roots.numbers r below)
+      (place_left (Static (root_static known.world.heap r))
+      (root_kept known (root_static known.world.heap r) (s.roots.roots r below) (s.roots.statics r below))))
       covered.unused
 
 pub allowed : (first : Knowledge) (acts : List Recorded) (lay : Layout) (Waits Keeps : Threads) (m : Memory)
@@ -113,8 +114,10 @@ allowed first acts lay Waits Keeps m c s covered =
     record {
       used = covered.opens.used;
       graph = canon_of heap;
-      stands = stands (Lies lay known) lay.size c lay.directory heap covered.opens (corresponds first.world.heap known lay Waits Keeps m c s covered);
-      allowed = remains first.world.heap known.marks (canon_of heap) (regions_of c) (singles first.world.heap known lay Waits Keeps m c s covered) refl;
+      stands = stands (Lies lay known) lay.size c lay.directory heap covered.opens
+          (corresponds first.world.heap known lay Waits Keeps m c s covered);
+      allowed = remains first.world.heap known.marks (canon_of heap) (regions_of c)
+          (singles first.world.heap known lay Waits Keeps m c s covered) refl;
     }
 
 pub allowed_now : (first : Knowledge) (acts : List Recorded) (lay : Layout) (Waits : Threads) (m : Memory)

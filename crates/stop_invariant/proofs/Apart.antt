@@ -1,30 +1,20 @@
 -- Distinct places lie at distinct words.
-use Rattle.std.proofs.Common.{◌≡◌, ◌≢◌, ℕ, ◌<◌, true, length, map, refl, sym, ◌∙◌, ap, arith, slice_index_or}
-use Rattle.std.proofs.lemmas.Bool.{and_parts, eq-eqb}
+use Rattle.std.proofs.Common.{◌≡◌, ◌≢◌, ℕ, true, map, sym, ◌∙◌, ap, arith, slice_index_or}
 use Rattle.ap_base.specs.declared.place.Place.{Place}
 use Rattle.ap_base.specs.declared.place.Place.TheVariants.{Static, Slot}
 use Rattle.graph_model.specs.declared.types.Root.{Root}
-use Rattle.graph_model.specs.Heaps.{has_number, values_of}
+use Rattle.graph_model.specs.Heaps.{has_number}
 use Rattle.image_meaning.specs.Checks.{Words}
 use Rattle.image_meaning.specs.Corresponds.{Corresponds}
 use Rattle.image_meaning.specs.Laws.{WordsLieApart}
 use Rattle.image_meaning.proofs.Apart.{words-apart}
-use Rattle.run_history.specs.Worlds.{has_place}
-use Rattle.run_history.specs.Knowing.{Knowledge, is_root}
-use Rattle.run_history.proofs.Sizes.{there}
+use Rattle.run_history.specs.Knowing.{Knowledge}
 use Rattle.stop_invariant.specs.Layouts.{Layout, Lies, HasRootSlots, root_number, place_line, place_word, is_kept_place}
 use Rattle.stop_invariant.proofs.Held.{root_is}
+use Rattle.stop_invariant.proofs.KeptPlaces.{slot_parts, root_parts, lies_there}
 
-module _ (known : Knowledge) (lay : Layout) (words : Words) (k : Corresponds (Lies lay known) lay.directory lay.size words known.world.heap) where
-  lies_there : (n : ℕ) → has_number known.durable n ≡ true → Lies lay known (lay.line_of n) n
-  lies_there n durable = rw (durable, eq-eqb (lay.line_of n) (lay.line_of n) refl) refl
-
-  slot_parts : (n i : ℕ) → is_kept_place known (Slot n i) ≡ true → (has_number known.durable n ≡ true)
-      × (i < length (values_of known.world.heap n))
-  slot_parts n i is =
-      let parts = and_parts (has_number known.durable n) (has_place known.world.heap (Slot n i)) is in
-      (parts.0, (there known.world.heap (Slot n i) parts.1).1)
-
+module _ (known : Knowledge) (lay : Layout) (words : Words)
+    (k : Corresponds (Lies lay known) lay.directory lay.size words known.world.heap) where
   abbrev apart : WordsLieApart (Lies lay known) known.world.heap
   apart = words-apart (Lies lay known) lay.directory lay.size words known.world.heap k
 
@@ -32,33 +22,40 @@ module _ (known : Knowledge) (lay : Layout) (words : Words) (k : Corresponds (Li
   root_apart : (s n i : ℕ) → is_kept_place known (Static s) ≡ true → is_kept_place known (Slot n i) ≡ true
       → place_line lay known.world.heap (Static s) ≢ place_line lay known.world.heap (Slot n i)
   root_apart s n i is_root_kept is_slot line =
-      let root = root_is known.world.heap.roots s (and_parts (is_root known.world.heap.roots s) (has_place known.world.heap (Static s)) is_root_kept).0 in
+      let root = root_is known.world.heap.roots s (root_parts known s is_root_kept).0 in
       let few = k.few in
-      apart.at_roots (root_number known.world.heap.roots s) (lay.line_of n) n i (omega (arith, few, root.0)) (lies_there n (slot_parts n i is_slot).0) line
+      apart.at_roots (root_number known.world.heap.roots s) (lay.line_of n) n i (omega (arith, few, root.0))
+      (lies_there lay known n (slot_parts known n i is_slot).durable) line
 
   pub places_apart : HasRootSlots known.world.heap → (p q : Place) → is_kept_place known p ≡ true
       → is_kept_place known q ≡ true
       → place_line lay known.world.heap p ≡ place_line lay known.world.heap q
       → place_word known.world.heap p ≡ place_word known.world.heap q → p ≡ q
   places_apart roots (Static s) (Static u) is_p is_q line word =
-      let a = root_is known.world.heap.roots s (and_parts (is_root known.world.heap.roots s) (has_place known.world.heap (Static s)) is_p).0 in
-      let b = root_is known.world.heap.roots u (and_parts (is_root known.world.heap.roots u) (has_place known.world.heap (Static u)) is_q).0 in
-      let same : root_number known.world.heap.roots s ≡ root_number known.world.heap.roots u = omega (arith, line, word) in
-      ap (λ x. Static x) (sym a.1 ∙ ap (λ r. slice_index_or (map (λ (root : Root). root.at) known.world.heap.roots) r 0) same ∙ b.1)
+      let a = root_is known.world.heap.roots s (root_parts known s is_p).0 in
+      let b = root_is known.world.heap.roots u (root_parts known u is_q).0 in
+      let same : root_number known.world.heap.roots s ≡ root_number known.world.heap.roots u =
+      omega (arith, line, word) in
+      ap (λ x. Static x) (sym a.1 ∙ ap (λ r. slice_index_or
+      (map (λ (root : Root). root.at) known.world.heap.roots) r 0) same ∙ b.1)
   places_apart roots (Static s) (Slot n i) is_p is_q line word = absurd (root_apart s n i is_p is_q line)
-  places_apart roots (Slot n i) (Static s) is_p is_q line word = absurd (root_apart s n i is_q is_p (sym line))
+  places_apart roots (Slot n i) (Static s) is_p is_q line word =
+      absurd (root_apart s n i is_q is_p (sym line))
   places_apart roots (Slot n i) (Slot m j) is_p is_q line word =
-      let a = slot_parts n i is_p in
-      let b = slot_parts m j is_q in
-      let both = apart.slots (lay.line_of n) (lay.line_of m) n m i j (lies_there n a.0) (lies_there m b.0) a.1 b.1 line word in
+      let a = slot_parts known n i is_p in
+      let b = slot_parts known m j is_q in
+      let both = apart.slots (lay.line_of n) (lay.line_of m) n m i j (lies_there lay known n a.durable)
+      (lies_there lay known m b.durable)
+      a.inside b.inside line word in
       ap (λ x. Slot x i) both.0 ∙ ap (λ x. Slot m x) both.1
 
   pub heads_apart : (p : Place) (n : ℕ) → is_kept_place known p ≡ true → has_number known.durable n ≡ true
       → place_line lay known.world.heap p ≡ lay.line_of n → place_word known.world.heap p ≢ 0
   heads_apart (Static s) n is durable line word =
-      let a = root_is known.world.heap.roots s (and_parts (is_root known.world.heap.roots s) (has_place known.world.heap (Static s)) is).0 in
-      let low = (k.objects (lay.line_of n) n (lies_there n durable)).low in
+      let a = root_is known.world.heap.roots s (root_parts known s is).0 in
+      let low = (k.objects (lay.line_of n) n (lies_there lay known n durable)).low in
       absurd (let few = k.few in omega (arith, line, low, a.0, few))
   heads_apart (Slot m i) n is durable line word =
-      let a = slot_parts m i is in
-      apart.heads (lay.line_of m) (lay.line_of n) m n i (lies_there m a.0) (lies_there n durable) a.1 line word
+      let a = slot_parts known m i is in
+      apart.heads (lay.line_of m) (lay.line_of n) m n i (lies_there lay known m a.durable)
+      (lies_there lay known n durable) a.inside line word

@@ -26,7 +26,8 @@ in_range size line n high = omega (arith, high)
 slot_in_range : (size line n i : ℕ) → line + lines_of n ≤ size → i < n → object_line line i < size
 slot_in_range size line n i high below = omega (arith, high, below)
 
-module _ (first : Heap) (known : Knowledge) (lay : Layout) (Waits : Threads) (old new : Memory) (s : Stands first known lay Waits old) (calls : Calls old new) where
+module _ (first : Heap) (known : Knowledge) (lay : Layout) (Waits : Threads) (old new : Memory)
+    (s : Stands first known lay Waits old) (calls : Calls old new) where
   can_leave_before : (c : Outcome) → CanLeaveAll new c → CanLeaveAll old c
   can_leave_before c left l w = calls.leaves l w (c l w) (left l w)
 
@@ -47,17 +48,24 @@ module _ (first : Heap) (known : Knowledge) (lay : Layout) (Waits : Threads) (ol
     orderly = s.orderly;
     size = calls.size ∙ s.size;
     roots = s.roots;
-    shows = corresponds-same (Lies lay known) lay.directory lay.size (shown old) (shown new) known.world.heap s.shows (record {
-      heads = λ line n y. let o = s.shows.objects line n y in let e = s.size in
-          calls.shows line 0 (rw e (in_range lay.size line (length (values_of known.world.heap n)) o.high));
-      slots = λ line n y i below. let o = s.shows.objects line n y in let e = s.size in
-          calls.shows (object_line line i) (object_word i) (rw e (slot_in_range lay.size line (length (values_of known.world.heap n)) i o.high below));
-      at_roots = λ r below. let e = s.size in calls.shows (slot_line r) (slot_word r) (omega (arith, below, enough, e));
-    });
+    shows = corresponds-same (Lies lay known) lay.directory lay.size (shown old)
+        (shown new) known.world.heap s.shows (record {
+          heads = λ line n y. let o = s.shows.objects line n y in let e = s.size in
+              calls.shows line 0
+              (rw e (in_range lay.size line (length (values_of known.world.heap n)) o.high));
+          slots = λ line n y i below mark. let o = s.shows.objects line n y in let e = s.size in
+              calls.shows (object_line line i) (object_word i)
+              (rw e (slot_in_range lay.size line (length (values_of known.world.heap n)) i o.high below));
+          at_roots = λ r below. let e = s.size in
+              calls.shows (slot_line r) (slot_word r) (omega (arith, below, enough, e));
+        });
     heads = λ n is.
-        let o = s.shows.objects (lay.line_of n) n (rw (is, eq-eqb (lay.line_of n) (lay.line_of n) refl) refl) in
+        let o = s.shows.objects (lay.line_of n) n
+        (rw (is, eq-eqb (lay.line_of n) (lay.line_of n) refl) refl) in
         let e = s.size in
-        calls.shows (lay.line_of n) 0 (rw e (in_range lay.size (lay.line_of n) (length (values_of known.world.heap n)) o.high)) ∙ s.heads n is;
+        calls.shows (lay.line_of n) 0 (rw e
+        (in_range lay.size (lay.line_of n) (length (values_of known.world.heap n)) o.high))
+        ∙ s.heads n is;
     apart = s.apart;
     no_heads = s.no_heads;
     leaves = λ c left. s.leaves c (can_leave_before c left);
@@ -97,14 +105,18 @@ module _ (old new : Memory) (line word x : ℕ) (puts : Puts line word x old new
   reads_same l w v may = subst (λ (t : Told). ReadsWord t.trace l w v) puts.same.image may
 
   elsewhere : (d : Outcome) → CanLeaveAll new d → (l w : ℕ) → (l ≡ line → w ≢ word) → CanLeave old l w (d l w)
-  elsewhere d left l w other = ⊎_elim (λ (is : d l w ≡ shown new l w). inl (is ∙ puts.others l w other)) (λ (may : MayLeave new.image.trace l w (d l w)). inr (told_same l w (d l w) may)) (left l w)
+  elsewhere d left l w other = ⊎_elim (λ (is : d l w ≡ shown new l w). inl (is ∙ puts.others l w other))
+      (λ (may : MayLeave new.image.trace l w (d l w)). inr (told_same l w (d l w) may)) (left l w)
 
   pub could_before : (d : Outcome) → CanLeaveAll new d → CanLeaveAll old (before d)
   unfolding before
   could_before d left l w = elim (cases_eq l line) [
-    | inr ne ↦ subst (λ v. CanLeave old l w v) (sym (put_there d line word (shown old line word) l w (λ e. absurd (ne e)))) (elsewhere d left l w (λ e. absurd (ne e)))
+    | inr ne ↦ subst (λ v. CanLeave old l w v)
+        (sym (put_there d line word (shown old line word) l w (λ e. absurd (ne e))))
+        (elsewhere d left l w (λ e. absurd (ne e)))
     | inl e ↦ elim (cases_eq w word) [
-      | inr ne ↦ subst (λ v. CanLeave old l w v) (sym (put_there d line word (shown old line word) l w (λ _. ne))) (elsewhere d left l w (λ _. ne))
+      | inr ne ↦ subst (λ v. CanLeave old l w v)
+          (sym (put_there d line word (shown old line word) l w (λ _. ne))) (elsewhere d left l w (λ _. ne))
       | inl f ↦ rw (e, f) (inl (put_here d line word (shown old line word)))
     ]
   ]
@@ -112,15 +124,20 @@ module _ (old new : Memory) (line word x : ℕ) (puts : Puts line word x old new
   elsewhere_after : (d : Outcome) → IsAfterFence new d → (l w : ℕ) → l < old.size → (l ≡ line → w ≢ word)
       → (d l w ≡ shown old l w) ⊎ ReadsWord old.image.trace l w (d l w)
   elsewhere_after d after l w below other =
-      ⊎_elim (λ (is : d l w ≡ shown new l w). inl (is ∙ puts.others l w other)) (λ (may : ReadsWord new.image.trace l w (d l w)). inr (reads_same l w (d l w) may))
+      ⊎_elim (λ (is : d l w ≡ shown new l w). inl (is ∙ puts.others l w other))
+      (λ (may : ReadsWord new.image.trace l w (d l w)). inr (reads_same l w (d l w) may))
       (after l w (omega (arith, below, puts.size)))
 
   pub after_before : (d : Outcome) → IsAfterFence new d → IsAfterFence old (before d)
   unfolding before
   after_before d after l w below = elim (cases_eq l line) [
-    | inr ne ↦ subst (λ v. (v ≡ shown old l w) ⊎ ReadsWord old.image.trace l w v) (sym (put_there d line word (shown old line word) l w (λ e. absurd (ne e)))) (elsewhere_after d after l w below (λ e. absurd (ne e)))
+    | inr ne ↦ subst (λ v. (v ≡ shown old l w) ⊎ ReadsWord old.image.trace l w v)
+        (sym (put_there d line word (shown old line word) l w (λ e. absurd (ne e))))
+        (elsewhere_after d after l w below (λ e. absurd (ne e)))
     | inl e ↦ elim (cases_eq w word) [
-      | inr ne ↦ subst (λ v. (v ≡ shown old l w) ⊎ ReadsWord old.image.trace l w v) (sym (put_there d line word (shown old line word) l w (λ _. ne))) (elsewhere_after d after l w below (λ _. ne))
+      | inr ne ↦ subst (λ v. (v ≡ shown old l w) ⊎ ReadsWord old.image.trace l w v)
+          (sym (put_there d line word (shown old line word) l w (λ _. ne)))
+          (elsewhere_after d after l w below (λ _. ne))
       | inl f ↦ rw (e, f) (inl (put_here d line word (shown old line word)))
     ]
   ]
@@ -164,31 +181,42 @@ pub stands_store_by : (first : Heap) (known next : Knowledge) (lay : Layout) (Wa
     → KeepsPlaces known next → IsOrderly first next
     → Corresponds (Lies lay next) lay.directory lay.size (shown new) next.world.heap
     → ((n : ℕ) → has_number known.durable n ≡ true → line ≡ lay.line_of n → word ≢ 0)
-    → ((K : Threads) (c : Outcome) → ((u : ℕ) → K u ≡ true → Waits u ≡ true) → CanLeaveAll old c → IsCovered first known lay K c → IsCovered first next lay K c)
+    → ((K : Threads) (c : Outcome) → ((u : ℕ) → K u ≡ true → Waits u ≡ true) → CanLeaveAll old c
+    → IsCovered first known lay K c → IsCovered first next lay K c)
     → ((K : Threads) (c d : Outcome) → ((u : ℕ) → K u ≡ true → Waits u ≡ true)
-    → ((e : Outcome) → CanLeaveAll old e → (IsAfterFence old c → IsAfterFence old e) → IsCovered first known lay K e)
+    → ((e : Outcome) → CanLeaveAll old e → (IsAfterFence old c → IsAfterFence old e)
+    → IsCovered first known lay K e)
     → CanLeaveAll old c → CanLeaveAll new d → ((l w : ℕ) → (l ≡ line → w ≢ word) → d l w ≡ c l w)
     → d line word ≡ x → IsCovered first next lay K d)
     → Stands first known lay Waits old → Stands first next lay Waits new
-stands_store_by first known next lay Waits old new line word x puts inside places orderly shows no_head lost made s =
+stands_store_by first known next lay Waits old new line word x puts inside places orderly shows no_head lost
+    made s =
     let none : (u : ℕ) → NoThread u ≡ true → Waits u ≡ true = λ u is. absurd (true≢false (sym is)) in
-    let of_durable : (n : ℕ) → has_number next.durable n ≡ true → has_number known.durable n ≡ true = λ n is. subst (λ (ns : List ℕ). has_number ns n ≡ true) places.durable is in
+    let of_durable : (n : ℕ) → has_number next.durable n ≡ true → has_number known.durable n ≡ true =
+    λ n is. subst (λ (ns : List ℕ). has_number ns n ≡ true) places.durable is in
     let roots = places.roots in
     record {
       orderly = orderly;
       size = puts.size ∙ s.size;
       roots = roots_still first known next lay Waits Waits old places s.roots;
       shows = shows;
-      heads = λ n is. puts.others (lay.line_of n) 0 (λ e f. no_head n (of_durable n is) (sym e) (sym f)) ∙ s.heads n (of_durable n is);
+      heads = λ n is. puts.others (lay.line_of n) 0 (λ e f. no_head n (of_durable n is) (sym e) (sym f))
+          ∙ s.heads n (of_durable n is);
       apart = apart_still first known next lay Waits Waits old places s.apart;
       no_heads = no_heads_still first known next lay Waits Waits old places s.no_heads;
       leaves = λ d left. ⊎_elim
-          (λ (is : d line word ≡ x). made NoThread (before old new line word x puts d) d none (λ e could_leave _. s.leaves e could_leave) (could_before old new line word x puts d left) left (same_before old new line word x puts d) is)
+          (λ (is : d line word ≡ x). made NoThread (before old new line word x puts d) d none
+          (λ e could_leave _. s.leaves e could_leave) (could_before old new line word x puts d left) left
+          (same_before old new line word x puts d) is)
           (λ (left_before : CanLeaveAll old d). lost NoThread d none left_before (s.leaves d left_before))
           (new_or_old old new line word x puts d left);
       fenced = λ d left after. ⊎_elim
-          (λ (is : d line word ≡ x). made Waits (before old new line word x puts d) d (λ u is. is) (λ e could_leave goes. s.fenced e could_leave (goes (after_before old new line word x puts d after))) (could_before old new line word x puts d left) left (same_before old new line word x puts d) is)
-          (λ (both : CanLeaveAll old d × IsAfterFence old d). lost Waits d (λ u e. e) both.0 (s.fenced d both.0 both.1))
+          (λ (is : d line word ≡ x). made Waits (before old new line word x puts d) d (λ u is. is)
+          (λ e could_leave goes. s.fenced e could_leave
+          (goes (after_before old new line word x puts d after)))
+          (could_before old new line word x puts d left) left (same_before old new line word x puts d) is)
+          (λ (both : CanLeaveAll old d × IsAfterFence old d). lost Waits d (λ u e. e) both.0
+          (s.fenced d both.0 both.1))
           (new_or_old_after old new line word x puts d inside left after);
     }
 
@@ -198,11 +226,16 @@ pub stands_store : (first : Heap) (known next : Knowledge) (lay : Layout) (Waits
     → KeepsPlaces known next → IsOrderly first next
     → Corresponds (Lies lay next) lay.directory lay.size (shown new) next.world.heap
     → ((n : ℕ) → has_number known.durable n ≡ true → line ≡ lay.line_of n → word ≢ 0)
-    → ((K : Threads) (c : Outcome) → ((u : ℕ) → K u ≡ true → Waits u ≡ true) → CanLeaveAll old c → IsCovered first known lay K c → IsCovered first next lay K c)
-    → ((K : Threads) (c d : Outcome) → ((u : ℕ) → K u ≡ true → Waits u ≡ true) → CanLeaveAll old c → CanLeaveAll new d
+    → ((K : Threads) (c : Outcome) → ((u : ℕ) → K u ≡ true → Waits u ≡ true) → CanLeaveAll old c
+    → IsCovered first known lay K c → IsCovered first next lay K c)
+    → ((K : Threads) (c d : Outcome) → ((u : ℕ) → K u ≡ true → Waits u ≡ true) → CanLeaveAll old c
+    → CanLeaveAll new d
     → ((l w : ℕ) → (l ≡ line → w ≢ word) → d l w ≡ c l w) → d line word ≡ x → IsCovered first known lay K c
     → IsCovered first next lay K d)
     → Stands first known lay Waits old → Stands first next lay Waits new
-stands_store first known next lay Waits old new line word x puts inside places orderly shows no_head lost made s =
-    stands_store_by first known next lay Waits old new line word x puts inside places orderly shows no_head lost
-    (λ K c d fewer covered_of left left_new others is. made K c d fewer left left_new others is (covered_of c left (λ after. after))) s
+stands_store first known next lay Waits old new line word x puts inside places orderly shows no_head lost made
+    s =
+    stands_store_by first known next lay Waits old new line word x puts inside places orderly shows no_head
+    lost
+    (λ K c d fewer covered_of left left_new others is. made K c d fewer left left_new others is
+    (covered_of c left (λ after. after))) s

@@ -4,6 +4,7 @@ pub mod Apart
 pub mod Calls
 pub mod Changed
 pub mod Held
+pub mod KeptPlaces
 pub mod Places
 pub mod Rebuilt
 pub mod Showing

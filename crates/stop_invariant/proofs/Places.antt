@@ -6,13 +6,14 @@ use Rattle.graph_model.specs.declared.types.Value.{Value}
 use Rattle.graph_model.specs.declared.types.Root.{Root}
 use Rattle.graph_model.specs.declared.types.Shape.{Shape}
 use Rattle.graph_model.specs.declared.types.Heap.{Heap}
-use Rattle.graph_model.specs.Heaps.{has_number, object_at, shape_at, no_shape}
+use Rattle.graph_model.specs.Heaps.{has_number, object_at, shape_at, no_shape, is_kept_slot}
 use Rattle.line_image.specs.Trace.{Outcome}
 use Rattle.line_memory.specs.Memory.{Memory, shown, CanLeaveAll}
 use Rattle.image_layout.specs.Places.{slot_line, slot_word, logs}
 use Rattle.image_meaning.specs.Objects.{kind_of}
 use Rattle.image_meaning.specs.Logs.{put_back, log_of, old_word}
 use Rattle.image_meaning.specs.Corresponds.{Holds, Corresponds}
+use Rattle.run_history.specs.Worlds.{has_place}
 use Rattle.run_history.specs.Knowing.{Knowledge, guard_of}
 use Rattle.kept_places.specs.Choices.{Threads, NoThread, MayHave, AllKept}
 use Rattle.kept_places.specs.Orderly.{IsOrderly}
@@ -20,11 +21,19 @@ use Rattle.run_history.specs.Sizes.{SameSizes}
 use Rattle.run_history.proofs.Sizes.{same_has}
 use Rattle.stop_invariant.specs.Layouts.{Layout, Lies, HasRootSlots, root_number, place_line, place_word, place_kind, is_kept_place, KeepsPlaces, SamePlaces}
 use Rattle.stop_invariant.specs.Stops.{regions_of, named_in, keeps_of, IsCovered, IsAfterFence, Stands}
+use Rattle.stop_invariant.proofs.KeptPlaces.{mark_same}
 
 kept_same : (known next : Knowledge) → SamePlaces known next → (p : Place)
     → is_kept_place next p ≡ is_kept_place known p
-kept_same known next s (Static n) = rw (s.sizes.roots, same_has known.world.heap next.world.heap (Static n) s.sizes) refl
-kept_same known next s (Slot n i) = rw (s.durable, same_has known.world.heap next.world.heap (Slot n i) s.sizes) refl
+kept_same known next s (Static n) =
+    rw (s.sizes.roots, same_has known.world.heap next.world.heap (Static n) s.sizes) refl
+kept_same known next s (Slot n i) =
+    ap (λ b. (b && has_number next.durable n) && has_place next.world.heap (Slot n i))
+    (mark_same known.world.heap next.world.heap s.sizes n i)
+    ∙ ap (λ (ns : List ℕ). (is_kept_slot known.world.heap n i && has_number ns n)
+    && has_place next.world.heap (Slot n i)) s.durable
+    ∙ ap (λ b. (is_kept_slot known.world.heap n i && has_number known.durable n) && b)
+    (same_has known.world.heap next.world.heap (Slot n i) s.sizes)
 
 kind_same : (h k : Heap) → SameSizes h k → (p : Place) → place_kind k p ≡ place_kind h p
 kind_same h k s (Static n) = refl
@@ -60,7 +69,9 @@ holds_same known next lay places c p value was holds =
     let kind = places.kind p was in
     let line = line_same lay known.world.heap next.world.heap places.roots p in
     let word = word_same known.world.heap next.world.heap places.roots p in
-    subst (λ (ns : List ℕ). Holds (λ l n. (has_number ns n && lay.line_of n == l) ≡ true) (place_kind next.world.heap p) (put_back c (place_line lay next.world.heap p) (place_word next.world.heap p)) value) (sym places.durable)
+    subst (λ (ns : List ℕ). Holds (λ l n. (has_number ns n && lay.line_of n == l) ≡ true)
+    (place_kind next.world.heap p) (put_back c (place_line lay next.world.heap p)
+    (place_word next.world.heap p)) value) (sym places.durable)
     (rw (kind, line, word) holds)
 
 pub has_same : (first : Heap) (known next : Knowledge) (lay : Layout) (K : Threads) (c : Outcome) (p : Place)
@@ -70,19 +81,28 @@ pub has_same : (first : Heap) (known next : Knowledge) (lay : Layout) (K : Threa
     → MayHave first next.marks (regions_of c)
     (keeps_of K (named_in c (place_line lay next.world.heap p) (place_word next.world.heap p))) p v
 has_same first known next lay K c p v roots has =
-    rw (line_same lay known.world.heap next.world.heap roots p, word_same known.world.heap next.world.heap roots p) has
+    rw (
+      line_same lay known.world.heap next.world.heap roots p,
+      word_same known.world.heap next.world.heap
+          roots p,
+    ) has
 
-module _ (first : Heap) (known next : Knowledge) (lay : Layout) (K K' : Threads) (c : Outcome) (places : KeepsPlaces known next) where
+module _ (first : Heap) (known next : Knowledge) (lay : Layout) (K K' : Threads) (c : Outcome)
+    (places : KeepsPlaces known next) where
   named_before : (p : Place) → named_in c (place_line lay next.world.heap p)
       (place_word next.world.heap p) ≡ None
       → named_in c (place_line lay known.world.heap p) (place_word known.world.heap p) ≡ None
-  named_before p none = ap (λ l. named_in c l (place_word known.world.heap p)) (sym (line_same lay known.world.heap next.world.heap places.roots p))
-      ∙ ap (λ w. named_in c (place_line lay next.world.heap p) w) (sym (word_same known.world.heap next.world.heap places.roots p)) ∙ none
+  named_before p none = ap (λ l. named_in c l (place_word known.world.heap p))
+      (sym (line_same lay known.world.heap next.world.heap places.roots p))
+      ∙ ap (λ w. named_in c (place_line lay next.world.heap p) w)
+      (sym (word_same known.world.heap next.world.heap places.roots p)) ∙ none
 
   -- What was covered is covered after an act that stores nothing in memory.
-  pub covered_act : ((p : Place) (t line word old : ℕ) → guard_of known.guards p ≡ Some t → t < logs → old_word (log_of c t) line word ≡ Some old
+  pub covered_act : ((p : Place) (t line word old : ℕ) → guard_of known.guards p ≡ Some t → t < logs
+      → old_word (log_of c t) line word ≡ Some old
       → guard_of next.guards p ≡ Some t)
-      → ((p : Place) → is_kept_place known p ≡ true → named_in c (place_line lay known.world.heap p) (place_word known.world.heap p) ≡ None
+      → ((p : Place) → is_kept_place known p ≡ true
+      → named_in c (place_line lay known.world.heap p) (place_word known.world.heap p) ≡ None
       → AllKept (regions_of c) p known.marks → AllKept (regions_of c) p next.marks)
       → ((p : Place) (v : Value) → is_kept_place known p ≡ true
       → MayHave first known.marks (regions_of c)
@@ -116,11 +136,13 @@ module _ (first : Heap) (known next : Knowledge) (lay : Layout) (K K' : Threads)
         };
   }
 
-module _ (first : Heap) (known next : Knowledge) (lay : Layout) (Waits Waits' : Threads) (m : Memory) (places : KeepsPlaces known next) where
+module _ (first : Heap) (known next : Knowledge) (lay : Layout) (Waits Waits' : Threads) (m : Memory)
+    (places : KeepsPlaces known next) where
   pub roots_still : HasRootSlots known.world.heap → HasRootSlots next.world.heap
   roots_still has = record {
     numbers = λ r below. let b = rw places.roots at below in rw places.roots (has.numbers r b);
-    statics = λ r below. let b = rw places.roots at below in rw (places.roots, places.statics) (has.statics r b);
+    statics = λ r below. let b = rw places.roots at below in
+        rw (places.roots, places.statics) (has.statics r b);
     roots = λ r below. let b = rw places.roots at below in rw places.roots (has.roots r b);
   }
 
@@ -130,23 +152,31 @@ module _ (first : Heap) (known next : Knowledge) (lay : Layout) (Waits Waits' : 
       → place_word k.world.heap p ≡ place_word k.world.heap q → p ≡ q
 
   pub apart_still : AreApart known → AreApart next
-  apart_still apart p q is_p is_q line word = apart p q (sym (places.kept p) ∙ is_p) (sym (places.kept q) ∙ is_q)
-      (sym (line_same lay known.world.heap next.world.heap places.roots p) ∙ line ∙ line_same lay known.world.heap next.world.heap places.roots q)
-      (sym (word_same known.world.heap next.world.heap places.roots p) ∙ word ∙ word_same known.world.heap next.world.heap places.roots q)
+  apart_still apart p q is_p is_q line word =
+      apart p q (sym (places.kept p) ∙ is_p) (sym (places.kept q) ∙ is_q)
+      (sym (line_same lay known.world.heap next.world.heap places.roots p) ∙ line
+      ∙ line_same lay known.world.heap next.world.heap places.roots q)
+      (sym (word_same known.world.heap next.world.heap places.roots p) ∙ word
+      ∙ word_same known.world.heap next.world.heap places.roots q)
 
   abbrev pub NoHeads : Knowledge → Type 0
   NoHeads k = (p : Place) (n : ℕ) → is_kept_place k p ≡ true → has_number k.durable n ≡ true
       → place_line lay k.world.heap p ≡ lay.line_of n → place_word k.world.heap p ≢ 0
 
   pub no_heads_still : NoHeads known → NoHeads next
-  no_heads_still none p n is durable line word = none p n (sym (places.kept p) ∙ is) (subst (λ (ns : List ℕ). has_number ns n ≡ true) places.durable durable)
-      (sym (line_same lay known.world.heap next.world.heap places.roots p) ∙ line) (sym (word_same known.world.heap next.world.heap places.roots p) ∙ word)
+  no_heads_still none p n is durable line word =
+      none p n (sym (places.kept p) ∙ is)
+      (subst (λ (ns : List ℕ). has_number ns n ≡ true) places.durable durable)
+      (sym (line_same lay known.world.heap next.world.heap places.roots p) ∙ line)
+      (sym (word_same known.world.heap next.world.heap places.roots p) ∙ word)
 
   -- An act that stores nothing in memory.
   pub stands_act : Stands first known lay Waits m → IsOrderly first next
       → Corresponds (Lies lay next) lay.directory lay.size (shown m) next.world.heap
-      → ((c : Outcome) → CanLeaveAll m c → IsCovered first known lay NoThread c → IsCovered first next lay NoThread c)
-      → ((c : Outcome) → CanLeaveAll m c → IsAfterFence m c → IsCovered first known lay Waits c → IsCovered first next lay Waits' c)
+      → ((c : Outcome) → CanLeaveAll m c → IsCovered first known lay NoThread c
+      → IsCovered first next lay NoThread c)
+      → ((c : Outcome) → CanLeaveAll m c → IsAfterFence m c → IsCovered first known lay Waits c
+      → IsCovered first next lay Waits' c)
       → Stands first next lay Waits' m
   stands_act s orderly shows leaves fenced = record {
     orderly = orderly;

@@ -6,7 +6,6 @@ use Rattle.ap_base.specs.declared.place.Place.{Place}
 use Rattle.ap_base.specs.declared.place.Place.TheVariants.{Static, Slot}
 use Rattle.graph_model.specs.declared.types.Root.{Root}
 use Rattle.graph_model.specs.declared.types.Heap.{Heap}
-use Rattle.graph_model.specs.Heaps.{has_number}
 use Rattle.line_image.specs.Trace.{Outcome}
 use Rattle.line_memory.specs.Memory.{Memory, shown}
 use Rattle.image_layout.specs.Places.{logs, root_slots, slot_line, slot_word, directory_line, directory_word, log_head_line, first_object_line}
@@ -19,7 +18,6 @@ use Rattle.image_meaning.proofs.Logs.{not_log_before, not_log_after}
 use Rattle.image_meaning.proofs.Recovering.{some_or}
 use Rattle.image_meaning.proofs.Standing.{use-within}
 use Rattle.image_meaning.proofs.Naming.{below_some, logs_outside}
-use Rattle.run_history.specs.Worlds.{has_place}
 use Rattle.run_history.specs.Knowing.{Fate, Sure, Open, Closing, Single, Mark, Knowledge, guard_of, is_root}
 use Rattle.run_history.specs.Kept.{survives}
 use Rattle.kept_places.specs.Choices.{Threads, stores_at}
@@ -31,6 +29,7 @@ use Rattle.stop_invariant.specs.Events.{Puts, IsFreeWord}
 use Rattle.stop_invariant.proofs.Places.{keeps_same}
 use Rattle.stop_invariant.proofs.Changed.{covered_same_logs, place_still}
 use Rattle.stop_invariant.proofs.Calls.{stands_store}
+use Rattle.stop_invariant.proofs.KeptPlaces.{slot_parts, root_parts, lies_there}
 
 -- ---- lines
 
@@ -41,7 +40,8 @@ front_outside size c d directory opens same =
     let most = use-within size (c 0) opens.used opens.super in
     record {
       super = λ word below. same 0 word (inl refl);
-      directory = λ i below. same (directory_line i) (directory_word i) (inr (omega arith, omega (arith, below, most)));
+      directory = λ i below. same (directory_line i) (directory_word i)
+          (inr (omega arith, omega (arith, below, most)));
     }
 
 -- where a kept place lies
@@ -51,22 +51,23 @@ pub data PlaceLies (line word : ℕ) : Type 0 where
 
 pub root_below : (roots : List Root) (s : ℕ) → is_root roots s ≡ true → root_number roots s < length roots
 root_below [] s is = absurd (true≢false (sym is))
-root_below (r ∷ rs) s is = elim (nat_eq r.at s) as (λ b. (b || is_root rs s) ≡ true → (if b then 0 else ℕ.suc (root_number rs s)) < ℕ.suc (length rs)) [
-  | true ↦ λ _. omega arith
-  | false ↦ λ rest. let below = root_below rs s rest in omega (arith, below)
-] is
+root_below (r ∷ rs) s is = elim (nat_eq r.at s) as (λ b. (b || is_root rs s) ≡ true
+    → (if b then 0 else ℕ.suc (root_number rs s)) < ℕ.suc (length rs)) [
+      | true ↦ λ _. omega arith
+      | false ↦ λ rest. let below = root_below rs s rest in omega (arith, below)
+    ] is
 
 pub place_lies : (first : Heap) (known : Knowledge) (lay : Layout) (Waits : Threads) (m : Memory)
     → Stands first known lay Waits m → (p : Place) → is_kept_place known p ≡ true
     → PlaceLies (place_line lay known.world.heap p) (place_word known.world.heap p)
 place_lies first known lay Waits m s (Static n) is =
-    let root = (and_parts (is_root known.world.heap.roots n) (has_place known.world.heap (Static n)) is).0 in
+    let root = (root_parts known n is).0 in
     let below = root_below known.world.heap.roots n root in
     let few = s.shows.few in
     AtRoot (root_number known.world.heap.roots n) (omega (arith, below, few)) refl refl
 place_lies first known lay Waits m s (Slot n i) is =
-    let durable = (and_parts (has_number known.durable n) (has_place known.world.heap (Slot n i)) is).0 in
-    let low = (s.shows.objects (lay.line_of n) n (rw (durable, eq-eqb (lay.line_of n) (lay.line_of n) refl) refl)).low in
+    let durable = (slot_parts known n i is).durable in
+    let low = (s.shows.objects (lay.line_of n) n (lies_there lay known n durable)).low in
     InObject (omega (arith, low))
 
 pub not_log : (line word : ℕ) → PlaceLies line word → is_log_line line ≡ false
@@ -74,10 +75,13 @@ not_log line word (AtRoot r below at _) = not_log_before line (omega (arith, bel
 not_log line word (InObject low) = not_log_after line low
 
 pub is_log : (l : ℕ) → is_log_line l ≡ true → (log_head_line 0 ≤ l) × (l < first_object_line)
-is_log l is = let parts = and_parts (nat_le (log_head_line 0) l) (nat_lt l first_object_line) is in (leb-true (log_head_line 0) l parts.0, ltb-true l first_object_line parts.1)
+is_log l is = let parts = and_parts (nat_le (log_head_line 0) l) (nat_lt l first_object_line) is in
+    (leb-true (log_head_line 0) l parts.0, ltb-true l first_object_line parts.1)
 
-module _ (first : Heap) (known : Knowledge) (lay : Layout) (K : Threads) (c d : Outcome) (line word : ℕ) (lies : PlaceLies line word)
-    (others : (l w : ℕ) → (l ≡ line → w ≢ word) → d l w ≡ c l w) (covered : IsCovered first known lay K c) where
+module _ (first : Heap) (known : Knowledge) (lay : Layout) (K : Threads) (c d : Outcome) (line word : ℕ)
+    (lies : PlaceLies line word)
+    (others : (l w : ℕ) → (l ≡ line → w ≢ word) → d l w ≡ c l w)
+    (covered : IsCovered first known lay K c) where
   in_front : (l : ℕ) → (l ≡ 0) ⊎ ((33 ≤ l) × (l < 4129)) → l ≡ line → ⊥
   in_front l front e = apart lies front
     where
@@ -88,10 +92,12 @@ module _ (first : Heap) (known : Knowledge) (lay : Layout) (K : Threads) (c d : 
       apart (InObject low) (inr z) = absurd (omega (arith, e, low, z.1))
 
   pub changed_front : SameFront c d
-  changed_front = front_outside lay.size c d lay.directory covered.opens (λ l w front. others l w (λ e. absurd (in_front l front e)))
+  changed_front = front_outside lay.size c d lay.directory covered.opens
+      (λ l w front. others l w (λ e. absurd (in_front l front e)))
 
   pub changed_logs : SameLogs c d
-  changed_logs = logs_outside lay.size c d covered.opens.logs (λ l w log. others l w (λ e. absurd (true≢false (sym log ∙ ap is_log_line e ∙ not_log line word lies))))
+  changed_logs = logs_outside lay.size c d covered.opens.logs
+      (λ l w log. others l w (λ e. absurd (true≢false (sym log ∙ ap is_log_line e ∙ not_log line word lies))))
 
 -- ---- words that nothing durable depends on
 
@@ -102,16 +108,21 @@ pub stands_free : (first : Heap) (known : Knowledge) (lay : Layout) (Waits : Thr
     → Corresponds (Lies lay known) lay.directory lay.size (shown new) known.world.heap
     → Stands first known lay Waits old → Stands first known lay Waits new
 stands_free first known lay Waits old new line word x puts inside free shows s =
-    stands_store first known known lay Waits old new line word x puts inside (keeps_same lay known known (record { durable = refl; sizes = sizes_refl known.world.heap }))
+    stands_store first known known lay Waits old new line word x puts inside
+    (keeps_same lay known known (record { durable = refl; sizes = sizes_refl known.world.heap }))
     s.orderly shows free.no_head (λ K c fewer left covered. covered)
     (λ K c d fewer left left_new others is covered.
     let lies : PlaceLies line word = InObject free.low in
     let logs_are = changed_logs first known lay K c d line word lies others covered in
-    covered_same_logs first known lay K c d logs_are (changed_front first known lay K c d line word lies others covered)
+    covered_same_logs first known lay K c d logs_are
+    (changed_front first known lay K c d line word lies others covered)
     (λ n durable. others (lay.line_of n) 0 (λ e f. free.no_head n durable (sym e) (sym f)))
-    (λ r low high. others (slot_line r) (slot_word r) (λ e. absurd (let l = free.low in omega (arith, e, l, high))))
-    (λ p kept at. place_still first known lay K c d logs_are (changed_front first known lay K c d line word lies others covered) p
-    (others (place_line lay known.world.heap p) (place_word known.world.heap p) (λ e f. free.no_place p kept (sym e) (sym f))) at)
+    (λ r low high. others (slot_line r) (slot_word r)
+    (λ e. absurd (let l = free.low in omega (arith, e, l, high))))
+    (λ p kept at. place_still first known lay K c d logs_are
+    (changed_front first known lay K c d line word lies others covered) p
+    (others (place_line lay known.world.heap p) (place_word known.world.heap p)
+    (λ e f. free.no_place p kept (sym e) (sym f))) at)
     covered)
     s
 
@@ -139,13 +150,16 @@ pub unguarded_survives : (known : Knowledge) (p : Place) (r : ℕ → Bool) (ms 
     → AllByRecursion (IsGuardedStore known) ms → guard_of known.guards p ≡ None
     → AllByRecursion (λ (m : Mark). stores_at p m.op ≡ true → survives r (λ t. true) m.fate ≡ true) ms
 unguarded_survives known p r [] all none = tt
-unguarded_survives known p r (m ∷ ms) all none = (λ is. one m.fate (λ t region. all.0 t p region is), unguarded_survives known p r ms all.1 none)
+unguarded_survives known p r (m ∷ ms) all none =
+    (λ is. one m.fate (λ t region. all.0 t p region is), unguarded_survives known p r ms all.1 none)
   where
-    one : (fate : Fate) → ((t : ℕ) → is_region_of t fate ≡ true → guard_of known.guards p ≡ Some t) → survives r (λ t. true) fate ≡ true
+    one : (fate : Fate) → ((t : ℕ) → is_region_of t fate ≡ true → guard_of known.guards p ≡ Some t)
+        → survives r (λ t. true) fate ≡ true
     one Sure guarded = refl
     one (Single u) guarded = refl
     one (Open u) guarded = absurd (let wrong : None ≡ Some u = sym none ∙ guarded u (eq-eqb u u refl) in cc)
-    one (Closing u) guarded = absurd (let wrong : None ≡ Some u = sym none ∙ guarded u (eq-eqb u u refl) in cc)
+    one (Closing u) guarded = absurd (let wrong : None ≡ Some u = sym none ∙ guarded u (eq-eqb u u refl) in
+        cc)
 
 -- a root slot of a kept place is in use
 pub root_used : (first : Heap) (known : Knowledge) (lay : Layout) (Waits : Threads) (m : Memory)
@@ -153,13 +167,13 @@ pub root_used : (first : Heap) (known : Knowledge) (lay : Layout) (Waits : Threa
     → (k : ℕ) → place_line lay known.world.heap p ≡ slot_line k → place_word known.world.heap p ≡ slot_word k
     → k < root_slots → k < length known.world.heap.roots
 root_used first known lay Waits m s (Static n) is k e f small =
-    let root = (and_parts (is_root known.world.heap.roots n) (has_place known.world.heap (Static n)) is).0 in
+    let root = (root_parts known n is).0 in
     let below = root_below known.world.heap.roots n root in
     let same : root_number known.world.heap.roots n ≡ k = omega (arith, e, f) in
     omega (arith, below, same)
 root_used first known lay Waits m s (Slot n i) is k e f small =
-    let durable = (and_parts (has_number known.durable n) (has_place known.world.heap (Slot n i)) is).0 in
-    let low = (s.shows.objects (lay.line_of n) n (rw (durable, eq-eqb (lay.line_of n) (lay.line_of n) refl) refl)).low in
+    let durable = (slot_parts known n i is).durable in
+    let low = (s.shows.objects (lay.line_of n) n (lies_there lay known n durable)).low in
     absurd (omega (arith, low, e, small))
 
 -- the words of an unused root slot and of a place are not the same

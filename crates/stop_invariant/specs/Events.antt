@@ -1,5 +1,5 @@
 -- What events do that make no store durable, as the layers below tell it.
-use Rattle.std.specs.Prelude.{◌≡◌, ◌⊎◌, ◌≢◌, ◌<◌, ◌≤◌, ℕ, true, List, []}
+use Rattle.std.specs.Prelude.{◌≡◌, ◌⊎◌, ◌≢◌, ◌<◌, ◌≤◌, ℕ, true, List}
 use Rattle.ap_base.specs.declared.place.Place.{Place}
 use Rattle.graph_model.specs.Heaps.{has_number}
 use Rattle.line_memory.specs.Memory.{Memory, shown, ReadsWord, Narrows, SameImage}

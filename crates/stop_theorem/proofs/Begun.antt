@@ -36,14 +36,14 @@ use Rattle.stop_theorem.proofs.Running.{run_starts}
 use Rattle.stop_theorem.proofs.Images.{R, words, where_lies, front_directory, opens, corresponds_back, unlogged}
 
 -- the words of an image of 32,768 lines as lines
-all_lines : Words → List (List ℕ)
+unfoldable pub all_lines : Words → List (List ℕ)
 all_lines c = map (λ l. map (c l) (range_with_len 0 8)) (range_with_len 0 32768)
 
-abbrev node_words : Words
+abbrev pub node_words : Words
 node_words = words (Object 0) 5 6 7 Null (Object 2) Null refl (refl, refl) (refl, refl)
     (refl, refl) refl refl refl
 
-memory : Memory
+unfoldable pub memory : Memory
 memory = record {
   lines = all_lines node_words;
   size = 32768;
@@ -118,24 +118,24 @@ unlogged_words : NoneLogged node_words
 unlogged_words = unlogged (Object 0) 5 6 7 Null (Object 2) Null refl (refl, refl) (refl, refl)
     (refl, refl) refl refl refl
 
-logs_same : SameLogs node_words (shown memory)
+pub logs_same : SameLogs node_words (shown memory)
 logs_same = record {
   counts = λ t below. none_logged t below ∙ sym (unlogged_words t below);
   entries = λ t n below before. (let none = unlogged_words t below in absurd (omega (arith, before, none)));
 }
 
-front_same : SameFront node_words (shown memory)
+pub front_same : SameFront node_words (shown memory)
 front_same = record {
   super = λ w small. shows_words 0 w (omega arith) (omega (arith, small));
   directory = λ i before. (let ten : i < 10 = before in
       shows_words (directory_line i) (directory_word i) (omega (arith, ten)) (omega arith));
 }
 
-words_same : SameWords R nodes_known.world.heap node_words (shown memory)
+pub words_same : SameWords R nodes_known.world.heap node_words (shown memory)
 words_same = record {
   heads = λ line n x. (let at = where_lies line n x in
       shows_words line 0 (omega (arith, at.0, at.1)) (omega arith));
-  slots = λ line n x i below. (let at = where_lies line n x in
+  slots = λ line n x i below kept. (let at = where_lies line n x in
       let two = slots_two n at.0 in
       shows_words (object_line line i) (object_word i) (omega (arith, at.0, at.1, below, two)) (omega arith));
   at_roots = λ r below. shows_words (slot_line r) (slot_word r) (omega (arith, below)) (omega arith);
@@ -159,7 +159,7 @@ used : shown memory 0 0 ≢ 0
 used e = (let no : magic ≡ 0 = sym (shows_words 0 0 (omega arith) (omega arith)) ∙ e in
     absurd (omega (arith, no)))
 
-size_is : memory.size ≡ 32768
+pub size_is : memory.size ≡ 32768
 unfolding memory
 size_is = refl
 
@@ -174,18 +174,19 @@ counts = refl
 durables : nodes_known.durable ≡ numbers_to (length graph.nodes)
 durables = ap numbers_to (sym one_node)
 
-pub run_begins : RunBegins
-run_begins =
+pub begun : (lay : Layout) × Runs nodes_known 32768 0 memory (at_start lay memory)
+begun =
     let found = starts_found nodes_known memory graph refl durables holds_graph root_slots_there
     (omega (arith, size_is)) used
     (subst (λ k. StandsFor k (shown memory) graph) (sym size_is) stands_now) none_logged
-    (λ l w below outside. durable l w) (λ t below. durable (log_head_line t) 0) in
-    record {
-      layout = found.0;
-      memory = memory;
-      runs = subst (λ k. Runs nodes_known k 0 memory (at_start found.0 memory)) (found.1 ∙ size_is)
-          (run_starts nodes_known found.0 0 memory found.2 tells counts);
-    }
+    (λ l w below outside. durable l w) (λ t below. durable (log_head_line t) 0) in (
+      found.0,
+      subst (λ k. Runs nodes_known k 0 memory (at_start found.0 memory)) (found.1 ∙ size_is)
+          (run_starts nodes_known found.0 0 memory found.2 tells counts),
+    )
+
+pub run_begins : RunBegins
+run_begins = record { layout = begun.0; memory = memory; runs = begun.1 }
 
 -- ---- one store
 
@@ -271,9 +272,9 @@ all_eights c = All-from_get_or (λ (line : List ℕ). length line ≡ 8)
     (λ k. map (c k) (range_with_len 0 8)) 0 32768 i i [] inside (omega arith))
     ∙ length-map-range_with_len (c i) 0 8)
 
-is_counted : IsCounted stored.image
-unfolding memory stored all_lines
-is_counted = record {
+pub counted : IsCounted memory.image
+unfolding memory all_lines
+counted = record {
   fits = omega arith;
   order = record {
     lines = length-map-range_with_len (λ k. map (node_words k) (range_with_len 0 8)) 0 32768;
@@ -282,15 +283,23 @@ is_counted = record {
   };
 }
 
-small : stored.calls < 2 ^ 64
-unfolding memory stored
+pub small : memory.calls < 2 ^ 64
+unfolding memory
 small = omega arith
+
+stored_counted : IsCounted stored.image
+unfolding stored
+stored_counted = counted
+
+stored_small : stored.calls < 2 ^ 64
+unfolding stored
+stored_small = small
 
 pub one_store : OneStoreIsFenced
 unfolding run_begins
 one_store =
     let start = at_start run_begins.layout run_begins.memory in
-    let fences = lines_may_be_fenced stored 1 is_counted small in
+    let fences = lines_may_be_fenced stored 1 stored_counted stored_small in
     record {
       state = start;
       stored = stored;

@@ -12,7 +12,7 @@ use Rattle.line_memory.proofs.Keeps.{write_keeps, fence_keeps}
 use Rattle.stop_theorem.specs.Given.{WroteBack, FencedAll, LinesMayBeFenced}
 
 -- the memory after one call that did this
-abbrev after_call : Done → Memory → Memory
+abbrev pub after_call : Done → Memory → Memory
 after_call done m = record m {
   calls = next_count m.calls;
   image = record m.image {
@@ -64,7 +64,7 @@ wrote_back m line counted fits = record {
   written = λ w. reads_written m.image.trace line w (next_count m.image.calls) (line_shown m line);
 }
 
-fenced_all : (m : Memory) → IsCounted m.image → m.calls < 2 ^ 64 → FencedAll m (after_call Fenced m)
+pub fenced_all : (m : Memory) → IsCounted m.image → m.calls < 2 ^ 64 → FencedAll m (after_call Fenced m)
 unfolding line_shown
 fenced_all m counted fits = record {
   fits = fits;

@@ -4,37 +4,28 @@ use Rattle.ap_base.specs.declared.place.Place.TheVariants.{Static, Slot}
 use Rattle.image_layout.specs.Places.{logs, log_head_line, directory_line, directory_word}
 use Rattle.image_meaning.specs.Logs.{is_log_line}
 use Rattle.image_meaning.proofs.Standing.{use-within}
-use Rattle.run_history.specs.Worlds.{has_place}
-use Rattle.run_history.specs.Knowing.{is_root}
-use Rattle.run_history.proofs.Sizes.{there}
 use Rattle.stop_invariant.specs.Layouts.{is_kept_place}
 use Rattle.stop_invariant.specs.Events.{ShowsKnown, line_at, word_at}
 use Rattle.stop_invariant.proofs.Stored.{root_below}
 use Rattle.std.proofs.Common.{◌≡◌, ◌≢◌, inl, inr, ℕ, zero, suc, ◌<◌, ◌≤◌, ◌==◌, Bool, true, false, ◌||◌, List, [], ◌∷◌, ◌++◌, length, refl, sym, ◌∙◌, ap, arith, nat_eq, slice_index_or}
 use Rattle.std.proofs.lemmas.Bool.{cases_Bool, cases_eq, true≢false, and_parts, eqb-true, eq-eqb}
 use Rattle.std.proofs.lemmas.List.{length-map}
-use Rattle.ap_base.specs.declared.kind.Kind.TheVariants.{L}
-use Rattle.graph_model.specs.declared.types.Value.TheVariants.{Null}
 use Rattle.graph_model.specs.declared.types.Graph.{Graph}
-use Rattle.graph_model.specs.declared.types.Heap.{Heap}
-use Rattle.graph_model.specs.Heaps.{has_number, values_of}
+use Rattle.graph_model.specs.Heaps.{has_number}
 use Rattle.line_memory.specs.Memory.{Memory, shown, IsDurable}
 use Rattle.image_layout.specs.Places.{slot_line, slot_word, object_line, object_word}
-use Rattle.image_meaning.specs.Checks.{Words}
-use Rattle.image_meaning.specs.Directories.{Directory}
 use Rattle.image_meaning.specs.Logs.{put_back, NoneLogged}
-use Rattle.image_meaning.specs.Objects.{kind_of, shape_of, object_slot}
-use Rattle.image_meaning.specs.Meaning.{StandsFor, root_word, node_at}
-use Rattle.image_meaning.specs.Corresponds.{LiesAt, Corresponds, root_value_at}
+use Rattle.image_meaning.specs.Meaning.{StandsFor, node_at}
+use Rattle.image_meaning.specs.Corresponds.{Corresponds}
 use Rattle.image_meaning.specs.Opening.{HoldsGraph, found_at}
-use Rattle.image_meaning.proofs.Changes.{corresponds-same}
+use Rattle.image_meaning.proofs.Changes.{corresponds-same, corresponds-along}
 use Rattle.image_meaning.proofs.Logs.{put_back-none, not_log_after, not_log_before}
 use Rattle.image_meaning.proofs.Standings.{standing-found}
 use Rattle.run_history.specs.Knowing.{Knowledge}
 use Rattle.plain_model.specs.First.{numbers_to}
 use Rattle.stop_invariant.specs.Layouts.{Layout, Lies, HasRootSlots}
 use Rattle.stop_theorem.specs.Starts.{Starts}
-use Rattle.stop_invariant.proofs.Held.{holds_too}
+use Rattle.stop_invariant.proofs.KeptPlaces.{slot_parts, root_parts, lies_there}
 
 -- ---- the numbers below one
 
@@ -66,32 +57,6 @@ below_numbers (suc k) n below = has_push (numbers_to k) k n ∙ elim (cases_eq k
     or_true true = refl
     or_true false = refl
 
--- ---- the same objects at the same lines
-
-other_relation : (R Q : LiesAt) → ((line n : ℕ) → R line n → Q line n) → ((line n : ℕ) → Q line n → R line n)
-    → (directory : Directory) (size : ℕ) (words : Words) (heap : Heap)
-    → Corresponds R directory size words heap → Corresponds Q directory size words heap
-other_relation R Q to back directory size words heap k = record {
-  one_object = λ line m n x y. k.one_object line m n (back line m x) (back line n y);
-  one_line = λ a b n x y. k.one_line a b n (back a n x) (back b n y);
-  objects = λ line n y. let o = k.objects line n (back line n y) in record {
-    there = o.there;
-    known = o.known;
-    shape = o.shape;
-    count = o.count;
-    full = o.full;
-    low = o.low;
-    high = o.high;
-    slots = λ i h. holds_too R Q to (kind_of (shape_of directory.shapes words line) i)
-        (object_slot words line i) (slice_index_or (values_of heap n) i Null) (o.slots i h);
-  };
-  apart = λ a b m n x y ne. k.apart a b m n (back a m x) (back b n y) ne;
-  few = k.few;
-  names = k.names;
-  at_roots = λ r h. holds_too R Q to L (root_word words r) (root_value_at heap r) (k.at_roots r h);
-  unused = k.unused;
-}
-
 -- ---- words that are durable
 
 -- each word outside the logs
@@ -102,7 +67,7 @@ head_durable : (known : Knowledge) (lay : Layout) (m : Memory) → m.size ≡ la
     → DurableOutside m
     → (n : ℕ) → has_number known.durable n ≡ true → IsDurable m (lay.line_of n) 0
 head_durable known lay m size shows durable n is =
-    let o = shows.objects (lay.line_of n) n (rw (is, eq-eqb (lay.line_of n) (lay.line_of n) refl) refl) in
+    let o = shows.objects (lay.line_of n) n (lies_there lay known n is) in
     durable (lay.line_of n) 0 (let high = o.high in omega (arith, high, size))
     (not_log_after (lay.line_of n) o.low)
 
@@ -111,16 +76,15 @@ place_durable : (known : Knowledge) (lay : Layout) (m : Memory) → m.size ≡ l
     → DurableOutside m → (p : Place) → is_kept_place known p ≡ true
     → IsDurable m (line_at lay known p) (word_at known p)
 place_durable known lay m size big shows durable (Static n) is =
-    let root = (and_parts (is_root known.world.heap.roots n) (has_place known.world.heap (Static n)) is).0 in
+    let root = (root_parts known n is).0 in
     let below = root_below known.world.heap.roots n root in
     let few = shows.few in
     durable (line_at lay known (Static n)) (word_at known (Static n)) (omega (arith, below, few, big))
     (not_log_before (line_at lay known (Static n)) (omega (arith, below, few)))
 place_durable known lay m size big shows durable (Slot n i) is =
-    let parts = and_parts (has_number known.durable n) (has_place known.world.heap (Slot n i)) is in
-    let inside = (there known.world.heap (Slot n i) parts.1).1 in
-    let o = shows.objects (lay.line_of n) n (rw
-    (parts.0, eq-eqb (lay.line_of n) (lay.line_of n) refl) refl) in
+    let slot = slot_parts known n i is in
+    let inside = slot.inside in
+    let o = shows.objects (lay.line_of n) n (lies_there lay known n slot.durable) in
     durable (line_at lay known (Slot n i)) (word_at known (Slot n i))
     (let high = o.high in omega (arith, high, inside, size))
     (not_log_after (line_at lay known (Slot n i)) (let low = o.low in omega (arith, low)))
@@ -150,13 +114,15 @@ starts_found known m graph no_marks durables holds roots big used stand unlogged
     (shown m) known.world.heap back_words (record {
       heads = λ line n y. sym (put_back-none (shown m) unlogged line 0
           (not_log_after line (back_words.objects line n y).low));
-      slots = λ line n y i below. sym (put_back-none (shown m) unlogged (object_line line i) (object_word i)
+      slots = λ line n y i below kept. sym (put_back-none (shown m) unlogged (object_line line i)
+          (object_word i)
           (not_log_after (object_line line i) (let low = (back_words.objects line n y).low in
           omega (arith, low))));
       at_roots = λ r below. sym (put_back-none (shown m) unlogged (slot_line r) (slot_word r)
           (not_log_before (slot_line r) (omega (arith, below))));
     }) in
-    let shows : ShowsKnown lay known m = other_relation (found_at lines) (Lies lay known)
+    let shows : ShowsKnown lay known m = corresponds-along (found_at lines) (Lies lay known)
+    found.directory m.size (shown m) known.world.heap
     (λ line n y. let below : n < length graph.nodes = (let b = y.0 in omega (arith, b, many)) in
     let has : has_number known.durable n ≡ true = ap (λ ns. has_number ns n) durables
     ∙ below_numbers (length graph.nodes) n below in
@@ -164,7 +130,7 @@ starts_found known m graph no_marks durables holds roots big used stand unlogged
     (λ line n y. let parts = and_parts (has_number known.durable n) (slice_index_or lines n 0 == line) y in
     let below = numbers_below (length graph.nodes) n (ap (λ ns. has_number ns n) (sym durables) ∙ parts.0) in
     (omega (arith, below, many), eqb-true (slice_index_or lines n 0) line parts.1))
-    found.directory m.size (shown m) known.world.heap plain in (
+    plain in (
       lay,
       refl,
       record {

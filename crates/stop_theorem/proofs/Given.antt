@@ -15,21 +15,22 @@ use Rattle.run_history.specs.declared.act.Op.TheVariants as op
 use Rattle.run_history.specs.Knowing.{Knowledge, Fate, Unfenced, is_single, unfenced_at, owes_fence, known_after_op}
 use Rattle.run_history.specs.Laws.{IsSingleStore}
 use Rattle.run_history.proofs.Grown.{known_after-append}
-use Rattle.run_history.proofs.Sizes.{stored-sizes, sizes_refl}
+use Rattle.run_history.proofs.Sizes.{stored-sizes}
 use Rattle.kept_places.specs.Choices.{with_thread}
 use Rattle.stop_invariant.specs.Layouts.{Layout}
 use Rattle.stop_invariant.specs.Stops.{regions_of}
-use Rattle.stop_invariant.specs.Events.{Puts, known_by, line_at, word_at, ShowsKnown}
-use Rattle.stop_invariant.proofs.Places.{line_same, word_same, keeps_same}
+use Rattle.stop_invariant.specs.Events.{Puts, known_by, line_at, word_at}
+use Rattle.stop_invariant.proofs.Places.{line_same, word_same}
 use Rattle.store_stops.proofs.Fencing.{after_fence}
 use Rattle.region_stops.specs.Laws.{number_of}
-use Rattle.stop_theorem.specs.Conditions.{AtEachStop, IsSureAct, StoresAt, IsWrittenBack, RaisesCount}
-use Rattle.stop_theorem.specs.Running.{State, known_at, act_now, with_act, with_memory, Event, Events, none, more, Called, Acted, SingleStored, Written, Fenced, LogWordStored, CountRaised, RegionStored, Closing, CountLowered, Ended}
+use Rattle.stop_theorem.specs.Conditions.{AtEachStop, StoresAt, IsWrittenBack, RaisesCount}
+use Rattle.stop_theorem.specs.Running.{State, known_at, act_now, with_act, with_memory, Event, Events, none, more, Called, SingleStored, Written, Fenced, LogWordStored, CountRaised, RegionStored, Closing, CountLowered, Ended}
+use Rattle.stop_theorem.proofs.Quiet.{quiet_acts}
 use Rattle.stop_theorem.specs.Given.{WroteBack, WroteAndFenced, with_fenced_store, FencedStoresAreEvents, BeginIsAnEvent, IsDurableLog, ShowsEntry, EntryWordsAreEvents, CountedEntriesAreEvents, RegionStoresAreEvents, ClosingIsAnEvent, EmptiedLogsAreEvents, EndedRegionsAreEvents}
 
 -- ---- calls
 
-called : (first : Knowledge) (s : State) (new : Memory) → KeepsShown s.memory new → OneCall s.memory new
+pub called : (first : Knowledge) (s : State) (new : Memory) → KeepsShown s.memory new → OneCall s.memory new
     → s.memory.calls < 2 ^ 64
     → Event first s (with_memory s new)
 called first s new keeps count fits = Called s new keeps (inr count) (omega (arith, count.calls, fits))
@@ -44,7 +45,7 @@ wrote_and_fenced first s line new w =
     (called first (with_memory s w.between) new w.fences.keeps w.fences.count w.fences.fits)
 
 -- what is shown, and what is durable, stays
-shown_stays : (old new : Memory) → KeepsShown old new → (l w : ℕ) → l < old.size
+pub shown_stays : (old new : Memory) → KeepsShown old new → (l w : ℕ) → l < old.size
     → shown new l w ≡ shown old l w
 shown_stays old new keeps l w below =
     keeps.shows l w (inl (every_line_is_resident old l below))
@@ -142,22 +143,8 @@ fenced_stores first s stored fenced t p v x stores outside w =
 
 -- ---- regions
 
-begin_is_sure : (known : Knowledge) (lay : Layout) (m : Memory) (t at : ℕ) → ShowsKnown lay known m
-    → IsSureAct known (known_by known t at op.Begin []) lay m t op.Begin
-unfolding known_after_op
-begin_is_sure known lay m t at shows = record {
-  rule = tt;
-  places = keeps_same lay known (known_by known t at op.Begin [])
-      (record { durable = refl; sizes = sizes_refl known.world.heap });
-  marks = refl;
-  guards = λ p u guard. guard;
-  elsewhere = λ p kept. refl;
-  shows = shows;
-}
-
 pub begin_is : BeginIsAnEvent
-begin_is first s t shows =
-    Acted s t op.Begin [] (begin_is_sure (known_at first s) s.layout s.memory t s.memory.calls shows)
+begin_is first s t shows = quiet_acts first s t op.Begin tt shows
 
 log_same : (c d : Words) (t : ℕ) → log_count c t ≡ log_count d t
     → ((i : ℕ) → i < log_count d t → logged_at c t i ≡ logged_at d t i) → log_of c t ≡ log_of d t

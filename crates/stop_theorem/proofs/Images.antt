@@ -78,6 +78,10 @@ where_lies line n h =
     let parts = and_parts (nat_lt n 3) (nat_eq line (first_object_line + n)) h in
     (ltb-true n 3 parts.0, eqb-true line (first_object_line + n) parts.1)
 
+pub lies_so : (line n : ℕ) → n < 3 → line ≡ first_object_line + n → R line n
+unfolding lies
+lies_so line n below at = rw (lt-ltb n 3 below, eq-eqb line (first_object_line + n) at) refl
+
 module _ (root : Value) (i0 i1 i2 : ℕ) (r0 r1 r2 : Value) (at : refers root ≡ true)
     (n0 : HoldsNumber I i0 (Int (pos i0))) (n1 : HoldsNumber I i1 (Int (pos i1)))
     (n2 : HoldsNumber I i2 (Int (pos i2))) (h0 : refers r0 ≡ true) (h1 : refers r1 ≡ true)
@@ -132,7 +136,7 @@ module _ (root : Value) (i0 i1 i2 : ℕ) (r0 r1 r2 : Value) (at : refers root �
     full = refl;
     low = omega arith;
     high = omega arith;
-    slots = λ i small. subst (λ w. Holds R (kind_of node i) w
+    slots = λ i small kept. subst (λ w. Holds R (kind_of node i) w
         (slice_index_or (Int (pos i0) ∷ r0 ∷ []) i Null)) (sym (slot_word_is 20577 i0 r0 (λ w. refl) i small))
         (slots_at i0 r0 n0 h0 i small);
   }
@@ -144,7 +148,7 @@ module _ (root : Value) (i0 i1 i2 : ℕ) (r0 r1 r2 : Value) (at : refers root �
     full = refl;
     low = omega arith;
     high = omega arith;
-    slots = λ i small. subst (λ w. Holds R (kind_of node i) w
+    slots = λ i small kept. subst (λ w. Holds R (kind_of node i) w
         (slice_index_or (Int (pos i1) ∷ r1 ∷ []) i Null)) (sym (slot_word_is 20578 i1 r1 (λ w. refl) i small))
         (slots_at i1 r1 n1 h1 i small);
   }
@@ -156,7 +160,7 @@ module _ (root : Value) (i0 i1 i2 : ℕ) (r0 r1 r2 : Value) (at : refers root �
     full = refl;
     low = omega arith;
     high = omega arith;
-    slots = λ i small. subst (λ w. Holds R (kind_of node i) w
+    slots = λ i small kept. subst (λ w. Holds R (kind_of node i) w
         (slice_index_or (Int (pos i2) ∷ r2 ∷ []) i Null)) (sym (slot_word_is 20579 i2 r2 (λ w. refl) i small))
         (slots_at i2 r2 n2 h2 i small);
   }
@@ -197,7 +201,7 @@ module _ (root : Value) (i0 i1 i2 : ℕ) (r0 r1 r2 : Value) (at : refers root �
   at_root zero below = ref_holds root at
   at_root (suc r) below = absurd (omega (arith, below))
 
-  corresponds : Corresponds R front_directory 32768 words heap
+  pub corresponds : Corresponds R front_directory 32768 words heap
   corresponds = record {
     one_object = λ line m n x y. (let a = (where_lies line m x).1 in let b = (where_lies line n y).1 in
         omega (arith, a, b));
@@ -215,7 +219,7 @@ module _ (root : Value) (i0 i1 i2 : ℕ) (r0 r1 r2 : Value) (at : refers root �
   same = record {
     heads = λ line n x. (let at = where_lies line n x in
         put_back-none words unlogged line 0 (not_log_after line (omega (arith, at.1))));
-    slots = λ line n x i below. (let at = where_lies line n x in
+    slots = λ line n x i below kept. (let at = where_lies line n x in
         put_back-none words unlogged (object_line line i) (object_word i)
         (not_log_after (object_line line i) (omega (arith, at.1))));
     at_roots = λ r below. put_back-none words unlogged (slot_line r) (slot_word r)

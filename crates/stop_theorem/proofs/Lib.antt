@@ -1,10 +1,15 @@
 pub mod Begun
+pub mod Copies
 pub mod Fenced
 pub mod Found
 pub mod Given
+pub mod Groups
 pub mod Images
 pub mod Moments
+pub mod Quiet
 pub mod Recovered
 pub mod Running
+pub mod Sealing
 pub mod Starting
+pub mod WrittenLines
 pub mod WrongOrders

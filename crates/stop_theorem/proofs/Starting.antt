@@ -1,9 +1,9 @@
 -- A run starts in the invariant.
 use Rattle.std.proofs.Common.{◌≡◌, ℕ, true, false, Some, None, refl, sym, ◌∙◌, ap, subst, arith}
-use Rattle.std.proofs.lemmas.Bool.{and_parts, eq-eqb}
+use Rattle.std.proofs.lemmas.Bool.{eq-eqb}
 use Rattle.ap_base.specs.declared.place.Place.{Place}
 use Rattle.ap_base.specs.declared.place.Place.TheVariants.{Static, Slot}
-use Rattle.graph_model.specs.Heaps.{has_number, value_at}
+use Rattle.graph_model.specs.Heaps.{value_at}
 use Rattle.line_image.specs.Trace.{Outcome}
 use Rattle.line_memory.specs.Memory.{Memory, IsDurable, shown, CanLeaveAll}
 use Rattle.image_layout.specs.Places.{slot_line, slot_word, directory_line, directory_word, log_head_line}
@@ -12,8 +12,7 @@ use Rattle.image_meaning.specs.Laws.{SameFront}
 use Rattle.image_meaning.specs.Corresponds.{Holds}
 use Rattle.image_meaning.proofs.Logs.{put_back-none, not_log_after, not_log_before}
 use Rattle.image_meaning.proofs.Opened.{opens-same}
-use Rattle.run_history.specs.Worlds.{has_place}
-use Rattle.run_history.specs.Knowing.{Knowledge, is_root}
+use Rattle.run_history.specs.Knowing.{Knowledge}
 use Rattle.kept_places.specs.Choices.{Threads, NoThread, AllKept, left_heap}
 use Rattle.kept_places.specs.Orderly.{IsOrderly}
 use Rattle.stop_invariant.specs.Layouts.{Layout, Lies, place_line, place_word, place_kind, is_kept_place}
@@ -22,6 +21,7 @@ use Rattle.stop_theorem.specs.Starts.{Starts}
 use Rattle.stop_invariant.proofs.Apart.{places_apart, heads_apart}
 use Rattle.stop_invariant.proofs.Stored.{root_below}
 use Rattle.stop_invariant.proofs.Held.{holds_shown}
+use Rattle.stop_invariant.proofs.KeptPlaces.{slot_parts, root_parts, lies_there}
 
 module _ (known : Knowledge) (lay : Layout) (m : Memory) (s : Starts known lay m) (K : Threads) (c : Outcome)
     (left : CanLeaveAll m c) where
@@ -46,15 +46,13 @@ module _ (known : Knowledge) (lay : Layout) (m : Memory) (s : Starts known lay m
   line_outside : (p : Place) → is_kept_place known p ≡ true
       → is_log_line (place_line lay known.world.heap p) ≡ false
   line_outside (Static n) is =
-      let root = (and_parts (is_root known.world.heap.roots n)
-      (has_place known.world.heap (Static n)) is).0 in
+      let root = (root_parts known n is).0 in
       let below = root_below known.world.heap.roots n root in
       let few = s.shows.few in
       not_log_before (place_line lay known.world.heap (Static n)) (omega (arith, below, few))
   line_outside (Slot n i) is =
-      let parts = and_parts (has_number known.durable n) (has_place known.world.heap (Slot n i)) is in
       let o = s.shows.objects (lay.line_of n) n
-      (rw (parts.0, eq-eqb (lay.line_of n) (lay.line_of n) refl) refl) in
+      (lies_there lay known n (slot_parts known n i is).durable) in
       not_log_after (place_line lay known.world.heap (Slot n i)) (let low = o.low in omega (arith, low))
 
   covered_first : IsCovered known.world.heap known lay K c

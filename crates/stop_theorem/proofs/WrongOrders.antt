@@ -192,7 +192,7 @@ sealed_alone lay new m t at joins =
     (λ (shape : Shape). kind_of shape 1) object.shape in
     let holds = subst (λ (k : Kind). Holds (Lies new
     (joined (known_after nodes_known (does (op.Asked (Static 0) (Object 1)) ∷ [])) t at (1 ∷ []))) k
-    (object_slot (shown m) line 1) (Object 2)) kind (object.slots 1 (omega arith)) in
+    (object_slot (shown m) line 1) (Object 2)) kind (object.slots 1 (omega arith) refl) in
     let no = holds.2 in cc
 
 pub wrong_orders : WrongOrdersAreRefused

@@ -1,5 +1,6 @@
 pub mod Conditions
 pub mod Given
+pub mod GivenCopies
 pub mod Laws
 pub mod Moments
 pub mod Running

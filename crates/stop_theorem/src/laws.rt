@@ -1,6 +1,7 @@
 //! The stop theorem. Each function states a part of it in its contract, and does nothing.
 ghost use Rattle.stop_theorem.specs.Laws.{CallsKeepMoments, StoresKeepMoments, ActsKeepMoments, StartsStand, RecoveryKeepsAllowed, FoundImagesStart};
 ghost use Rattle.stop_theorem.specs.Given.{FencedStoresAreEvents, LinesMayBeFenced, RunBegins, OneStoreIsFenced, BeginIsAnEvent, EntryWordsAreEvents, CountedEntriesAreEvents, RegionStoresAreEvents, ClosingIsAnEvent, EmptiedLogsAreEvents, EndedRegionsAreEvents};
+ghost use Rattle.stop_theorem.specs.GivenCopies.{FreeStoresAreEvents, QuietActsAreEvents, WrittenLinesAreEvents, FencedGroupsAreEvents, OneGroupIsSealed};
 ghost use Rattle.stop_theorem.specs.WrongOrders.{WrongOrdersAreRefused};
 ghost use Rattle.stop_theorem.specs.Running.{RunsStart, EventsKeep, EveryStopIsAllowed, EventsKeepWhereTold, RunningStopsAreAllowed};
 
@@ -32,12 +33,18 @@ pub fn every_stop_is_allowed()
 {}
 
 /// Stores, write-backs and fences that succeed are events: of a durable store outside regions with its
-/// fence, and of a region, from the words of an entry to its end.
+/// fence, of a region, from the words of an entry to its end, and of copies, from their words to the
+/// group that is sealed. So is each act that changes no durable place.
 pub fn what_layers_do_are_events()
     ensures stored { FencedStoresAreEvents }
     ensures lines { LinesMayBeFenced }
     ensures start { RunBegins }
     ensures one { OneStoreIsFenced }
+    ensures free { FreeStoresAreEvents }
+    ensures acts { QuietActsAreEvents }
+    ensures written { WrittenLinesAreEvents }
+    ensures group { FencedGroupsAreEvents }
+    ensures sealed { OneGroupIsSealed }
     ensures begun { BeginIsAnEvent }
     ensures entry { EntryWordsAreEvents }
     ensures counted { CountedEntriesAreEvents }

@@ -1,7 +1,7 @@
 -- A group of objects becomes durable, all of whose words are durable and refer to durable objects alone.
 use Rattle.std.proofs.Common.{◌≡◌, inl, inr, ℕ, ◌≤◌, ◌==◌, Bool, true, false, ◌||◌, List, [], ◌∷◌, ◌++◌, None, refl, sym, ◌∙◌, ap, subst, arith, nat_eq}
 use Rattle.std.specs.List.{AllByRecursion}
-use Rattle.std.proofs.lemmas.Bool.{cases_Bool, true≢false, and_parts, eq-eqb}
+use Rattle.std.proofs.lemmas.Bool.{cases_Bool, true≢false, and_parts}
 use Rattle.ap_base.specs.declared.place.Place.{Place}
 use Rattle.ap_base.specs.declared.place.Place.TheVariants.{Static, Slot}
 use Rattle.graph_model.specs.declared.types.Heap.{Heap}
@@ -12,22 +12,23 @@ use Rattle.image_layout.specs.Places.{logs, first_object_line, object_line}
 use Rattle.image_meaning.specs.Logs.{put_back}
 use Rattle.image_meaning.specs.Corresponds.{Holds}
 use Rattle.image_meaning.specs.Laws.{Opens}
+use Rattle.image_meaning.proofs.Changes.{holds_too}
 use Rattle.image_meaning.proofs.Logs.{not_log_after}
 use Rattle.image_meaning.proofs.Recovering.{some_or}
 use Rattle.image_meaning.proofs.Naming.{below_some}
 use Rattle.run_history.specs.declared.act.Op.TheVariants as op
-use Rattle.run_history.specs.Worlds.{has_place}
-use Rattle.run_history.specs.Knowing.{Sure, Mark, Knowledge, durable_at, with_sure, known_after_op, next_known}
+use Rattle.run_history.specs.Knowing.{Sure, Mark, Knowledge, with_sure, known_after_op, next_known}
 use Rattle.run_history.specs.Kept.{survives}
 use Rattle.kept_places.specs.Choices.{Threads, NoThread, MayHave, AllKept}
-use Rattle.kept_places.specs.Orderly.{IsSureElsewhere, IsOrderly}
+use Rattle.kept_places.specs.Orderly.{is_among_durable, IsSureElsewhere, IsOrderly}
 use Rattle.kept_places.proofs.Having.{having_elsewhere, having_whole}
 use Rattle.kept_places.proofs.Marks.{all_sure}
 use Rattle.stop_invariant.specs.Layouts.{Layout, Lies, place_line, place_word, place_kind, is_kept_place}
 use Rattle.stop_invariant.specs.Stops.{regions_of, named_in, keeps_of, PlaceIsCovered, IsCovered, Stands}
 use Rattle.stop_invariant.proofs.Acting.{kept_there, act_of, order_by}
 use Rattle.stop_invariant.proofs.Stored.{put_back_plain}
-use Rattle.stop_invariant.proofs.Held.{holds_shown, holds_too}
+use Rattle.stop_invariant.proofs.Held.{holds_shown}
+use Rattle.stop_invariant.proofs.KeptPlaces.{slot_parts, slot_has, lies_there}
 use Rattle.stop_invariant.proofs.Apart.{places_apart, heads_apart}
 use Rattle.store_stops.specs.Events.{Joins}
 use Rattle.store_stops.specs.Laws.{JoinsKeep}
@@ -38,7 +39,8 @@ has_more (k ∷ ns) ms n is = elim (nat_eq k n) as (λ b. (b || has_number ns n)
     → (b || has_number (ns ++ ms) n) ≡ true) [ true ↦ λ _. refl | false ↦ λ rest. has_more ns ms n rest ] is
 
 kept_elsewhere : (r : ℕ → Bool) (p : Place) (known : Knowledge) (ms : List Mark)
-    → AllByRecursion (IsSureElsewhere known) ms → durable_at known p ≡ false → AllKept r p ms
+    → AllByRecursion (IsSureElsewhere known) ms
+    → is_among_durable known.world.heap known.durable p ≡ false → AllKept r p ms
 kept_elsewhere r p known [] all isnt = tt
 kept_elsewhere r p known (m ∷ ms) all isnt =
     (λ is. ap (λ fate. survives r (λ t. true) fate) (all.0 p is isnt), kept_elsewhere r p known ms all.1 isnt)
@@ -57,14 +59,14 @@ module _ (first : Heap) (known : Knowledge) (lay new : Layout) (Waits : Threads)
   kept_too : (p : Place) → is_kept_place known p ≡ true → is_kept_place next p ≡ true
   unfolding known_after_op
   kept_too (Static n) is = is
-  kept_too (Slot n i) is = let parts = and_parts (has_number known.durable n)
-      (has_place known.world.heap (Slot n i)) is in rw (has_more known.durable named n parts.0, parts.1) refl
+  kept_too (Slot n i) is =
+      let slot = slot_parts known n i is in
+      slot_has next n i slot.mark (has_more known.durable named n slot.durable) slot.has
 
   line_too : (p : Place) → is_kept_place known p ≡ true
       → place_line new known.world.heap p ≡ place_line lay known.world.heap p
   line_too (Static n) is = refl
-  line_too (Slot n i) is = let parts = and_parts (has_number known.durable n)
-      (has_place known.world.heap (Slot n i)) is in ap (λ l. object_line l i) (joins.lines n parts.0)
+  line_too (Slot n i) is = ap (λ l. object_line l i) (joins.lines n (slot_parts known n i is).durable)
 
   lies_too : (line n : ℕ) → Lies lay known line n → Lies new next line n
   unfolding known_after_op
@@ -81,15 +83,14 @@ module _ (first : Heap) (known : Knowledge) (lay new : Layout) (Waits : Threads)
 
   -- a place that wasn't kept is a slot of a new object
   not_durable : (p : Place) → is_kept_place next p ≡ true → is_kept_place known p ≡ false
-      → durable_at known p ≡ false
+      → is_among_durable known.world.heap known.durable p ≡ false
   unfolding known_after_op
   not_durable (Static n) is isnt = absurd (true≢false (sym is ∙ isnt))
   not_durable (Slot n i) is isnt = elim (cases_Bool (has_number known.durable n)) [
     | inr none ↦ none
     | inl some ↦ (
-        let there = (and_parts (has_number next.durable n) (has_place known.world.heap (Slot n i)) is).1 in
-        let kept : is_kept_place known (Slot n i) ≡ true = rw (some, there) refl in
-        absurd (true≢false (sym kept ∙ isnt)))
+        let slot = slot_parts next n i is in
+        absurd (true≢false (sym (slot_has known n i slot.mark some slot.has) ∙ isnt)))
   ]
 
   place_far : (p : Place) → is_kept_place next p ≡ true → is_kept_place known p ≡ false
@@ -97,9 +98,8 @@ module _ (first : Heap) (known : Knowledge) (lay new : Layout) (Waits : Threads)
   unfolding known_after_op
   place_far (Static n) is isnt = absurd (true≢false (sym is ∙ isnt))
   place_far (Slot n i) is isnt =
-      let durable = (and_parts (has_number next.durable n) (has_place known.world.heap (Slot n i)) is).0 in
       let low = (joins.shows.objects (new.line_of n) n
-      (rw (durable, eq-eqb (new.line_of n) (new.line_of n) refl) refl)).low in
+      (lies_there new next n (slot_parts next n i is).durable)).low in
       omega (arith, low)
 
   module _ (K : Threads) (c : Outcome) (left : CanLeaveAll m c)
@@ -130,8 +130,7 @@ module _ (first : Heap) (known : Knowledge) (lay new : Layout) (Waits : Threads)
         → put_back c (new.line_of n) 0 ≡ new.head n
     unfolding known_after_op
     new_head n is isnt =
-        let low = (joins.shows.objects (new.line_of n) n
-        (rw (is, eq-eqb (new.line_of n) (new.line_of n) refl) refl)).low in
+        let low = (joins.shows.objects (new.line_of n) n (lies_there new next n is)).low in
         let none = unnamed_word (new.line_of n) 0
         (λ q kept line word. heads_apart next new (shown m) joins.shows q n (kept_too q kept) is
         (sym line) (sym word)) in

@@ -6,5 +6,6 @@ use Rattle.kept_places.proofs.laws.plain_runs_are_orderly.Goals as goal
 
 pub returns : goal.returns
 returns c _ set main opening code acts run =
-    orderly_run set main opening code (first_known set opening).world.heap (first_known set opening) (code.main_frames ∷ []) NoWish acts
+    orderly_run set main opening code (first_known set opening).world.heap (first_known set opening)
+    (code.main_frames ∷ []) NoWish acts
     (orderly_first (first_known set opening) refl) run

@@ -4,7 +4,8 @@ use Rattle.stop_invariant.proofs.Visible.{stands_sure, guards_keep, keeps_fresh}
 use Rattle.stop_invariant.proofs.laws.quiet_events_keep_stops.Goals as goal
 
 pub returns-clause-calls : goal.returns-clause-calls
-returns-clause-calls c first known lay Waits old new enough calls s = stands_call first known lay Waits old new s calls enough
+returns-clause-calls c first known lay Waits old new enough calls s =
+    stands_call first known lay Waits old new s calls enough
 
 pub returns-clause-free : goal.returns-clause-free
 returns-clause-free c = free_keeps

@@ -6,7 +6,8 @@ use Rattle.stop_theorem.proofs.laws.events_keep_moments.Goals as goal
 
 pub returns-clause-calls : goal.returns-clause-calls
 returns-clause-calls c first lay Waits begin start acts old new s safe goes counts on =
-    safe_call (λ done d. IsAllowedImage first lay.size done d) begin start acts old safe new (CanLeaveAll old) goes counts on
+    safe_call (λ done d. IsAllowedImage first lay.size done d) begin start acts old safe new
+    (CanLeaveAll old) goes counts on
     (λ d left. allowed_now first acts lay Waits old d s left)
 
 pub returns-clause-stores : goal.returns-clause-stores

@@ -5,7 +5,8 @@ pub returns-clause-start : goal.returns-clause-start
 returns-clause-start c = run_starts
 
 pub returns-clause-event : goal.returns-clause-event
-returns-clause-event c first size begin start old new enough event runs = keeps first size begin start old new enough event runs
+returns-clause-event c first size begin start old new enough event runs =
+    keeps first size begin start old new enough event runs
 
 pub returns-clause-events : goal.returns-clause-events
 returns-clause-events c = every_stop

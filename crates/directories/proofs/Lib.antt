@@ -1,0 +1,13 @@
+pub mod Agreements
+pub mod Appends
+pub mod ClassSetEntries
+pub mod Continuing
+pub mod EntrySteps
+pub mod Formats
+pub mod Formatted
+pub mod GraphHeaps
+pub mod Grows
+pub mod Growths
+pub mod Plans
+pub mod Readings
+pub mod Spellings

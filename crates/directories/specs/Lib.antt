@@ -1,0 +1,7 @@
+pub mod Appending
+pub mod ClassSets
+pub mod Formatting
+pub mod Growing
+pub mod Kept
+pub mod Planning
+pub mod Read

@@ -1,0 +1,4 @@
+pub mod Views
+pub mod Stacked
+pub mod Outlines
+pub mod Stops

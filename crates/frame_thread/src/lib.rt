@@ -1,0 +1,17 @@
+//! The frames of a thread in memory of a fixed size, the instructions on cells alone, and what shared
+//! instructions ask.
+#![tactic(auto)]
+
+mod form;
+mod host;
+mod private;
+pub mod requests;
+mod said;
+pub mod tables;
+mod thread;
+
+pub use form::{Activity, Advance, Callee, Form, Saved, Standing};
+pub use host::Host;
+pub use private::{Stop, Why};
+pub use said::{Fault, Said};
+pub use thread::Thread;

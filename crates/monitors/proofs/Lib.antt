@@ -1,0 +1,6 @@
+mod Becomes
+mod Equal
+mod Firsts
+mod Indexing
+mod Lasts
+mod Sound

@@ -1,0 +1,5 @@
+pub mod Wholes
+mod Ends
+mod NativeTable
+mod Following
+mod Outputs
