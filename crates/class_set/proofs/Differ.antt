@@ -49,7 +49,7 @@ has_last before t = has_name-append before (t ∷ []) t ∙ rw (nat_list_eq_equi
     or_true true = refl
     or_true false = refl
 
-new_pairs : (before texts : List (List ℕ)) → AreNew before texts → (i j : ℕ) (d : List ℕ) → i < j → j < length texts
+pub new_pairs : (before texts : List (List ℕ)) → AreNew before texts → (i j : ℕ) (d : List ℕ) → i < j → j < length texts
     → slice_index_or texts i d ≢ slice_index_or texts j d
 new_pairs before [] h i j d l m = absurd (omega (arith, m))
 new_pairs before (t ∷ ts) h i zero d l m = absurd (omega (arith, l))

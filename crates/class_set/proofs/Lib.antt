@@ -32,3 +32,10 @@ pub mod StaticFields
 pub mod Grown
 pub mod Walked
 pub mod Constants
+pub mod PoolTexts
+pub mod Chars
+pub mod FieldsRead
+pub mod FieldSorts
+pub mod StaticsOf
+pub mod LiteralsDiffer
+pub mod Consistency

@@ -6,7 +6,7 @@ ghost use Rattle.class_file.specs.declared.class.ClassFile.{ClassFile};
 ghost use Rattle.class_links.specs.Links.{Links};
 ghost use Rattle.plain_model.specs.Classes.{ClassFacts};
 ghost use Rattle.plain_model.specs.Facts.{StaticFacts, class_at, class_count, classes_of, is_subclass};
-ghost use Rattle.plain_model.specs.Consistent.{IsArrayType, IsComplete, IsFieldKind, IsProgramClass, supers_of};
+ghost use Rattle.plain_model.specs.Consistent.{IsArrayType, IsComplete, IsConsistent, IsFieldKind, IsProgramClass, supers_of};
 ghost use Rattle.graph_walks.specs.Circles.{HasNoCircle};
 ghost use Rattle.class_set.specs.Facts.{facts_of};
 ghost use Rattle.class_set.specs.Lookups.{class_edges};
@@ -35,7 +35,8 @@ pub fn a_small_set_is_looked_up()
 
 /// Where class files link, each class of the program is one that links, no class above another is
 /// its subclass, each array type is what its descriptor says, and what the runtime names itself is
-/// there: the arrays of chars and of Strings, and the literals that are constants.
+/// there: the arrays of chars and of Strings, and the literals that are constants. Where they can
+/// also be read, the set is consistent as a whole.
 pub fn linked_classes_are_consistent()
     ensures classes { (files : List ClassFile) → Links files
         → All (IsProgramClass (facts_of (linked_from files))) (facts_of (linked_from files)).program }
@@ -49,4 +50,6 @@ pub fn linked_classes_are_consistent()
         → All (λ (s : StaticFacts). IsFieldKind s.kind) (facts_of (linked_from files)).statics }
     ensures complete { (files : List ClassFile) → Links files
         → IsComplete (facts_of (linked_from files)) }
+    ensures consistent { (files : List ClassFile) → All CanBeRead files → Links files
+        → IsConsistent (facts_of (linked_from files)) }
 {}
