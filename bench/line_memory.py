@@ -111,10 +111,10 @@ def write_crate(crates, args):
     (crate / "src").mkdir(parents=True)
     (crate / "src" / "main.rt").write_text(program(args))
     if args.image:
-        main_crate = TOP / "crates" / "autopersist_main"
+        adapters = TOP / "crates" / "host_adapters"
         (crate / "specs").mkdir()
         for name in ("src/image_file.rt", "specs/Images.antt", "specs/Lib.antt"):
-            (crate / name).write_text((main_crate / name).read_text().replace("autopersist_main", NAME))
+            (crate / name).write_text((adapters / name).read_text().replace("host_adapters", NAME))
     return crate
 
 

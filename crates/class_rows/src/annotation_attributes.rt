@@ -1,14 +1,14 @@
 // Attributes of annotations.
 ghost use Rattle.std.specs.Prelude.{◌+◌, ◌^◌, ◌<◌, length};
 
-use annotations::{AnnotationRefusal, Marks, read_annotations};
+use annotations::{AnnotationRefusal, read_annotations};
 use const_pool::read_pool;
-use std::alloc::Global;
+use std::alloc::{AllocError, Global};
 use std::test::Fail;
 
 /// A pool behind eight bytes: 1 and 2 are the descriptors of the two annotations, 3 is that of another, 4 an Integer, 5 a
 /// Float, 6 a Long, 8 a Double.
-const POOL: [u8; 102] =
+static POOL: [u8; 102] =
     *b"\x00\x00\x00\x00\x00\x00\x00\x00\x00\x0a\x01\x00\x19Lautopersist/DurableRoot;\x01\x00\x1bLautopersist/Unrecoverable;\x01\x00\x03LA;\x03\x00\x00\x00\x01\x04\x00\x00\x00\x00\x05\x00\x00\x00\x00\x00\x00\x00\x01\x06\x00\x00\x00\x00\x00\x00\x00\x00";
 
 /// An annotation with a pair of each tag of JVMS table 4.7.16.1-A.
@@ -22,59 +22,102 @@ const EACH_TAG: [u8; 75] = [
     0, 3, b'[', 0, 0, // an array
 ];
 
-/// Whether the attribute has the root's annotation, and the other. Its content begins at offset 100 of a file.
-fn marks_of(alloc: Global, content: &[u8]) -> Result<Result<(bool, bool), AnnotationRefusal>, Fail>
+/// Whether an attribute has the root's annotation, and the other; or why it is refused.
+type MarksRead = Result<(bool, bool), AnnotationRefusal>;
+
+/// What is read of an attribute whose content begins at offset 100 of a file.
+fn marks_of(alloc: Global, content: &[u8]) -> Result<MarksRead, Fail>
     requires { 100 + length content.now < 2 ^ 64 }
 {
     let (pool, _) = read_pool(alloc, &POOL)?;
-    match read_annotations(&pool, 100, content) {
-        Ok(marks) => Ok(Ok((marks.root, marks.unrecoverable))),
-        Err(refusal) => Ok(Err(refusal)),
-    }
+    Ok(match read_annotations(&pool, 100, content) {
+        Ok(marks) => Ok((marks.root, marks.unrecoverable)),
+        Err(refusal) => Err(refusal),
+    })
 }
 
+/// Contents, and what they are read as.
+static CONTENTS: [(&[u8], MarksRead); 19] = [
+    (b"\x00\x00", Ok((false, false))),
+    (b"\x00\x01\x00\x01\x00\x00", Ok((true, false))),
+    (b"\x00\x01\x00\x02\x00\x00", Ok((false, true))),
+    (
+        b"\x00\x02\x00\x01\x00\x00\x00\x02\x00\x00",
+        Ok((true, true)),
+    ),
+    (
+        b"\x00\x02\x00\x01\x00\x00\x00\x03\x00\x00",
+        Ok((true, false)),
+    ),
+    (&EACH_TAG, Ok((false, false))),
+    // An array of arrays, and one with nothing in it.
+    (
+        b"\x00\x01\x00\x01\x00\x01\x00\x03[\x00\x02[\x00\x01I\x00\x04[\x00\x00",
+        Ok((true, false)),
+    ),
+    // The root's annotation in a value of another.
+    (
+        b"\x00\x01\x00\x03\x00\x01\x00\x03@\x00\x01\x00\x00",
+        Ok((false, false)),
+    ),
+    // Cut off, with bytes left over, and with a tag that is none.
+    (b"", Err(AnnotationRefusal::BadForm)),
+    (b"\xff\xff", Err(AnnotationRefusal::BadForm)),
+    (b"\x00\x01\x00\x01\x00", Err(AnnotationRefusal::BadForm)),
+    (
+        b"\x00\x01\x00\x03\x00\x01\x00\x03I\x00",
+        Err(AnnotationRefusal::BadForm),
+    ),
+    (
+        b"\x00\x01\x00\x03\x00\x01\x00\x03[\xff\xff",
+        Err(AnnotationRefusal::BadForm),
+    ),
+    (
+        b"\x00\x01\x00\x03\x00\x01\x00\x03X\x00\x04",
+        Err(AnnotationRefusal::BadForm),
+    ),
+    (b"\x00\x00\x00", Err(AnnotationRefusal::BadForm)),
+    // Indices at which nothing of the kind stands.
+    (
+        b"\x00\x01\x00\x04",
+        Err(AnnotationRefusal::BadIndex {
+            offset: 102,
+            index: 4,
+        }),
+    ),
+    (
+        b"\x00\x01\x00\x03\x00\x01\x00\x09",
+        Err(AnnotationRefusal::BadIndex {
+            offset: 106,
+            index: 9,
+        }),
+    ),
+    (
+        b"\x00\x01\x00\x03\x00\x01\x00\x03I\x00\x03",
+        Err(AnnotationRefusal::BadIndex {
+            offset: 109,
+            index: 3,
+        }),
+    ),
+    (
+        b"\x00\x01\x00\x03\x00\x01\x00\x03e\x00\x03\x00\x00",
+        Err(AnnotationRefusal::BadIndex {
+            offset: 111,
+            index: 0,
+        }),
+    ),
+];
+
 #[test]
-fn annotations_are_read(rt: HostRuntime) -> Result<(), Fail> {
-    let rows = [
-        (b"\x00\x00".as_slice(), false, false),
-        (b"\x00\x01\x00\x01\x00\x00".as_slice(), true, false),
-        (b"\x00\x01\x00\x02\x00\x00".as_slice(), false, true),
-        (
-            b"\x00\x02\x00\x01\x00\x00\x00\x02\x00\x00".as_slice(),
-            true,
-            true,
-        ),
-        (
-            b"\x00\x02\x00\x01\x00\x00\x00\x03\x00\x00".as_slice(),
-            true,
-            false,
-        ),
-        (EACH_TAG.as_slice(), false, false),
-        // An array of arrays, and one with nothing in it.
-        (
-            b"\x00\x01\x00\x01\x00\x01\x00\x03[\x00\x02[\x00\x01I\x00\x04[\x00\x00".as_slice(),
-            true,
-            false,
-        ),
-        // The root's annotation in a value of another.
-        (
-            b"\x00\x01\x00\x03\x00\x01\x00\x03@\x00\x01\x00\x00".as_slice(),
-            false,
-            false,
-        ),
-    ];
-    for (content, root, unrecoverable) in rows {
-        assert_eq!(rt;
-            marks_of(rt.alloc(), content)?,
-            Ok((root, unrecoverable)),
-            "{content:?}"
-        );
+fn annotations_are_read_or_refused(rt: HostRuntime) -> Result<(), Fail> {
+    for (content, want) in &CONTENTS {
+        assert!(rt; marks_of(rt.alloc(), content)? == *want, "{content:?}");
     }
     Ok(())
 }
 
 /// A text at this depth, each value around it made by these bytes.
-fn at_depth(alloc: Global, depth: usize, around: &[u8]) -> Result<Vec<u8>, Fail> {
+fn at_depth(alloc: Global, depth: usize, around: &[u8]) -> Result<Vec<u8>, AllocError> {
     let mut content = [0, 1, 0, 1, 0, 1, 0, 3].to_vec(alloc)?;
     for _ in 1..depth {
         content.extend_from_slice(around)?;
@@ -83,70 +126,28 @@ fn at_depth(alloc: Global, depth: usize, around: &[u8]) -> Result<Vec<u8>, Fail>
     Ok(content)
 }
 
+/// How deep a text stands, what makes each value around it, and what is read.
+static DEPTHS: [(usize, &[u8], MarksRead); 4] = [
+    (64, b"[\x00\x01", Ok((true, false))),
+    (64, b"@\x00\x03\x00\x01\x00\x03", Ok((true, false))),
+    (65, b"[\x00\x01", Err(AnnotationRefusal::BadForm)),
+    (
+        65,
+        b"@\x00\x03\x00\x01\x00\x03",
+        Err(AnnotationRefusal::BadForm),
+    ),
+];
+
+fn marks_at_depth(alloc: Global, depth: usize, around: &[u8]) -> Result<MarksRead, Fail> {
+    let content = at_depth(alloc, depth, around)?;
+    marks_of(alloc, &content)
+}
+
 #[test]
 fn values_nest_at_most_64_deep(rt: HostRuntime) -> Result<(), Fail> {
-    let array = b"[\x00\x01".as_slice();
-    let annotation = b"@\x00\x03\x00\x01\x00\x03".as_slice();
-    let bad = Err(AnnotationRefusal::BadForm);
-    let rows = [
-        (64, array, Ok((true, false))),
-        (64, annotation, Ok((true, false))),
-        (65, array, bad),
-        (65, annotation, bad),
-    ];
-    for (depth, around, want) in rows {
-        let content = at_depth(rt.alloc(), depth, around)?;
-        assert_eq!(rt;
-            marks_of(rt.alloc(), &content)?,
-            want,
-            "{depth} of {around:?}"
-        );
-    }
-    Ok(())
-}
-
-fn bad_index(offset: usize, index: u16) -> AnnotationRefusal {
-    AnnotationRefusal::BadIndex { offset, index }
-}
-
-#[test]
-fn other_bytes_are_refused(rt: HostRuntime) -> Result<(), Fail> {
-    let rows = [
-        (b"".as_slice(), AnnotationRefusal::BadForm),
-        (b"\xff\xff".as_slice(), AnnotationRefusal::BadForm),
-        (
-            b"\x00\x01\x00\x01\x00".as_slice(),
-            AnnotationRefusal::BadForm,
-        ),
-        (
-            b"\x00\x01\x00\x03\x00\x01\x00\x03I\x00".as_slice(),
-            AnnotationRefusal::BadForm,
-        ),
-        (
-            b"\x00\x01\x00\x03\x00\x01\x00\x03[\xff\xff".as_slice(),
-            AnnotationRefusal::BadForm,
-        ),
-        (
-            b"\x00\x01\x00\x03\x00\x01\x00\x03X\x00\x04".as_slice(),
-            AnnotationRefusal::BadForm,
-        ),
-        (b"\x00\x00\x00".as_slice(), AnnotationRefusal::BadForm),
-        (b"\x00\x01\x00\x04".as_slice(), bad_index(102, 4)),
-        (
-            b"\x00\x01\x00\x03\x00\x01\x00\x09".as_slice(),
-            bad_index(106, 9),
-        ),
-        (
-            b"\x00\x01\x00\x03\x00\x01\x00\x03I\x00\x03".as_slice(),
-            bad_index(109, 3),
-        ),
-        (
-            b"\x00\x01\x00\x03\x00\x01\x00\x03e\x00\x03\x00\x00".as_slice(),
-            bad_index(111, 0),
-        ),
-    ];
-    for (content, want) in rows {
-        assert_eq!(rt; marks_of(rt.alloc(), content)?, Err(want), "{content:?}");
+    for (depth, around, want) in &DEPTHS {
+        let found = marks_at_depth(rt.alloc(), *depth, around)?;
+        assert!(rt; found == *want, "{depth} of {around:?}");
     }
     Ok(())
 }

@@ -4,7 +4,7 @@ ghost use Rattle.std.specs.Prelude.{◌+◌, ◌^◌, ◌<◌, length};
 
 use crate::codes::nops;
 use class_items::DescriptorKinds;
-use code_attribute::{CodeFault, put_code_attribute, read_code_attribute};
+use code_attribute::{Code, CodeFault, put_code_attribute, read_code_attribute};
 use code_form::{CodeRefusal, Ins, PoolUse};
 use const_pool::{Pool, read_pool};
 use parsing::put_u32;
@@ -14,7 +14,7 @@ use std::test::Fail;
 /// Texts at 1, 3, 4, 7 and 13, a class at 2, a name and type of a field at 5, of a method at 8; a field at 6, a method at 9,
 /// one of an interface at 16; an Integer at 10, a Long at 11. The descriptor of the field at 14 is a method's, and that of the
 /// method at 15 a field's.
-const POOL: [u8; 98] = [
+static POOL: [u8; 98] = [
     0, 0, 0, 0, 0, 0, 0, 0, 0, 17, // count
     1, 0, 1, b'A', // 1
     7, 0, 1, // 2
@@ -35,7 +35,7 @@ const POOL: [u8; 98] = [
 ];
 
 /// A method's code with a handler and the numbers of its lines.
-const CONTENT: [u8; 42] = [
+static CONTENT: [u8; 42] = [
     0, 1, // max_stack
     0, 2, // max_locals
     0, 0, 0, 10, // code_length
@@ -65,6 +65,23 @@ fn field_index(ins: &Ins) -> u16 {
     }
 }
 
+/// The handler that a code has, where it is the only one.
+fn handler_of(code: &Code) -> Option<(u16, u16, u16, u16)> {
+    match code.handlers.as_slice() {
+        [h] => Some((h.start, h.end, h.handler, h.catch)),
+        _ => None,
+    }
+}
+
+/// Whether the second of seven instructions is a `getfield` at 1, and the only attribute has the name at 13.
+fn has_parts(code: &Code) -> bool {
+    let is_second = match code.instructions.as_slice() {
+        [_, second, _, _, _, _, _] => second.pc == 1 && field_index(&second.ins) == 6,
+        _ => false,
+    };
+    is_second && matches!(code.attributes.as_slice(), [lines] if lines.name == 13)
+}
+
 #[test]
 fn code_is_read_and_written(rt: HostRuntime) -> Result<(), Fail> {
     let pool = pool(rt.alloc())?;
@@ -72,23 +89,11 @@ fn code_is_read_and_written(rt: HostRuntime) -> Result<(), Fail> {
     let code = read_code_attribute(rt.alloc(), &pool, &kinds, 100, &CONTENT)?;
     let mut written = Vec::new(rt.alloc());
     put_code_attribute(&mut written, &code)?;
-    let instructions = code.instructions.as_slice();
-    let second = match instructions {
-        [_, second, ..] => (second.pc, field_index(&second.ins)),
-        _ => (0, 0),
-    };
-    let handler = match code.handlers.as_slice() {
-        [h] => (h.start, h.end, h.handler, h.catch),
-        _ => (0, 0, 0, 0),
-    };
-    let lines = match code.attributes.as_slice() {
-        [lines] => lines.name,
-        _ => 0,
-    };
-    let sizes = (code.max_stack, code.max_locals, instructions.len());
-    let found = (written.as_slice(), sizes, second, handler, lines);
-    let want = (CONTENT.as_slice(), (1, 2, 7), (1, 6), (0, 8, 9, 2), 13);
-    assert_eq!(rt; found, want, "the bytes, the sizes and the parts");
+    let is_right = written.as_slice() == CONTENT.as_slice()
+        && (code.max_stack, code.max_locals) == (1, 2)
+        && handler_of(&code) == Some((0, 8, 9, 2))
+        && has_parts(&code);
+    assert!(rt; is_right, "the bytes, the sizes and the parts");
     Ok(())
 }
 
@@ -115,19 +120,21 @@ fn fault_of(alloc: Global, code: &[u8], rest: &[u8]) -> Result<Option<CodeFault>
 /// No handlers and no attributes.
 const NO_MORE: [u8; 4] = [0, 0, 0, 0];
 
+/// Contents that are cut off, or that have bytes left over.
+static BAD_FORMS: [&[u8]; 6] = [
+    &[],
+    &[0, 1, 0, 1, 0, 0, 0, 2, 0xb1],
+    &[0, 1, 0, 1, 0, 0, 0, 1, 0xb1, 0, 0, 0],
+    &[0, 1, 0, 1, 0, 0, 0, 1, 0xb1, 0, 0, 0, 0, 0],
+    &[0, 1, 0, 1, 0, 0, 0, 1, 0xb1, 0, 1, 0, 0, 0, 1],
+    &[0, 1, 0, 1, 0, 0, 0, 1, 0xb1, 0, 0, 0, 1, 0, 13, 0, 0, 0, 1],
+];
+
 #[test]
 fn other_contents_are_bad_form(rt: HostRuntime) -> Result<(), Fail> {
-    let rows: [&[u8]; 6] = [
-        &[],
-        &[0, 1, 0, 1, 0, 0, 0, 2, 0xb1],
-        &[0, 1, 0, 1, 0, 0, 0, 1, 0xb1, 0, 0, 0],
-        &[0, 1, 0, 1, 0, 0, 0, 1, 0xb1, 0, 0, 0, 0, 0],
-        &[0, 1, 0, 1, 0, 0, 0, 1, 0xb1, 0, 1, 0, 0, 0, 1],
-        &[0, 1, 0, 1, 0, 0, 0, 1, 0xb1, 0, 0, 0, 1, 0, 13, 0, 0, 0, 1],
-    ];
-    for content in rows {
+    for content in &BAD_FORMS {
         let found = fault(rt.alloc(), content)?;
-        assert_eq!(rt; found, Some(CodeFault::BadForm), "{content:?}");
+        assert!(rt; found == Some(CodeFault::BadForm), "{content:?}");
     }
     Ok(())
 }
@@ -142,14 +149,14 @@ fn a_code_has_at_least_one_byte_and_at_most_65535(rt: HostRuntime) -> Result<(),
     for (len, want) in rows {
         let code = nops(rt.alloc(), len)?;
         let found = fault_of(rt.alloc(), &code, &NO_MORE)?;
-        assert_eq!(rt; found, want, "of {len} bytes");
+        assert!(rt; found == want, "of {len} bytes");
     }
     Ok(())
 }
 
 /// An entry of the exception table: where the covered instructions begin and end, the handler, and the index of the class.
 /// Behind it is the fault of the code `bipush 5; return`, whose instructions begin at 0 and 2.
-const HANDLERS: [([u8; 4], Option<CodeFault>); 15] = [
+static HANDLERS: [([u8; 4], Option<CodeFault>); 15] = [
     ([0, 2, 2, 0], None),
     ([0, 2, 0, 2], None),
     ([0, 3, 2, 2], None),
@@ -191,12 +198,11 @@ const HANDLERS: [([u8; 4], Option<CodeFault>); 15] = [
 
 #[test]
 fn handlers_name_instructions_and_a_class(rt: HostRuntime) -> Result<(), Fail> {
-    for ([start, end, handler, catch], want) in HANDLERS {
-        let rest = [0, 1, 0, start, 0, end, 0, handler, 0, catch, 0, 0];
+    for ([start, end, handler, catch], want) in &HANDLERS {
+        let rest = [0, 1, 0, *start, 0, *end, 0, *handler, 0, *catch, 0, 0];
         let found = fault_of(rt.alloc(), &[0x10, 5, 0xb1], &rest)?;
-        assert_eq!(rt;
-            found,
-            want,
+        assert!(rt;
+            found == *want,
             "from {start} to {end}, {handler}, class {catch}"
         );
     }
@@ -204,7 +210,7 @@ fn handlers_name_instructions_and_a_class(rt: HostRuntime) -> Result<(), Fail> {
 }
 
 /// An opcode and an index, and the fault of `nop`, an instruction of three bytes with these, and `return`.
-const OPERANDS: [(u8, u8, Option<CodeFault>); 18] = [
+static OPERANDS: [(u8, u8, Option<CodeFault>); 18] = [
     (0x13, 10, None), // ldc_w
     (0x13, 11, Some(CodeFault::BadOperand(1))), // a Long
     (0x14, 11, None), // ldc2_w
@@ -227,56 +233,59 @@ const OPERANDS: [(u8, u8, Option<CodeFault>); 18] = [
 
 #[test]
 fn instructions_name_entries_of_their_kinds(rt: HostRuntime) -> Result<(), Fail> {
-    for (opcode, index, want) in OPERANDS {
-        let found = fault_of(rt.alloc(), &[0, opcode, 0, index, 0xb1], &NO_MORE)?;
-        assert_eq!(rt; found, want, "opcode {opcode} of {index}");
+    for (opcode, index, want) in &OPERANDS {
+        let found = fault_of(rt.alloc(), &[0, *opcode, 0, *index, 0xb1], &NO_MORE)?;
+        assert!(rt; found == *want, "opcode {opcode} of {index}");
     }
     Ok(())
 }
 
+/// Codes, what stands behind them, and the first fault.
+static FIRST_FAULTS: [(&[u8], &[u8], CodeFault); 6] = [
+    // an attribute whose name is a class
+    (
+        &[0xb1],
+        &[0, 0, 0, 1, 0, 2, 0, 0, 0, 0],
+        CodeFault::BadIndex {
+            offset: 113,
+            index: 2,
+        },
+    ),
+    // two ldc of a Long, with a byte left over
+    (
+        &[0x12, 11, 0x12, 12, 0xb1],
+        &[0, 0, 0, 0, 0],
+        CodeFault::BadOperand(0),
+    ),
+    // invokeinterface of a class's method
+    (
+        &[0xb9, 0, 9, 1, 0, 0xb1],
+        &NO_MORE,
+        CodeFault::BadOperand(0),
+    ),
+    // a jump astray behind an ldc of a Long
+    (
+        &[0x12, 11, 0xa7, 0, 1, 0xb1],
+        &NO_MORE,
+        CodeFault::Code(CodeRefusal::BadTarget(2)),
+    ),
+    (
+        &[0, 0xca],
+        &NO_MORE,
+        CodeFault::Code(CodeRefusal::BadOpcode(1)),
+    ),
+    (
+        &[0, 0x10],
+        &NO_MORE,
+        CodeFault::Code(CodeRefusal::Truncated(1)),
+    ),
+];
+
 #[test]
 fn the_first_fault_is_the_answer(rt: HostRuntime) -> Result<(), Fail> {
-    let rows: [(&[u8], &[u8], CodeFault); 6] = [
-        // an attribute whose name is a class
-        (
-            &[0xb1],
-            &[0, 0, 0, 1, 0, 2, 0, 0, 0, 0],
-            CodeFault::BadIndex {
-                offset: 113,
-                index: 2,
-            },
-        ),
-        // two ldc of a Long, with a byte left over
-        (
-            &[0x12, 11, 0x12, 12, 0xb1],
-            &[0, 0, 0, 0, 0],
-            CodeFault::BadOperand(0),
-        ),
-        // invokeinterface of a class's method
-        (
-            &[0xb9, 0, 9, 1, 0, 0xb1],
-            &NO_MORE,
-            CodeFault::BadOperand(0),
-        ),
-        // a jump astray behind an ldc of a Long
-        (
-            &[0x12, 11, 0xa7, 0, 1, 0xb1],
-            &NO_MORE,
-            CodeFault::Code(CodeRefusal::BadTarget(2)),
-        ),
-        (
-            &[0, 0xca],
-            &NO_MORE,
-            CodeFault::Code(CodeRefusal::BadOpcode(1)),
-        ),
-        (
-            &[0, 0x10],
-            &NO_MORE,
-            CodeFault::Code(CodeRefusal::Truncated(1)),
-        ),
-    ];
-    for (code, rest, want) in rows {
-        assert_eq!(rt; fault_of(rt.alloc(), code, rest)?, Some(want), "{code:?}");
+    for (code, rest, want) in &FIRST_FAULTS {
+        let found = fault_of(rt.alloc(), code, rest)?;
+        assert!(rt; found == Some(*want), "{code:?}");
     }
     Ok(())
 }

@@ -8,24 +8,36 @@ fn is_descriptor(alloc: Global, text: &[u8]) -> Result<bool, Fail> {
     Ok(read_descriptor(alloc, &name).is_ok())
 }
 
+/// Texts that are descriptors, and texts that aren't.
+static TEXTS: [(&str, bool); 2] = [
+    (
+        "I [[Z LA; [Ljava/lang/String; ()V (BCIJSZ)J ([[ILA;)[LA; (I)LA; L(V);",
+        true,
+    ),
+    (
+        "V F D [ [V II L; LA L/A; LA/; LA//B; LA.B; L[I; () (V)V (I ()VV ()VI Q ([)V",
+        false,
+    ),
+];
+
 #[test]
 fn texts_are_descriptors_or_not(rt: HostRuntime) -> Result<(), Fail> {
-    let rows = [
-        (
-            "I [[Z LA; [Ljava/lang/String; ()V (BCIJSZ)J ([[ILA;)[LA; (I)LA; L(V);",
-            true,
-        ),
-        (
-            "V F D [ [V II L; LA L/A; LA/; LA//B; LA.B; L[I; () (V)V (I ()VV ()VI Q ([)V",
-            false,
-        ),
-    ];
-    for (texts, good) in rows {
+    for (texts, good) in &TEXTS {
         for text in texts.split_whitespace() {
-            assert_eq!(rt; is_descriptor(rt.alloc(), text.as_bytes())?, good, "{text}");
+            assert!(rt;
+                is_descriptor(rt.alloc(), text.as_bytes())? == *good,
+                "{text}"
+            );
         }
     }
     Ok(())
+}
+
+/// Whether an array type with so many dimensions of these elements is a descriptor.
+fn is_array(alloc: Global, depth: usize, element: u8) -> Result<bool, Fail> {
+    let mut text = Vec::from_elem(alloc, b'[', depth)?;
+    text.push(element)?;
+    is_descriptor(alloc, &text)
 }
 
 #[test]
@@ -36,9 +48,7 @@ fn arrays_have_at_most_255_dimensions(rt: HostRuntime) -> Result<(), Fail> {
         (0, b'I', true),
         (0, b'F', false),
     ] {
-        let mut text = vec![in rt.alloc(); b'['; depth]?;
-        text.push(element)?;
-        assert_eq!(rt; is_descriptor(rt.alloc(), &text)?, good, "{depth}");
+        assert!(rt; is_array(rt.alloc(), depth, element)? == good, "{depth}");
     }
     Ok(())
 }
@@ -49,14 +59,19 @@ fn no_text_is_no_descriptor(rt: HostRuntime) -> Result<(), Fail> {
     Ok(())
 }
 
-/// The dimensions of a type, and its base or its class.
-fn parts_of(field: Option<&FieldType>) -> Option<(u8, Option<BaseType>, Option<&[u8]>)> {
-    match field {
-        Some(field) => match &field.element {
-            ElementType::Base(base) => Some((field.dimensions, Some(*base), None)),
-            ElementType::Class(class) => Some((field.dimensions, None, Some(class.as_slice()))),
-        },
-        None => None,
+/// Whether a type has so many dimensions of longs.
+fn are_longs(field: &FieldType, dimensions: u8) -> bool {
+    match field.element {
+        ElementType::Base(BaseType::Long) => field.dimensions == dimensions,
+        _ => false,
+    }
+}
+
+/// Whether a type is this class.
+fn is_class(field: &FieldType, name: &[u8]) -> bool {
+    match &field.element {
+        ElementType::Class(class) => field.dimensions == 0 && class.as_slice() == name,
+        ElementType::Base(_) => false,
     }
 }
 
@@ -66,21 +81,11 @@ fn a_descriptor_has_its_parts(rt: HostRuntime) -> Result<(), Fail> {
     let Descriptor::Method { parameters, result } = read_descriptor(rt.alloc(), &name)? else {
         return Err("a method".into());
     };
-    let types = parameters.as_slice();
-    assert_eq!(rt;
-        (
-            parts_of(types.first()),
-            parts_of(types.get(1)),
-            types.len(),
-            result.is_some()
-        ),
-        (
-            Some((2, Some(BaseType::Long), None)),
-            Some((0, None, Some(b"A/B".as_slice()))),
-            2,
-            false
-        ),
-        "of the method"
-    );
+    let are_right = match parameters.as_slice() {
+        [longs, class] => are_longs(longs, 2) && is_class(class, b"A/B"),
+        _ => false,
+    };
+    let is_right = are_right && result.is_none();
+    assert!(rt; is_right, "of the method");
     Ok(())
 }

@@ -1,4 +1,5 @@
-//! Class files and parts of them whose meaning is known from outside, for the tests of each crate that reads or writes them.
+//! Class files and parts of them whose meaning is known from outside, for the tests of each crate that reads or writes them, and
+//! listings.
 #![tactic(auto)]
 
 mod fixtures;
@@ -15,5 +16,9 @@ mod code_attributes;
 mod codes;
 #[cfg(test)]
 mod descriptors;
+#[cfg(test)]
+mod lines_of_listings;
+#[cfg(test)]
+mod listings;
 #[cfg(test)]
 mod pools;

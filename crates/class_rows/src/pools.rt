@@ -25,46 +25,70 @@ const ALL_KINDS: [u8; 97] = [
     1, 0, 8, 0xc0, 0x80, 0xe0, 0xa0, 0x80, 0xed, 0xa0, 0x80, // 18
 ];
 
-#[test]
-fn pools_are_read_and_written(rt: HostRuntime) -> Result<(), Fail> {
-    for (bytes, len, end) in [(CLASS_A.as_slice(), 5, 39), (ALL_KINDS.as_slice(), 19, 97)] {
-        let (pool, after) = read_pool(rt.alloc(), bytes)?;
-        let written = write_pool(rt.alloc(), &pool)?;
-        assert_eq!(rt;
-            (pool.len(), after, Some(written.as_slice())),
-            (len, end, bytes.get(8..end)),
-            "of {len} slots"
-        );
+/// Class files, the sizes of their pools, and where these end.
+static FILES: [(&[u8], u16, usize); 2] = [(&CLASS_A, 5, 39), (&ALL_KINDS, 19, 97)];
+
+/// Whether a file's pool has this size and this end, and is written as it was read.
+fn is_written_again(alloc: Global, bytes: &[u8], len: u16, end: usize) -> bool {
+    let Ok((pool, after)) = read_pool(alloc, bytes) else {
+        return false;
+    };
+    match write_pool(alloc, &pool) {
+        Ok(written) => {
+            let is_same = Some(written.as_slice()) == bytes.get(8..end);
+            is_same && pool.len() == len && after == end
+        }
+        Err(_) => false,
     }
-    Ok(())
 }
 
 #[test]
+fn pools_are_read_and_written(rt: HostRuntime) {
+    for (bytes, len, end) in &FILES {
+        let is_right = is_written_again(rt.alloc(), bytes, *len, *end);
+        assert!(rt; is_right, "of {len} slots");
+    }
+}
+
+/// Indices of the pool of each kind, and the kinds of the entries there.
+static KINDS: [(u16, Option<Tag>); 16] = [
+    (0, None),
+    (1, Some(Tag::Utf8)),
+    (2, Some(Tag::Integer)),
+    (3, Some(Tag::Float)),
+    (4, Some(Tag::Long)),
+    (5, None),
+    (6, Some(Tag::Double)),
+    (7, None),
+    (9, Some(Tag::String)),
+    (11, Some(Tag::NameAndType)),
+    (12, Some(Tag::Fieldref)),
+    (13, Some(Tag::Methodref)),
+    (14, Some(Tag::InterfaceMethodref)),
+    (15, Some(Tag::MethodHandle)),
+    (16, Some(Tag::MethodType)),
+    (17, Some(Tag::InvokeDynamic)),
+];
+
+/// The same of class `A`.
+static KINDS_OF_A: [(u16, Option<Tag>); 4] = [
+    (0, None),
+    (1, Some(Tag::Utf8)),
+    (4, Some(Tag::Class)),
+    (5, None),
+];
+
+#[test]
 fn kinds_stand_at_their_indices(rt: HostRuntime) -> Result<(), Fail> {
-    let (class_a, _) = read_pool(rt.alloc(), &CLASS_A)?;
-    let (all_kinds, _) = read_pool(rt.alloc(), &ALL_KINDS)?;
-    let rows = [
-        (&class_a, 0, None),
-        (&class_a, 1, Some(Tag::Utf8)),
-        (&class_a, 4, Some(Tag::Class)),
-        (&class_a, 5, None),
-        (&all_kinds, 2, Some(Tag::Integer)),
-        (&all_kinds, 3, Some(Tag::Float)),
-        (&all_kinds, 4, Some(Tag::Long)),
-        (&all_kinds, 5, None),
-        (&all_kinds, 6, Some(Tag::Double)),
-        (&all_kinds, 7, None),
-        (&all_kinds, 9, Some(Tag::String)),
-        (&all_kinds, 11, Some(Tag::NameAndType)),
-        (&all_kinds, 12, Some(Tag::Fieldref)),
-        (&all_kinds, 13, Some(Tag::Methodref)),
-        (&all_kinds, 14, Some(Tag::InterfaceMethodref)),
-        (&all_kinds, 15, Some(Tag::MethodHandle)),
-        (&all_kinds, 16, Some(Tag::MethodType)),
-        (&all_kinds, 17, Some(Tag::InvokeDynamic)),
+    let files = [
+        (CLASS_A.as_slice(), KINDS_OF_A.as_slice()),
+        (ALL_KINDS.as_slice(), KINDS.as_slice()),
     ];
-    for (pool, index, tag) in rows {
-        assert_eq!(rt; pool.tag(index), tag, "at {index}");
+    for (bytes, rows) in files {
+        let (pool, _) = read_pool(rt.alloc(), bytes)?;
+        for (index, tag) in rows {
+            assert!(rt; pool.tag(*index) == *tag, "at {index}");
+        }
     }
     Ok(())
 }
@@ -80,216 +104,204 @@ fn bits_at(pool: &Pool, index: u16) -> Option<u64> {
     }
 }
 
+/// Indices of the pool of each kind, and the bits of the numbers there.
+static NUMBERS: [(u16, Option<u64>); 5] = [
+    (2, Some(0xffff_fffe)),
+    (3, Some(0x3f80_0000)),
+    (4, Some(0xffff_ffff_ffff_fffd)),
+    (5, None),
+    (6, Some(0x3ff0_0000_0000_0000)),
+];
+
 #[test]
 fn numbers_stand_at_their_indices(rt: HostRuntime) -> Result<(), Fail> {
     let (pool, _) = read_pool(rt.alloc(), &ALL_KINDS)?;
-    let rows = [
-        (2, Some(0xffff_fffe)),
-        (3, Some(0x3f80_0000)),
-        (4, Some(0xffff_ffff_ffff_fffd)),
-        (5, None),
-        (6, Some(0x3ff0_0000_0000_0000)),
-    ];
-    for (index, bits) in rows {
-        assert_eq!(rt; bits_at(&pool, index), bits, "at {index}");
+    for (index, bits) in &NUMBERS {
+        assert!(rt; bits_at(&pool, *index) == *bits, "at {index}");
     }
     Ok(())
 }
 
-fn text(name: Option<&Name>) -> Option<&[u8]> {
+/// The characters of a text; none where there is no text.
+fn text(name: Option<&Name>) -> &[u8] {
     match name {
-        Some(name) => Some(name.as_slice()),
-        None => None,
+        Some(name) => name.as_slice(),
+        None => &[],
     }
 }
 
-/// The text that a class, a string or a text at an index has.
-fn texts_at(pool: &Pool, index: u16) -> [Option<&[u8]>; 3] {
-    [
-        text(pool.class_name(index)),
-        text(pool.string(index)),
-        text(pool.utf8(index)),
-    ]
+/// Whether the class, the string and the text at an index have these characters, none standing for no text.
+fn are_texts(pool: &Pool, index: u16, [class, string, utf8]: [&[u8]; 3]) -> bool {
+    text(pool.class_name(index)) == class
+        && text(pool.string(index)) == string
+        && text(pool.utf8(index)) == utf8
 }
+
+/// Indices of the pool of each kind, and the texts there.
+static TEXTS: [(u16, [&[u8]; 3]); 4] = [
+    (8, [b"A", b"", b""]),
+    (9, [b"", b"A", b""]),
+    (10, [b"", b"", b"()V"]),
+    (11, [b"", b"", b""]),
+];
+
+/// The same of class `A`.
+static TEXTS_OF_A: [(u16, [&[u8]; 3]); 2] = [
+    (3, [b"", b"", b"java/lang/Object"]),
+    (4, [b"java/lang/Object", b"", b""]),
+];
 
 #[test]
 fn texts_stand_at_their_indices(rt: HostRuntime) -> Result<(), Fail> {
-    let (class_a, _) = read_pool(rt.alloc(), &CLASS_A)?;
-    let (all_kinds, _) = read_pool(rt.alloc(), &ALL_KINDS)?;
-    let object = Some(b"java/lang/Object".as_slice());
-    let a = Some(b"A".as_slice());
-    let rows = [
-        (&class_a, 3, [None, None, object]),
-        (&class_a, 4, [object, None, None]),
-        (&all_kinds, 8, [a, None, None]),
-        (&all_kinds, 9, [None, a, None]),
-        (&all_kinds, 10, [None, None, Some(b"()V".as_slice())]),
-        (&all_kinds, 11, [None, None, None]),
+    let files = [
+        (CLASS_A.as_slice(), TEXTS_OF_A.as_slice()),
+        (ALL_KINDS.as_slice(), TEXTS.as_slice()),
     ];
-    for (pool, index, texts) in rows {
-        assert_eq!(rt; texts_at(pool, index), texts, "at {index}");
+    for (bytes, rows) in files {
+        let (pool, _) = read_pool(rt.alloc(), bytes)?;
+        for (index, texts) in rows {
+            assert!(rt; are_texts(&pool, *index, *texts), "at {index}");
+        }
     }
     Ok(())
+}
+
+/// Whether the name and the descriptor at an index are these texts.
+fn is_pair(pool: &Pool, index: u16, name: &[u8], descriptor: &[u8]) -> bool {
+    match pool.name_and_type(index) {
+        Some(pair) => pair.0.as_slice() == name && pair.1.as_slice() == descriptor,
+        None => false,
+    }
 }
 
 #[test]
 fn members_stand_at_their_indices(rt: HostRuntime) -> Result<(), Fail> {
     let (pool, _) = read_pool(rt.alloc(), &ALL_KINDS)?;
-    let pair = match pool.name_and_type(11) {
-        Some((name, descriptor)) => Some((name.as_slice(), descriptor.as_slice())),
-        None => None,
-    };
     let member = Some(Member {
         class: 8,
         name_and_type: 11,
     });
-    assert_eq!(rt;
-        (
-            pair,
-            [
-                pool.member(11),
-                pool.member(12),
-                pool.member(13),
-                pool.member(14)
-            ]
-        ),
-        (
-            Some((b"A".as_slice(), b"()V".as_slice())),
-            [None, member, member, member]
-        ),
-        "of the pool"
-    );
+    let is_right = is_pair(&pool, 11, b"A", b"()V")
+        && pool.member(11).is_none()
+        && pool.member(12) == member
+        && pool.member(13) == member
+        && pool.member(14) == member;
+    assert!(rt; is_right, "of the pool");
     Ok(())
 }
 
 /// Why the front of class `A` with another byte at an offset has no pool.
-fn refusal_with(
-    alloc: Global,
-    len: usize,
-    at: usize,
-    byte: u8,
-) -> Result<Option<PoolRefusal>, AllocError> {
-    let mut bytes = CLASS_A.get(..len).unwrap_or(&[]).to_vec(alloc)?;
-    if let Some(there) = bytes.get_mut(at) {
-        *there = byte;
+fn refusal_with(alloc: Global, len: usize, at: usize, byte: u8) -> Option<PoolRefusal> {
+    let mut bytes = CLASS_A;
+    if at < 53 {
+        bytes[at] = byte;
     }
-    Ok(read_pool(alloc, &bytes).err())
+    read_pool(alloc, bytes.get(..len).unwrap_or(&[])).err()
 }
 
-fn bad_index(entry: u16, index: u16) -> PoolRefusal {
-    PoolRefusal::BadIndex { entry, index }
-}
-
-#[test]
-fn changed_bytes_are_refused(rt: HostRuntime) -> Result<(), Fail> {
-    let rows = [
-        (10, 2, PoolRefusal::BadTag(10)),
-        (10, 17, PoolRefusal::BadTag(10)),
-        (12, 200, PoolRefusal::Truncated(13)),
-        (13, 0, PoolRefusal::BadUtf8(13)),
-        (13, 0xc3, PoolRefusal::BadUtf8(13)),
-        (35, 0xc0, PoolRefusal::BadUtf8(35)),
-        (9, 0, bad_index(0, 0)),
-        (16, 2, bad_index(2, 2)),
-        (16, 5, bad_index(2, 5)),
-        (36, 6, bad_index(4, 5)),
-    ];
-    for (at, byte, want) in rows {
-        assert_eq!(rt;
-            refusal_with(rt.alloc(), 53, at, byte)?,
-            Some(want),
-            "at {at}"
-        );
-    }
-    Ok(())
-}
+/// How many bytes of class `A` there are, and one of them with another byte than it has; and why there is no pool.
+static REFUSALS: [((usize, usize, u8), PoolRefusal); 18] = [
+    ((53, 10, 2), PoolRefusal::BadTag(10)),
+    ((53, 10, 17), PoolRefusal::BadTag(10)),
+    ((53, 12, 200), PoolRefusal::Truncated(13)),
+    ((53, 13, 0), PoolRefusal::BadUtf8(13)),
+    ((53, 13, 0xc3), PoolRefusal::BadUtf8(13)),
+    ((53, 35, 0xc0), PoolRefusal::BadUtf8(35)),
+    ((53, 9, 0), PoolRefusal::BadIndex { entry: 0, index: 0 }),
+    ((53, 16, 2), PoolRefusal::BadIndex { entry: 2, index: 2 }),
+    ((53, 16, 5), PoolRefusal::BadIndex { entry: 2, index: 5 }),
+    ((53, 36, 6), PoolRefusal::BadIndex { entry: 4, index: 5 }),
+    // fronts of class `A` as it is
+    ((0, 0, 0xca), PoolRefusal::Truncated(8)),
+    ((9, 0, 0xca), PoolRefusal::Truncated(8)),
+    ((10, 0, 0xca), PoolRefusal::Truncated(10)),
+    ((11, 0, 0xca), PoolRefusal::Truncated(11)),
+    ((12, 0, 0xca), PoolRefusal::Truncated(11)),
+    ((13, 0, 0xca), PoolRefusal::Truncated(13)),
+    ((16, 0, 0xca), PoolRefusal::Truncated(15)),
+    ((30, 0, 0xca), PoolRefusal::Truncated(20)),
+];
 
 #[test]
-fn fronts_are_refused(rt: HostRuntime) -> Result<(), Fail> {
-    let rows = [
-        (0, 8),
-        (9, 8),
-        (10, 10),
-        (11, 11),
-        (12, 11),
-        (13, 13),
-        (16, 15),
-        (30, 20),
-    ];
-    for (len, at) in rows {
-        let want = Some(PoolRefusal::Truncated(at));
-        assert_eq!(rt;
-            refusal_with(rt.alloc(), len, 0, 0xca)?,
-            want,
-            "of {len} bytes"
-        );
+fn changed_bytes_and_fronts_are_refused(rt: HostRuntime) {
+    for ((len, at, byte), want) in &REFUSALS {
+        let found = refusal_with(rt.alloc(), *len, *at, *byte);
+        assert!(rt; found == Some(*want), "{byte} at {at} of {len} bytes");
     }
-    Ok(())
 }
 
 #[test]
 fn a_second_index_past_the_count_is_refused_at_the_tag(rt: HostRuntime) {
     let refusal = read_pool(rt.alloc(), &[0, 0, 0, 0, 0, 0, 0, 0, 0, 2, 5, 1]).err();
-    assert_eq!(rt; refusal, Some(bad_index(1, 2)));
+    let want = Some(PoolRefusal::BadIndex { entry: 1, index: 2 });
+    assert!(rt; refusal == want, "a Long at the last index");
 }
 
 fn is_name(alloc: Global, bytes: &[u8]) -> Result<bool, AllocError> {
     Ok(Name::new(bytes.to_vec(alloc)?).is_some())
 }
 
+/// Bytes, and whether they are modified UTF-8.
+static NAMES: [([u8; 4], bool); 10] = [
+    ([0x41, 0xc0, 0x80, 0x42], true),
+    ([0xc2, 0x80, 0xdf, 0xbf], true),
+    ([0x41, 0xed, 0xa0, 0xbd], true),
+    ([0x41, 0xef, 0xbf, 0xbf], true),
+    ([0x41, 0x00, 0x42, 0x43], false),
+    ([0x41, 0xc1, 0x81, 0x42], false),
+    ([0x41, 0xe0, 0x9f, 0xbf], false),
+    ([0xf0, 0x9f, 0x98, 0x80], false),
+    ([0x41, 0x42, 0xe2, 0x82], false),
+    ([0x41, 0x42, 0x43, 0xff], false),
+];
+
 #[test]
 fn names_are_modified_utf8(rt: HostRuntime) -> Result<(), Fail> {
-    let rows = [
-        ([0x41, 0xc0, 0x80, 0x42], true),
-        ([0xc2, 0x80, 0xdf, 0xbf], true),
-        ([0x41, 0xed, 0xa0, 0xbd], true),
-        ([0x41, 0xef, 0xbf, 0xbf], true),
-        ([0x41, 0x00, 0x42, 0x43], false),
-        ([0x41, 0xc1, 0x81, 0x42], false),
-        ([0x41, 0xe0, 0x9f, 0xbf], false),
-        ([0xf0, 0x9f, 0x98, 0x80], false),
-        ([0x41, 0x42, 0xe2, 0x82], false),
-        ([0x41, 0x42, 0x43, 0xff], false),
-    ];
-    for (bytes, good) in rows {
-        assert_eq!(rt; is_name(rt.alloc(), &bytes)?, good, "{bytes:?}");
+    for (bytes, good) in &NAMES {
+        assert!(rt; is_name(rt.alloc(), bytes)? == *good, "{bytes:?}");
     }
     Ok(())
 }
 
 #[test]
 fn entries_are_pushed(rt: HostRuntime) -> Result<(), Fail> {
-    let mut pool = Pool::new(rt.alloc())?;
     let text = Name::new(b"A".to_vec(rt.alloc())?).ok_or("a name")?;
+    let mut pool = Pool::new(rt.alloc())?;
     let name = pool.push(Entry::Utf8(text))?;
     let class = pool.push(Entry::Class { name })?;
     let long = pool.push(Entry::Long(1))?;
     let integer = pool.push(Entry::Integer(1))?;
-    assert_eq!(rt; (name, class, long, integer), (1, 2, 3, 5));
+    assert!(rt;
+        (name, class, long, integer) == (1, 2, 3, 5),
+        "their indices"
+    );
     Ok(())
+}
+
+/// A pool of the numbers below this one.
+fn numbers(alloc: Global, end: i32) -> Result<Pool, Fail> {
+    let mut pool = Pool::new(alloc)?;
+    for number in 0..end {
+        let _ = pool.push(Entry::Integer(number))?;
+    }
+    Ok(pool)
+}
+
+/// How many slots a pool has once it is written and read again.
+fn len_again(alloc: Global, pool: &Pool) -> Result<u16, Fail> {
+    let written = write_pool(alloc, pool)?;
+    let file = [b"12345678".as_slice(), written.as_slice()].concat(alloc)?;
+    let (again, _) = read_pool(alloc, &file)?;
+    Ok(again.len())
 }
 
 #[test]
 fn a_full_pool_takes_no_entry(rt: HostRuntime) -> Result<(), Fail> {
-    let mut pool = Pool::new(rt.alloc())?;
-    for number in 0..65_533 {
-        let _ = pool.push(Entry::Integer(number))?;
-    }
-    let long = pool.push(Entry::Long(0));
-    let last = pool.push(Entry::Integer(0));
-    let another = pool.push(Entry::Integer(0));
-    let mut file = b"12345678".to_vec(rt.alloc())?;
-    file.extend_from_slice(&write_pool(rt.alloc(), &pool)?)?;
-    let (again, _) = read_pool(rt.alloc(), &file)?;
-    assert_eq!(rt;
-        (long, last, another, again.len()),
-        (
-            Err(PushRefusal::Full),
-            Ok(65_534),
-            Err(PushRefusal::Full),
-            65_535
-        ),
-        "of a full pool"
-    );
+    let mut pool = numbers(rt.alloc(), 65_533)?;
+    let are_right = pool.push(Entry::Long(0)) == Err(PushRefusal::Full)
+        && pool.push(Entry::Integer(0)) == Ok(65_534)
+        && pool.push(Entry::Integer(0)) == Err(PushRefusal::Full);
+    let len = len_again(rt.alloc(), &pool)?;
+    assert!(rt; are_right && len == 65_535, "of a full pool");
     Ok(())
 }

@@ -30,12 +30,12 @@ alike_at [] k h = refl
 alike_at (c ∷ cs) zero h = (both_true (alike c.fields) (all_alike cs) h).0
 alike_at (c ∷ cs) (suc k) h = alike_at cs k (both_true (alike c.fields) (all_alike cs) h).1
 
-record IsIn (p : MemberFacts → Bool) (n : ℕ) (ms : List MemberFacts) (r : ℕ × MemberFacts) : Type 0 where
-  from : n ≤ r.0
-  to : r.0 < n + length ms
-  passes : p r.1 ≡ true
+pub record IsIn (p : MemberFacts → Bool) (n : ℕ) (ms : List MemberFacts) (r : ℕ × MemberFacts) : Type 0 where
+  pub from : n ≤ r.0
+  pub to : r.0 < n + length ms
+  pub passes : p r.1 ≡ true
 
-found_in : (p : MemberFacts → Bool) (n : ℕ) (ms : List MemberFacts) (name descriptor : List ℕ) (r : ℕ × MemberFacts) → list_all p ms ≡ true
+pub found_in : (p : MemberFacts → Bool) (n : ℕ) (ms : List MemberFacts) (name descriptor : List ℕ) (r : ℕ × MemberFacts) → list_all p ms ≡ true
     → member_from n ms name descriptor ≡ Some r → IsIn p n ms r
 found_in p n [] name descriptor r all h = absurd (cc)
 found_in p n (m ∷ ms) name descriptor r all h =
@@ -105,7 +105,7 @@ own_of_row files n rows row same past at =
     row_fields (r ∷ rs) zero row h = (let same : r ≡ row = cc in ap (λ (x : Row). map member_facts x.fields.now) same)
     row_fields (r ∷ rs) (suc k) row h = row_fields rs k row h
 
-own_behind : (files : List ClassFile) (n : ℕ) → length files ≤ n → own_fields files n ≡ (built_in_at (n - length files)).fields
+pub own_behind : (files : List ClassFile) (n : ℕ) → length files ≤ n → own_fields files n ≡ (built_in_at (n - length files)).fields
 own_behind files n past = ap (λ (o : Option ClassFile). elim o as (λ x. List MemberFacts)
     [ None ↦ (built_in_at (n - length files)).fields | Some c ↦ map (field_facts c.pool) c.fields ]) (slice_get_past files n past)
 

@@ -91,7 +91,7 @@ base_kind set base.Long = tt
 base_kind set base.Short = tt
 base_kind set base.Boolean = tt
 
-unplaced : (n : ℕ) (texts : List (List ℕ)) (t : List ℕ) → place_from n texts t ≡ None → All (λ u. u ≢ t) texts
+pub unplaced : (n : ℕ) (texts : List (List ℕ)) (t : List ℕ) → place_from n texts t ≡ None → All (λ u. u ≢ t) texts
 unplaced n [] t h = All-nil (λ u. u ≢ t)
 unplaced n (u ∷ us) t h =
     elim (bytes_eq u t) as (λ b. bytes_eq u t ≡ b → (if b then Some n else place_from (n + 1) us t) ≡ None → All (λ v. v ≢ t) (u ∷ us)) [

@@ -61,11 +61,11 @@ new_pairs before (t ∷ ts) h (suc i) (suc j) d l m = new_pairs (before ++ t ∷
 abbrev pub name : ClassFacts → List ℕ
 name c = c.shape.name
 
-program_names : (all files : List ClassFile) → map name (map (class_facts all) files) ≡ map name_of files
+pub program_names : (all files : List ClassFile) → map name (map (class_facts all) files) ≡ map name_of files
 program_names all [] = refl
 program_names all (c ∷ cs) = ap (λ ns. name_of c ∷ ns) (program_names all cs)
 
-built_ins_named : (first : ℕ) → map name (built_in_classes first) ≡ built_in_names
+pub built_ins_named : (first : ℕ) → map name (built_in_classes first) ≡ built_in_names
 unfolding built_in_names
 built_ins_named first = refl
 
@@ -188,14 +188,22 @@ pub linked_new : (files : List ClassFile) → All IsSmall files → doubled file
 linked_new files small single =
     new-append [] (class_names files) (listed_arrays Needed files) (names-new files single) (arrays_new files small)
 
-pub names_differ : (files : List ClassFile) → All IsSmall files → doubled files ≡ None
-    → AllPairs (λ (c d : ClassFacts). c.shape.name ≢ d.shape.name) (classes_of (facts_of (linked_from files)))
-names_differ files small single i j d l m =
-    let classes = classes_of (facts_of (linked_from files)) in
-    let names = names_of (linked_from files) in
-    let same : map name classes ≡ names = names_listed (linked_from files) in
-    let new : AreNew [] names = linked_new files small single in
+-- where no two names are the same, no two classes have one
+pub classes_differ : (set : Linked) → AllPairs (λ (left right : List ℕ). left ≢ right) (names_of set)
+    → AllPairs (λ (c d : ClassFacts). c.shape.name ≢ d.shape.name) (classes_of (facts_of set))
+classes_differ set apart i j d l m =
+    let classes = classes_of (facts_of set) in
+    let names = names_of set in
+    let same : map name classes ≡ names = names_listed set in
     let size : length classes ≡ length names = sym (length-map classes name) ∙ ap length same in
-    λ e. new_pairs [] names new i j (name d) l (omega (arith, m, size))
+    λ e. apart i j (name d) l (omega (arith, m, size))
     (ap (λ ns. slice_index_or ns i (name d)) (sym same) ∙ get_or-map_all name d classes i ∙ e ∙ sym (get_or-map_all name d classes j)
     ∙ ap (λ ns. slice_index_or ns j (name d)) same)
+
+pub linked_apart : (files : List ClassFile) → All IsSmall files → doubled files ≡ None
+    → AllPairs (λ (left right : List ℕ). left ≢ right) (names_of (linked_from files))
+linked_apart files small single = new_pairs [] (names_of (linked_from files)) (linked_new files small single)
+
+pub names_differ : (files : List ClassFile) → All IsSmall files → doubled files ≡ None
+    → AllPairs (λ (c d : ClassFacts). c.shape.name ≢ d.shape.name) (classes_of (facts_of (linked_from files)))
+names_differ files small single = classes_differ (linked_from files) (linked_apart files small single)

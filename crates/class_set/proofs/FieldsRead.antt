@@ -20,7 +20,7 @@ use Rattle.class_file.specs.Refusals.{of_item, of_pool}
 use Rattle.class_file.specs.Members.{number, index, has_byte, is_barred, is_field, is_static, is_reference, is_among, is_no_root, is_constant, constant_tag, constant_of, judged, no_facts, field_attributes_from, field_at, fields_from, fields_at, with_root, methods_at}
 use Rattle.class_file.specs.Classes.{CanBeRead, class_in, behind_at, head_at, interfaces_at, this_at}
 use Rattle.class_file.proofs.SpelledFields.{bind_then, ok_then}
-use Rattle.class_set.proofs.PoolTexts.{HasTexts, has_texts}
+use Rattle.class_set.proofs.PoolTexts.{AreShort, HasTexts, are_short, has_texts}
 
 abbrev HasTag : Slots → (descriptor index : ℕ) → Type 0
 HasTag pool descriptor index = is_constant pool (constant_tag pool descriptor (kind_at pool descriptor)) index ≡ true
@@ -119,6 +119,7 @@ behind_judged pool file c e =
 
 pub record IsSound (c : ClassFile) : Type 0 where
   pub texts : HasTexts c.pool
+  pub short : AreShort c.pool
   pub fields : All (IsJudged c.pool) c.fields
 
 file_sound : (c : ClassFile) (h : CanBeRead c) → class_in h.bytes ≡ Ok c → IsSound c
@@ -130,6 +131,7 @@ file_sound c h e =
     let behind = behind_judged pool.0 (pool.1, drop pool.1 h.bytes) c ends in
     record {
       texts = subst HasTexts (sym behind.same_pool) (has_texts pool.0 stands.pool.slots);
+      short = subst AreShort (sym behind.same_pool) (are_short pool.0 stands.pool.slots);
       fields = subst (λ p. All (IsJudged p) c.fields) (sym behind.same_pool) behind.fields;
     }))
 

@@ -18,7 +18,7 @@ use Rattle.text_table.specs.Sorted.{insert_text, insert_texts}
 use Rattle.text_table.specs.Texts.{place_from, place_of}
 use Rattle.class_links.specs.Names.{has_name, name_of}
 use Rattle.class_links.specs.Links.{doubled}
-use Rattle.class_set.specs.declared.arrays.Listed.TheVariants.{Needed}
+use Rattle.class_set.specs.declared.arrays.Listed.{Listed}
 use Rattle.class_set.specs.Linked.{class_names}
 use Rattle.class_set.specs.ArrayTypes.{array_type, is_array_type, listed_arrays, listed_by_class}
 use Rattle.class_set.proofs.Above.{get_or-map_all}
@@ -27,7 +27,7 @@ use Rattle.class_set.proofs.Places.{right_place}
 
 -- ---- what was inserted is there
 
-insert_has : (texts : List (List ℕ)) (text : List ℕ) → Contains (insert_text texts text) text
+pub insert_has : (texts : List (List ℕ)) (text : List ℕ) → Contains (insert_text texts text) text
 insert_has [] text = Contains-head text []
 insert_has (t ∷ ts) text =
     elim (slice_cmp nat_cmp text t) as (λ o. slice_cmp nat_cmp text t ≡ o
@@ -52,29 +52,28 @@ insert_keeps (t ∷ ts) text other c =
           (λ d. Contains-tail t (insert_text ts text) other (insert_keeps ts text other d))
     ]
 
-inserts_keep : (texts others : List (List ℕ)) (text : List ℕ) → Contains texts text → Contains (insert_texts texts others) text
+pub inserts_keep : (texts others : List (List ℕ)) (text : List ℕ) → Contains texts text → Contains (insert_texts texts others) text
 inserts_keep texts [] text c = c
 inserts_keep texts (t ∷ ts) text c = inserts_keep (insert_text texts t) ts text (insert_keeps texts t text c)
 
 -- ---- the array of chars
 
-contains_map : {A B : Type 0} (f : A → B) (xs : List A) (x : A) → Contains xs x → Contains (map f xs) (f x)
+pub contains_map : {A B : Type 0} (f : A → B) (xs : List A) (x : A) → Contains xs x → Contains (map f xs) (f x)
 contains_map f xs x c = (c.0, omega (arith, c.1, length-map xs f), get_or-map_all f x xs c.0 ∙ ap f c.2)
 
-chars_listed : (files : List ClassFile) → Contains (listed_arrays Needed files) (codes "[C")
+pub chars_listed : (what : Listed) (files : List ClassFile) → Contains (listed_arrays what files) (codes "[C")
 unfolding descriptor_at method_at result_at only_field parameters_at field_at brackets element_at base_at class_at after_front name_len bad_place char_len
-chars_listed files =
-    inserts_keep (insert_text (codes "[C" ∷ []) (codes "[Ljava/lang/String;")) (filter is_array_type (flat_map (listed_by_class Needed) files)) (codes "[C")
+chars_listed what files =
+    inserts_keep (insert_text (codes "[C" ∷ []) (codes "[Ljava/lang/String;")) (filter is_array_type (flat_map (listed_by_class what) files)) (codes "[C")
     (insert_keeps (codes "[C" ∷ []) (codes "[Ljava/lang/String;") (codes "[C") (Contains-head (codes "[C") []))
 
 chars_typed : (files : List ClassFile) → array_type files (codes "[C") ≡ chars_array
 unfolding descriptor_at method_at result_at only_field parameters_at field_at brackets element_at base_at class_at after_front name_len bad_place char_len
 chars_typed files = refl
 
-pub chars_there : (files : List ClassFile) → Contains (map (array_type files) (listed_arrays Needed files)) chars_array
-chars_there files =
-    subst (Contains (map (array_type files) (listed_arrays Needed files))) (chars_typed files)
-    (contains_map (array_type files) (listed_arrays Needed files) (codes "[C") (chars_listed files))
+pub chars_there : (files : List ClassFile) (arrays : List (List ℕ)) → Contains arrays (codes "[C") → Contains (map (array_type files) arrays) chars_array
+chars_there files arrays h =
+    subst (Contains (map (array_type files) arrays)) (chars_typed files) (contains_map (array_type files) arrays (codes "[C") h)
 
 -- ---- the array of Strings
 
@@ -92,10 +91,10 @@ string_at files single =
     ∙ string_placed (0 + length (map name_of files))
     ∙ ap (λ k. Some k) (omega (arith, length-map files name_of))
 
-strings_listed : (files : List ClassFile) → Contains (listed_arrays Needed files) (codes "[Ljava/lang/String;")
+pub strings_listed : (what : Listed) (files : List ClassFile) → Contains (listed_arrays what files) (codes "[Ljava/lang/String;")
 unfolding descriptor_at method_at result_at only_field parameters_at field_at brackets element_at base_at class_at after_front name_len bad_place char_len
-strings_listed files =
-    inserts_keep (insert_text (codes "[C" ∷ []) (codes "[Ljava/lang/String;")) (filter is_array_type (flat_map (listed_by_class Needed) files))
+strings_listed what files =
+    inserts_keep (insert_text (codes "[C" ∷ []) (codes "[Ljava/lang/String;")) (filter is_array_type (flat_map (listed_by_class what) files))
     (codes "[Ljava/lang/String;") (insert_has (codes "[C" ∷ []) (codes "[Ljava/lang/String;"))
 
 abbrev strings_with : Option ℕ → ArrayType
@@ -105,8 +104,8 @@ strings_typed : (files : List ClassFile) → array_type files (codes "[Ljava/lan
 unfolding descriptor_at method_at result_at only_field parameters_at field_at brackets element_at base_at class_at after_front name_len bad_place char_len
 strings_typed files = refl
 
-pub strings_there : (files : List ClassFile) → doubled files ≡ None
-    → Contains (map (array_type files) (listed_arrays Needed files)) (arguments_array (length files))
-strings_there files single =
-    subst (Contains (map (array_type files) (listed_arrays Needed files))) (strings_typed files ∙ ap strings_with (string_at files single))
-    (contains_map (array_type files) (listed_arrays Needed files) (codes "[Ljava/lang/String;") (strings_listed files))
+pub strings_there : (files : List ClassFile) (arrays : List (List ℕ)) → doubled files ≡ None → Contains arrays (codes "[Ljava/lang/String;")
+    → Contains (map (array_type files) arrays) (arguments_array (length files))
+strings_there files arrays single h =
+    subst (Contains (map (array_type files) arrays)) (strings_typed files ∙ ap strings_with (string_at files single))
+    (contains_map (array_type files) arrays (codes "[Ljava/lang/String;") h)

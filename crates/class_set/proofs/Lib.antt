@@ -39,3 +39,10 @@ pub mod FieldSorts
 pub mod StaticsOf
 pub mod LiteralsDiffer
 pub mod Consistency
+pub mod TextBytes
+pub mod FieldNames
+pub mod MadeArrays
+pub mod Written
+pub mod Named
+pub mod FieldsFound
+pub mod FirstWords

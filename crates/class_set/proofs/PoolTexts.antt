@@ -1,5 +1,5 @@
--- The texts of a pool that was read are modified UTF-8.
-use Rattle.std.proofs.Common.{◌≡◌, ℕ, zero, suc, Bool, true, false, List, [], ◌∷◌, Option, Some, None, slice_index_or, refl, subst}
+-- The texts of a pool that was read are modified UTF-8, and short.
+use Rattle.std.proofs.Common.{◌≡◌, ℕ, zero, suc, ◌<◌, ◌^◌, Bool, true, false, List, [], ◌∷◌, Option, Some, None, length, slice_index_or, refl, subst}
 use Rattle.std.specs.Prelude.{All}
 use Rattle.std.specs.List.{flat_map}
 use Rattle.std.specs.Option.{option_to_list}
@@ -15,12 +15,18 @@ use Rattle.class_set.specs.Literals.{strings_of}
 abbrev pub HasTexts : Slots → Type 0
 HasTexts pool = (i : ℕ) (t : List ℕ) → utf8_at pool i ≡ Some t → IsModifiedUtf8 t
 
-entry_text : (e : Entry) (t : List ℕ) → Fits e → text_of (Some e) ≡ Some t → IsModifiedUtf8 t
-entry_text (entry.Utf8 name) t h same = (let equal : name ≡ t = cc in subst IsModifiedUtf8 equal h.1)
+abbrev pub AreShort : Slots → Type 0
+AreShort pool = (i : ℕ) (t : List ℕ) → utf8_at pool i ≡ Some t → length t < 2 ^ 16
+
+abbrev IsShortText : List ℕ → Type 0
+IsShortText t = (length t < 2 ^ 16) × IsModifiedUtf8 t
+
+entry_text : (e : Entry) (t : List ℕ) → Fits e → text_of (Some e) ≡ Some t → IsShortText t
+entry_text (entry.Utf8 name) t h same = (let equal : name ≡ t = cc in subst IsShortText equal h)
 entry_text other t h same = absurd (cc)
 
 slot_text : (slots : Slots) (taken : Bool) (i : ℕ) (t : List ℕ) → AreSlots taken slots → text_of (slice_index_or slots i None) ≡ Some t
-    → IsModifiedUtf8 t
+    → IsShortText t
 slot_text [] taken i t h e = absurd (cc)
 slot_text (None ∷ slots) true zero t h e = absurd (cc)
 slot_text (None ∷ slots) true (suc i) t h e = slot_text slots false i t h e
@@ -30,7 +36,10 @@ slot_text (Some x ∷ slots) false zero t h e = entry_text x t h.0 e
 slot_text (Some x ∷ slots) false (suc i) t h e = slot_text slots (is_wide (tag_of x)) i t h.1 e
 
 pub has_texts : (pool : Slots) → AreSlots true pool → HasTexts pool
-has_texts pool h i t e = slot_text pool true i t h e
+has_texts pool h i t e = (slot_text pool true i t h e).1
+
+pub are_short : (pool : Slots) → AreSlots true pool → AreShort pool
+are_short pool h i t e = (slot_text pool true i t h e).0
 
 -- ---- string literals
 

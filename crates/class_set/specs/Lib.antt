@@ -5,4 +5,7 @@ pub mod Literals
 pub mod Facts
 pub mod Lookups
 pub mod Tables
+pub mod Sets
+pub mod FoundFields
 pub mod Rows
+pub mod LinkedRows

@@ -5,6 +5,7 @@ use Rattle.std.specs.List.{flat_map}
 use Rattle.std.specs.Option.{option_map, option_to_list}
 use Rattle.ap_base.specs.declared.reference.Ref.{Ref}
 use Rattle.ap_base.specs.declared.reference.Ref.TheVariants.{Volatile}
+use Rattle.graph_model.specs.declared.types.Obj.{Obj}
 use Rattle.const_pool.specs.Pool.{Slots, string_of, string_at}
 use Rattle.class_file.specs.declared.class.ClassFile.{ClassFile}
 use Rattle.class_set.specs.Linked.{Linked}
@@ -37,6 +38,10 @@ literals_of files = map chars_of (texts_of files)
 -- the place among the literals of the String entry at an index of a pool
 abbrev pub literal_place : List ClassFile → Slots → ℕ → Option ℕ
 literal_place files pool index = elim (string_at pool index) [ None ↦ None | Some text ↦ place_of (texts_of files) text ]
+
+-- the words that an object of volatile memory takes: three of its own, and one a slot
+abbrev pub words_of_object : Obj → ℕ
+words_of_object o = 3 + length o.values
 
 -- the words that a literal takes: its chars, and three before them
 abbrev pub words_of : List ℕ → ℕ

@@ -12,14 +12,17 @@ mod literals;
 mod members;
 mod names;
 mod set;
+mod shapes;
 mod statics;
 mod subtypes;
 mod supers;
 mod types;
 
 pub use laws::{
-    a_small_set_is_looked_up, linked_classes_are_consistent, names_of_linked_classes_differ,
-    no_class_is_above_itself,
+    a_small_set_is_looked_up, found_fields_are_where_they_say, linked_classes_are_consistent,
+    linked_sets_are_consistent, literals_follow_the_first_objects, made_arrays_are_known,
+    names_of_linked_classes_differ, no_class_is_above_itself, shapes_can_be_written,
+    two_small_files_are_linked,
 };
 pub use linking::link;
 pub use set::ClassSet;

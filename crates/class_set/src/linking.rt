@@ -4,7 +4,10 @@ ghost use Rattle.std.specs.Prelude.{◌≡◌, ◌≤◌, length, All, IfOk, OnO
 ghost use Rattle.class_file.specs.Classes.{CanBeRead};
 ghost use Rattle.class_links.specs.Links.{Links, IsBroken};
 ghost use Rattle.class_links.specs.Kept.{kept_files};
+ghost use Rattle.plain_model.specs.Consistent.{IsConsistent};
 ghost use Rattle.class_set.specs.ArrayTypes.{linked_from};
+ghost use Rattle.class_set.specs.Facts.{facts_of};
+ghost use Rattle.class_set.specs.Sets.{IsLinked};
 
 use crate::ClassSet;
 use class_file::ClassFile;
@@ -16,12 +19,16 @@ use std::alloc::Global;
 /// broken, by the first one (JVMS 5.3.5), or for want of memory.
 ///
 /// Takes time close to linear in the files' bytes, but for what lists of superinterfaces and a
-/// chain of superclasses take: a step for each class and each class above it.
+/// chain of superclasses take, a step for each superinterface that a class above names, and for the
+/// names of array types and the texts of literals: one is read for each instruction, entry or field
+/// that names it.
 pub fn link(alloc: Global, classes: Vec<ClassFile>) -> Result<ClassSet, LinkRefusal>
     requires few { length classes.items ≤ 4096 }
     requires readable { All CanBeRead classes.items }
     ensures set { IfOk result (λ set. set ≡ linked_from (kept_files classes.items)) }
     ensures links { OnOk result (Links (kept_files classes.items)) }
+    ensures linked { IfOk result IsLinked }
+    ensures consistent { IfOk result (λ set. IsConsistent (facts_of set)) }
     ensures broken { IfErr result (IsBroken (kept_files classes.items)) }
 {
     let files = keep_files(classes);

@@ -2,6 +2,7 @@
 
 ghost use Rattle.std.specs.Prelude.{◌≡◌, ◌≤◌, ◌<◌, ◌^◌, ◌++◌, length, map, slice_get, true, All, IfOk, IfSome, OnErr, OnOk};
 ghost use Rattle.std.specs.Option.{option_copied};
+ghost use Rattle.class_file.specs.Classes.{CanBeRead};
 ghost use Rattle.class_links.specs.Links.{Links};
 ghost use Rattle.plain_model.specs.Facts.{array_named, class_at, known_classes, shapes_of};
 ghost use Rattle.class_set.specs.Facts.{facts_of, root_of, roots_of};
@@ -69,6 +70,7 @@ pub struct ClassSet {
 impl Model for ClassSet {
     ghost use Rattle.class_set.specs.Linked.{Linked};
     ghost use Rattle.class_set.specs.Tables.{AreClasses, AreTables, AreTypes, linked_of};
+    ghost use Rattle.class_set.specs.Sets.{IsLinked};
 
     ghost Value = { Linked };
 
@@ -76,7 +78,8 @@ impl Model for ClassSet {
 
     ghost invariant = { λ s. AreTables s.files.items s.names s.supers.items s.literals s.indices.items
         × AreTypes s.files.items s.names s.shapes.items s.arrays.items s.made
-        × AreClasses s.files.items s.orders.items s.above.items s.statics.items s.firsts.items };
+        × AreClasses s.files.items s.orders.items s.above.items s.statics.items s.firsts.items
+        × IsLinked (linked_of s.files.items s.names) };
 }
 
 impl ClassSet {
@@ -91,6 +94,7 @@ impl ClassSet {
     pub(crate) fn of(alloc: Global, files: Vec<ClassFile>) -> Result<ClassSet, AllocError>
         requires few { length files.items ≤ 4096 }
         requires small { All IsSmall files.items }
+        requires readable { All CanBeRead files.items }
         requires links { Links files.items }
         ensures { IfOk result (λ set. set ≡ linked_from files.items) }
     {
@@ -128,7 +132,8 @@ impl ClassSet {
         self.names.place(name)
     }
 
-    /// Gives an array type that has no number yet the next one. An `Err` leaves the set as it was.
+    /// Gives an array type that has no number yet the next one. Want of numbers is want of memory. An
+    /// `Err` leaves the set as it was.
     pub fn number_array(&mut self, alloc: Global, descriptor: &[u8]) -> Result<(), AllocError>
         requires array { is_array_type descriptor.now ≡ true }
         ensures numbered { OnOk result (self.new ≡ with_array self.old descriptor.now) }
@@ -146,6 +151,33 @@ impl ClassSet {
         self.arrays.push(array)?;
         self.shapes.push(shape)?;
         Ok(())
+    }
+
+    /// The files in the order in which they were read. A class's number is its file's place here.
+    pub fn files(&self) -> &[ClassFile]
+        ensures { result.now ≡ self.now.files }
+    {
+        self.files.as_slice()
+    }
+
+    /// The number of the superclass of a class or an array type, `None` exactly where it has none.
+    pub fn superclass(&self, class: u32) -> Option<u32>
+        ensures { result ≡ (class_at (facts_of self.now) class).superclass }
+    {
+        if (class as usize) < self.supers.len() {
+            return self.supers[class as usize];
+        }
+        if class < self.names.len() {
+            return Some(self.files.len() as u32 + OBJECT);
+        }
+        None
+    }
+
+    /// How many classes there are that aren't array types.
+    pub fn named_count(&self) -> usize
+        ensures { result ≡ class_count self.now }
+    {
+        self.supers.len()
     }
 
     /// The shape of the objects of a class or an array type, by its number: `None` exactly past the
@@ -272,26 +304,6 @@ impl ClassSet {
         })
     }
 
-    /// The number of the superclass of a class or an array type.
-    fn super_number(&self, class: u32) -> Option<u32>
-        ensures { result ≡ (class_at (facts_of self.now) class).superclass }
-    {
-        if (class as usize) < self.supers.len() {
-            return self.supers[class as usize];
-        }
-        if class < self.names.len() {
-            return Some(self.files.len() as u32 + OBJECT);
-        }
-        None
-    }
-
-    /// How many classes there are that aren't array types.
-    fn class_count(&self) -> usize
-        ensures { result ≡ class_count self.now }
-    {
-        self.supers.len()
-    }
-
     /// The method with this name and descriptor that the class or the nearest of its superclasses
     /// declares, `None` exactly where none does (JVMS 5.4.3.3, without superinterfaces). Takes time
     /// for each method that they declare.
@@ -299,12 +311,12 @@ impl ClassSet {
         ensures { result ≡ find_method self.now class name.now descriptor.now }
     {
         let mut at = class;
-        for _ in 0..self.class_count() {
+        for _ in 0..self.named_count() {
             let found = self.own_method(at, name, descriptor);
             if found.is_some() {
                 return found;
             }
-            at = self.super_number(at)?;
+            at = self.superclass(at)?;
         }
         self.own_method(at, name, descriptor)
     }

@@ -34,7 +34,7 @@ pub struct Static {
     /// The number of the class that declares it.
     pub class: u32,
     /// Its place among the fields that the class declares.
-    pub place: u32,
+    pub(crate) place: u32,
     pub kind: Kind,
     /// The constant with which it begins.
     pub constant: Option<Constant>,

@@ -63,7 +63,7 @@ impl ClassSet {
     }
 
     /// What the innermost elements of a type are; of a class, itself.
-    fn elements_of(&self, n: u32) -> Elements<'_>
+    pub(crate) fn elements_of(&self, n: u32) -> Elements<'_>
         ensures elements { elements_now result ≡ innermost_of (facts_of self.now) n }
         ensures of_class { AreElements (facts_of self.now) (elements_now result) }
     {

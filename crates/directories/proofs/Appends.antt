@@ -249,10 +249,10 @@ next_some [] some = some
 next_some (entry ∷ later) some = omega arith
 
 -- after one entry, the others are spelled
-pub spelled_on : (words : List ℕ) (at appended : ℕ) (entries : List DirectoryEntry) (used : ℕ) (first : List ℕ)
-    → AreSpelled words at appended (drop appended entries) used → first ≡ next_words (drop appended entries) → 0 < length first
-    → AreSpelled words (at + length first) (appended + 1) (drop (appended + 1) entries) (used + length first)
-spelled_on words at appended entries used first are is some =
+pub spelled_on : (words : List ℕ) (at appended : ℕ) (entries : List DirectoryEntry) (used shapes : ℕ) (first : List ℕ)
+    → AreSpelled words at appended (drop appended entries) used shapes → first ≡ next_words (drop appended entries) → 0 < length first
+    → AreSpelled words (at + length first) (appended + 1) (drop (appended + 1) entries) (used + length first) shapes
+spelled_on words at appended entries used shapes first are is some =
     let left = drop appended entries in
     let count : length first ≡ length (next_words left) = ap length is in
     let next : drop 1 left ≡ drop (appended + 1) entries = drop-drop 1 appended entries in
@@ -268,6 +268,7 @@ spelled_on words at appended entries used first are is some =
           ∙ next_dropped left
           ∙ ap spelled_all next;
       room = omega (arith, are.room, count, sum);
+      counted = omega (arith, are.counted, count, sum);
     }
 
 pub goes_in : (kept next : Kept) (words : List ℕ) → words ≡ next_words kept.left → 0 < length words → next.left ≡ drop 1 kept.left

@@ -1,5 +1,5 @@
 -- Entries that are read and planned go on as those of a directory.
-use Rattle.std.proofs.Common.{◌+◌, ◌≡◌, ◌≢◌, inl, inr, ◌⊎◌, ⊎_elim, ◌<◌, ◌≤◌, ◌-◌, ℕ, suc, Bool, true, false, Option, None, List, [], ◌∷◌, ◌++◌, length, map, refl, sym, ◌∙◌, ap, subst, append_assoc, arith, slice_index_or}
+use Rattle.std.proofs.Common.{◌+◌, ◌≡◌, ◌≢◌, inl, inr, ◌⊎◌, ⊎_elim, ◌<◌, ◌≤◌, ◌-◌, ℕ, suc, Bool, true, false, Option, None, Ok, List, [], ◌∷◌, ◌++◌, length, map, refl, sym, ◌∙◌, ap, subst, append_assoc, arith, slice_index_or}
 use Rattle.std.specs.List.{list_any, AllByRecursion}
 use Rattle.std.specs.Str.{bytes_eq}
 use Rattle.std.proofs.lemmas.Bool.{lt-leb, le-ltb}
@@ -16,7 +16,8 @@ use Rattle.image_meaning.specs.Entries.{DirectoryEntry, ShapeEntry, RootEntry}
 use Rattle.image_meaning.specs.Directories.{Directory, no_entries, has_name, is_refused, with_entry, with_all, with_entries, directory_words_of, spelled_all, AreEntries}
 use Rattle.image_meaning.proofs.Directories.{entries-taken}
 use Rattle.directories.specs.Kept.{Kept, Continues}
-use Rattle.directories.specs.Read.{IsDirectory}
+use Rattle.directories.specs.Read.{IsDirectory, the_directory}
+use Rattle.directories.proofs.Grows.{spelled_both}
 use Rattle.directories.specs.Planning.{has_entry, lacking, directory_of_kept, root_count, unless_room, no_room, words_left, roots_left, IsPlanned, AreOthers, CanBePlanned, HasRead}
 use Rattle.directories.proofs.Plans.{none_of_room, entries_few}
 
@@ -146,8 +147,26 @@ shapes_few directory (ShapeEntry shape ∷ entries) =
     omega (arith, shapes_few (with_entry directory (ShapeEntry shape)) entries, length-append directory.shapes (shape ∷ []))
 shapes_few directory (RootEntry name ∷ entries) = omega (arith, shapes_few (with_entry directory (RootEntry name)) entries)
 
-pub directory_small : (had : List DirectoryEntry) (kept : Kept) → Continues had kept
-    → length (spelled_all (had ++ kept.left)) ≤ directory_words → length kept.shapes ≤ directory_words
-directory_small had kept continues room =
-    let all = had ++ kept.left in
-    omega (arith, room, entries_few all, shapes_few no_entries all, ap (λ (d : Directory). length d.shapes) continues.whole)
+-- the shapes of entries are no more than their words
+pub spelled_few : (entries : List DirectoryEntry) → length (with_all no_entries entries).shapes ≤ length (spelled_all entries)
+spelled_few entries = omega (arith, entries_few entries, shapes_few no_entries entries)
+
+pub planned_few : (left lack all : List DirectoryEntry) (shapes : List Shape) (roots : List (List ℕ)) → all ≡ left ++ lack
+    → the_directory shapes roots ≡ with_all no_entries lack
+    → length (spelled_all left) + length shapes ≤ length (spelled_all all)
+planned_few left lack all shapes roots is names =
+    omega (
+      arith,
+      spelled_few lack,
+      ap (λ (d : Directory). length d.shapes) names,
+      ap (λ (xs : List DirectoryEntry). length (spelled_all xs)) is,
+      ap length (spelled_both left lack),
+      length-append (spelled_all left) (spelled_all lack),
+    )
+
+-- what is read has no more shapes than words
+pub read_few : (n : ℕ) (directory : Directory) (words : List ℕ) → with_entries n 0 no_entries words ≡ Ok directory
+    → length directory.shapes ≤ length words
+read_few n directory words is =
+    let taken = entries-taken n 0 no_entries directory words is in
+    omega (arith, spelled_few taken.0, ap (λ (l : List ℕ). length l) taken.1, ap (λ (d : Directory). length d.shapes) taken.3)

@@ -7,7 +7,7 @@ use Rattle.image_meaning.specs.Checks.{Words}
 use Rattle.word_changes.specs.Changes.{Tells, AllKnown, IsFixed, Nothing, IsGiven, IsLeft, ChangesTo, WritesAll, AllFixed, StopsLeave}
 use Rattle.word_changes.proofs.Changing.{changes_nothing, changes_weaker, changes_nowhere, changes_more, stays_fixed, left_fixed, changes_stops, stops_then}
 use Rattle.word_changes.proofs.Writing.{AreWithin, AreApart, still_wrote, left_as_fixed, wrote_after, wrote_both, fence_wrote}
-use Rattle.directories.specs.Formatting.{IsFormatted, IsBlankOrFormatted, OfLines, OfSlots, OfCounts, OfSuperblock, OfFront, OfLayout}
+use Rattle.directories.specs.Formatting.{IsFormatted, IsBlankOrFormatted, IsCleared, OfLines, OfSlots, OfCounts, OfCleared, OfSuperblock, OfFront, OfLayout}
 
 -- ---- where the words lie
 
@@ -21,11 +21,11 @@ module _ (size : ℕ) (enough : min_lines ≤ size) where
   superblock_within : (lines : ℕ) → AreWithin (OfSuperblock lines) size
   superblock_within lines l w v given = omega (arith, given.0, enough)
 
+  pub cleared_within : AreWithin OfCleared size
+  cleared_within l w v given = ⊎_elim (λ slot. slots_within l w v slot) (λ count. counts_within logs (omega arith) l w v count) given
+
   pub front_within : (lines : ℕ) → AreWithin (OfFront lines) size
-  front_within lines l w v given = ⊎_elim
-      (λ slot. slots_within l w v slot)
-      (λ other. ⊎_elim (λ count. counts_within logs (omega arith) l w v count) (λ super. superblock_within lines l w v super) other)
-      given
+  front_within lines l w v given = ⊎_elim (λ first. cleared_within l w v first) (λ super. superblock_within lines l w v super) given
 
   pub layout_within : (lines : ℕ) → AreWithin (OfLayout lines) size
   layout_within lines l w v given = ⊎_elim
@@ -36,11 +36,12 @@ module _ (size : ℕ) (enough : min_lines ≤ size) where
 slots_no_count : (n : ℕ) → AreApart OfSlots (OfCounts n)
 slots_no_count n l w v x slot count = omega (arith, slot.1, count.2)
 
-slots_no_superblock : (lines : ℕ) → AreApart OfSlots (OfSuperblock lines)
-slots_no_superblock lines l w v x slot super = omega (arith, slot.0, super.0)
+-- none of these lies in the superblock
+behind_superblock : (l w v : ℕ) → OfCleared l w v → 0 < l
+behind_superblock l w v given = ⊎_elim (λ slot. omega (arith, slot.0)) (λ count. omega (arith, count.2)) given
 
-counts_no_superblock : (n lines : ℕ) → AreApart (OfCounts n) (OfSuperblock lines)
-counts_no_superblock n lines l w v x count super = omega (arith, count.2, super.0)
+cleared_no_superblock : (lines : ℕ) → AreApart OfCleared (OfSuperblock lines)
+cleared_no_superblock lines l w v x given super = omega (arith, behind_superblock l w v given, super.0)
 
 -- the magic word is none of them
 superblock_behind : (lines : ℕ) → AreApart (OfSuperblock lines) (IsGiven 0 0 magic)
@@ -51,8 +52,8 @@ superblock_behind lines l w v x super first = ⊎_elim
 
 pub front_behind : (lines : ℕ) → AreApart (OfFront lines) (IsGiven 0 0 magic)
 front_behind lines l w v x given first = ⊎_elim
-    (λ slot. omega (arith, slot.0, first.0))
-    (λ other. ⊎_elim (λ count. omega (arith, count.2, first.0)) (λ super. superblock_behind lines l w v x super first) other)
+    (λ cleared. omega (arith, behind_superblock l w v cleared, first.0))
+    (λ super. superblock_behind lines l w v x super first)
     given
 
 nothing_apart : (Gives : ℕ → ℕ → ℕ → Type 0) → AreApart Gives Nothing
@@ -202,73 +203,73 @@ same_thrice a b c d one two three = record {
   faults = three.faults ∙ two.faults ∙ one.faults;
 }
 
--- ---- the front: root slots, counts of logs, a fence, superblock, a fence
+-- ---- root slots and counts of logs, and a fence
 
-module _ (size : ℕ) where
-  pub of_slots : (a b : Memory) → ChangesTo OfSlots a b → ChangesTo (OfFront size) a b
-  of_slots a b changes = changes_weaker OfSlots (OfFront size) a b (λ l w v given. inl given) changes
+pub of_slots : (a b : Memory) → ChangesTo OfSlots a b → ChangesTo OfCleared a b
+of_slots a b changes = changes_weaker OfSlots OfCleared a b (λ l w v given. inl given) changes
 
-  pub of_counts : (a b : Memory) → ChangesTo (OfCounts logs) a b → ChangesTo (OfFront size) a b
-  of_counts a b changes = changes_weaker (OfCounts logs) (OfFront size) a b (λ l w v given. inr (inl given)) changes
+pub slots_counts : (a b c : Memory) → ChangesTo OfSlots a b → ChangesTo (OfCounts logs) b c → ChangesTo OfCleared a c
+slots_counts a b c slots counts =
+    changes_more OfCleared a b c (of_slots a b slots) (changes_weaker (OfCounts logs) OfCleared b c (λ l w v given. inr given) counts)
 
-  pub of_superblock : (a b : Memory) → ChangesTo (OfSuperblock size) a b → ChangesTo (OfFront size) a b
-  of_superblock a b changes = changes_weaker (OfSuperblock size) (OfFront size) a b (λ l w v given. inr (inr given)) changes
+pub cleared_changes : (a b c d : Memory) → ChangesTo OfSlots a b → ChangesTo (OfCounts logs) b c → ChangesTo Nothing c d
+    → ChangesTo OfCleared a d
+cleared_changes a b c d slots counts fence =
+    changes_more OfCleared a c d (slots_counts a b c slots counts) (changes_nowhere OfCleared c d fence)
 
-  pub slots_counts : (a b c : Memory) → ChangesTo OfSlots a b → ChangesTo (OfCounts logs) b c → ChangesTo (OfFront size) a c
-  slots_counts a b c slots counts = changes_more (OfFront size) a b c (of_slots a b slots) (of_counts b c counts)
+module _ (a b c d : Memory) (enough : min_lines ≤ a.size) (slots : ChangesTo OfSlots a b) (counts : ChangesTo (OfCounts logs) b c)
+    (fence : ChangesTo Nothing c d) where
+  wrote_c : WritesAll OfSlots a b → WritesAll (OfCounts logs) b c → WritesAll OfCleared a c
+  wrote_c slot count =
+      wrote_both OfSlots (OfCounts logs) OfCleared a c (λ l w v given. given)
+      (still_wrote OfSlots (OfCounts logs) a b c (slots_no_count logs) counts OfSlots slots
+      (slots_within b.size (omega (arith, enough, slots.size))) slot)
+      (wrote_after OfSlots (OfCounts logs) a b c slots count)
 
-  pub fenced_changes : (a b c : Memory) → ChangesTo (OfFront size) a b → ChangesTo Nothing b c → ChangesTo (OfFront size) a c
-  fenced_changes a b c changes fence = changes_more (OfFront size) a b c changes (changes_nowhere (OfFront size) b c fence)
+  within_c : AreWithin OfCleared c.size
+  within_c = cleared_within c.size (omega (arith, enough, slots.size, counts.size))
 
-  module _ (a b c d e : Memory) (enough : min_lines ≤ a.size) (slots : ChangesTo OfSlots a b) (counts : ChangesTo (OfCounts logs) b c)
-      (fence : ChangesTo Nothing c d) (super : ChangesTo (OfSuperblock size) d e) where
-    changes_c : ChangesTo (OfFront size) a c
-    changes_c = changes_more (OfFront size) a b c (of_slots a b slots) (of_counts b c counts)
+  pub cleared_wrote : WritesAll OfSlots a b → WritesAll (OfCounts logs) b c → WritesAll OfCleared a d
+  cleared_wrote slot count = fenced_wrote OfCleared a c d (slots_counts a b c slots counts) within_c (wrote_c slot count) fence
 
-    changes_d : ChangesTo (OfFront size) a d
-    changes_d = changes_more (OfFront size) a c d changes_c (changes_nowhere (OfFront size) c d fence)
+  pub cleared_fixed : WritesAll OfSlots a b → WritesAll (OfCounts logs) b c → ((l w : ℕ) → IsWritten c l w → IsDurable d l w) → Tells a
+      → AllFixed OfCleared d
+  cleared_fixed slot count durable tells =
+      fence_wrote OfCleared OfCleared a c d (slots_counts a b c slots counts) within_c (wrote_c slot count) fence durable tells
 
-    pub front_changes : ChangesTo (OfFront size) a e
-    front_changes = changes_more (OfFront size) a d e changes_d (of_superblock d e super)
+-- ---- the front: these, the superblock, and a fence
 
-    pub front_wrote : WritesAll OfSlots a b → WritesAll (OfCounts logs) b c → WritesAll (OfSuperblock size) d e
-        → WritesAll (OfFront size) a e
-    front_wrote slot count superblock =
-        let enough_b : min_lines ≤ b.size = omega (arith, enough, slots.size) in
-        let enough_c : min_lines ≤ c.size = omega (arith, enough_b, counts.size) in
-        let enough_d : min_lines ≤ d.size = omega (arith, enough_c, fence.size) in
-        let slot_c : WritesAll OfSlots a c =
-        still_wrote OfSlots (OfCounts logs) a b c (slots_no_count logs) counts OfSlots slots (slots_within b.size enough_b) slot in
-        let slot_d : WritesAll OfSlots a d =
-        still_wrote OfSlots Nothing a c d (nothing_apart OfSlots) fence (OfFront size) changes_c (slots_within c.size enough_c) slot_c in
-        let slot_e : WritesAll OfSlots a e =
-        still_wrote OfSlots (OfSuperblock size) a d e (slots_no_superblock size) super (OfFront size) changes_d (slots_within d.size enough_d) slot_d in
-        let count_c : WritesAll (OfCounts logs) a c = wrote_after OfSlots (OfCounts logs) a b c slots count in
-        let count_d : WritesAll (OfCounts logs) a d =
-        still_wrote (OfCounts logs) Nothing a c d (nothing_apart (OfCounts logs)) fence (OfFront size) changes_c
-        (counts_within c.size enough_c logs (omega arith)) count_c in
-        let count_e : WritesAll (OfCounts logs) a e =
-        still_wrote (OfCounts logs) (OfSuperblock size) a d e (counts_no_superblock logs size) super (OfFront size) changes_d
-        (counts_within d.size enough_d logs (omega arith)) count_d in
-        let super_e : WritesAll (OfSuperblock size) a e = wrote_after (OfFront size) (OfSuperblock size) a d e changes_d superblock in
-        let Behind = λ (l w v : ℕ). OfCounts logs l w v ⊎ OfSuperblock size l w v in
-        wrote_both OfSlots Behind (OfFront size) a e (λ l w v given. given) slot_e
-        (wrote_both (OfCounts logs) (OfSuperblock size) Behind a e (λ l w v given. given) count_e super_e)
+module _ (size : ℕ) (a d e : Memory) (enough : min_lines ≤ a.size) (cleared : ChangesTo OfCleared a d)
+    (super : ChangesTo (OfSuperblock size) d e) where
+  pub of_cleared : ChangesTo (OfFront size) a d
+  of_cleared = changes_weaker OfCleared (OfFront size) a d (λ l w v given. inl given) cleared
 
-    enough_e : min_lines ≤ e.size
-    enough_e = omega (arith, enough, slots.size, counts.size, fence.size, super.size)
+  pub front_changes : ChangesTo (OfFront size) a e
+  front_changes =
+      changes_more (OfFront size) a d e of_cleared (changes_weaker (OfSuperblock size) (OfFront size) d e (λ l w v given. inr given) super)
 
-    -- and after the last fence
-    pub front_done : (f : Memory) → ChangesTo Nothing e f → WritesAll OfSlots a b → WritesAll (OfCounts logs) b c
-        → WritesAll (OfSuperblock size) d e → WritesAll (OfFront size) a f
-    front_done f last slot count superblock =
-        fenced_wrote (OfFront size) a e f front_changes (front_within e.size enough_e size) (front_wrote slot count superblock) last
+  front_wrote : WritesAll OfCleared a d → WritesAll (OfSuperblock size) d e → WritesAll (OfFront size) a e
+  front_wrote first superblock =
+      wrote_both OfCleared (OfSuperblock size) (OfFront size) a e (λ l w v given. given)
+      (still_wrote OfCleared (OfSuperblock size) a d e (cleared_no_superblock size) super OfCleared cleared
+      (cleared_within d.size (omega (arith, enough, cleared.size))) first)
+      (wrote_after OfCleared (OfSuperblock size) a d e cleared superblock)
 
-    pub front_fixed : (f : Memory) → ChangesTo Nothing e f → WritesAll OfSlots a b → WritesAll (OfCounts logs) b c
-        → WritesAll (OfSuperblock size) d e → ((l w : ℕ) → IsWritten e l w → IsDurable f l w) → Tells a → AllFixed (OfFront size) f
-    front_fixed f last slot count superblock durable tells =
-        fence_wrote (OfFront size) (OfFront size) a e f front_changes (front_within e.size enough_e size) (front_wrote slot count superblock)
-        last durable tells
+  within_e : AreWithin (OfFront size) e.size
+  within_e = front_within e.size (omega (arith, enough, cleared.size, super.size)) size
+
+  -- and after the last fence
+  module _ (f : Memory) (last : ChangesTo Nothing e f) where
+    pub fenced_changes : ChangesTo (OfFront size) a f
+    fenced_changes = changes_more (OfFront size) a e f front_changes (changes_nowhere (OfFront size) e f last)
+
+    pub front_done : WritesAll OfCleared a d → WritesAll (OfSuperblock size) d e → WritesAll (OfFront size) a f
+    front_done first superblock = fenced_wrote (OfFront size) a e f front_changes within_e (front_wrote first superblock) last
+
+    pub front_fixed : WritesAll OfCleared a d → WritesAll (OfSuperblock size) d e → ((l w : ℕ) → IsWritten e l w → IsDurable f l w)
+        → Tells a → AllFixed (OfFront size) f
+    front_fixed first superblock durable tells =
+        fence_wrote (OfFront size) (OfFront size) a e f front_changes within_e (front_wrote first superblock) last durable tells
 
 -- the superblock is one of this size
 pub superblock_sized : (a d e : Memory) → d.size ≡ a.size → ChangesTo (OfSuperblock d.size) d e → ChangesTo (OfSuperblock a.size) d e
@@ -284,11 +285,11 @@ pub formatted_by : (size : ℕ) (words : Words) → words 0 0 ≡ magic → ((l 
     → IsFormatted size words
 formatted_by size words first front = record {
   begins = first;
-  layout = front 0 1 version (inr (inr (refl, inl (refl, refl))));
-  lines = front 0 2 size (inr (inr (refl, inr (inl (refl, refl)))));
-  used = front 0 3 0 (inr (inr (refl, inr (inr (refl, refl)))));
-  slots = λ r below. front (slot_line r) (slot_word r) 0 (inl (omega arith, omega (arith, below), omega arith, refl));
-  logs = λ t below. front (log_head_line t) 0 0 (inr (inl (t, below, refl, refl, refl)));
+  layout = front 0 1 version (inr (refl, inl (refl, refl)));
+  lines = front 0 2 size (inr (refl, inr (inl (refl, refl))));
+  used = front 0 3 0 (inr (refl, inr (inr (refl, refl))));
+  slots = λ r below. front (slot_line r) (slot_word r) 0 (inl (inl (omega arith, omega (arith, below), omega arith, refl)));
+  logs = λ t below. front (log_head_line t) 0 0 (inl (inr (t, below, refl, refl, refl)));
 }
 
 module _ (size : ℕ) (a b c d : Memory) (enough : min_lines ≤ a.size) (front : ChangesTo (OfFront size) a b)
@@ -360,3 +361,33 @@ module _ (size : ℕ) (a b : Memory) (blank : IsFixed a 0 0 0) (front : ChangesT
       (λ given. inr (formatted_by size k given.2
       (left_as_fixed (OfFront size) (IsGiven 0 0 magic) a b c (front_behind size) mark k all fixed)))
       (all 0 0)))
+
+-- ---- the order
+
+-- while root slots and counts are cleared, the superblock is as it was
+pub clearing_stops : (a b : Memory) → ChangesTo OfCleared a b → StopsLeave a b (IsCleared a)
+clearing_stops a b changes =
+    changes_stops OfCleared a b (IsCleared a) changes
+    (λ k all. inl (λ w some few. ⊎_elim
+    (λ was. was)
+    (λ given. absurd (omega (arith, behind_superblock 0 w (k 0 w) given)))
+    (all 0 w)))
+
+-- and then they are cleared, whatever else is stored
+pub then_stops : (Gives : ℕ → ℕ → ℕ → Type 0) (a b c : Memory) → AreApart OfCleared Gives → StopsLeave a b (IsCleared a)
+    → AllFixed OfCleared b → ChangesTo Gives b c → StopsLeave a c (IsCleared a)
+then_stops Gives a b c apart before fixed changes =
+    stops_then a b c (IsCleared a) before
+    (changes_stops Gives b c (IsCleared a) changes (λ k all. inr (left_as_fixed OfCleared Gives a b c apart changes k all fixed)))
+
+pub super_stops : (size : ℕ) (a b c : Memory) → ChangesTo OfCleared a b → AllFixed OfCleared b → ChangesTo (OfSuperblock size) b c
+    → StopsLeave a c (IsCleared a)
+super_stops size a b c cleared fixed changes =
+    then_stops (OfSuperblock size) a b c (cleared_no_superblock size) (clearing_stops a b cleared) fixed changes
+
+pub mark_stops : (size : ℕ) (a b c : Memory) → StopsLeave a b (IsCleared a) → AllFixed (OfFront size) b
+    → ChangesTo (IsGiven 0 0 magic) b c → StopsLeave a c (IsCleared a)
+mark_stops size a b c before fixed mark =
+    then_stops (IsGiven 0 0 magic) a b c
+    (λ l w v x given first. front_behind size l w v x (inl given) first)
+    before (λ l w v given. fixed l w v (inl given)) mark

@@ -10,4 +10,6 @@ pub mod Grows
 pub mod Growths
 pub mod Plans
 pub mod Readings
+pub mod SmallSet
+pub mod SortedNames
 pub mod Spellings

@@ -196,12 +196,6 @@ not_not true false is = (λ so. refl, λ so. absurd (cc))
 not_not false true is = (λ so. absurd (cc), λ so. refl)
 not_not false false is = (λ so. absurd (cc), λ so. absurd (cc))
 
--- ---- names
-
-pub name_next : (names : List (List ℕ)) (name : List ℕ) (i : ℕ) → i < length names
-    → has_name (drop i names) name ≡ (bytes_eq name (get_or names i []) || has_name (drop (suc i) names) name)
-name_next names name i below = ap (λ (rest : List (List ℕ)). has_name rest name) (drop-cons names i [] below)
-
 -- ---- words that are read one by one
 
 pub pushed_last : (items : List ℕ) (w i : ℕ) → length items ≡ i → get_or (items ++ w ∷ []) i 0 ≡ w
@@ -214,22 +208,6 @@ pub words_read : (n : ℕ) (items : List ℕ) (words : Words) → length items �
 words_read n items words count reads =
     sym (mapped_list (λ i. words (directory_line i) (directory_word i)) items (λ k below. sym (reads k (omega (arith, below, count)))))
     ∙ ap (λ (m : ℕ). directory_words_of words m) count
-
-pub shape_next : (shapes : List Shape) (shape : Shape) (name : List ℕ) (i : ℕ) → i < length shapes → shape ≡ get_or shapes i shape
-    → has_name (drop i (map (λ (s : Shape). s.name) shapes)) name
-    ≡ (bytes_eq name shape.name || has_name (drop (suc i) (map (λ (s : Shape). s.name) shapes)) name)
-shape_next shapes shape name i below is =
-    let names = map (λ (s : Shape). s.name) shapes in
-    let here : get_or names i [] ≡ shape.name =
-    get_or-map (λ (s : Shape). s.name) shapes i shape [] below ∙ ap (λ (s : Shape). s.name) (sym is) in
-    name_next names name i (omega (arith, length-map shapes (λ (s : Shape). s.name), below))
-    ∙ ap (λ (n : List ℕ). bytes_eq name n || has_name (drop (suc i) names) name) here
-
-pub or_true : (a b : Bool) → a ≡ true → (a || b) ≡ true
-or_true a b is = rw is refl
-
-pub or_false : (a b : Bool) → a ≡ false → (a || b) ≡ b
-or_false a b is = rw is refl
 
 -- ---- what a call read
 

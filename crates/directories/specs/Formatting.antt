@@ -1,6 +1,8 @@
 -- The layout of an image with an empty directory, as it is written into a blank image: the root slots, the counts of the logs and the superblock,
 -- of which the magic word comes last. Of this project's own format.
 use Rattle.std.specs.Prelude.{◌≡◌, ◌⊎◌, ◌<◌, ◌≤◌, ℕ}
+use Rattle.line_image.specs.Trace.{Outcome}
+use Rattle.line_memory.specs.Memory.{Memory, CanLeave}
 use Rattle.image_layout.specs.Places.{magic, version, root_slots, logs, slot_line, log_head_line}
 use Rattle.image_meaning.specs.Checks.{Words}
 use Rattle.image_meaning.specs.Logs.{NoneLogged}
@@ -34,14 +36,32 @@ OfSlots l w v = OfLines (slot_line 0) (slot_line root_slots) l w v
 abbrev pub OfCounts : ℕ → ℕ → ℕ → ℕ → Type 0
 OfCounts n l w v = (t : ℕ) × (t < n) × (l ≡ log_head_line t) × (w ≡ 0) × (v ≡ 0)
 
+-- both
+abbrev pub OfCleared : ℕ → ℕ → ℕ → Type 0
+OfCleared l w v = OfSlots l w v ⊎ OfCounts logs l w v
+
 -- words 1 to 3 of the superblock of an image of so many lines
 abbrev pub OfSuperblock : ℕ → ℕ → ℕ → ℕ → Type 0
 OfSuperblock size l w v = (l ≡ 0) × (((w ≡ 1) × (v ≡ version)) ⊎ ((w ≡ 2) × (v ≡ size)) ⊎ ((w ≡ 3) × (v ≡ 0)))
 
 -- all these
 abbrev pub OfFront : ℕ → ℕ → ℕ → ℕ → Type 0
-OfFront size l w v = OfSlots l w v ⊎ OfCounts logs l w v ⊎ OfSuperblock size l w v
+OfFront size l w v = OfCleared l w v ⊎ OfSuperblock size l w v
 
 -- and the magic word
 abbrev pub OfLayout : ℕ → ℕ → ℕ → ℕ → Type 0
 OfLayout size l w v = OfFront size l w v ⊎ IsGiven 0 0 magic l w v
+
+-- ---- the order of what is durable
+
+-- the root slots and the counts of the logs are 0
+abbrev pub AreCleared : Outcome → Type 0
+AreCleared c = (l w v : ℕ) → OfCleared l w v → c l w ≡ v
+
+-- words 1 to 3 of the superblock are what a stop could leave of them before
+abbrev pub HasOldSuperblock : Memory → Outcome → Type 0
+HasOldSuperblock old c = (w : ℕ) → 0 < w → w < 4 → CanLeave old 0 w (c 0 w)
+
+-- A superblock comes behind cleared root slots and counts: while it isn't there, or else they are all 0.
+abbrev pub IsCleared : Memory → Outcome → Type 0
+IsCleared old c = HasOldSuperblock old c ⊎ AreCleared c

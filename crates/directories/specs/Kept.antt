@@ -26,12 +26,13 @@ abbrev pub next_words : List DirectoryEntry → List ℕ
 next_words [] = []
 next_words (entry ∷ later) = spelled entry
 
--- From word `at` on, the words spell the entries that are left, and the directory has room for them.
-pub record AreSpelled (words : List ℕ) (at appended : ℕ) (left : List DirectoryEntry) (used : ℕ) : Type 0 where
+-- From word `at` on, the words spell the entries that are left, and the directory has room for them. Each of so many shapes has a word of its own.
+pub record AreSpelled (words : List ℕ) (at appended : ℕ) (left : List DirectoryEntry) (used shapes : ℕ) : Type 0 where
   pub within : at ≤ length words
   pub few : appended + length left ≤ directory_words
   pub spelled : drop at words ≡ spelled_all left
   pub room : used + length (spelled_all left) ≤ directory_words
+  pub counted : shapes ≤ used + length (spelled_all left)
 
 -- ---- the entries that the image has
 

@@ -3,5 +3,7 @@ pub mod ClassSets
 pub mod Formatting
 pub mod Growing
 pub mod Kept
+pub mod Names
 pub mod Planning
 pub mod Read
+pub mod Rows

@@ -94,8 +94,3 @@ pub record HasRead (words : Words) (kept : Kept) : Type 0 where
 abbrev pub ReadEntriesContinue : Type 0
 ReadEntriesContinue = (words : Words) (used : ℕ) (kept : Kept) → words 0 3 ≡ used
     → IsDirectory used (with_entries used 0 no_entries (directory_words_of words used)) kept → HasRead words kept
-
--- A directory whose entries have room has no more shapes than there are words.
-abbrev pub DirectoriesAreSmall : Type 0
-DirectoriesAreSmall = (had : List DirectoryEntry) (kept : Kept) → Continues had kept
-    → length (spelled_all (had ++ kept.left)) ≤ directory_words → length kept.shapes ≤ directory_words

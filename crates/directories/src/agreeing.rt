@@ -9,20 +9,16 @@ use crate::directory::Directory;
 use graph_model::{Field, Shape};
 
 impl Directory {
-    /// Whether each shape of the directory agrees with the class set: `Err` with the first that differs. A directory has fewer than
-    /// 2^32 shapes.
+    /// Whether each shape of the directory agrees with the class set: `Err` with the first that differs.
     pub fn agree<S: Classes>(&self, set: &S) -> Result<(), u32>
         ensures agree { OnOk result ((n : ℕ) → n < length self.now.shapes
             → Agrees (S.facts set.now) (slice_index_or self.now.shapes n no_shape)) }
-        ensures differs { IfErr result (λ n. length self.now.shapes < 2 ^ 32
-            → IsFirstOther (S.facts set.now) self.now.shapes n) }
+        ensures differs { IfErr result (λ n. IsFirstOther (S.facts set.now) self.now.shapes n) }
     {
-        let mut n: u32 = 0;
-        for shape in self.shapes.as_slice() {
+        for (n, shape) in self.shapes().iter().enumerate() {
             if !agrees(set, shape) {
-                return Err(n);
+                return Err(n as u32);
             }
-            n = n.saturating_add(1);
         }
         Ok(())
     }

@@ -27,7 +27,7 @@ pub struct Directory {
 }
 
 impl Model for Directory {
-    ghost use Rattle.std.specs.Prelude.{drop, map};
+    ghost use Rattle.std.specs.Prelude.{drop, length, map};
     ghost use Rattle.directories.specs.Kept.{Kept, AreSpelled};
     ghost use Rattle.directories.specs.Read.{entry_of};
 
@@ -42,7 +42,7 @@ impl Model for Directory {
     } };
 
     ghost invariant = { λ d. AreSpelled d.words.items d.at d.appended
-        (drop d.appended (map entry_of d.planned.items)) d.used };
+        (drop d.appended (map entry_of d.planned.items)) d.used (length d.shapes.items) };
 }
 
 impl Directory {
@@ -55,7 +55,8 @@ impl Directory {
 
     /// The shapes, in order.
     pub fn shapes(&self) -> &[Shape]
-        ensures { result.now ≡ self.now.shapes }
+        ensures shapes { result.now ≡ self.now.shapes }
+        ensures few { length self.now.shapes ≤ directory_words }
     {
         self.shapes.as_slice()
     }

@@ -4,7 +4,7 @@ ghost use Rattle.ap_base.specs.Causes.{HasCause};
 ghost use Rattle.line_memory.specs.Memory.{shown, IsDurable, IsResident, SameResident, SameImage};
 ghost use Rattle.image_layout.specs.Places.{min_lines, logs, log_head_line};
 ghost use Rattle.word_changes.specs.Changes.{Tells, AllKnown, IsFixed, IsGiven, ChangesTo, GoesOn, WritesAll, AllFixed, StopsLeave};
-ghost use Rattle.directories.specs.Formatting.{IsFormatted, IsBlankOrFormatted, OfLines, OfSlots, OfCounts, OfSuperblock, OfFront, OfLayout};
+ghost use Rattle.directories.specs.Formatting.{IsFormatted, IsBlankOrFormatted, IsCleared, OfLines, OfSlots, OfCounts, OfCleared, OfSuperblock, OfFront, OfLayout};
 
 use ap_base::{Spot, ThreadNo};
 use image_layout::{FIRST_DIRECTORY_LINE, FIRST_SLOT_LINE, LOGS, MAGIC, VERSION, log_head};
@@ -12,9 +12,9 @@ use line_image::{Image, ImageFailed};
 use line_memory::LineMemory;
 use word_changes::{fetch_line, make_fence, put_word, write_line};
 
-/// Writes the layout of an image with an empty directory into a blank one, line by line: the root slots and the counts of the
-/// logs are cleared, and fenced; then come words 1 to 3 of the superblock, and a fence; and then the magic word, and a fence. So
-/// a stop leaves a blank image or the whole layout. All other words stay. Takes no memory.
+/// Writes the layout of an image with an empty directory into a blank one: the root slots and the counts of the logs are cleared
+/// and durable before words 1 to 3 of the superblock are stored, and all of these before the magic word is. So a stop leaves a
+/// blank image or the whole layout. All other words stay. Takes no memory.
 pub fn format_image<I: Image>(memory: &mut LineMemory<I>) -> Result<(), ImageFailed>
     requires { min_lines ≤ memory.old.size }
     ensures formatted { AllKnown memory.old → OnOk result (IsFormatted memory.old.size (shown memory.new)) }
@@ -25,6 +25,7 @@ pub fn format_image<I: Image>(memory: &mut LineMemory<I>) -> Result<(), ImageFai
     // of the image before, only its first word has to be durable
     ensures stops { Tells memory.old → IsFixed memory.old 0 0 0
         → StopsLeave memory.old memory.new (IsBlankOrFormatted memory.old.size) }
+    ensures order { Tells memory.old → StopsLeave memory.old memory.new (IsCleared memory.old) }
     ensures goes_on { GoesOn memory.old memory.new }
     ensures cause { HasCause memory.old.faults memory.new.faults result }
 {
@@ -39,13 +40,26 @@ fn write_front<I: Image>(memory: &mut LineMemory<I>) -> Result<(), ImageFailed>
     ensures wrote { OnOk result (WritesAll (OfFront memory.old.size) memory.old memory.new) }
     ensures fixed { Tells memory.old → OnOk result (AllFixed (OfFront memory.old.size) memory.new) }
     ensures changes { ChangesTo (OfFront memory.old.size) memory.old memory.new }
+    ensures order { Tells memory.old → StopsLeave memory.old memory.new (IsCleared memory.old) }
+    ensures goes_on { GoesOn memory.old memory.new }
+    ensures cause { HasCause memory.old.faults memory.new.faults result }
+{
+    clear_front(memory)?;
+    write_superblock(memory)?;
+    make_fence(memory)
+}
+
+/// Clears the root slots and the counts of the logs, and makes that durable.
+fn clear_front<I: Image>(memory: &mut LineMemory<I>) -> Result<(), ImageFailed>
+    requires { min_lines ≤ memory.old.size }
+    ensures wrote { OnOk result (WritesAll OfCleared memory.old memory.new) }
+    ensures fixed { Tells memory.old → OnOk result (AllFixed OfCleared memory.new) }
+    ensures changes { ChangesTo OfCleared memory.old memory.new }
     ensures goes_on { GoesOn memory.old memory.new }
     ensures cause { HasCause memory.old.faults memory.new.faults result }
 {
     clear_slots(memory)?;
     clear_counts(memory)?;
-    make_fence(memory)?;
-    write_superblock(memory)?;
     make_fence(memory)
 }
 

@@ -1,7 +1,8 @@
 // Laws of directories. Each function states one in its contract, and does nothing.
 ghost use Rattle.directories.specs.ClassSets.{ClassSetEntriesCanBePlanned};
 ghost use Rattle.directories.specs.Growing.{FormattedImagesStand, AppendedEntriesStand, OthersLeaveDirectories, PlansLeaveDirectories};
-ghost use Rattle.directories.specs.Planning.{PlannedEntriesContinue, ReadEntriesContinue, DirectoriesAreSmall};
+ghost use Rattle.directories.specs.Rows.{SmallSetHasEntries, ShapesAgree};
+ghost use Rattle.directories.specs.Planning.{PlannedEntriesContinue, ReadEntriesContinue};
 
 /// Wherever the formatting of a blank image stops, the image stands for the empty graph; and once it is formatted, it opens.
 pub fn formatted_images_stand()
@@ -24,9 +25,14 @@ pub fn class_set_entries_can_be_planned()
     ensures { ClassSetEntriesCanBePlanned }
 {}
 
+/// The entries of a small class set, and the shapes that agree with it, are those that were worked out by hand.
+pub fn a_small_set_has_its_entries()
+    ensures entries { SmallSetHasEntries }
+    ensures agree { ShapesAgree }
+{}
+
 /// What was read from an image's directory are its entries, and what is planned may stand behind them.
 pub fn entries_continue()
     ensures read { ReadEntriesContinue }
     ensures planned { PlannedEntriesContinue }
-    ensures small { DirectoriesAreSmall }
 {}

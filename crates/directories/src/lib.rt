@@ -8,6 +8,7 @@ mod directory;
 mod entries;
 mod formatting;
 mod laws;
+mod names;
 mod planning;
 mod reading;
 mod spelling;
@@ -19,8 +20,8 @@ pub use directory::Directory;
 pub use entries::Entry;
 pub use formatting::format_image;
 pub use laws::{
-    appended_entries_stand, class_set_entries_can_be_planned, entries_continue,
-    formatted_images_stand, others_leave_directories,
+    a_small_set_has_its_entries, appended_entries_stand, class_set_entries_can_be_planned,
+    entries_continue, formatted_images_stand, others_leave_directories,
 };
 pub use planning::PlanFault;
 pub use reading::{DirectoryFault, read_directory};

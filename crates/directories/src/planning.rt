@@ -4,11 +4,12 @@ ghost use Rattle.image_layout.specs.Places.{directory_words};
 ghost use Rattle.image_meaning.specs.Directories.{no_entries, spelled_all, with_entry, with_all};
 ghost use Rattle.directories.specs.Read.{entry_of, the_directory};
 ghost use Rattle.directories.specs.Planning.{has_entry, lacking, directory_of_kept, root_count, no_room, IsRefused};
+ghost use Rattle.directories.specs.Names.{AreNamesOf};
 ghost use Rattle.directories.specs.declared.planning.PlanFault.TheVariants.{OutOfMemory as NoMemory};
 
 use crate::directory::Directory;
 use crate::entries::Entry;
-use crate::reading::{has_root, has_shape};
+use crate::names::Names;
 use crate::spelling::{entry_length, push_entry};
 use ap_base::Bytes;
 use graph_model::Shape;
@@ -85,23 +86,22 @@ impl Directory {
         ensures { IfOk result (λ missing. map entry_of missing.items
             ≡ lacking (directory_of_kept self.now) (map entry_of entries.now)) }
     {
+        let names = Names::of(alloc, self.shapes.as_slice(), self.roots.as_slice())?;
         let mut missing = Vec::new(alloc);
         for entry in entries {
-            if !self.has_entry(entry) {
+            if !self.has_entry(&names, entry) {
                 missing.push(entry.copy(alloc)?)?;
             }
         }
         Ok(missing)
     }
 
-    /// Whether the directory has an entry of this kind and name.
-    fn has_entry(&self, entry: &Entry) -> bool
+    /// Whether the directory, whose names these are, has an entry of this kind and name.
+    fn has_entry(&self, names: &Names, entry: &Entry) -> bool
+        requires { AreNamesOf (directory_of_kept self.now) names.now }
         ensures { result ≡ has_entry (directory_of_kept self.now) (entry_of entry.now) }
     {
-        match entry {
-            Entry::Shape(shape) => has_shape(self.shapes.as_slice(), shape.name.as_slice()),
-            Entry::Root(name) => has_root(self.roots.as_slice(), name.as_slice()),
-        }
+        names.has(entry)
     }
 
     /// What there is too little room of for these entries, if there is.
@@ -135,6 +135,7 @@ impl Directory {
     ) -> Result<(), AllocError>
         requires spelled { words.items ≡ spelled_all (map entry_of entries.items) }
         requires room { self.old.used + length (spelled_all (map entry_of entries.items)) ≤ directory_words }
+        requires few { length (spelled_all self.old.left) + length shapes.items ≤ length (spelled_all (map entry_of entries.items)) }
         ensures left { OnOk result (self.new.left ≡ map entry_of entries.items) }
         ensures shapes { OnOk result (self.new.shapes ≡ self.old.shapes ++ shapes.items) }
         ensures roots { OnOk result (self.new.roots ≡ self.old.roots ++ roots.items) }

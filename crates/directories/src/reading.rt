@@ -1,17 +1,19 @@
 // The directory of an image is read.
-ghost use Rattle.std.specs.Prelude.{◌≡◌, ◌≤◌, ℕ, true, not, [], length, map, Ok, IfOk, IfErr, IsErrOf};
+ghost use Rattle.std.specs.Prelude.{◌≡◌, ◌≤◌, ℕ, true, false, not, [], length, Ok, IfOk, IfErr, IsErrOf};
 ghost use Rattle.ap_base.specs.Causes.{Rose};
-ghost use Rattle.graph_model.specs.declared.types.Shape.{Shape as GraphShape};
 ghost use Rattle.line_memory.specs.Memory.{shown};
 ghost use Rattle.line_memory.specs.Moments.{CountsFrom};
-ghost use Rattle.image_layout.specs.Places.{min_lines, directory_words};
-ghost use Rattle.image_meaning.specs.Directories.{no_entries, has_name, is_refused, with_entry, with_entries, directory_words_of};
+ghost use Rattle.image_layout.specs.Places.{min_lines, root_slots, directory_words};
+ghost use Rattle.image_meaning.specs.Directories.{no_entries, is_refused, with_entry, with_entries, directory_words_of};
 ghost use Rattle.word_changes.specs.Changes.{AllKnown, Nothing, ChangesTo, CallsGoOn};
 ghost use Rattle.directories.specs.Read.{entry_of, the_directory, IsDirectory, IsFault, IsUntied};
+ghost use Rattle.directories.specs.Planning.{has_entry};
+ghost use Rattle.directories.specs.Names.{AreNamesOf};
 ghost use Rattle.directories.specs.declared.reading.DirectoryFault.TheVariants.{ImageFailed as Failed, OutOfMemory as NoMemory};
 
 use crate::directory::Directory;
 use crate::entries::{Entry, next_entry};
+use crate::names::Names;
 use crate::stepping::{Progress, word_spot};
 use ap_base::Bytes;
 use graph_model::Shape;
@@ -71,6 +73,7 @@ pub fn read_directory<I: Image>(
         (with_entries used 0 no_entries (directory_words_of (shown memory.old) used)) directory) }
     ensures bad { AllKnown memory.old → IfErr result (λ fault. IsFault
         (with_entries used 0 no_entries (directory_words_of (shown memory.old) used)) fault) }
+    ensures few { IfOk result (λ directory. length directory.roots ≤ root_slots) }
     ensures changes { ChangesTo Nothing memory.old memory.new }
     ensures counts { (begin : ℕ) → CountsFrom begin memory.old → CountsFrom begin memory.new }
     ensures calls { CallsGoOn memory.old memory.new }
@@ -84,7 +87,8 @@ pub fn read_directory<I: Image>(
 
 /// A directory of which nothing is planned.
 fn unplanned(alloc: Global, shapes: Vec<Shape>, roots: Vec<Bytes>, used: u32) -> Directory
-    requires { used ≤ directory_words }
+    requires room { used ≤ directory_words }
+    requires few { length shapes.items ≤ used }
     ensures shapes { result.shapes ≡ shapes.items }
     ensures roots { result.roots ≡ roots.items }
     ensures left { result.left ≡ [] }
@@ -140,6 +144,7 @@ fn parse(alloc: Global, words: &[u64]) -> Result<(Vec<Shape>, Vec<Bytes>), Direc
 {
     let mut shapes: Vec<Shape> = Vec::new(alloc);
     let mut roots: Vec<Bytes> = Vec::new(alloc);
+    let mut names = Names::none(alloc);
     let mut at = 0;
     while at < words.len() {
         let line = FIRST_DIRECTORY_LINE + (at / 8) as u32;
@@ -147,7 +152,7 @@ fn parse(alloc: Global, words: &[u64]) -> Result<(Vec<Shape>, Vec<Bytes>), Direc
             Some(found) => found,
             None => return Err(DirectoryFault::Bad { line }),
         };
-        if !add_entry(&mut shapes, &mut roots, entry)? {
+        if !add_entry(alloc, &mut shapes, &mut roots, &mut names, entry)? {
             return Err(DirectoryFault::Bad { line });
         }
         at += count;
@@ -157,26 +162,42 @@ fn parse(alloc: Global, words: &[u64]) -> Result<(Vec<Shape>, Vec<Bytes>), Direc
 
 /// Adds the entry, if it may stand behind these shapes and roots.
 fn add_entry(
+    alloc: Global,
+    shapes: &mut Vec<Shape>,
+    roots: &mut Vec<Bytes>,
+    names: &mut Names,
+    entry: Entry,
+) -> Result<bool, AllocError>
+    requires names { AreNamesOf (the_directory shapes.old.items roots.old.items) names.old }
+    ensures refused { IfOk result (λ taken.
+        taken ≡ not (is_refused (the_directory shapes.old.items roots.old.items) (entry_of entry))) }
+    ensures added { IfOk result (λ taken. taken ≡ true → the_directory shapes.new.items roots.new.items
+        ≡ with_entry (the_directory shapes.old.items roots.old.items) (entry_of entry)) }
+    ensures named { IfOk result (λ taken. taken ≡ true
+        → AreNamesOf (the_directory shapes.new.items roots.new.items) names.new) }
+{
+    if names.has(&entry) {
+        return Ok(false);
+    }
+    names.add(alloc, &entry)?;
+    push_entry(shapes, roots, entry)
+}
+
+/// Adds an entry of another kind or name than those that are there, if a root slot is left for it.
+fn push_entry(
     shapes: &mut Vec<Shape>,
     roots: &mut Vec<Bytes>,
     entry: Entry,
 ) -> Result<bool, AllocError>
+    requires other { has_entry (the_directory shapes.old.items roots.old.items) (entry_of entry) ≡ false }
     ensures refused { IfOk result (λ taken.
         taken ≡ not (is_refused (the_directory shapes.old.items roots.old.items) (entry_of entry))) }
     ensures added { IfOk result (λ taken. taken ≡ true → the_directory shapes.new.items roots.new.items
         ≡ with_entry (the_directory shapes.old.items roots.old.items) (entry_of entry)) }
 {
     match entry {
-        Entry::Shape(shape) => {
-            if has_shape(shapes.as_slice(), shape.name.as_slice()) {
-                return Ok(false);
-            }
-            shapes.push(shape)?;
-        }
+        Entry::Shape(shape) => shapes.push(shape)?,
         Entry::Root(name) => {
-            if has_root(roots.as_slice(), name.as_slice()) {
-                return Ok(false);
-            }
             if roots.len() as u64 >= u64::from(ROOT_SLOTS) {
                 return Ok(false);
             }
@@ -184,28 +205,4 @@ fn add_entry(
         }
     }
     Ok(true)
-}
-
-/// Whether one of the shapes has the name.
-pub(crate) fn has_shape(shapes: &[Shape], name: &[u8]) -> bool
-    ensures { result ≡ has_name (map (λ (shape : GraphShape). shape.name) shapes.now) name.now }
-{
-    for shape in shapes {
-        if name == shape.name.as_slice() {
-            return true;
-        }
-    }
-    false
-}
-
-/// Whether one of the names is this one.
-pub(crate) fn has_root(roots: &[Bytes], name: &[u8]) -> bool
-    ensures { result ≡ has_name roots.now name.now }
-{
-    for root in roots {
-        if name == root.as_slice() {
-            return true;
-        }
-    }
-    false
 }

@@ -28,4 +28,5 @@ pub mod Stands
 pub mod Steps
 pub mod Stopped
 pub mod WellFormed
+pub mod Within
 pub mod Words

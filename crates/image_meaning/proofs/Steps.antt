@@ -96,7 +96,7 @@ module _ (shapes : List Shape) (size : ℕ) (words : Words) (start : List Value)
     met = λ j below h. absurd (omega (arith, below));
   }
 
-  gone_after : (k : ℕ) (lines : List ℕ) → walk shapes size words start k ≡ Ok lines → Gone k lines
+  pub gone_after : (k : ℕ) (lines : List ℕ) → walk shapes size words start k ≡ Ok lines → Gone k lines
   unfolding walk
   gone_after zero lines h = let e : Ok (with_new [] start) ≡ Ok lines = h in let is : with_new [] start ≡ lines = cc in subst (λ l. Gone 0 l) is gone_at_first
   gone_after (suc k) lines h =

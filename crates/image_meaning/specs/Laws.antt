@@ -7,7 +7,7 @@ use Rattle.graph_model.specs.declared.types.Heap.{Heap}
 use Rattle.graph_model.specs.Heaps.{values_of, is_kept_slot, stored, with_fresh}
 use Rattle.graph_model.specs.Canon.{canon_of}
 use Rattle.image_layout.specs.declared.superblock.BadReason.{BadReason}
-use Rattle.image_layout.specs.Places.{logs, root_slots, slot_line, object_line, object_word, directory_line, directory_word, IsBlank, super_check}
+use Rattle.image_layout.specs.Places.{min_lines, logs, root_slots, slot_line, object_line, object_word, directory_line, directory_word, IsBlank, super_check}
 use Rattle.image_meaning.specs.Checks.{Words, Bad}
 use Rattle.image_meaning.specs.Entries.{DirectoryEntry}
 use Rattle.image_meaning.specs.Directories.{Directory, no_entries, bad_entry, directory_words_of, directory_of, with_entries, spelled_all, with_all, AreEntries, BreaksOff}
@@ -81,6 +81,11 @@ pub record BadDirectoriesAreTold : Type 0 where
   pub only : (words : Words) (bad : Bad) → directory_of words ≡ Err bad
       → (entries : List DirectoryEntry) × (rest : List ℕ) × BreaksOff no_entries (directory_words_of words (words 0 3)) entries rest
       × (bad ≡ bad_entry (length (spelled_all entries)))
+
+-- What an image stands for, the words of its lines tell, and so the first check that fails: those behind its last line say nothing.
+abbrev pub LinesTellTheMeaning : Type 0
+LinesTellTheMeaning = (size : ℕ) (c d : Words) → min_lines ≤ size → ((line word : ℕ) → line < size → d line word ≡ c line word)
+    → meaning size d ≡ meaning size c
 
 -- ---- words that correspond to a heap
 

@@ -1,7 +1,7 @@
 // Laws of what an image stands for. Each function states one in its contract, and does nothing.
 ghost use Rattle.std.specs.Prelude.{ℕ};
 ghost use Rattle.image_meaning.specs.Checks.{Words};
-ghost use Rattle.image_meaning.specs.Laws.{ChecksComeInOrder, PutBackOneByOne, CountedEntriesArePutBack, DirectoriesAreRead, BadDirectoriesAreTold, CorrespondingWordsStand, SameWordsStand, SameWordsCorrespond, SlotStoreCorresponds, RootStoreCorresponds, OtherObjectsCorrespond, ChangesElsewhereCorrespond, FurtherObjectsCorrespond};
+ghost use Rattle.image_meaning.specs.Laws.{ChecksComeInOrder, LinesTellTheMeaning, PutBackOneByOne, CountedEntriesArePutBack, DirectoriesAreRead, BadDirectoriesAreTold, CorrespondingWordsStand, SameWordsStand, SameWordsCorrespond, SlotStoreCorresponds, RootStoreCorresponds, OtherObjectsCorrespond, ChangesElsewhereCorrespond, FurtherObjectsCorrespond};
 ghost use Rattle.image_meaning.specs.Laws.{AgreeingWordsCorrespond, CorrespondingWordsLieApart};
 ghost use Rattle.image_meaning.specs.Appending.{AddedEntryOpens, AddedShapeCorresponds, AddedRootCorresponds, NullRootIsAdded, AddedEntryStands, AddedEntriesStand};
 ghost use Rattle.image_meaning.specs.Opening.{WellFormedImagesPass, StandingImageIsFound, FoundImageStands, FoundObjectsLieBefore, StandingGraphsAreCanonical};
@@ -14,6 +14,11 @@ ghost use Rattle.image_meaning.specs.Arrays.{NullRootsStand, ArrayEntriesMayStan
 /// The first check that fails counts: of the superblock, the directory, the logs, the root slots, the objects.
 pub fn checks_come_in_order()
     ensures { (size : ℕ) (words : Words) → ChecksComeInOrder size words }
+{}
+
+/// What an image stands for, or the first check that fails, is told by the words of its lines alone.
+pub fn lines_tell_the_meaning()
+    ensures { LinesTellTheMeaning }
 {}
 
 /// Entries are put back log by log, in each log the last one first.

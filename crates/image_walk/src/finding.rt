@@ -38,9 +38,10 @@ pub fn find_graph<I: Image>(
 ) -> Result<FoundGraph, RecoverFault>
     requires enough { min_lines ≤ memory.old.size }
     requires most { memory.old.size ≤ max_lines }
-    ensures found { (c : Words) → Shows memory.old c → length roots.now ≤ root_slots
+    requires roots { length roots.now ≤ root_slots }
+    ensures found { (c : Words) → Shows memory.old c
         → IfOk result (IsFoundGraph memory.old.size (directory_with shapes.now roots.now) c) }
-    ensures bad { (c : Words) → Shows memory.old c → length roots.now ≤ root_slots
+    ensures bad { (c : Words) → Shows memory.old c
         → IfErr result (IsFaultOf (graph_from memory.old.size (directory_with shapes.now roots.now) c)) }
     ensures looks { Looks memory.old memory.new }
     ensures cause { IsErrOf result RecoverFault.ImageFailed → Rose memory.old.faults memory.new.faults }

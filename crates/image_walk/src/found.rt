@@ -12,7 +12,7 @@ use std::marker::Model;
 /// Objects in the order in which they were found, called by their first lines, and for each line of the image the place
 /// in that order of the object that begins there.
 #[derive(Drop)]
-pub struct FoundObjects {
+pub(crate) struct FoundObjects {
     lines: Vec<u32>,
     places: Vec<Option<u32>>,
 }
@@ -86,7 +86,7 @@ impl FoundObjects {
     }
 
     /// The first lines of the found objects, in order. Takes no memory.
-    pub fn into_lines(self) -> ListOf<u32>
+    pub(crate) fn into_lines(self) -> ListOf<u32>
         ensures { result ≡ self.numbers }
     {
         let FoundObjects { lines, places: _ } = self;
@@ -122,7 +122,7 @@ impl FoundObjects {
     ) -> Result<ListOf<Value>, AllocError>
         ensures { IfOk result (λ list. list ≡ map (renumbered self.now.numbers) values.now) }
     {
-        let mut list = Vec::new(alloc);
+        let mut list = Vec::with_capacity(alloc, values.len())?;
         for value in values {
             list.push(self.renumbered(*value))?;
         }

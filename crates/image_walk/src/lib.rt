@@ -15,6 +15,4 @@ mod words;
 
 pub use fault::RecoverFault;
 pub use finding::{FoundGraph, find_graph};
-pub use found::FoundObjects;
-pub use walking::{Walked, walk_objects};
 pub use words::read_word;

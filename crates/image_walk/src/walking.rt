@@ -20,15 +20,15 @@ use std::alloc::Global;
 
 /// What a walk found: the objects in order, their nodes, and the first line behind all of them.
 #[derive(Drop)]
-pub struct Walked {
-    pub found: FoundObjects,
-    pub nodes: Vec<Node>,
-    pub free: u32,
+pub(crate) struct Walked {
+    pub(crate) found: FoundObjects,
+    pub(crate) nodes: Vec<Node>,
+    pub(crate) free: u32,
 }
 
 /// Looks at each object that was found, in order, and so at those that are found meanwhile. For each line of the image a
 /// byte is taken here, and eight bytes by the places; for each node its own memory.
-pub fn walk_objects<I: Image>(
+pub(crate) fn walk_objects<I: Image>(
     alloc: Global,
     memory: &mut LineMemory<I>,
     shapes: &[Shape],

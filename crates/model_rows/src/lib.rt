@@ -5,6 +5,8 @@
 #[cfg(test)]
 mod base;
 #[cfg(test)]
+mod class_sets;
+#[cfg(test)]
 mod heaps;
 #[cfg(test)]
 mod links;

@@ -179,6 +179,10 @@ fn classes_that_link_and_others(rt: HostRuntime) -> Result<(), Fail> {
         ("class A A", "CircularSuper A "),
         ("class C A, class A B, class B A", "CircularSuper A "),
         (
+            "class D A, class A B, class B C, class C A",
+            "CircularSuper A ",
+        ),
+        (
             "interface I java/lang/Object J, interface J java/lang/Object I",
             "CircularSuper I ",
         ),

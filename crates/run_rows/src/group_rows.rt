@@ -46,15 +46,6 @@ const STORES_PAST: Group = Group::StoresElement {
     store: 12,
 };
 
-/// `root = new int[count]`.
-fn makes(count: i32) -> Group {
-    Group::MakesArray {
-        count,
-        make: 1,
-        put: 3,
-    }
-}
-
 /// A memory over an image.
 fn attached(alloc: Global, image: MemoryImage) -> Result<LineMemory<MemoryImage>, Fail>
     ensures enough { IfOk result (λ memory. min_lines ≤ memory.size) }
@@ -116,6 +107,14 @@ fn run_groups(alloc: Global, groups: &[Group], fails: Fails, room: u64) -> Resul
     })
 }
 
+fn read(place: Place, value: Value) -> Op {
+    Op::Read { place, value }
+}
+
+fn stored(place: Place, value: Value) -> Op {
+    Op::Stored { place, value }
+}
+
 /// The operations of the run that makes an array, stores 7 and prints it, and how many calls of the image came before each since it began.
 fn expected() -> Result<[(u64, Op); 19], Fail> {
     let root = Place::Static(1);
@@ -132,8 +131,6 @@ fn expected() -> Result<[(u64, Op); 19], Fail> {
     let done = Stage::Done;
     let digit = Piece::new(b"7").ok_or("a piece")?;
     let line_feed = Piece::new(b"\n").ok_or("a piece")?;
-    let read = |place: Place, value: Value| Op::Read { place, value };
-    let stored = |place: Place, value: Value| Op::Stored { place, value };
     Ok([
         (
             0,
@@ -182,32 +179,33 @@ fn expected() -> Result<[(u64, Op); 19], Fail> {
     ])
 }
 
+static STORES_AND_PRINTS: [Group; 3] = [MAKES_THREE, STORES_SEVEN, PRINTS_IT];
+
+/// An act of a run, with the calls of the image that came before it since the run began.
+fn act_of(ran: &Ran, i: u32) -> Option<(u64, Op)> {
+    let act = ran.run.acts.get(i)?;
+    Some((act.at.saturating_sub(ran.before), act.op))
+}
+
+/// Whether a run ended well, printed 7, made six calls of the image, and named object 2 as it became durable.
+fn is_run(ran: &Ran) -> bool {
+    // A write-back and a fence each for the array, the root and the element.
+    ran.answer.is_ok()
+        && ran.run.sink.as_slice() == b"7\n".as_slice()
+        && ran.run.memory.calls().saturating_sub(ran.before) == 6
+        && ran.run.acts.named(4) == [2].as_slice()
+}
+
 #[test]
 fn an_element_is_stored_and_printed(rt: HostRuntime) -> Result<(), Fail> {
-    let alloc = rt.alloc();
-    let groups = [MAKES_THREE, STORES_SEVEN, PRINTS_IT];
-    let Ran {
-        answer,
-        run,
-        before,
-    } = run_groups(alloc, &groups, no_fails(alloc), 100)?;
-    // A write-back and a fence each for the array, the root and the element.
-    assert_eq!(rt;
-        (
-            answer,
-            run.sink.as_slice(),
-            run.memory.calls().checked_sub(before),
-            run.acts.named(4)
-        ),
-        (Ok(()), b"7\n".as_slice(), Some(6), [2].as_slice())
-    );
     let wanted = expected()?;
+    let ran = run_groups(rt.alloc(), &STORES_AND_PRINTS, no_fails(rt.alloc()), 100)?;
+    assert!(rt; is_run(&ran), "what is printed and stored");
     for i in 0..20_u32 {
-        let found = run
-            .acts
-            .get(i)
-            .map(|act| (act.at.saturating_sub(before), act.op));
-        assert_eq!(rt; found, wanted.get(i as usize).copied(), "act {i}");
+        assert!(rt;
+            act_of(&ran, i) == wanted.get(i as usize).copied(),
+            "act {i}"
+        );
     }
     Ok(())
 }
@@ -246,68 +244,91 @@ fn what_a_run_stores_stays_in_the_image(rt: HostRuntime) -> Result<(), Fail> {
     Ok(())
 }
 
-/// How a run of these groups ended, how many acts it made, and what it printed.
-fn told(
-    alloc: Global,
-    groups: &[Group],
-    fails: Fails,
-    room: u64,
-) -> Result<(Result<(), RunEnd>, u32, Vec<u8>), Fail> {
-    let ran = run_groups(alloc, groups, fails, room)?;
-    let printed = ran.run.sink.as_slice().to_vec(alloc)?;
-    Ok((ran.answer, ran.run.acts.len(), printed))
-}
+/// Groups, and how their run ends. 12,191 lines are behind the first objects' line, for a head and 97,527 elements. The stream and
+/// the arguments take six of 8,388,608 words.
+static ENDS: [(&[Group], Result<(), RunEnd>); 6] = [
+    (
+        &[Group::MakesArray {
+            count: -1,
+            make: 1,
+            put: 3,
+        }],
+        Err(RunEnd::Uncaught(Throws::NegativeArraySize)),
+    ),
+    (&[PRINTS_IT], Err(RunEnd::Uncaught(Throws::NullPointer))),
+    (
+        &[MAKES_THREE, STORES_PAST],
+        Err(RunEnd::Uncaught(Throws::ArrayIndexOutOfBounds)),
+    ),
+    (
+        &[Group::MakesArray {
+            count: 97_527,
+            make: 1,
+            put: 3,
+        }],
+        Ok(()),
+    ),
+    (
+        &[Group::MakesArray {
+            count: 97_528,
+            make: 1,
+            put: 3,
+        }],
+        Err(RunEnd::Full(Full {
+            which: Which::ImageLines,
+            need: 12_192,
+            left: 12_191,
+        })),
+    ),
+    (
+        &[Group::MakesArray {
+            count: 8_388_600,
+            make: 1,
+            put: 3,
+        }],
+        Err(RunEnd::Full(Full {
+            which: Which::VolatileWords,
+            need: 8_388_603,
+            left: 8_388_602,
+        })),
+    ),
+];
 
 #[test]
 fn runs_end_by_what_they_do(rt: HostRuntime) -> Result<(), Fail> {
-    let alloc = rt.alloc();
-    let uncaught = |thrown: Throws| Err(RunEnd::Uncaught(thrown));
-    let full = |which: Which, need: u64, left: u64| Err(RunEnd::Full(Full { which, need, left }));
-    // 12,191 lines are behind the first objects' line, for a head and 97,527 elements. The stream and the arguments take six of 8,388,608
-    // words.
-    let rows: [(&[Group], Result<(), RunEnd>); 6] = [
-        (&[makes(-1)], uncaught(Throws::NegativeArraySize)),
-        (&[PRINTS_IT], uncaught(Throws::NullPointer)),
-        (
-            &[MAKES_THREE, STORES_PAST],
-            uncaught(Throws::ArrayIndexOutOfBounds),
-        ),
-        (&[makes(97_527)], Ok(())),
-        (&[makes(97_528)], full(Which::ImageLines, 12_192, 12_191)),
-        (
-            &[makes(8_388_600)],
-            full(Which::VolatileWords, 8_388_603, 8_388_602),
-        ),
-    ];
-    for (i, (groups, answer)) in rows.into_iter().enumerate() {
-        let (found, _, _) = told(alloc, groups, no_fails(alloc), 100)?;
-        assert!(rt; found == answer, "row {i}");
+    for (i, (groups, answer)) in ENDS.iter().enumerate() {
+        let ran = run_groups(rt.alloc(), groups, no_fails(rt.alloc()), 100)?;
+        assert!(rt; ran.answer == *answer, "row {i}");
     }
     Ok(())
 }
 
+/// The call from which on the image fails, within the copy of the array, the store into the root, and that into the element, and the
+/// room for output, which ends at the second byte that is printed; how the run ends, how many acts it made, and what it printed.
+static FAILURES: [(u64, u64, RunEnd, u32, &str); 7] = [
+    (1, 100, RunEnd::ImageFailed, 4, ""),
+    (2, 100, RunEnd::ImageFailed, 4, ""),
+    (3, 100, RunEnd::ImageFailed, 6, ""),
+    (4, 100, RunEnd::ImageFailed, 6, ""),
+    (5, 100, RunEnd::ImageFailed, 9, ""),
+    (6, 100, RunEnd::ImageFailed, 9, ""),
+    (u64::MAX, 1, RunEnd::SinkFailed, 16, "7"),
+];
+
+/// Whether a run ended so, with so many acts, and printed this.
+fn has_ended(ran: &Ran, answer: RunEnd, acts: u32, printed: &str) -> bool {
+    ran.answer == Err(answer)
+        && ran.run.acts.len() == acts
+        && ran.run.sink.as_slice() == printed.as_bytes()
+}
+
 #[test]
 fn the_image_and_the_sink_fail(rt: HostRuntime) -> Result<(), Fail> {
-    let alloc = rt.alloc();
-    let groups = [MAKES_THREE, STORES_SEVEN, PRINTS_IT];
-    let before = run_groups(alloc, &[], no_fails(alloc), 100)?.before;
-    let never = u64::MAX;
-    // Within the copy of the array, the store into the root, and that into the element; and at the second byte that is printed.
-    for (call, room, answer, acts, printed) in [
-        (1, 100, RunEnd::ImageFailed, 4, ""),
-        (2, 100, RunEnd::ImageFailed, 4, ""),
-        (3, 100, RunEnd::ImageFailed, 6, ""),
-        (4, 100, RunEnd::ImageFailed, 6, ""),
-        (5, 100, RunEnd::ImageFailed, 9, ""),
-        (6, 100, RunEnd::ImageFailed, 9, ""),
-        (never, 1, RunEnd::SinkFailed, 16, "7"),
-    ] {
-        let fails = fails_from(alloc, before.saturating_add(call));
-        let (found, made, text) = told(alloc, &groups, fails, room)?;
-        let is_right = found == Err(answer)
-            && made == acts
-            && text.as_slice() == printed.as_bytes();
-        assert!(rt; is_right, "call {call}");
+    let before = run_groups(rt.alloc(), &[], no_fails(rt.alloc()), 100)?.before;
+    for (call, room, answer, acts, printed) in &FAILURES {
+        let fails = fails_from(rt.alloc(), before.saturating_add(*call));
+        let ran = run_groups(rt.alloc(), &STORES_AND_PRINTS, fails, *room)?;
+        assert!(rt; has_ended(&ran, *answer, *acts, printed), "call {call}");
     }
     Ok(())
 }

@@ -8,9 +8,8 @@ use plain_model::{
 };
 use run_history::{Act, Acts, NoWatch, Op, Watcher};
 use run_types::{Full, Which};
+use std::alloc::AllocError;
 use std::test::Fail;
-
-const NONE: &[u32] = &[];
 
 fn act(at: u64, op: Op) -> Act {
     Act {
@@ -20,62 +19,74 @@ fn act(at: u64, op: Op) -> Act {
     }
 }
 
+/// Numbers of acts, and the objects that each takes.
+static NAMED: [(u32, &[u32]); 6] = [
+    (0, &[]),
+    (1, &[7, 5]),
+    (2, &[]),
+    (3, &[9]),
+    (4, &[]),
+    (5, &[]),
+];
+
+/// Whether there are five acts, with these as the first and the last.
+fn has_acts(acts: &Acts) -> bool {
+    acts.len() == 5
+        && acts.get(0).copied() == Some(act(0, Op::Pause))
+        && acts.get(4).copied() == Some(act(8, Op::Joined))
+        && acts.get(5).is_none()
+}
+
 #[test]
 fn a_joined_act_takes_what_was_named(rt: HostRuntime) -> Result<(), Fail> {
     let mut acts = Acts::new(rt.alloc());
     acts.reserve(5, 3)?;
     acts.name(7);
     acts.name(5);
-    assert_eq!(rt; acts.push(act(0, Op::Pause)), Ok(()));
-    assert_eq!(rt; acts.push(act(3, Op::Joined)), Ok(()));
-    assert_eq!(rt; acts.push(act(3, Op::Begin)), Ok(()));
+    let first = acts.push(act(0, Op::Pause)).is_ok();
+    let joined = acts.push(act(3, Op::Joined)).is_ok();
+    let begun = acts.push(act(3, Op::Begin)).is_ok();
     acts.name(9);
-    assert_eq!(rt; acts.push(act(8, Op::Joined)), Ok(()));
-    assert_eq!(rt; acts.push(act(8, Op::Joined)), Ok(()));
-    assert_eq!(rt; acts.len(), 5);
-    let first: &[u32] = &[7, 5];
-    let second: &[u32] = &[9];
-    for (i, objects) in [
-        (0, NONE),
-        (1, first),
-        (2, NONE),
-        (3, second),
-        (4, NONE),
-        (5, NONE),
-    ] {
-        assert_eq!(rt; acts.named(i), objects, "of act {i}");
+    let again = acts.push(act(8, Op::Joined)).is_ok();
+    let last = acts.push(act(8, Op::Joined)).is_ok();
+    assert!(rt; first && joined && begun && again && last, "there is room");
+    assert!(rt; has_acts(&acts), "five acts");
+    for (i, objects) in &NAMED {
+        assert!(rt; acts.named(*i) == *objects, "of act {i}");
     }
-    assert_eq!(rt; acts.get(0).copied(), Some(act(0, Op::Pause)));
-    assert_eq!(rt; acts.get(4).copied(), Some(act(8, Op::Joined)));
-    assert_eq!(rt; acts.get(5).copied(), None);
     Ok(())
+}
+
+const FULL: Full = Full {
+    which: Which::Acts,
+    need: 1,
+    left: 0,
+};
+
+/// For so many acts there is room, if any were asked for; what one more answers, and how many are there then.
+static LIMITS: [(u32, Result<(), Full>, u32); 6] = [
+    (0, Err(FULL), 0),
+    (2, Ok(()), 1),
+    (2, Ok(()), 2),
+    (2, Err(FULL), 2),
+    (2, Err(FULL), 2),
+    (3, Ok(()), 3),
+];
+
+/// What one more act answers, with room for so many if any are asked for.
+fn pushed_with(acts: &mut Acts, limit: u32) -> Result<Result<(), Full>, AllocError> {
+    if limit > 0 {
+        acts.reserve(limit, 0)?;
+    }
+    Ok(acts.push(act(1, Op::Pause)))
 }
 
 #[test]
 fn full_exactly_at_the_limit(rt: HostRuntime) -> Result<(), Fail> {
-    let full = Full {
-        which: Which::Acts,
-        need: 1,
-        left: 0,
-    };
     let mut acts = Acts::new(rt.alloc());
-    // For so many acts there is room, if any were asked for, and so many are there after one more.
-    for (limit, answer, len) in [
-        (0, Err(full), 0),
-        (2, Ok(()), 1),
-        (2, Ok(()), 2),
-        (2, Err(full), 2),
-        (2, Err(full), 2),
-        (3, Ok(()), 3),
-    ] {
-        if limit > 0 {
-            acts.reserve(limit, 0)?;
-        }
-        assert_eq!(rt;
-            (acts.push(act(1, Op::Pause)), acts.len()),
-            (answer, len),
-            "room for {limit}"
-        );
+    for (limit, answer, len) in &LIMITS {
+        let pushed = pushed_with(&mut acts, *limit)?;
+        assert!(rt; pushed == *answer && acts.len() == *len, "room for {limit}");
     }
     Ok(())
 }
@@ -121,7 +132,7 @@ fn watchers_are_told(rt: HostRuntime) -> Result<(), Fail> {
     };
     tell_all(&mut counts, &acts);
     tell_all(&mut NoWatch, &acts);
-    assert_eq!(rt; (counts.acts, counts.objects), (3, 2));
+    assert!(rt; counts.acts == 3 && counts.objects == 2);
     Ok(())
 }
 
@@ -131,18 +142,10 @@ fn is_the<T: PartialEq + Copy>(one: T, other: T) -> bool {
 }
 
 #[test]
-fn throwables_are_told_apart(rt: HostRuntime) -> Result<(), Fail> {
+fn throwables_are_told_apart(rt: HostRuntime) {
     let thrown = Throws::ArrayStore;
-    let is_matched = matches!(&thrown, Throws::ArrayStore);
-    assert_eq!(rt;
-        (
-            is_the(thrown, thrown),
-            is_the(thrown, Throws::ClassCast),
-            is_matched
-        ),
-        (true, false, true)
-    );
-    Ok(())
+    assert!(rt; is_the(thrown, thrown) && !is_the(thrown, Throws::ClassCast));
+    assert!(rt; matches!(&thrown, Throws::ArrayStore));
 }
 
 /// The laws are about code whatever it keeps of a thread.

@@ -13,6 +13,8 @@ mod group_rows;
 #[cfg(test)]
 mod history_rows;
 #[cfg(test)]
+mod host_rows;
+#[cfg(test)]
 mod program_rows;
 #[cfg(test)]
 mod stop_rows;

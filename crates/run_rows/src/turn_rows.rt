@@ -113,89 +113,131 @@ fn seven_ops() -> Result<[Op; 8], Fail> {
     ])
 }
 
-#[test]
-fn seven_is_printed(rt: HostRuntime) -> Result<(), Fail> {
-    let alloc = rt.alloc();
-    let gate = Turns {
+/// Whether a run printed 7, on an empty graph.
+fn prints_seven(ended: &Run) -> bool {
+    ended.status.number() == 0
+        && ended.sink.as_slice() == b"7\n".as_slice()
+        && ended.opening.roots.len() == 0
+        && ended.opening.nodes.len() == 0
+}
+
+/// What an act did, where it is the first thread's. All acts come after as many calls of the image: nothing is stored.
+fn op_of(ended: &Run, i: u32) -> Option<Op> {
+    let first = ended.acts.get(0)?;
+    let act = ended.acts.get(i)?;
+    if act.thread == ThreadNo::main() && act.at == first.at {
+        Some(act.op)
+    } else {
+        None
+    }
+}
+
+/// Whether the watcher was told an act, or that there is none, and the act names nothing.
+fn is_seen(ended: &Run, i: u32) -> bool {
+    ended.watcher.acts.get(i).copied() == ended.acts.get(i).copied()
+        && ended.acts.named(i).is_empty()
+}
+
+/// A gate that wasn't called.
+fn no_turns() -> Turns {
+    Turns {
         calls: AtomicU64::new(0),
         others: AtomicU64::new(0),
-    };
-    let ended = run(&rt, alloc, &SEVEN, 24, 9, &gate)?;
-    assert_eq!(rt;
-        (
-            ended.status.number(),
-            ended.sink.as_slice(),
-            ended.opening.roots.len(),
-            ended.opening.nodes.len()
-        ),
-        (0, b"7\n".as_slice(), 0, 0)
-    );
+    }
+}
+
+#[test]
+fn seven_is_printed(rt: HostRuntime) -> Result<(), Fail> {
     let ops = seven_ops()?;
-    // All acts come after as many calls of the image: nothing is stored.
-    let at = ended.acts.get(0).map_or(0, |act| act.at);
+    let gate = no_turns();
+    let ended = run(&rt, rt.alloc(), &SEVEN, 24, 9, &gate)?;
+    assert!(rt; prints_seven(&ended), "7 on an empty graph");
     for i in 0..9_u32 {
-        let wanted = ops.get(i as usize).map(|op| Act {
-            thread: ThreadNo::main(),
-            at,
-            op: *op,
-        });
-        let act = ended.acts.get(i).copied();
-        let is_seen = ended.watcher.acts.get(i).copied() == act;
-        assert_eq!(rt;
-            (act, is_seen, ended.acts.named(i).len()),
-            (wanted, true, 0),
-            "act {i}"
-        );
+        let wanted = ops.get(i as usize).copied();
+        assert!(rt; op_of(&ended, i) == wanted && is_seen(&ended, i), "act {i}");
     }
     Ok(())
 }
 
+/// The body of class Main, none standing for the program that prints 7; how many bytes the sink takes at once, and its call that fails;
+/// the turns of the acts, and how often the gate is called.
+type Row = (
+    Option<&'static [&'static str]>,
+    u64,
+    u64,
+    &'static [u64],
+    u64,
+);
+
+/// A class's initialisation begins and ends in a turn each; an array is made in one; a store into the root, with what becomes durable, is
+/// one, and so is one into an element; a printed line has its reads, its class, the monitor taken, each piece, and the monitor given back.
+/// What is refused, or fails, has its turn too.
+static ROWS: [Row; 6] = [
+    (None, 24, 9, &[1, 2, 3, 4, 5, 6, 7, 8], 8),
+    (
+        Some(&[STORES, PRINTS]),
+        1,
+        9,
+        &[
+            1, 2, 3, 4, 4, 4, 4, 5, 6, 6, 7, 8, 9, 10, 11, 12, 13, 14, 15,
+        ],
+        15,
+    ),
+    (
+        Some(&["iconst_m1\nnewarray int\nputstatic Main data [I\n"]),
+        1,
+        9,
+        &[1, 2, 3, 4],
+        4,
+    ),
+    (
+        Some(&["ldc 97528\nnewarray int\nputstatic Main data [I\n"]),
+        1,
+        9,
+        &[1, 2, 3, 4],
+        4,
+    ),
+    (
+        Some(&["ldc 8388600\nnewarray int\nputstatic Main data [I\n"]),
+        1,
+        9,
+        &[1, 2],
+        3,
+    ),
+    (None, 24, 1, &[1, 2, 3, 4, 5], 6),
+];
+
+/// The bytes of class Main.
+fn class_of(alloc: Global, body: Option<&[&str]>) -> Result<Vec<u8>, Fail> {
+    match body {
+        Some(body) => main_class(alloc, body),
+        None => Ok(SEVEN.to_vec(alloc)?),
+    }
+}
+
+/// Whether the acts of a run had these turns, and the gate was called so often, each time for the next turn.
+fn is_in_turn(ended: &Run, gate: &Turns, turns: &[u64], calls: u64) -> bool {
+    ended.watcher.turns.as_slice() == turns
+        && gate.calls.load(Ordering::SeqCst) == calls
+        && gate.others.load(Ordering::SeqCst) == 0
+}
+
+/// Whether a row is right.
+fn is_right<R>(rt: &R, alloc: Global, row: &Row) -> Result<bool, Fail>
+where
+    R: Threads + Wait + Clone + Send + Sync + Drop,
+{
+    let (body, most, fails, turns, calls) = *row;
+    let class = class_of(alloc, body)?;
+    let gate = no_turns();
+    let ended = run(rt, alloc, &class, most, fails, &gate)?;
+    Ok(is_in_turn(&ended, &gate, turns, calls))
+}
+
 #[test]
 fn the_gate_is_called_in_each_turn_before_its_event(rt: HostRuntime) -> Result<(), Fail> {
-    let alloc = rt.alloc();
-    let stores = main_class(alloc, &[STORES, PRINTS])?;
-    let below = main_class(
-        alloc,
-        &["iconst_m1\nnewarray int\nputstatic Main data [I\n"],
-    )?;
-    let past = main_class(
-        alloc,
-        &["ldc 97528\nnewarray int\nputstatic Main data [I\n"],
-    )?;
-    let large = main_class(
-        alloc,
-        &["ldc 8388600\nnewarray int\nputstatic Main data [I\n"],
-    )?;
-    // A class's initialisation begins and ends in a turn each; an array is made in one; a store into the root, with what becomes durable, is
-    // one, and so is one into an element; a printed line has its reads, its class, the monitor taken, each piece, and the monitor given back.
-    // What is refused, or fails, has its turn too.
-    let stored: [u64; 19] = [
-        1, 2, 3, 4, 4, 4, 4, 5, 6, 6, 7, 8, 9, 10, 11, 12, 13, 14, 15,
-    ];
-    let each: [u64; 8] = [1, 2, 3, 4, 5, 6, 7, 8];
-    let rows = [
-        (SEVEN.as_slice(), 24, 9, each.as_slice(), 8),
-        (stores.as_slice(), 1, 9, stored.as_slice(), 15),
-        (below.as_slice(), 1, 9, &each[..4], 4),
-        (past.as_slice(), 1, 9, &each[..4], 4),
-        (large.as_slice(), 1, 9, &each[..2], 3),
-        (SEVEN.as_slice(), 24, 1, &each[..5], 6),
-    ];
-    for (i, (class, most, fails, turns, calls)) in rows.into_iter().enumerate() {
-        let gate = Turns {
-            calls: AtomicU64::new(0),
-            others: AtomicU64::new(0),
-        };
-        let ended = run(&rt, alloc, class, most, fails, &gate)?;
-        assert_eq!(rt;
-            (
-                ended.watcher.turns.as_slice(),
-                gate.calls.load(Ordering::SeqCst),
-                gate.others.load(Ordering::SeqCst)
-            ),
-            (turns, calls, 0),
-            "row {i}"
-        );
+    for (i, row) in ROWS.iter().enumerate() {
+        assert!(rt; is_right(&rt, rt.alloc(), row)?, "row {i}");
     }
     Ok(())
 }

@@ -2,7 +2,8 @@
 -- SFENCE, Intel 64 and IA-32 Architectures Software Developer's Manual, volume 2): nothing here says that all are resident.
 use Rattle.std.specs.Prelude.{◌≡◌, ◌⊎◌, ◌<◌, ◌≤◌, ◌^◌, ℕ}
 use Rattle.line_image.specs.Trace.{Outcome}
-use Rattle.line_memory.specs.Memory.{Memory, shown, IsKnown, IsTelling, CanLeave, CanLeaveAll, IsWritten, KeepsTelling}
+use Rattle.ap_base.specs.Causes.{next_count}
+use Rattle.line_memory.specs.Memory.{Memory, shown, IsKnown, IsTelling, CanLeave, CanLeaveAll, IsWritten, KeepsTelling, SameImage, OneCall}
 use Rattle.line_memory.specs.Moments.{Goes, CountsFrom}
 
 -- the image tells what was done to it
@@ -52,6 +53,15 @@ pub record ChangesTo (Gives : ℕ → ℕ → ℕ → Type 0) (old new : Memory)
 -- the count of the memory's calls, of 64 bits, didn't fall
 abbrev pub CallsGoOn : Memory → Memory → Type 0
 CallsGoOn old new = old.calls < 2 ^ 64 → (old.calls ≤ new.calls) × (new.calls < 2 ^ 64)
+
+-- two calls of the image were made: both counts go up by two, and stay at their end
+pub record TwoCalls (old new : Memory) : Type 0 where
+  pub calls : new.calls ≡ next_count (next_count old.calls)
+  pub image : new.image.calls ≡ next_count (next_count old.image.calls)
+
+-- no call of the image was made, or one, or two
+abbrev pub TwoCallsAtMost : Memory → Memory → Type 0
+TwoCallsAtMost old new = SameImage old new ⊎ OneCall old new ⊎ TwoCalls old new
 
 -- What each call keeps, whatever the image tells.
 pub record GoesOn (old new : Memory) : Type 0 where

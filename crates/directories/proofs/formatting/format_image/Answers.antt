@@ -3,7 +3,7 @@ use Rattle.word_changes.specs.Changes.{Nothing}
 use Rattle.word_changes.proofs.Going.{goes_more, goes_by_call}
 use Rattle.word_changes.proofs.Writing.{durable_stays}
 use Rattle.directories.specs.Formatting.{OfLayout}
-use Rattle.directories.proofs.Formats.{front_of_layout, marked_changes, marked_fenced, marked_shown, marked_fixed, front_stops, layout_stops, fence_behind}
+use Rattle.directories.proofs.Formats.{front_of_layout, marked_changes, marked_fenced, marked_shown, marked_fixed, front_stops, layout_stops, fence_behind, mark_stops}
 use Rattle.directories.proofs.formatting.format_image.Goals as goal
 
 pub returns-in_err-write_front-clause-changes : goal.returns-in_err-write_front-clause-changes
@@ -74,3 +74,14 @@ returns-clause-durable g c tells l w was =
     c.make_fence.ensures.changes c.in_ok-write_front.ensures.wrote c.in_ok-write_word.ensures.wrote durable tells)
     l w was)
     c.make_fence.ensures.durable
+
+pub returns-in_err-write_word-clause-order : goal.returns-in_err-write_word-clause-order
+returns-in_err-write_word-clause-order g c tells =
+    mark_stops c.args.memory.now.size c.args.memory.now c.write_front.new.memory c.write_word.new.memory
+    (c.write_front.ensures.order tells) (c.in_ok-write_front.ensures.fixed tells) c.write_word.ensures.changes
+
+pub returns-clause-order : goal.returns-clause-order
+returns-clause-order g c tells =
+    mark_stops c.args.memory.now.size c.args.memory.now c.write_front.new.memory c.make_fence.new.memory
+    (c.write_front.ensures.order tells) (c.in_ok-write_front.ensures.fixed tells)
+    (fence_behind c.write_front.new.memory c.write_word.new.memory c.make_fence.new.memory c.write_word.ensures.changes c.make_fence.ensures.changes)

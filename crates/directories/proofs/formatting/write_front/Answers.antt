@@ -1,97 +1,86 @@
-use Rattle.std.proofs.Common.{◌∙◌}
+use Rattle.std.proofs.Common.{inl}
 use Rattle.std.proofs.lemmas.Result.{on_ok_weaker}
 use Rattle.word_changes.specs.Changes.{Nothing}
+use Rattle.word_changes.proofs.Changing.{changes_weaker, changes_more, changes_nowhere}
 use Rattle.word_changes.proofs.Going.{goes_more, goes_by_call}
-use Rattle.directories.proofs.Formats.{of_slots, slots_counts, front_changes, front_done, front_fixed, fenced_changes, superblock_sized, superblock_wrote}
+use Rattle.directories.specs.Formatting.{OfCleared, OfSuperblock, OfFront}
+use Rattle.directories.proofs.Formats.{front_changes, front_done, front_fixed, fenced_changes, superblock_sized, superblock_wrote, clearing_stops, super_stops}
 use Rattle.directories.proofs.formatting.write_front.Goals as goal
 
-pub returns-in_err-clear_slots-clause-changes : goal.returns-in_err-clear_slots-clause-changes
-returns-in_err-clear_slots-clause-changes g c =
-    of_slots c.args.memory.now.size c.args.memory.now c.clear_slots.new.memory c.clear_slots.ensures.changes
+pub returns-in_err-clear_front-clause-changes : goal.returns-in_err-clear_front-clause-changes
+returns-in_err-clear_front-clause-changes g c =
+    changes_weaker OfCleared (OfFront c.args.memory.now.size) c.args.memory.now c.clear_front.new.memory (λ l w v given. inl given)
+    c.clear_front.ensures.changes
 
-pub returns-in_err-clear_counts-clause-changes : goal.returns-in_err-clear_counts-clause-changes
-returns-in_err-clear_counts-clause-changes g c =
-    slots_counts c.args.memory.now.size c.args.memory.now c.clear_slots.new.memory c.clear_counts.new.memory
-    c.clear_slots.ensures.changes c.clear_counts.ensures.changes
-
-pub returns-in_err-clear_counts-clause-goes_on : goal.returns-in_err-clear_counts-clause-goes_on
-returns-in_err-clear_counts-clause-goes_on g c =
-    goes_more c.args.memory.now c.clear_slots.new.memory c.clear_counts.new.memory c.clear_slots.ensures.goes_on c.clear_counts.ensures.goes_on
-
-pub returns-in_err-make_fence-clause-changes : goal.returns-in_err-make_fence-clause-changes
-returns-in_err-make_fence-clause-changes g c =
-    fenced_changes c.args.memory.now.size c.args.memory.now c.clear_counts.new.memory c.make_fence.new.memory
-    (slots_counts c.args.memory.now.size c.args.memory.now c.clear_slots.new.memory c.clear_counts.new.memory
-    c.clear_slots.ensures.changes c.clear_counts.ensures.changes)
-    c.make_fence.ensures.changes
-
-pub returns-in_err-make_fence-clause-goes_on : goal.returns-in_err-make_fence-clause-goes_on
-returns-in_err-make_fence-clause-goes_on g c =
-    goes_more c.args.memory.now c.clear_counts.new.memory c.make_fence.new.memory
-    (goes_more c.args.memory.now c.clear_slots.new.memory c.clear_counts.new.memory c.clear_slots.ensures.goes_on c.clear_counts.ensures.goes_on)
-    (goes_by_call Nothing c.clear_counts.new.memory c.make_fence.new.memory c.make_fence.ensures.changes c.make_fence.ensures.count)
+pub returns-in_err-clear_front-clause-order : goal.returns-in_err-clear_front-clause-order
+returns-in_err-clear_front-clause-order g c tells =
+    clearing_stops c.args.memory.now c.clear_front.new.memory c.clear_front.ensures.changes
 
 pub returns-in_err-write_superblock-clause-changes : goal.returns-in_err-write_superblock-clause-changes
 returns-in_err-write_superblock-clause-changes g c =
-    front_changes c.args.memory.now.size c.args.memory.now c.clear_slots.new.memory c.clear_counts.new.memory c.make_fence.new.memory
-    c.write_superblock.new.memory c.requires c.clear_slots.ensures.changes c.clear_counts.ensures.changes c.make_fence.ensures.changes
-    (superblock_sized c.args.memory.now c.make_fence.new.memory c.write_superblock.new.memory
-    (c.make_fence.ensures.changes.size ∙ c.clear_counts.ensures.changes.size ∙ c.clear_slots.ensures.changes.size)
-    c.write_superblock.ensures.changes)
+    front_changes c.args.memory.now.size c.args.memory.now c.clear_front.new.memory c.write_superblock.new.memory c.requires
+    c.clear_front.ensures.changes
+    (superblock_sized c.args.memory.now c.clear_front.new.memory c.write_superblock.new.memory
+    c.clear_front.ensures.changes.size c.write_superblock.ensures.changes)
+
+pub returns-in_err-write_superblock-clause-order : goal.returns-in_err-write_superblock-clause-order
+returns-in_err-write_superblock-clause-order g c tells =
+    super_stops c.args.memory.now.size c.args.memory.now c.clear_front.new.memory c.write_superblock.new.memory
+    c.clear_front.ensures.changes (c.in_ok-clear_front.ensures.fixed tells)
+    (superblock_sized c.args.memory.now c.clear_front.new.memory c.write_superblock.new.memory
+    c.clear_front.ensures.changes.size c.write_superblock.ensures.changes)
 
 pub returns-in_err-write_superblock-clause-goes_on : goal.returns-in_err-write_superblock-clause-goes_on
 returns-in_err-write_superblock-clause-goes_on g c =
-    goes_more c.args.memory.now c.make_fence.new.memory c.write_superblock.new.memory
-    (goes_more c.args.memory.now c.clear_counts.new.memory c.make_fence.new.memory
-    (goes_more c.args.memory.now c.clear_slots.new.memory c.clear_counts.new.memory c.clear_slots.ensures.goes_on c.clear_counts.ensures.goes_on)
-    (goes_by_call Nothing c.clear_counts.new.memory c.make_fence.new.memory c.make_fence.ensures.changes c.make_fence.ensures.count))
-    c.write_superblock.ensures.goes_on
+    goes_more c.args.memory.now c.clear_front.new.memory c.write_superblock.new.memory
+    c.clear_front.ensures.goes_on c.write_superblock.ensures.goes_on
 
 pub returns-clause-wrote : goal.returns-clause-wrote
 returns-clause-wrote g c =
-    on_ok_weaker c.make_fence-2.result
-    (λ durable. front_done c.args.memory.now.size c.args.memory.now c.clear_slots.new.memory c.clear_counts.new.memory c.make_fence.new.memory
-    c.write_superblock.new.memory c.requires c.clear_slots.ensures.changes c.clear_counts.ensures.changes c.make_fence.ensures.changes
-    (superblock_sized c.args.memory.now c.make_fence.new.memory c.write_superblock.new.memory
-    (c.make_fence.ensures.changes.size ∙ c.clear_counts.ensures.changes.size ∙ c.clear_slots.ensures.changes.size)
-    c.write_superblock.ensures.changes)
-    c.make_fence-2.new.memory c.make_fence-2.ensures.changes c.in_ok-clear_slots.ensures.wrote c.in_ok-clear_counts.ensures.wrote
-    (superblock_wrote c.args.memory.now c.make_fence.new.memory c.write_superblock.new.memory
-    (c.make_fence.ensures.changes.size ∙ c.clear_counts.ensures.changes.size ∙ c.clear_slots.ensures.changes.size)
-    c.in_ok-write_superblock.ensures.wrote))
-    c.make_fence-2.ensures.durable
+    on_ok_weaker c.make_fence.result
+    (λ durable. front_done c.args.memory.now.size c.args.memory.now c.clear_front.new.memory c.write_superblock.new.memory c.requires
+    c.clear_front.ensures.changes
+    (superblock_sized c.args.memory.now c.clear_front.new.memory c.write_superblock.new.memory
+    c.clear_front.ensures.changes.size c.write_superblock.ensures.changes)
+    c.make_fence.new.memory c.make_fence.ensures.changes c.in_ok-clear_front.ensures.wrote
+    (superblock_wrote c.args.memory.now c.clear_front.new.memory c.write_superblock.new.memory
+    c.clear_front.ensures.changes.size c.in_ok-write_superblock.ensures.wrote))
+    c.make_fence.ensures.durable
 
 pub returns-clause-fixed : goal.returns-clause-fixed
 returns-clause-fixed g c tells =
-    on_ok_weaker c.make_fence-2.result
-    (λ durable. front_fixed c.args.memory.now.size c.args.memory.now c.clear_slots.new.memory c.clear_counts.new.memory c.make_fence.new.memory
-    c.write_superblock.new.memory c.requires c.clear_slots.ensures.changes c.clear_counts.ensures.changes c.make_fence.ensures.changes
-    (superblock_sized c.args.memory.now c.make_fence.new.memory c.write_superblock.new.memory
-    (c.make_fence.ensures.changes.size ∙ c.clear_counts.ensures.changes.size ∙ c.clear_slots.ensures.changes.size)
-    c.write_superblock.ensures.changes)
-    c.make_fence-2.new.memory c.make_fence-2.ensures.changes c.in_ok-clear_slots.ensures.wrote c.in_ok-clear_counts.ensures.wrote
-    (superblock_wrote c.args.memory.now c.make_fence.new.memory c.write_superblock.new.memory
-    (c.make_fence.ensures.changes.size ∙ c.clear_counts.ensures.changes.size ∙ c.clear_slots.ensures.changes.size)
-    c.in_ok-write_superblock.ensures.wrote)
+    on_ok_weaker c.make_fence.result
+    (λ durable. front_fixed c.args.memory.now.size c.args.memory.now c.clear_front.new.memory c.write_superblock.new.memory c.requires
+    c.clear_front.ensures.changes
+    (superblock_sized c.args.memory.now c.clear_front.new.memory c.write_superblock.new.memory
+    c.clear_front.ensures.changes.size c.write_superblock.ensures.changes)
+    c.make_fence.new.memory c.make_fence.ensures.changes c.in_ok-clear_front.ensures.wrote
+    (superblock_wrote c.args.memory.now c.clear_front.new.memory c.write_superblock.new.memory
+    c.clear_front.ensures.changes.size c.in_ok-write_superblock.ensures.wrote)
     durable tells)
-    c.make_fence-2.ensures.durable
+    c.make_fence.ensures.durable
 
 pub returns-clause-changes : goal.returns-clause-changes
 returns-clause-changes g c =
-    fenced_changes c.args.memory.now.size c.args.memory.now c.write_superblock.new.memory c.make_fence-2.new.memory
-    (front_changes c.args.memory.now.size c.args.memory.now c.clear_slots.new.memory c.clear_counts.new.memory c.make_fence.new.memory
-    c.write_superblock.new.memory c.requires c.clear_slots.ensures.changes c.clear_counts.ensures.changes c.make_fence.ensures.changes
-    (superblock_sized c.args.memory.now c.make_fence.new.memory c.write_superblock.new.memory
-    (c.make_fence.ensures.changes.size ∙ c.clear_counts.ensures.changes.size ∙ c.clear_slots.ensures.changes.size)
-    c.write_superblock.ensures.changes))
-    c.make_fence-2.ensures.changes
+    fenced_changes c.args.memory.now.size c.args.memory.now c.clear_front.new.memory c.write_superblock.new.memory c.requires
+    c.clear_front.ensures.changes
+    (superblock_sized c.args.memory.now c.clear_front.new.memory c.write_superblock.new.memory
+    c.clear_front.ensures.changes.size c.write_superblock.ensures.changes)
+    c.make_fence.new.memory c.make_fence.ensures.changes
+
+pub returns-clause-order : goal.returns-clause-order
+returns-clause-order g c tells =
+    let Super = OfSuperblock c.args.memory.now.size in
+    super_stops c.args.memory.now.size c.args.memory.now c.clear_front.new.memory c.make_fence.new.memory
+    c.clear_front.ensures.changes (c.in_ok-clear_front.ensures.fixed tells)
+    (changes_more Super c.clear_front.new.memory c.write_superblock.new.memory c.make_fence.new.memory
+    (superblock_sized c.args.memory.now c.clear_front.new.memory c.write_superblock.new.memory
+    c.clear_front.ensures.changes.size c.write_superblock.ensures.changes)
+    (changes_nowhere Super c.write_superblock.new.memory c.make_fence.new.memory c.make_fence.ensures.changes))
 
 pub returns-clause-goes_on : goal.returns-clause-goes_on
 returns-clause-goes_on g c =
-    goes_more c.args.memory.now c.write_superblock.new.memory c.make_fence-2.new.memory
-    (goes_more c.args.memory.now c.make_fence.new.memory c.write_superblock.new.memory
-    (goes_more c.args.memory.now c.clear_counts.new.memory c.make_fence.new.memory
-    (goes_more c.args.memory.now c.clear_slots.new.memory c.clear_counts.new.memory c.clear_slots.ensures.goes_on c.clear_counts.ensures.goes_on)
-    (goes_by_call Nothing c.clear_counts.new.memory c.make_fence.new.memory c.make_fence.ensures.changes c.make_fence.ensures.count))
-    c.write_superblock.ensures.goes_on)
-    (goes_by_call Nothing c.write_superblock.new.memory c.make_fence-2.new.memory c.make_fence-2.ensures.changes c.make_fence-2.ensures.count)
+    goes_more c.args.memory.now c.write_superblock.new.memory c.make_fence.new.memory
+    (goes_more c.args.memory.now c.clear_front.new.memory c.write_superblock.new.memory
+    c.clear_front.ensures.goes_on c.write_superblock.ensures.goes_on)
+    (goes_by_call Nothing c.write_superblock.new.memory c.make_fence.new.memory c.make_fence.ensures.changes c.make_fence.ensures.count)

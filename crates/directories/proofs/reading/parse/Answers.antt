@@ -80,6 +80,7 @@ loop-at-preserved c =
     let added : next ≡ with_entry directory entry = c.in_ok-add_entry.ensures.added test in
     record {
       within = omega (arith, count, within, length-drop at words);
+      names = c.in_ok-add_entry.ensures.named test;
       most = (
         most.0 - 1,
         omega (arith, most.1, count),

@@ -11,13 +11,13 @@ use Rattle.image_walk.proofs.Names.{graph_is, fails_at_roots, fails_at_walk}
 use Rattle.image_walk.proofs.finding.find_graph.Goals as goal
 
 pub returns-clause-found : goal.returns-clause-found
-returns-clause-found g c words so few =
+returns-clause-found g c words so =
     let size = c.args.memory.now.size in
     let shapes = c.args.shapes.now in
     let names = c.args.roots.now in
     let bytes : c.read_roots.new.memory.size ≡ size = c.in_ok-values.ensures.looks.changes.size in
     let now = c.in_ok-values.ensures.looks.keeps words so in
-    let values : c.in_ok-values.values.items ≡ root_values_of words (length names) = c.in_ok-values.ensures.values words so few in
+    let values : c.in_ok-values.values.items ≡ root_values_of words (length names) = c.in_ok-values.ensures.values words so c.requires.roots in
     let begins : c.add_each.new.self.numbers ≡ with_new [] (root_values_of words (length names)) =
     c.in_ok-add_each.ensures.added ∙ ap (λ (ls : List ℕ). with_new ls c.as_slice.result.now) c.in_ok-found.ensures.none
     ∙ ap (with_new []) (c.as_slice.ensures.value ∙ values) in
@@ -36,21 +36,21 @@ returns-clause-found g c words so few =
     }
 
 pub returns-in_err-values-clause-bad : goal.returns-in_err-values-clause-bad
-returns-in_err-values-clause-bad g c words so few =
+returns-in_err-values-clause-bad g c words so =
     let size = c.args.memory.now.size in
     let directory = directory_with c.args.shapes.now c.args.roots.now in
     err_is c.from_residual.result c.in_err-values.field-0.0 (IsFaultOf (graph_from size directory words)) c.from_residual.ensures.1
     (fails_at_roots size directory words c.in_err-values.field-0.0 (c.in_err-values.ensures.bad words so))
 
 pub returns-in_err-walked-clause-bad : goal.returns-in_err-walked-clause-bad
-returns-in_err-walked-clause-bad g c words so few =
+returns-in_err-walked-clause-bad g c words so =
     let size = c.args.memory.now.size in
     let shapes = c.args.shapes.now in
     let names = c.args.roots.now in
     let directory = directory_with shapes names in
     let bytes : c.read_roots.new.memory.size ≡ size = c.in_ok-values.ensures.looks.changes.size in
     let now = c.in_ok-values.ensures.looks.keeps words so in
-    let values : c.in_ok-values.values.items ≡ root_values_of words (length names) = c.in_ok-values.ensures.values words so few in
+    let values : c.in_ok-values.values.items ≡ root_values_of words (length names) = c.in_ok-values.ensures.values words so c.requires.roots in
     let begins : c.add_each.new.self.numbers ≡ with_new [] (root_values_of words (length names)) =
     c.in_ok-add_each.ensures.added ∙ ap (λ (ls : List ℕ). with_new ls c.as_slice.result.now) c.in_ok-found.ensures.none
     ∙ ap (with_new []) (c.as_slice.ensures.value ∙ values) in

@@ -1,4 +1,4 @@
-use Rattle.std.proofs.Common.{rules, ◌≡◌, ◌++◌, [], ◌∷◌, false, map, length, ap, sym, ◌∙◌, arith}
+use Rattle.std.proofs.Common.{rules, ◌≡◌, ◌++◌, [], ◌∷◌, false, map, length, ap, sym, ◌∙◌, arith, subst}
 use Rattle.std.specs.Prelude.{is_some}
 use Rattle.plain_model.specs.Facts.{shapes_of}
 use Rattle.text_table.specs.Texts.{place_of}
@@ -6,7 +6,9 @@ use Rattle.class_set.specs.Linked.{Linked, with_array}
 use Rattle.class_set.specs.ArrayTypes.{array_type}
 use Rattle.class_set.specs.Facts.{facts_of}
 use Rattle.class_set.specs.Tables.{AreNames, array_now, array_shape, linked_of}
+use Rattle.class_set.specs.Sets.{IsLinked}
 use Rattle.class_set.proofs.Above.{supers_counted}
+use Rattle.class_set.proofs.Consistency.{array_linked}
 use Rattle.class_set.proofs.Added.{array_added, named_after}
 use Rattle.class_set.proofs.Grown.{arrays_grown, shapes_grown, text_more}
 use Rattle.class_set.proofs.set.ClassSet.number_array.Goals as goal
@@ -48,6 +50,8 @@ invariant_of-self-2 c =
         made_listed = c.self.invariant.1.made_listed;
       },
       c.self.invariant.2,
+      subst IsLinked (sym (ap (linked_of files) c.in_ok-add_name.ensures.added ∙ array_added files names text named))
+          (array_linked (linked_of files names) text c.self.invariant.3 c.requires.array),
     )
 
 pub returns-clause-numbered : goal.returns-clause-numbered

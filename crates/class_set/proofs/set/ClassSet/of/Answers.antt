@@ -12,7 +12,9 @@ use Rattle.class_set.specs.ArrayTypes.{array_type, listed_arrays}
 use Rattle.class_set.specs.Facts.{facts_of, statics_from}
 use Rattle.class_set.specs.Lookups.{class_edges}
 use Rattle.class_set.specs.Tables.{linked_of, reached_above, static_now}
+use Rattle.class_set.specs.Sets.{IsLinked}
 use Rattle.class_set.proofs.Above.{supers_counted}
+use Rattle.class_set.proofs.Consistency.{linked_is}
 use Rattle.class_set.proofs.Made.{AreLinked, linked_same, names_linked, names_named, types_behind}
 use Rattle.class_set.proofs.set.ClassSet.of.Goals as goal
 
@@ -75,6 +77,7 @@ invariant_of-result c =
         firsts_listed = c.in_ok-statics.ensures.firsts
             ∙ ap (λ (fs : List ClassFile). map (first_static fs) (numbers_to (length fs))) c.as_slice-10.ensures.value;
       },
+      subst IsLinked (sym (linked_same files new linked)) (linked_is files c.requires.readable c.requires.links),
     )
 
 pub returns : goal.returns

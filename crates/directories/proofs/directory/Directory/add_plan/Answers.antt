@@ -1,4 +1,6 @@
-use Rattle.std.proofs.Common.{◌≡◌, map, ap, arith}
+use Rattle.std.proofs.Common.{◌≡◌, length, map, ap, arith}
+use Rattle.std.proofs.lemmas.List.{length-append}
+use Rattle.image_meaning.specs.Directories.{spelled_all}
 use Rattle.directories.specs.Kept.{Kept}
 use Rattle.directories.specs.Read.{entry_of}
 use Rattle.directories.proofs.Plans.{entries_few}
@@ -12,4 +14,14 @@ invariant_of-self-2 c =
       few = omega (arith, entries_few (map entry_of c.args.entries.items), c.requires.room);
       spelled = c.requires.spelled;
       room = omega (arith, used, c.requires.room);
+      counted = omega (
+        arith,
+        c.self.invariant.counted,
+        c.requires.few,
+        used,
+        ap (λ (k : Kept). length (spelled_all k.left)) c.self.view_is,
+        ap length c.in_ok-append-2.ensures.items,
+        length-append c.reserve.new.self.items c.args.shapes.items,
+        ap length c.in_ok-reserve.ensures.items,
+      );
     }

@@ -73,7 +73,7 @@ invariant_of-self-in-Finished g c =
     let is : words ≡ next_words kept.left = c.next_entry-entry.ensures kept.left spelled in
     let some : 0 < length words = omega arith in
     spelled_on c.self.inside.words.items c.self.inside.at c.self.inside.appended
-    (map entry_of c.self.inside.planned.items) c.self.inside.used words
+    (map entry_of c.self.inside.planned.items) c.self.inside.used (length c.self.inside.shapes.items) words
     c.self.invariant is some
 
 pub returns-in-Touched-clause-stands : goal.returns-in-Touched-clause-stands

@@ -5,7 +5,7 @@ use Rattle.image_meaning.specs.Directories.{no_entries, spelled_all, with_all}
 use Rattle.directories.specs.declared.entries.Entry.{Entry}
 use Rattle.directories.specs.Read.{entry_of, the_directory}
 use Rattle.directories.specs.Planning.{lacking, directory_of_kept, no_room}
-use Rattle.directories.proofs.Continuing.{planned_continue}
+use Rattle.directories.proofs.Continuing.{planned_continue, planned_few}
 use Rattle.directories.proofs.Plans.{planned_left, room_within, planned_directory}
 use Rattle.directories.proofs.directory.Directory.plan_entries.Goals as goal
 
@@ -34,6 +34,19 @@ add_plan-requires-clause-room c =
     planned_left c.in_ok-all.all.items missing all kept.left (map entry_of missing) c.in_ok-append.ensures.items
     c.in_ok-all.ensures refl in
     room_within kept (map entry_of missing) (map entry_of all) none c.in-None.ensures.within is
+
+pub add_plan-requires-clause-few : goal.add_plan-requires-clause-few
+add_plan-requires-clause-few c =
+    let kept = c.args.self.now in
+    let missing = c.in_ok-missing.missing.items in
+    let all = c.append.new.self.items in
+    let shapes = c.in_ok-shapes.shapes.items in
+    let is : map entry_of all ≡ kept.left ++ map entry_of missing =
+    planned_left c.in_ok-all.all.items missing all kept.left (map entry_of missing) c.in_ok-append.ensures.items
+    c.in_ok-all.ensures refl in
+    let names : the_directory shapes c.in_ok-shapes.roots.items ≡ with_all no_entries (map entry_of missing) =
+    c.in_ok-shapes.ensures ∙ ap (λ (xs : List Entry). with_all no_entries (map entry_of xs)) c.as_slice-2.ensures.value in
+    planned_few kept.left (map entry_of missing) (map entry_of all) shapes c.in_ok-shapes.roots.items is names
 
 pub returns-clause-planned : goal.returns-clause-planned
 returns-clause-planned c =

@@ -1,0 +1,4 @@
+pub mod Beginnings
+pub mod Throws
+pub mod Sized
+pub mod Gives

@@ -1,0 +1,4 @@
+pub mod PutSteps
+pub mod Stops
+pub mod Checks
+pub mod Recovers

@@ -1,0 +1,81 @@
+// An image that isn't blank is recovered.
+ghost use Rattle.std.specs.Prelude.{◌≡◌, ◌≤◌, None, OnOk, IfOk, IfErr, IsErrOf};
+ghost use Rattle.ap_base.specs.Causes.{Rose};
+ghost use Rattle.line_memory.specs.Memory.{Memory, shown};
+ghost use Rattle.image_layout.specs.Places.{min_lines, max_lines, directory_words};
+ghost use Rattle.image_meaning.specs.Logs.{logs_fault};
+ghost use Rattle.image_meaning.specs.Meaning.{meaning};
+ghost use Rattle.word_changes.specs.Changes.{Tells, AllKnown, ChangesTo, StopsLeave, GoesOn};
+ghost use Rattle.image_walk.specs.Walking.{Looks, IsFaultOf};
+ghost use Rattle.image_recovery.specs.Putting.{IsPutBack, AllWritten, AllDurable, IsRecovered, IsRecoveringIn};
+ghost use Rattle.image_recovery.specs.Recovered.{IsUsed, FindsImage, IsBadFault};
+
+use crate::clearing::empty_logs;
+use crate::front::read_front;
+use crate::putting::put_back_logs;
+use ap_base::ListOf;
+use directories::Directory;
+use graph_model::Graph;
+use image_walk::{RecoverFault, find_graph};
+use line_image::Image;
+use line_memory::LineMemory;
+use std::alloc::Global;
+
+/// What is found in an image that is recovered.
+#[derive(Drop)]
+pub(crate) struct FoundImage {
+    pub(crate) directory: Directory,
+    pub(crate) graph: Graph,
+    /// The first line of each node of the graph.
+    pub(crate) lines: ListOf<u32>,
+    /// The first line behind all nodes.
+    pub(crate) free: u32,
+    /// How many logs had entries, that were put back.
+    pub(crate) undone: u32,
+}
+
+/// Recovers an image that isn't blank, and so many words of whose directory are in use. It was only looked at so far.
+pub(crate) fn recover_used<I: Image>(
+    alloc: Global,
+    memory: &mut LineMemory<I>,
+    used: u32,
+) -> Result<FoundImage, RecoverFault>
+    requires enough { min_lines ≤ memory.old.size }
+    requires most { memory.old.size ≤ max_lines }
+    requires range { used ≤ directory_words }
+    ensures finds { (first : Memory) → AllKnown first → Looks first memory.old
+        → IsUsed first.size (shown first) used → IfOk result (λ found. FindsImage first.size (shown first)
+        found.directory found.graph found.lines found.free found.undone) }
+    ensures recovered { (first : Memory) → AllKnown first → Looks first memory.old
+        → OnOk result (IsRecovered first memory.new) }
+    ensures durable { (first : Memory) → Tells first → AllWritten first → Looks first memory.old
+        → OnOk result (AllDurable memory.new) }
+    ensures bad { (first : Memory) → AllKnown first → Looks first memory.old
+        → IsUsed first.size (shown first) used
+        → IfErr result (IsFaultOf (meaning first.size (shown first))) }
+    ensures put_back { (first : Memory) → AllKnown first → Looks first memory.old
+        → IfErr result (λ fault. IsBadFault fault → ChangesTo (IsPutBack (shown first)) first memory.new) }
+    ensures stops { (first : Memory) → Tells first → AllDurable first → AllWritten first → Looks first memory.old
+        → logs_fault first.size (shown first) ≡ None
+        → StopsLeave first memory.new (IsRecoveringIn first.size (shown first)) }
+    ensures goes_on { GoesOn memory.old memory.new }
+    ensures later { memory.old.faults ≤ memory.new.faults }
+    ensures cause { IsErrOf result RecoverFault.ImageFailed → Rose memory.old.faults memory.new.faults }
+{
+    let front = read_front(alloc, memory, used)?;
+    put_back_logs(memory)?;
+    let found = find_graph(
+        alloc,
+        memory,
+        front.directory.shapes(),
+        front.directory.roots(),
+    )?;
+    empty_logs(memory)?;
+    Ok(FoundImage {
+        directory: front.directory,
+        graph: found.graph,
+        lines: found.lines,
+        free: found.free,
+        undone: front.undone,
+    })
+}

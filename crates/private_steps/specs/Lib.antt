@@ -1,0 +1,4 @@
+pub mod Arguments
+pub mod Waits
+pub mod Replies
+pub mod Turning

@@ -1,0 +1,137 @@
+// Runs of the top call on an image file, and what the adapters do at the edges: a second opening, odd files.
+use crate::fixture::{PRINTS, RUN, STORES, main_class, source, words};
+use ap_base::{ClassSource, MemorySink, NoGate, SourceError};
+use autopersist::autopersist;
+use host_adapters::{Folder, ImageFile, class_names, hold_streams};
+use line_image::Image;
+use run_history::NoWatch;
+use std::alloc::Global;
+use std::io::Write;
+use std::os::fd::AsRawFd;
+use std::os::unix::fs::symlink;
+use std::rt::Files;
+use std::sync::Wait;
+use std::test::Fail;
+use std::thread::Threads;
+use std::{fs, io};
+
+const IMAGE: &str = "work.img";
+
+/// A file of zeros: a blank image of 32,768 lines.
+fn blank_file(rt: HostRuntime) -> Result<(), Fail> {
+    Ok(fs::File::create(&rt, IMAGE)?.set_len(64 * 32_768)?)
+}
+
+/// Whether a run of a class Main with this body on the image file ends well, and prints 7.
+fn prints_seven<R>(rt: &R, alloc: Global, body: &[&str], image: ImageFile) -> Result<bool, Fail>
+where
+    R: Threads + Wait + Clone + Send + Sync + Drop,
+{
+    let words = words(alloc, &RUN)?;
+    let class = main_class(alloc, body)?;
+    let source = source(alloc, &class)?;
+    let sink = MemorySink::new(alloc, 100, 24, Vec::new(alloc))?;
+    let ended = autopersist(rt, alloc, &words, source, image, sink, &NoGate, NoWatch);
+    Ok(ended.status.number() == 0 && ended.sink.as_slice() == b"7\n".as_slice())
+}
+
+/// One stores 7 and prints it, and one prints what is stored.
+static BODIES: [&[&str]; 2] = [&[STORES, PRINTS], &[PRINTS]];
+
+#[test]
+fn two_runs_on_one_file(rt: HostRuntime) -> Result<(), Fail> {
+    blank_file(rt)?;
+    for (number, body) in BODIES.iter().enumerate() {
+        let image = ImageFile::open(&rt, IMAGE);
+        assert!(rt; prints_seven(&rt, rt.alloc(), body, image)?, "run {number}");
+    }
+    Ok(())
+}
+
+/// A stream that was closed takes no byte, so that a print to it is a fault of the sink.
+#[test]
+fn held_streams_take_nothing(rt: HostRuntime) -> Result<(), Fail> {
+    for held in hold_streams(&rt) {
+        let mut held = held?;
+        assert!(rt; held.write(b"7").is_err());
+    }
+    Ok(())
+}
+
+#[test]
+fn an_image_is_open_once(rt: HostRuntime) -> Result<(), Fail> {
+    blank_file(rt)?;
+    let mut first = ImageFile::open(&rt, IMAGE);
+    let mut second = ImageFile::open(&rt, IMAGE);
+    let is_first_alone = first.fence().is_ok() && second.fence().is_err();
+    assert!(rt; is_first_alone && second.lines() == 32_768);
+    Ok(())
+}
+
+/// How many bytes of a folder's only class file are read, and how many it has.
+type FileRead = Result<Option<(usize, u64)>, SourceError>;
+
+fn only_file<R: Files + AllocGlobal + Drop>(rt: R, folder: &str) -> FileRead {
+    let alloc = rt.alloc();
+    let mut folder = Folder::open(rt, folder);
+    match folder.next(alloc)? {
+        Some(file) => Ok(Some((file.bytes.as_slice().len(), file.size))),
+        None => Ok(None),
+    }
+}
+
+/// What is read of a folder's class file that is a link to this. The link stands there alone.
+fn read_through(rt: HostRuntime, folder: &str, link: &str, to: &str) -> Result<FileRead, Fail> {
+    symlink(&rt, to, link)?;
+    let read = only_file(rt, folder);
+    fs::remove_file(&rt, link)?;
+    Ok(read)
+}
+
+static LINKS: [(&str, FileRead); 5] = [
+    ("../short", Ok(Some((3, 3)))),
+    ("../sparse", Ok(Some((1_048_577, 4_294_967_296)))),
+    ("../links", Err(SourceError::Failed)),
+    ("../nothing", Err(SourceError::Failed)),
+    ("/dev/zero", Err(SourceError::Failed)),
+];
+
+#[test]
+fn only_regular_files_are_read(rt: HostRuntime) -> Result<(), Fail> {
+    fs::create_dir(&rt, "links")?;
+    fs::write(&rt, "short", "abc")?;
+    fs::File::create(&rt, "sparse")?.set_len(1 << 32)?;
+    for (to, want) in &LINKS {
+        let read = read_through(rt, "links", "links/a.class", to)?;
+        assert!(rt; read == *want, "at {to}");
+    }
+    Ok(())
+}
+
+#[test]
+fn no_pipe_is_read(rt: HostRuntime) -> Result<(), Fail> {
+    fs::create_dir(&rt, "pipes")?;
+    let (reader, _writer) = io::pipe(&rt)?;
+    let to = format!(in rt.alloc(); "/proc/self/fd/{}", reader.as_raw_fd())?;
+    let read = read_through(rt, "pipes", "pipes/a.class", to.as_str())?;
+    assert!(rt; read == Err(SourceError::Failed));
+    Ok(())
+}
+
+/// Whether the names of a folder's class files are these three.
+fn are_names(names: &[Vec<u8>], want: [&[u8]; 3]) -> bool {
+    match names {
+        [first, second, third] => {
+            [first.as_slice(), second.as_slice(), third.as_slice()] == want
+        }
+        _ => false,
+    }
+}
+
+#[test]
+fn names_need_not_be_text(rt: HostRuntime) -> Result<(), Fail> {
+    let list = b"\xff.txt\0Main.class\0\xff.class\0A.classes\0A.class\0";
+    let names = class_names(rt.alloc(), list.as_slice())?;
+    assert!(rt; are_names(&names, [b"\xff.class", b"Main.class", b"A.class"]));
+    Ok(())
+}

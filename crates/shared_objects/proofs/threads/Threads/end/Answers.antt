@@ -1,0 +1,15 @@
+use Rattle.std.proofs.Common.{◌≡◌, ◌∙◌, ◌<◌, ap, length, slice_set, rules}
+use Rattle.shared_objects.specs.Threads.{raised, at_state}
+use Rattle.shared_objects.proofs.States.{state_set}
+use Rattle.shared_objects.proofs.threads.Threads.end.Goals as goal
+
+pub returns : goal.returns
+returns c =
+    let s = c.index_mut-state.result.now in
+    let ss = c.self.inside.states.items in
+    let below : c.args.t < length ss = rw c.self.view_is c.requires.there in
+    record {
+      higher = rw (← c.self.view_is, c.number.ensures.same, c.saturating_sub-state.ensures)
+          (state_set raised ss c.args.t s below (rw (← c.number.ensures.same)
+          c.index_mut-state.ensures.value));
+    }

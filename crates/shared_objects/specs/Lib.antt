@@ -1,0 +1,5 @@
+pub mod Changes
+pub mod Plain
+pub mod Shown
+pub mod Threads
+pub mod Worlds

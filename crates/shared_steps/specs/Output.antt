@@ -1,0 +1,18 @@
+-- What a request puts into the sink.
+use Rattle.std.specs.Prelude.{◌≡◌, ℕ, List, Option}
+use Rattle.ap_base.specs.declared.reference.Ref.{Ref}
+use Rattle.ap_base.specs.declared.reference.Item.{Item}
+use Rattle.natives.specs.declared.requests.Request.{Request}
+use Rattle.natives.specs.declared.requests.Request.TheVariants as ask
+use Rattle.step_forms.specs.declared.stepped.Stepped.{Stepped}
+use Rattle.world_steps.specs.Printing.{PrintsTo, HasSinkCause}
+
+-- A print puts into the sink what its act says; any other request puts nothing.
+abbrev pub OutputGoes : Request Ref Item → Option (List ℕ) → Stepped → Option (List ℕ) → Type 0
+OutputGoes (ask.Print from piece) before result now = PrintsTo before result now
+OutputGoes request before result now = now ≡ before
+
+-- the sink fails in a print alone
+abbrev pub FaultsGo : Request Ref Item → ℕ → Stepped → ℕ → Type 0
+FaultsGo (ask.Print from piece) before result now = HasSinkCause before now result
+FaultsGo request before result now = now ≡ before

@@ -1,0 +1,4 @@
+pub mod Locking
+pub mod Resting
+pub mod Running
+pub mod Worldly

@@ -1,0 +1,17 @@
+-- What a print puts into the sink.
+use Rattle.std.specs.Prelude.{◌≡◌, ◌≤◌, ℕ, List, Option}
+use Rattle.ap_base.specs.Sinks.{with_bytes}
+use Rattle.ap_base.specs.Causes.{Rose}
+use Rattle.plain_model.specs.Runs.{printed_by}
+use Rattle.step_forms.specs.declared.stepped.Stepped.{Stepped}
+use Rattle.step_forms.specs.declared.stepped.Stepped.TheVariants as stepped
+
+-- the sink took what the operation prints, and nothing where nothing was done
+abbrev pub PrintsTo : Option (List ℕ) → Stepped → Option (List ℕ) → Type 0
+PrintsTo before (stepped.Did o r) now = now ≡ with_bytes before (printed_by o)
+PrintsTo before other now = now ≡ before
+
+-- the run is over only where the sink failed
+abbrev pub HasSinkCause : ℕ → ℕ → Stepped → Type 0
+HasSinkCause before now (stepped.Over f) = Rose before now
+HasSinkCause before now other = before ≤ now

@@ -1,0 +1,34 @@
+// Printing.
+ghost use Rattle.std.specs.Prelude.{ℕ};
+ghost use Rattle.natives.specs.declared.requests.Request.TheVariants as ask;
+ghost use Rattle.plain_model.specs.Facts.{SetFacts};
+ghost use Rattle.shared_objects.specs.declared.rest.Rest.{Rest as RestOf};
+ghost use Rattle.world_steps.specs.Rests.{IsRestStep};
+ghost use Rattle.world_steps.specs.Printing.{HasSinkCause, PrintsTo};
+
+use ap_base::{Piece, Sink};
+use natives::Reply;
+use run_history::Op;
+use run_types::RunFault;
+use step_forms::Stepped;
+
+/// Prints at least one byte of a piece.
+///
+/// The run is over where the sink fails, and nothing is printed then.
+pub fn print<S: Sink>(sink: &mut S, piece: Piece) -> Stepped
+    ensures step { (set : SetFacts) (t : ℕ) (rest : RestOf)
+        → IsRestStep set t (λ from. ask.Print from piece) rest result rest }
+    ensures told { PrintsTo (S.taken sink.old) result (S.taken sink.new) }
+    ensures cause { HasSinkCause (S.faults sink.old) (S.faults sink.new) result }
+{
+    match sink.put(piece.as_slice()) {
+        Err(_) => Stepped::Over(RunFault::SinkFault),
+        Ok(taken) => match Piece::new(&piece.as_slice()[..taken]) {
+            None => Stepped::Over(RunFault::SinkFault),
+            Some(bytes) => Stepped::Did {
+                op: Op::Print { bytes },
+                reply: Reply::Printed(taken as u32),
+            },
+        },
+    }
+}
