@@ -150,7 +150,7 @@ first_is files n shape statics c e s t =
 
 -- ---- bounds
 
-few_filtered : (ms : List MemberFacts) → length (filter is_of_instance ms) ≤ length ms
+pub few_filtered : (ms : List MemberFacts) → length (filter is_of_instance ms) ≤ length ms
 few_filtered ms = omega (arith, instances_and_statics ms)
 
 fields_short : List BuiltInClass → Bool

@@ -5,11 +5,10 @@ use Rattle.std.specs.List.{list_all}
 use Rattle.std.specs.Option.{option_map}
 use Rattle.std.specs.Str.{bytes_eq}
 use Rattle.std.proofs.lemmas.Bool.{cases_lt, eqb-true, false≢true}
-use Rattle.std.proofs.lemmas.List.{get_or-append_right, get_or_past, length-map}
+use Rattle.std.proofs.lemmas.List.{get_or-append_right, get_or_past}
 use Rattle.std.proofs.lemmas.List.Sums.{sum_by-cons}
 use Rattle.std.proofs.lemmas.Option.{get_or_from_slice_get, slice_get-map, slice_get_past, slice_get_within}
 use Rattle.std.proofs.lemmas.Slice.Eq.{bytes_eq-Decides}
-use Rattle.ap_base.specs.declared.kind.Kind.{Kind}
 use Rattle.const_pool.specs.Pool.{Slots}
 use Rattle.graph_model.specs.declared.types.Field.{Field}
 use Rattle.graph_walks.specs.Order.{walk}
@@ -30,7 +29,7 @@ use Rattle.class_set.specs.FoundFields.{IsFieldFound, IsStaticNumber, IsStream}
 use Rattle.class_set.proofs.BuiltInFields.{found_in, own_behind}
 use Rattle.class_set.proofs.Declared.{members_counted}
 use Rattle.class_set.proofs.FieldPlaces.{both_true, own_of_file}
-use Rattle.class_set.proofs.Named.{named_at, named_counted}
+use Rattle.class_set.proofs.Named.{named_at}
 use Rattle.class_set.proofs.StaticFields.{fields_counted}
 use Rattle.class_set.proofs.Supertypes.{program_counted}
 

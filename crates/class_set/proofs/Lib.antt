@@ -3,6 +3,9 @@ pub mod Kept
 pub mod Numbers
 pub mod Ordered
 pub mod Needed
+pub mod Again
+pub mod TextsAdded
+pub mod EachOnce
 pub mod Declared
 pub mod Indices
 pub mod Above
@@ -39,6 +42,7 @@ pub mod FieldSorts
 pub mod StaticsOf
 pub mod LiteralsDiffer
 pub mod Consistency
+pub mod Counted
 pub mod TextBytes
 pub mod FieldNames
 pub mod MadeArrays
@@ -46,3 +50,4 @@ pub mod Written
 pub mod Named
 pub mod FieldsFound
 pub mod FirstWords
+pub mod FieldCounts

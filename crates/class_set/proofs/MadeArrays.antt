@@ -1,6 +1,6 @@
 -- The array types that code makes: the set has each, their descriptors are short, and they are found by their descriptors.
-use Rattle.std.proofs.Common.{◌≡◌, ◌≢◌, ℕ, ◌+◌, ◌<◌, ◌^◌, Bool, true, false, ◌||◌, List, [], ◌∷◌, ◌++◌, Option, Some, None, map, filter, length, slice_index_or, refl, ap, sym, ◌∙◌, arith, subst, if◌then◌else◌, inl, inr}
-use Rattle.std.specs.Prelude.{All, Contains, codes, slice_get, ◌↔◌}
+use Rattle.std.proofs.Common.{◌≡◌, ℕ, ◌<◌, ◌^◌, Bool, true, false, ◌||◌, List, [], ◌∷◌, ◌++◌, Option, Some, None, map, filter, length, slice_index_or, refl, ap, sym, ◌∙◌, arith, subst, if◌then◌else◌, inl, inr}
+use Rattle.std.specs.Prelude.{All, Contains, codes, ◌↔◌}
 use Rattle.std.specs.List.{flat_map}
 use Rattle.std.specs.Str.{bytes_eq}
 use Rattle.std.proofs.lemmas.Bool.{false≢true}

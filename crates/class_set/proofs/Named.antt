@@ -1,27 +1,23 @@
 -- Classes that aren't array types, by number and by name.
-use Rattle.std.proofs.Common.{◌≡◌, ℕ, zero, suc, ◌+◌, ◌-◌, ◌<◌, ◌≤◌, Bool, true, false, nat_lt, List, [], ◌∷◌, ◌++◌, Option, Some, None, map, length, slice_index_or, refl, ap, sym, ◌∙◌, arith, if◌then◌else◌, inl, inr}
+use Rattle.std.proofs.Common.{◌≡◌, ℕ, zero, suc, ◌+◌, ◌-◌, ◌<◌, ◌≤◌, Bool, true, false, List, [], ◌∷◌, ◌++◌, Some, None, map, length, slice_index_or, refl, ap, sym, ◌∙◌, arith, if◌then◌else◌}
 use Rattle.std.specs.Prelude.{slice_get}
 use Rattle.std.specs.Option.{option_map}
 use Rattle.std.specs.Str.{bytes_eq}
-use Rattle.std.proofs.lemmas.Bool.{cases_lt}
-use Rattle.std.proofs.lemmas.List.{get_or-append_right, get_or-map, get_or_append_left, get_or_past, length-append, length-map, map-append}
-use Rattle.std.proofs.lemmas.Option.{get_or_from_slice_get, slice_get-get_or, slice_get-map}
+use Rattle.std.proofs.lemmas.List.{get_or-append_right, get_or-map, get_or_append_left, length-append, length-map, map-append}
+use Rattle.std.proofs.lemmas.Option.{slice_get-get_or, slice_get-map}
 use Rattle.class_file.specs.declared.class.ClassFile.{ClassFile}
-use Rattle.graph_model.specs.declared.types.Shape.{Shape}
 use Rattle.plain_model.specs.Classes.{ArrayType, ClassFacts, no_class}
 use Rattle.plain_model.specs.BuiltIn.{array_class, built_in_classes}
 use Rattle.plain_model.specs.Facts.{class_at, classes_of, shapes_of}
 use Rattle.built_in_table.specs.declared.built_in.BuiltIn.{BuiltIn as Row}
-use Rattle.built_in_table.specs.Members.{built_in_names}
 use Rattle.class_links.specs.Names.{is_interface, name_of}
 use Rattle.text_table.specs.Texts.{place_from, place_of}
-use Rattle.class_set.specs.Linked.{Linked, class_named, class_names, names_of}
+use Rattle.class_set.specs.Linked.{Linked, class_named, class_names}
 use Rattle.class_set.specs.ArrayTypes.{array_type}
 use Rattle.class_set.specs.Facts.{class_facts, facts_of, named_classes}
 use Rattle.class_set.specs.Sets.{shape_in, shape_named}
-use Rattle.class_set.proofs.Above.{class_names_counted, get_or-map_all}
+use Rattle.class_set.proofs.Above.{get_or-map_all}
 use Rattle.class_set.proofs.Differ.{built_ins_named, name, program_names}
-use Rattle.class_set.proofs.Indices.{place_below}
 use Rattle.class_set.proofs.Supertypes.{classes_listed, program_counted}
 
 -- ---- by number

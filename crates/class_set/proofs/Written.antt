@@ -19,7 +19,7 @@ use Rattle.const_pool.proofs.Texts.{none_is_good}
 use Rattle.class_file.specs.declared.class.ClassFile.{ClassFile}
 use Rattle.class_file.specs.declared.field.Field.{Field as FileField}
 use Rattle.class_file.specs.Classes.{CanBeRead}
-use Rattle.plain_model.specs.Classes.{ClassFacts, ArrayType, Innermost, Numbers, Objects, Missing, element_kind, no_class}
+use Rattle.plain_model.specs.Classes.{ClassFacts, ArrayType, Innermost, Numbers, Objects, Missing, element_kind}
 use Rattle.plain_model.specs.BuiltIn.{built_in_classes}
 use Rattle.plain_model.specs.Facts.{SetFacts, StaticFacts}
 use Rattle.plain_model.specs.Consistent.{IsArrayType, IsInnermost, IsNumberKind, innermost_descriptor, kind_letter}
@@ -27,10 +27,9 @@ use Rattle.image_meaning.specs.Entries.{AreBytes, IsField, IsShape, component_ki
 use Rattle.built_in_table.specs.Members.{built_in_names}
 use Rattle.class_links.specs.Names.{has_name, name_of}
 use Rattle.class_links.specs.Links.{doubled}
-use Rattle.class_set.specs.declared.arrays.Listed.TheVariants.{Made}
 use Rattle.class_set.specs.Linked.{Linked}
 use Rattle.class_set.specs.Members.{is_static_member, layout_of_file, text_at}
-use Rattle.class_set.specs.ArrayTypes.{array_described, array_type, begins_with_bracket, described_array, is_array_type, is_some_array, listed_arrays}
+use Rattle.class_set.specs.ArrayTypes.{array_type, begins_with_bracket, described_array, is_array_type, is_some_array}
 use Rattle.class_set.specs.Facts.{class_facts, facts_of, named_classes, static_facts, statics_from, statics_of_fields}
 use Rattle.class_set.specs.Sets.{IsLinked, made_of}
 use Rattle.class_set.specs.Tables.{array_shape}

@@ -9,3 +9,4 @@ pub mod Sets
 pub mod FoundFields
 pub mod Rows
 pub mod LinkedRows
+pub mod Marks

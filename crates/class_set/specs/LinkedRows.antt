@@ -1,10 +1,9 @@
 -- Two small class files that link: X with fields of each kind and a method that makes and names array types, and Y with a literal of X's.
-use Rattle.std.specs.Prelude.{◌≡◌, ℕ, zero, suc, pos, Bool, true, false, List, [], ◌∷◌, codes, Option, Some, None, map}
+use Rattle.std.specs.Prelude.{◌≡◌, ℕ, pos, true, false, List, [], ◌∷◌, codes, Some, None, map}
 use Rattle.ap_base.specs.declared.kind.Kind.{Kind}
 use Rattle.ap_base.specs.declared.kind.Kind.TheVariants.{Z, B, C, S, I, J, L}
 use Rattle.ap_base.specs.declared.reference.Ref.TheVariants.{Volatile}
 use Rattle.graph_model.specs.declared.types.Field.{Field as SlotField}
-use Rattle.graph_model.specs.declared.types.Root.{Root}
 use Rattle.const_pool.specs.Pool.{Slots}
 use Rattle.const_pool.specs.declared.entry.Entry.TheVariants as entry
 use Rattle.code_form.specs.declared.ins.Primitive.TheVariants as primitive
@@ -12,12 +11,9 @@ use Rattle.code_form.specs.declared.ins.PoolUse.TheVariants as usage
 use Rattle.code_form.specs.declared.ins.Ins.{Ins}
 use Rattle.code_form.specs.declared.ins.Ins.TheVariants as ins
 use Rattle.code_form.specs.declared.ins.Placed.{Placed}
-use Rattle.code_attribute.specs.declared.code.Handler.{Handler}
 use Rattle.class_file.specs.declared.field.Field.{Field}
 use Rattle.class_file.specs.declared.method.Method.{Method}
 use Rattle.class_file.specs.declared.method.MethodAttribute.TheVariants as attribute
-use Rattle.class_file.specs.declared.class.ClassFile.{ClassFile}
-use Rattle.plain_model.specs.Classes.{ArrayType}
 use Rattle.plain_model.specs.Facts.{IntConstant, LiteralConstant, StaticFacts, class_at, element_of}
 use Rattle.class_set.specs.declared.arrays.Listed.TheVariants.{Made}
 use Rattle.class_set.specs.Linked.{Linked, class_named, with_array}

@@ -1,5 +1,5 @@
 -- The tables of a class set: what is looked up at once, by number.
-use Rattle.std.specs.Prelude.{◌≡◌, ◌≤◌, ◌<◌, ◌^◌, ℕ, ◌+◌, ◌-◌, false, List, [], ◌∷◌, ◌++◌, map, drop, length, codes, slice_get, Option, Some, None, All}
+use Rattle.std.specs.Prelude.{◌≡◌, ◌≤◌, ◌<◌, ◌^◌, ℕ, ◌+◌, ◌-◌, false, List, [], ◌∷◌, ◌++◌, map, drop, replicate, length, codes, slice_get, Option, Some, None, All}
 use Rattle.std.specs.Option.{option_map}
 use Rattle.graph_model.specs.declared.types.Shape.{Shape}
 use Rattle.class_file.specs.declared.class.ClassFile.{ClassFile}
@@ -83,6 +83,10 @@ abbrev pub edges_with : (interfaces : List (List ℕ)) → (supers : List (Optio
 edges_with [] supers = []
 edges_with (i ∷ is) [] = []
 edges_with (i ∷ is) (s ∷ ss) = (i ++ super_list s) ∷ edges_with is ss
+
+-- no edges lead from any of so many vertices
+abbrev pub alone : ℕ → List (List ℕ)
+alone n = replicate n []
 
 -- the classes that a class is a subtype of, as a walk finds them
 abbrev pub reached_above : (interfaces : List (List ℕ)) → (supers : List (Option ℕ)) → ℕ → Vertices

@@ -12,6 +12,7 @@ ghost use Rattle.class_set.specs.Members.{interface_edges, superclasses_in, supe
 ghost use Rattle.class_set.specs.Lookups.{class_edges};
 ghost use Rattle.class_set.specs.Tables.{edges_with, reached_above};
 
+use crate::each_once::each_once;
 use crate::interfaces::interface_edges;
 use crate::supers::superclasses;
 use ap_base::ListOf;
@@ -94,8 +95,9 @@ pub(crate) fn types_above(
 }
 
 /// Of each class that isn't an array type, the order in which it and those above it are looked
-/// through for a field, and the types above it. Takes time and memory for each class, each class
-/// above it, and each of the superinterfaces that they name.
+/// through for a field, and the types above it. Takes time for each superinterface that a file
+/// names, and time and memory for each class, each class above it, and each of the different
+/// superinterfaces that those name.
 pub(crate) fn hierarchy(
     alloc: Global,
     files: &[ClassFile],
@@ -112,8 +114,10 @@ pub(crate) fn hierarchy(
         ≡ map (reached_above (interface_edges files.now) (supers_of files.now)) (numbers_to (length files.now + built_in_count))) }
 {
     let interfaces = interface_edges(alloc, files, names)?;
-    let above = types_above(alloc, interfaces.as_slice(), supers)?;
     let edges = class_edges(alloc, interfaces.as_slice(), supers)?;
-    let orders = field_orders(alloc, edges.as_slice())?;
+    let interfaces_once = each_once(alloc, interfaces.as_slice())?;
+    let above = types_above(alloc, interfaces_once.as_slice(), supers)?;
+    let edges_once = each_once(alloc, edges.as_slice())?;
+    let orders = field_orders(alloc, edges_once.as_slice())?;
     Ok((orders, above))
 }

@@ -2,6 +2,8 @@
 #![tactic(auto)]
 
 mod arrays;
+mod asked;
+mod each_once;
 mod fields;
 mod hierarchy;
 mod interfaces;
@@ -9,8 +11,10 @@ mod laws;
 mod layouts;
 mod linking;
 mod literals;
+mod marks;
 mod members;
 mod names;
+mod orders;
 mod set;
 mod shapes;
 mod statics;

@@ -18,10 +18,10 @@ use std::alloc::Global;
 /// and annotations are left aside. The others are refused exactly where a condition of linking is
 /// broken, by the first one (JVMS 5.3.5), or for want of memory.
 ///
-/// Takes time close to linear in the files' bytes, but for what lists of superinterfaces and a
-/// chain of superclasses take, a step for each superinterface that a class above names, and for the
-/// names of array types and the texts of literals: one is read for each instruction, entry or field
-/// that names it.
+/// Takes time close to linear in the files' bytes, but for three things. What stands above classes
+/// takes a step for each class and each different superinterface that a class above it names. A
+/// superinterface's name is read each time that a file names it, and the text of a constant for
+/// each static field that has it.
 pub fn link(alloc: Global, classes: Vec<ClassFile>) -> Result<ClassSet, LinkRefusal>
     requires few { length classes.items ≤ 4096 }
     requires readable { All CanBeRead classes.items }

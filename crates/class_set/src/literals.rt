@@ -1,14 +1,16 @@
 //! The string literals of class files.
 
 ghost use Rattle.std.specs.Prelude.{◌≡◌, ℕ, ◌≢◌, ◌+◌, ◌<◌, ◌≤◌, ◌∷◌, [], drop, length, IfOk, OnOk};
-ghost use Rattle.std.specs.Option.{option_copied};
-ghost use Rattle.const_pool.specs.Pool.{string_at};
+ghost use Rattle.std.specs.Option.{option_copied, option_to_list};
+ghost use Rattle.const_pool.specs.Pool.{string_at, utf8_at};
 ghost use Rattle.text_table.specs.Texts.{with_texts};
 ghost use Rattle.class_set.specs.Literals.{chars_of, index_or_none, indices_from, strings_of, texts_of};
+ghost use Rattle.class_set.specs.Marks.{AreAdded, text_at_some};
 
+use crate::marks::{is_marked, mark, no_marks};
 use crate::names::add_name;
 use class_file::ClassFile;
-use const_pool::{Name, Pool};
+use const_pool::{Entry, Name, Pool};
 use std::alloc::{AllocError, Global};
 use text_table::Texts;
 
@@ -44,12 +46,49 @@ fn char_count(text: &[u8]) -> usize
     count
 }
 
+/// The index of the text of the String entry at an index.
+fn text_index(pool: &Pool, index: u16) -> Option<u16>
+    ensures { string_at pool.now index ≡ text_at_some pool.now result }
+{
+    match pool.get(index) {
+        Some(Entry::String { text }) => Some(*text),
+        _ => None,
+    }
+}
+
+/// Adds the text at an index of a pool, once for each index.
+fn add_text(
+    alloc: Global,
+    texts: &mut Texts,
+    added: &mut Vec<bool>,
+    pool: &Pool,
+    index: u16,
+) -> Result<(), AllocError>
+    requires added { AreAdded pool.now texts.old added.old.items }
+    ensures texts { OnOk result (texts.new
+        ≡ with_texts texts.old (option_to_list (utf8_at pool.now index))) }
+    ensures added { OnOk result (AreAdded pool.now texts.new added.new.items) }
+{
+    if is_marked(added.as_slice(), index) {
+        return Ok(());
+    }
+    let Some(text) = pool.utf8(index) else {
+        return Ok(());
+    };
+    add_name(alloc, texts, text.as_slice())?;
+    mark(added, index);
+    Ok(())
+}
+
+/// Adds the texts of a pool's String entries, in order. Takes time for each entry, and once for the
+/// bytes of each text that one names.
 fn add_strings(alloc: Global, texts: &mut Texts, pool: &Pool) -> Result<(), AllocError>
     ensures { OnOk result (texts.new ≡ with_texts texts.old (strings_of pool.now)) }
 {
+    let mut added = no_marks(alloc, pool)?;
     for index in 0..pool.len() {
-        if let Some(text) = pool.string(index) {
-            add_name(alloc, texts, text.as_slice())?;
+        if let Some(text) = text_index(pool, index) {
+            add_text(alloc, texts, &mut added, pool, text)?;
         }
     }
     Ok(())

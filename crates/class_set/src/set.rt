@@ -11,13 +11,14 @@ use crate::arrays::{Listed, listed_arrays};
 use crate::hierarchy::hierarchy;
 use crate::literals::{literal_indices, literal_texts, string_at};
 use crate::members::{Found, member_in, method_in_file};
-use crate::names::{add_name, class_names};
+use crate::names::class_names;
 use crate::statics::{Static, file_statics, name_in};
 use crate::supers::super_numbers;
-use crate::types::{ArrayType, array_shape, array_type, types};
+use crate::types::{ArrayType, push_array, types};
 use ap_base::{Bytes, ListOf, Ref};
 use built_in_table::built_in_classes;
 use class_file::ClassFile;
+use const_pool::Pool;
 use graph_model::{Root, Shape};
 use graph_walks::Reached;
 use run_types::{Known, MethodAt};
@@ -143,14 +144,14 @@ impl ClassSet {
             return Ok(());
         }
         let classes = self.supers.len() as u32;
-        let array = array_type(alloc, &self.names, classes, descriptor)?;
-        let shape = array_shape(alloc, &array)?;
-        self.arrays.reserve(1)?;
-        self.shapes.reserve(1)?;
-        add_name(alloc, &mut self.names, descriptor)?;
-        self.arrays.push(array)?;
-        self.shapes.push(shape)?;
-        Ok(())
+        push_array(
+            alloc,
+            &mut self.names,
+            &mut self.arrays,
+            &mut self.shapes,
+            classes,
+            descriptor,
+        )
     }
 
     /// The files in the order in which they were read. A class's number is its file's place here.
@@ -292,8 +293,9 @@ impl ClassSet {
         }
     }
 
-    /// The method with this name and descriptor that a class declares itself.
-    fn own_method(&self, class: u32, name: &[u8], descriptor: &[u8]) -> Option<MethodAt>
+    /// The first method with this name and descriptor that a class declares itself, `None` exactly
+    /// where it declares none. Takes time for each method that it declares.
+    pub fn own_method(&self, class: u32, name: &[u8], descriptor: &[u8]) -> Option<MethodAt>
         ensures { result ≡ own_method self.now name.now descriptor.now class }
     {
         let found = self.declared_method(class, name, descriptor)?;
@@ -319,6 +321,15 @@ impl ClassSet {
             at = self.superclass(at)?;
         }
         self.own_method(at, name, descriptor)
+    }
+
+    /// The place among the set's literals of the String at an index of a file's pool, `None`
+    /// exactly where none is there.
+    pub fn literal_place(&self, pool: &Pool, index: u16) -> Option<u32>
+        ensures { result ≡ literal_place self.now.files pool.now index }
+    {
+        let text = pool.string(index)?;
+        self.literals.place(text.as_slice())
     }
 
     /// The reference with which the literal at an index of a file's pool begins.

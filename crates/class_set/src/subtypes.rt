@@ -53,7 +53,7 @@ impl ClassSet {
     }
 
     /// How many dimensions a type has, none for a class.
-    fn dimensions_of(&self, n: u32) -> u8
+    pub(crate) fn dimensions_of(&self, n: u32) -> u8
         ensures { result ≡ dimensions_of (facts_of self.now) n }
     {
         match self.array_at(n) {
@@ -93,7 +93,7 @@ impl ClassSet {
     }
 
     /// Whether types of as many dimensions with these innermost elements are subtypes.
-    fn is_sub_elements(&self, elements: Elements<'_>, target: Elements<'_>) -> bool
+    pub(crate) fn is_sub_elements(&self, elements: Elements<'_>, target: Elements<'_>) -> bool
         requires of_class { AreElements (facts_of self.now) (elements_now elements) }
         ensures { result
             ≡ is_sub_innermost (facts_of self.now) (elements_now elements.entry) (elements_now target.entry) }
@@ -107,7 +107,7 @@ impl ClassSet {
     }
 
     /// Whether it is Object, Cloneable or Serializable, of which every array type is a subtype.
-    fn is_above_arrays(&self, elements: Elements<'_>) -> bool
+    pub(crate) fn is_above_arrays(&self, elements: Elements<'_>) -> bool
         ensures { result ≡ is_above_arrays (facts_of self.now) (elements_now elements.entry) }
     {
         let first = self.files.len() as u32;

@@ -1,18 +1,19 @@
 //! Array types: how many dimensions they have, and what their innermost elements are.
 
-ghost use Rattle.std.specs.Prelude.{◌≡◌, ◌≤◌, ◌<◌, ◌^◌, ◌++◌, List, [], map, drop, length, true, Some, All, IfOk, OnOk};
+ghost use Rattle.std.specs.Prelude.{◌≡◌, ◌≤◌, ◌<◌, ◌^◌, ◌++◌, ◌∷◌, List, [], map, drop, length, true, Some, All, IfOk, OnErr, OnOk};
 ghost use Rattle.class_file.specs.declared.class.ClassFile.{ClassFile as File};
 ghost use Rattle.plain_model.specs.Classes.{element_kind};
 ghost use Rattle.const_pool.specs.Parsing.{descriptor_at};
 ghost use Rattle.class_set.specs.ArrayTypes.{array_type, class_or_missing, described_array, innermost_of, is_array_type, is_some_array, kind_of_base};
 ghost use Rattle.plain_model.specs.Facts.{shapes_of};
-ghost use Rattle.text_table.specs.Texts.{place_of};
+ghost use Rattle.text_table.specs.Texts.{place_of, with_text};
 ghost use Rattle.class_set.specs.Linked.{class_names, names_of};
 ghost use Rattle.class_set.specs.Members.{supers_of};
 ghost use Rattle.class_set.specs.Facts.{facts_of};
 ghost use Rattle.class_set.specs.Tables.{AreNames, array_now, array_shape, array_with, innermost_now, linked_of};
 
 use crate::layouts::class_shapes;
+use crate::names::add_name;
 use ap_base::{Bytes, Kind, ListOf};
 use class_file::ClassFile;
 use const_pool::{BaseType, Descriptor, ElementType, Name, read_descriptor};
@@ -181,6 +182,38 @@ pub(crate) fn array_shape(alloc: Global, array: &ArrayType) -> Result<Shape, All
         fields: ListOf::new(alloc),
         element: Some(element_kind(array)),
     })
+}
+
+/// Gives an array type the number behind all names, with its shape. Want of numbers is want of
+/// memory.
+pub(crate) fn push_array(
+    alloc: Global,
+    names: &mut Texts,
+    arrays: &mut Vec<ArrayType>,
+    shapes: &mut Vec<Shape>,
+    classes: u32,
+    descriptor: &[u8],
+) -> Result<(), AllocError>
+    requires array { is_array_type descriptor.now ≡ true }
+    ensures names { OnOk result (names.new ≡ with_text names.old descriptor.now) }
+    ensures arrays { (files : List File) → AreNames files names.old classes
+        → OnOk result (map array_now arrays.new.items
+        ≡ map array_now arrays.old.items ++ array_type files descriptor.now ∷ []) }
+    ensures shapes { (files : List File) → AreNames files names.old classes
+        → OnOk result (shapes.new.items
+        ≡ shapes.old.items ++ array_shape (array_type files descriptor.now) ∷ []) }
+    ensures same_names { OnErr result (names.new ≡ names.old) }
+    ensures same_arrays { OnErr result (arrays.new.items ≡ arrays.old.items) }
+    ensures same_shapes { OnErr result (shapes.new.items ≡ shapes.old.items) }
+{
+    let array = array_type(alloc, names, classes, descriptor)?;
+    let shape = array_shape(alloc, &array)?;
+    arrays.reserve(1)?;
+    shapes.reserve(1)?;
+    add_name(alloc, names, descriptor)?;
+    arrays.push(array)?;
+    shapes.push(shape)?;
+    Ok(())
 }
 
 pub(crate) fn add_array_shapes(

@@ -8,22 +8,24 @@ use run_types::{On, Waits};
 use std::alloc::{AllocError, Global};
 use std::test::Fail;
 
+/// Words, and the references that they are.
+static WORDS: [(u64, Option<Ref>); 8] = [
+    (0, Some(Ref::Null)),
+    (41_154, Some(Ref::Persistent(20_577))),
+    (0x1_ffff_fffe, Some(Ref::Persistent(u32::MAX))),
+    (1, Some(Ref::Volatile(0))),
+    (15, Some(Ref::Volatile(7))),
+    (0x1_ffff_ffff, Some(Ref::Volatile(u32::MAX))),
+    (0x2_0000_0000, None),
+    (u64::MAX, None),
+];
+
 #[test]
-fn words_of_references(rt: HostRuntime) -> Result<(), Fail> {
-    for (word, r) in [
-        (0, Some(Ref::Null)),
-        (41_154, Some(Ref::Persistent(20_577))),
-        (0x1_ffff_fffe, Some(Ref::Persistent(u32::MAX))),
-        (1, Some(Ref::Volatile(0))),
-        (15, Some(Ref::Volatile(7))),
-        (0x1_ffff_ffff, Some(Ref::Volatile(u32::MAX))),
-        (0x2_0000_0000, None),
-        (u64::MAX, None),
-    ] {
-        assert_eq!(rt; ref_of(word), r, "the word {word}");
+fn words_of_references(rt: HostRuntime) {
+    for (word, r) in &WORDS {
+        assert!(rt; ref_of(*word) == *r, "the word {word}");
     }
-    assert_eq!(rt; word_of(Ref::Persistent(20_577)), 41_154);
-    Ok(())
+    assert!(rt; word_of(Ref::Persistent(20_577)) == 41_154);
 }
 
 fn named(alloc: Global, name: &[u8], bytes: &[u8]) -> Result<NamedBytes, AllocError> {
@@ -45,23 +47,37 @@ fn next_file<C: ClassSource>(
     Ok(Some((first, file.size)))
 }
 
-#[test]
-fn a_source_fails_once_and_loses_no_file(rt: HostRuntime) -> Result<(), Fail> {
-    let alloc = rt.alloc();
+/// A source of two files, whose second call fails.
+fn two_files(alloc: Global) -> Result<MemorySource, AllocError> {
     let mut files = Vec::new(alloc);
     files.push(named(alloc, b"A", b"first")?)?;
     files.push(named(alloc, b"B", b"second")?)?;
-    let mut source = MemorySource::new(files, [2].to_vec(alloc)?);
-    for (call, want) in [
-        (1, Ok(Some((b'A', 5)))),
-        (2, Err(SourceError::Failed)),
-        (3, Ok(Some((b'B', 6)))),
-        (4, Ok(None)),
-        (5, Ok(None)),
-    ] {
-        assert_eq!(rt; next_file(&mut source, alloc), want, "call {call}");
+    Ok(MemorySource::new(files, [2].to_vec(alloc)?))
+}
+
+/// What its calls give.
+static NEXT: [Result<Option<(u8, u64)>, SourceError>; 5] = [
+    Ok(Some((b'A', 5))),
+    Err(SourceError::Failed),
+    Ok(Some((b'B', 6))),
+    Ok(None),
+    Ok(None),
+];
+
+#[test]
+fn a_source_fails_once_and_loses_no_file(rt: HostRuntime) -> Result<(), Fail> {
+    let mut source = two_files(rt.alloc())?;
+    for (call, want) in NEXT.iter().enumerate() {
+        assert!(rt; next_file(&mut source, rt.alloc()) == *want, "call {call}");
     }
     Ok(())
+}
+
+/// The size of a file of which so many bytes were read, and so many told.
+fn size_of(alloc: Global, read: usize, told: u64) -> Result<u64, AllocError> {
+    let name = Bytes::copy(alloc, b"A")?;
+    let bytes = Bytes::from_vec(Vec::from_elem(alloc, 0_u8, read)?);
+    Ok(NamedBytes::read_so_far(name, bytes, told).size)
 }
 
 // A file that was read whole has as many bytes as were read, whatever is told.
@@ -74,9 +90,8 @@ fn a_file_that_is_too_long_tells_its_size(rt: HostRuntime) -> Result<(), Fail> {
         (MOST_BYTES + 1, 1 << 32, 1 << 32),
         (MOST_BYTES + 1, 0, 1_048_577),
     ] {
-        let bytes = Bytes::from_vec(vec![in alloc; 0; read]?);
-        let file = NamedBytes::read_so_far(Bytes::copy(alloc, b"A")?, bytes, told);
-        assert_eq!(rt; file.size, size, "{read} bytes were read, {told} told");
+        let found = size_of(alloc, read, told)?;
+        assert!(rt; found == size, "{read} bytes were read, {told} told");
     }
     Ok(())
 }
@@ -99,7 +114,7 @@ fn a_sink_takes_its_share(rt: HostRuntime) -> Result<(), Fail> {
         (b"mnop", 0, b"abci".as_slice()),
     ] {
         let put = put_all(&mut sink, piece);
-        assert_eq!(rt; (put, sink.as_slice()), (taken, so_far));
+        assert!(rt; put == taken && sink.as_slice() == so_far, "{piece:?}");
     }
     Ok(())
 }
@@ -115,7 +130,7 @@ fn piece_and_rest(bytes: &[u8]) -> Option<(usize, usize)> {
 }
 
 #[test]
-fn pieces_have_1_to_24_bytes(rt: HostRuntime) -> Result<(), Fail> {
+fn pieces_have_1_to_24_bytes(rt: HostRuntime) {
     for (bytes, want) in [
         (b"".as_slice(), None),
         (b"7".as_slice(), Some((1, 0))),
@@ -123,21 +138,18 @@ fn pieces_have_1_to_24_bytes(rt: HostRuntime) -> Result<(), Fail> {
         (b"abcdefghijklmnopqrstuvwx".as_slice(), Some((24, 23))),
         (b"abcdefghijklmnopqrstuvwxy".as_slice(), None),
     ] {
-        assert_eq!(rt; piece_and_rest(bytes), want, "{} bytes", bytes.len());
+        assert!(rt; piece_and_rest(bytes) == want, "{} bytes", bytes.len());
     }
-    Ok(())
 }
 
 #[test]
 fn threads_and_what_they_wait_for(rt: HostRuntime) -> Result<(), Fail> {
-    assert_eq!(rt; ThreadNo::new(64), None);
+    assert!(rt; ThreadNo::new(64).is_none());
     let last = ThreadNo::new(63).ok_or("63 is a thread")?;
     let mut waits = Waits::none();
     waits.set(last, On::Join(ThreadNo::main()));
-    assert_eq!(rt;
-        (last.number(), waits.get(last), waits.get(ThreadNo::main())),
-        (63, Some(On::Join(ThreadNo::main())), None)
-    );
+    let is_set = waits.get(last) == Some(On::Join(ThreadNo::main()));
+    assert!(rt; last.number() == 63 && is_set && waits.get(ThreadNo::main()).is_none());
     NoGate.before(last, 1);
     Ok(())
 }
@@ -149,10 +161,7 @@ fn a_list_is_changed_in_place(rt: HostRuntime) -> Result<(), Fail> {
     list.push(6)?;
     list.set(0, 4);
     *list.get_mut(1) = 7;
-    assert_eq!(rt; (list.len(), list.as_slice()), (2, [4, 7].as_slice()));
-    assert_eq!(rt;
-        (list.into_vec().len(), ListOf::<u32>::new(alloc).len()),
-        (2, 0)
-    );
+    assert!(rt; list.len() == 2 && list.as_slice() == [4, 7].as_slice());
+    assert!(rt; list.into_vec().len() == 2 && ListOf::<u32>::new(alloc).len() == 0);
     Ok(())
 }

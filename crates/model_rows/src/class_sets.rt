@@ -52,6 +52,8 @@ return
 .interface J
 .super java/lang/Object
 .field s I static
+.method p ()V 0 0 abstract
+.end
 ";
 
 /// The number of java/lang/Object.
@@ -62,7 +64,10 @@ fn linked(alloc: Global) -> Result<ClassSet, Fail> {
     if files.len() > 4096 {
         return Err("few classes".into());
     }
-    Ok(link(alloc, files).ok().ok_or("classes that link")?)
+    match link(alloc, files) {
+        Ok(set) => Ok(set),
+        Err(_) => Err("classes that link".into()),
+    }
 }
 
 /// Names, and their numbers.
@@ -130,7 +135,7 @@ fn method_facts(found: Option<MethodAt>) -> Option<(u32, u32, bool)> {
 }
 
 /// A class, a method's name and descriptor, and what is found: the class, the method's number there, and whether it is static.
-static METHODS: [(u32, &[u8], &[u8], Option<(u32, u32, bool)>); 8] = [
+static METHODS: [(u32, &[u8], &[u8], Option<(u32, u32, bool)>); 10] = [
     (0, b"run", b"()V", Some((0, 0, false))),
     (1, b"run", b"()V", Some((1, 1, false))),
     (0, b"m", b"()V", Some((1, 0, false))),
@@ -147,6 +152,9 @@ static METHODS: [(u32, &[u8], &[u8], Option<(u32, u32, bool)>); 8] = [
         Some((OBJECT, 1, false)),
     ),
     (4, b"end", b"()V", Some((4, 1, true))),
+    (3, b"p", b"()V", Some((3, 0, false))),
+    // superinterfaces aren't looked through
+    (0, b"p", b"()V", None),
     (2, b"m", b"()V", None),
     (0, b"m", b"()I", None),
 ];
@@ -163,7 +171,7 @@ fn is_below(set: &ClassSet, name: &[u8], above: &[u8]) -> Option<bool> {
 }
 
 /// Two names, and whether the first is a subtype of the second.
-static SUBTYPES: [(&[u8], &[u8], bool); 14] = [
+static SUBTYPES: [(&[u8], &[u8], bool); 18] = [
     (b"A", b"A", true),
     (b"A", b"I", true),
     (b"A", b"J", true),
@@ -176,6 +184,10 @@ static SUBTYPES: [(&[u8], &[u8], bool); 14] = [
     (b"[I", b"[Ljava/lang/Object;", false),
     (b"[Ljava/lang/Object;", b"[Ljava/lang/String;", false),
     (b"[I", b"java/lang/Cloneable", true),
+    (b"[Ljava/lang/String;", b"java/lang/Cloneable", true),
+    (b"[[I", b"java/io/Serializable", true),
+    (b"[[I", b"[I", false),
+    (b"[I", b"java/lang/Runnable", false),
     (b"[I", b"[S", false),
     (b"java/lang/Object", b"[I", false),
 ];
@@ -218,15 +230,33 @@ fn wrong_made(set: &ClassSet) -> Option<usize> {
         || set.is_interface(*number) != *interface)
 }
 
+/// A row that is wrong, with the name of its table.
+fn wrong_row(set: &ClassSet) -> Option<(&'static str, usize)> {
+    let rows = [
+        ("numbers", wrong_number(set)),
+        ("fields", wrong_field(set)),
+        ("methods", wrong_method(set)),
+        ("subtypes", wrong_subtype(set)),
+        ("literals", wrong_literal(set)),
+        ("made", wrong_made(set)),
+    ];
+    for (table, row) in &rows {
+        if let Some(row) = row {
+            return Some((*table, *row));
+        }
+    }
+    None
+}
+
+fn wrong_row_of_linked(alloc: Global) -> Result<Option<(&'static str, usize)>, Fail> {
+    let set = linked(alloc)?;
+    Ok(wrong_row(&set))
+}
+
 #[test]
 fn names_members_and_subtypes_are_found(rt: HostRuntime) -> Result<(), Fail> {
-    let set = linked(rt.alloc())?;
-    assert_eq!(rt; wrong_number(&set), None, "numbers");
-    assert_eq!(rt; wrong_field(&set), None, "fields");
-    assert_eq!(rt; wrong_method(&set), None, "methods");
-    assert_eq!(rt; wrong_subtype(&set), None, "subtypes");
-    assert_eq!(rt; wrong_literal(&set), None, "literals");
-    assert_eq!(rt; wrong_made(&set), None, "made");
+    let wrong = wrong_row_of_linked(rt.alloc())?;
+    assert!(rt; wrong.is_none(), "{wrong:?}");
     Ok(())
 }
 
@@ -254,16 +284,24 @@ static SHAPES: [(u32, &str); 7] = [
     (38, "none"),
 ];
 
+fn wrong_shape(alloc: Global, set: &ClassSet) -> Result<Option<u32>, Fail> {
+    for (number, want) in &SHAPES {
+        if shape_text(alloc, set, *number)?.as_str() != *want {
+            return Ok(Some(*number));
+        }
+    }
+    Ok(None)
+}
+
+fn wrong_shape_of_linked(alloc: Global) -> Result<Option<u32>, Fail> {
+    let set = linked(alloc)?;
+    wrong_shape(alloc, &set)
+}
+
 #[test]
 fn shapes_begin_with_the_superclass(rt: HostRuntime) -> Result<(), Fail> {
-    let set = linked(rt.alloc())?;
-    for (number, want) in &SHAPES {
-        assert_eq!(rt;
-            shape_text(rt.alloc(), &set, *number)?.as_str(),
-            *want,
-            "of {number}"
-        );
-    }
+    let wrong = wrong_shape_of_linked(rt.alloc())?;
+    assert!(rt; wrong.is_none(), "{wrong:?}");
     Ok(())
 }
 
@@ -299,14 +337,50 @@ fn number_longs(alloc: Global, set: &mut ClassSet) -> Option<u32> {
     set.class_named(b"[J")
 }
 
+/// The number that `[J` gets, and again, the kind of its elements, and whether it is an Object.
+type Longs = (Option<u32>, Option<u32>, Option<Kind>, Option<bool>);
+
+fn longs(alloc: Global, set: &mut ClassSet) -> Longs {
+    let first = number_longs(alloc, set);
+    let again = number_longs(alloc, set);
+    (
+        first,
+        again,
+        element_of(set, 38),
+        is_below(set, b"[J", b"java/lang/Object"),
+    )
+}
+
+fn element_of(set: &ClassSet, number: u32) -> Option<Kind> {
+    set.shape(number)?.element
+}
+
+fn longs_of_linked(alloc: Global) -> Result<Longs, Fail> {
+    let mut set = linked(alloc)?;
+    Ok(longs(alloc, &mut set))
+}
+
 #[test]
-fn statics_have_names_and_arrays_get_numbers(rt: HostRuntime) -> Result<(), Fail> {
-    let mut set = linked(rt.alloc())?;
-    assert_eq!(rt; statics_text(rt.alloc(), &set)?.as_str(), "B.s B.r J.s 2");
-    assert_eq!(rt; set.known(), KNOWN);
-    assert_eq!(rt; number_longs(rt.alloc(), &mut set), Some(38));
-    assert_eq!(rt; number_longs(rt.alloc(), &mut set), Some(38));
-    assert_eq!(rt; shape_text(rt.alloc(), &set, 38)?.as_str(), "Some(J)");
-    assert_eq!(rt; is_below(&set, b"[J", b"java/lang/Object"), Some(true));
+fn arrays_get_numbers(rt: HostRuntime) -> Result<(), Fail> {
+    let found = longs_of_linked(rt.alloc())?;
+    let want = (Some(38), Some(38), Some(Kind::J), Some(true));
+    assert!(rt; found == want, "{found:?}");
+    Ok(())
+}
+
+fn statics_of_linked(alloc: Global) -> Result<(String, Known), Fail> {
+    let set = linked(alloc)?;
+    let known = set.known();
+    match statics_text(alloc, &set) {
+        Ok(text) => Ok((text, known)),
+        Err(fail) => Err(fail),
+    }
+}
+
+#[test]
+fn statics_have_names(rt: HostRuntime) -> Result<(), Fail> {
+    let (text, known) = statics_of_linked(rt.alloc())?;
+    assert!(rt; text.as_str() == "B.s B.r J.s 2", "{text}");
+    assert!(rt; known == KNOWN, "{known:?}");
     Ok(())
 }

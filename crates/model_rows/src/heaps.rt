@@ -112,44 +112,58 @@ fn graph_is(graph: &Graph, roots: [Value; 2], nodes: &[(u32, &[Value])]) -> bool
     }
 }
 
+/// An object or a node: its shape, and its values.
+type Item = (u32, &'static [Value]);
+
+/// Objects of a heap, its statics, and its graph: the roots' values, and the nodes.
+static GRAPHS: [(&[Item], [Value; 3], [Value; 2], &[Item]); 3] = [
+    // object 0 is not reached; root b holds node 2, whose ring goes on over 3 and 1
+    (
+        &[
+            (NODE, &[Value::Int(9), Value::Obj(1)]),
+            (NODE, &[Value::Int(3), Value::Obj(2)]),
+            (NODE, &[Value::Int(1), Value::Obj(3)]),
+            (NODE, &[Value::Int(2), Value::Obj(1)]),
+        ],
+        [Value::Null, Value::Obj(2), Value::Obj(0)],
+        [Value::Null, Value::Obj(0)],
+        &[
+            (NODE, &[Value::Int(1), Value::Obj(1)]),
+            (NODE, &[Value::Int(2), Value::Obj(2)]),
+            (NODE, &[Value::Int(3), Value::Obj(0)]),
+        ],
+    ),
+    // roots that hold null reach nothing
+    (
+        &[(NODE, &[Value::Int(9), Value::Null])],
+        [Value::Null, Value::Null, Value::Obj(0)],
+        [Value::Null, Value::Null],
+        &[],
+    ),
+    // both roots hold the array, which is one node
+    (
+        &[(INTS, &[Value::Int(5), Value::Int(0), Value::Int(-7)])],
+        [Value::Obj(0), Value::Obj(0), Value::Null],
+        [Value::Obj(0), Value::Obj(0)],
+        &[(INTS, &[Value::Int(5), Value::Int(0), Value::Int(-7)])],
+    ),
+];
+
+/// The graph of a heap of these objects and statics.
+fn graph_of(alloc: Global, objects: &[Item], statics: &[Value]) -> Result<Graph, Fail> {
+    let heap = sound(heap(alloc, objects, statics)?)?;
+    Ok(canon(alloc, &heap)?)
+}
+
 #[test]
 fn graphs_of_heaps(rt: HostRuntime) -> Result<(), Fail> {
-    let alloc = rt.alloc();
-    for (objects, statics, roots, nodes) in [
-        // object 0 is not reached; root b holds node 2, whose ring goes on over 3 and 1
-        (
-            &[
-                (NODE, &[Value::Int(9), Value::Obj(1)][..]),
-                (NODE, &[Value::Int(3), Value::Obj(2)]),
-                (NODE, &[Value::Int(1), Value::Obj(3)]),
-                (NODE, &[Value::Int(2), Value::Obj(1)]),
-            ][..],
-            [Value::Null, Value::Obj(2), Value::Obj(0)],
-            [Value::Null, Value::Obj(0)],
-            &[
-                (NODE, &[Value::Int(1), Value::Obj(1)][..]),
-                (NODE, &[Value::Int(2), Value::Obj(2)]),
-                (NODE, &[Value::Int(3), Value::Obj(0)]),
-            ][..],
-        ),
-        // roots that hold null reach nothing
-        (
-            &[(NODE, &[Value::Int(9), Value::Null])],
-            [Value::Null, Value::Null, Value::Obj(0)],
-            [Value::Null, Value::Null],
-            &[],
-        ),
-        // both roots hold the array, which is one node
-        (
-            &[(INTS, &[Value::Int(5), Value::Int(0), Value::Int(-7)])],
-            [Value::Obj(0), Value::Obj(0), Value::Null],
-            [Value::Obj(0), Value::Obj(0)],
-            &[(INTS, &[Value::Int(5), Value::Int(0), Value::Int(-7)])],
-        ),
-    ] {
-        let heap = sound(heap(alloc, objects, &statics)?)?;
-        let graph = canon(alloc, &heap)?;
-        assert!(rt; graph_is(&graph, roots, nodes), "{} objects", objects.len());
+    for (objects, statics, roots, nodes) in &GRAPHS {
+        let graph = graph_of(rt.alloc(), objects, statics)?;
+        assert!(rt;
+            graph_is(&graph, *roots, nodes),
+            "{} objects",
+            objects.len()
+        );
     }
     Ok(())
 }
@@ -164,32 +178,29 @@ fn reached(alloc: Global, heap: &Heap, start: &[Value]) -> Result<Vec<u32>, Fail
     Ok(reach(alloc, heap, start)?)
 }
 
-// From 4 a path leads to 1, from 3 none leads on; 0 and 2 are not reached.
+/// Objects of which 0 and 2 are not reached: from 4 a path leads to 1, from 3 none leads on.
+static LISTS: [Item; 5] = [
+    (NODE, &[Value::Int(0), Value::Obj(4)]),
+    (NODE, &[Value::Int(1), Value::Obj(4)]),
+    (NODE, &[Value::Int(2), Value::Obj(3)]),
+    (NODE, &[Value::Int(3), Value::Null]),
+    (NODE, &[Value::Int(4), Value::Obj(1)]),
+];
+
+/// Two values, and the objects that they reach.
+static REACHED: [([Value; 2], &[u32]); 4] = [
+    ([Value::Obj(4), Value::Obj(3)], &[1, 3, 4]),
+    ([Value::Obj(3), Value::Obj(3)], &[3]),
+    ([Value::Long(4), Value::Int(2)], &[]),
+    ([Value::Null, Value::Obj(0)], &[0, 1, 4]),
+];
+
 #[test]
 fn reached_from_two_starts(rt: HostRuntime) -> Result<(), Fail> {
-    let alloc = rt.alloc();
-    let heap = sound(heap(
-        alloc,
-        &[
-            (NODE, &[Value::Int(0), Value::Obj(4)]),
-            (NODE, &[Value::Int(1), Value::Obj(4)]),
-            (NODE, &[Value::Int(2), Value::Obj(3)]),
-            (NODE, &[Value::Int(3), Value::Null]),
-            (NODE, &[Value::Int(4), Value::Obj(1)]),
-        ],
-        &[Value::Null, Value::Null],
-    )?)?;
-    for (start, want) in [
-        ([Value::Obj(4), Value::Obj(3)], &[1, 3, 4][..]),
-        ([Value::Obj(3), Value::Obj(3)], &[3]),
-        ([Value::Long(4), Value::Int(2)], &[]),
-        ([Value::Null, Value::Obj(0)], &[0, 1, 4]),
-    ] {
-        assert_eq!(rt;
-            reached(alloc, &heap, &start)?.as_slice(),
-            want,
-            "{start:?}"
-        );
+    let heap = sound(heap(rt.alloc(), &LISTS, &[Value::Null, Value::Null])?)?;
+    for (start, want) in &REACHED {
+        let found = reached(rt.alloc(), &heap, start)?;
+        assert!(rt; found.as_slice() == *want, "{start:?}");
     }
     Ok(())
 }
@@ -266,7 +277,7 @@ fn kinds_have_defaults(rt: HostRuntime) {
         (Kind::J, Value::Long(0)),
         (Kind::L, Value::Null),
     ] {
-        assert_eq!(rt; Value::default_of(kind), value);
+        assert!(rt; Value::default_of(kind) == value, "{kind:?}");
     }
 }
 
@@ -293,6 +304,6 @@ fn nodes_of_a_long_list(rt: HostRuntime) -> Result<(), Fail> {
     let heap = sound(long_list(alloc, 99_999)?)?;
     let nodes = canon(alloc, &heap)?.nodes.len();
     let objects = reached(alloc, &heap, &[Value::Obj(99_999)])?.len();
-    assert_eq!(rt; (nodes, objects), (100_000, 100_000));
+    assert!(rt; nodes == 100_000 && objects == 100_000, "all of the list");
     Ok(())
 }

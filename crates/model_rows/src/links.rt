@@ -1,224 +1,243 @@
-//! Class files written as lines, and whether they link.
+//! Class files of listings, and whether they link.
 
 use ap_base::Bytes;
-use class_file::{ClassFile, read_class};
+use class_file::{ClassFile, ClassRefusal, read_class};
 use class_links::{LinkRefusal, check_links};
+use listing::assemble;
 use std::alloc::Global;
-use std::str::from_utf8;
 use std::test::Fail;
 
-/// The entries of a constant pool, and the next index.
-#[derive(Drop)]
-struct Entries {
-    bytes: Vec<u8>,
-    next: u16,
-}
-
-impl Entries {
-    fn added(&mut self) -> Result<u16, Fail> {
-        let index = self.next;
-        self.next = index.checked_add(1).ok_or("few entries")?;
-        Ok(index)
+/// Why classes don't link.
+fn refusal_of_all(alloc: Global, classes: &[ClassFile]) -> Result<Option<LinkRefusal>, Fail> {
+    if classes.len() > 4096 {
+        return Err("few classes".into());
     }
-
-    fn utf8(&mut self, text: &str) -> Result<u16, Fail> {
-        self.bytes.push(1)?;
-        put_u16(&mut self.bytes, u16::try_from(text.len())?)?;
-        self.bytes.extend_from_slice(text.as_bytes())?;
-        self.added()
-    }
-
-    fn class(&mut self, name: &str) -> Result<u16, Fail> {
-        let name = self.utf8(name)?;
-        self.bytes.push(7)?;
-        put_u16(&mut self.bytes, name)?;
-        self.added()
-    }
+    Ok(check_links(alloc, classes).err())
 }
 
-/// Methods whose code is `return`.
-fn put_methods(
-    alloc: Global,
-    out: &mut Vec<u8>,
-    entries: &mut Entries,
-    names: &str,
-) -> Result<(), Fail> {
-    let names: Vec<&str> = names.split_whitespace().collect(alloc)?;
-    put_u16(out, u16::try_from(names.len())?)?;
-    for name in &names {
-        put_u16(out, 9)?;
-        put_u16(out, entries.utf8(name)?)?;
-        put_u16(out, entries.utf8("()V")?)?;
-        put_u16(out, 1)?;
-        put_u16(out, entries.utf8("Code")?)?;
-        out.extend_from_slice(&[0, 0, 0, 13, 0, 0, 0, 0, 0, 0, 0, 1, 0xb1, 0, 0, 0, 0])?;
-    }
-    Ok(())
+/// Why the classes of a listing don't link.
+fn refusal_of(alloc: Global, listing: &[u8]) -> Result<Option<LinkRefusal>, Fail> {
+    let classes = assemble(alloc, listing)?;
+    refusal_of_all(alloc, &classes)
 }
 
-/// The class file that a line tells: its sort, its name, its superclass and superinterfaces, and after a `;` its methods with code.
-fn file(alloc: Global, line: &str) -> Result<ClassFile, Fail> {
-    let mut entries = Entries {
-        bytes: Vec::new(alloc),
-        next: 1,
-    };
-    let (head, methods) = line.split_once(';').unwrap_or((line, ""));
-    let mut words = head.split_whitespace();
-    let access = match words.next() {
-        Some("interface") => 0x0601,
-        Some("final") => 0x31,
-        _ => 0x21,
-    };
-    let mut rest = Vec::new(alloc);
-    put_u16(&mut rest, access)?;
-    put_u16(&mut rest, entries.class(words.next().ok_or("a name")?)?)?;
-    put_u16(
-        &mut rest,
-        entries.class(words.next().ok_or("a superclass")?)?,
-    )?;
-    let interfaces: Vec<&str> = words.collect(alloc)?;
-    put_u16(&mut rest, u16::try_from(interfaces.len())?)?;
-    for name in &interfaces {
-        put_u16(&mut rest, entries.class(name)?)?;
-    }
-    put_u16(&mut rest, 0)?;
-    put_methods(alloc, &mut rest, &mut entries, methods)?;
-    put_u16(&mut rest, 0)?;
-    let mut bytes = [0xca, 0xfe, 0xba, 0xbe, 0, 0, 0, 52].to_vec(alloc)?;
-    put_u16(&mut bytes, entries.next)?;
-    bytes.extend_from_slice(&entries.bytes)?;
-    bytes.extend_from_slice(&rest)?;
-    Ok(read_class(alloc, &bytes)?)
-}
-
-/// A number, high byte first.
-fn put_u16(out: &mut Vec<u8>, number: u16) -> Result<(), Fail> {
-    Ok(out.extend_from_slice(&number.to_be_bytes())?)
-}
-
-fn text(bytes: &Bytes) -> &str {
-    from_utf8(bytes.as_slice()).unwrap_or("no text")
-}
-
-/// What becomes of a refusal's classes.
-fn refusal_text(alloc: Global, refusal: &LinkRefusal) -> Result<String, Fail> {
-    let (kind, class, super_class) = match refusal {
-        LinkRefusal::DuplicateClass { class } => ("DuplicateClass", text(class), ""),
-        LinkRefusal::MissingSuper { class, super_class } => (
-            "MissingSuper",
-            text(class),
-            text(super_class),
-        ),
-        LinkRefusal::SuperKind { class, super_class } => (
-            "SuperKind",
-            text(class),
-            text(super_class),
-        ),
-        LinkRefusal::FinalSuper { class, super_class } => (
-            "FinalSuper",
-            text(class),
-            text(super_class),
-        ),
-        LinkRefusal::CircularSuper { class } => ("CircularSuper", text(class), ""),
-        LinkRefusal::InterfaceCode { class } => ("InterfaceCode", text(class), ""),
-        LinkRefusal::OutOfMemory => ("OutOfMemory", "", ""),
-    };
-    Ok(format!(in alloc; "{kind} {class} {super_class}")?)
-}
-
-/// What linking the classes of these lines gives.
-fn linked(alloc: Global, lines: &str) -> Result<String, Fail> {
-    let mut files = Vec::new(alloc);
-    for line in lines.split(',') {
-        if !line.is_empty() {
-            files.push(file(alloc, line)?)?;
+/// The refusal's word, and the names of its classes.
+fn parts_of(refusal: &Option<LinkRefusal>) -> (&str, &[u8], &[u8]) {
+    match refusal {
+        None => ("links", b"", b""),
+        Some(LinkRefusal::DuplicateClass { class }) => one("DuplicateClass", class),
+        Some(LinkRefusal::MissingSuper { class, super_class }) => {
+            two("MissingSuper", class, super_class)
         }
+        Some(LinkRefusal::SuperKind { class, super_class }) => two("SuperKind", class, super_class),
+        Some(LinkRefusal::FinalSuper { class, super_class }) => {
+            two("FinalSuper", class, super_class)
+        }
+        Some(LinkRefusal::CircularSuper { class }) => one("CircularSuper", class),
+        Some(LinkRefusal::InterfaceCode { class }) => one("InterfaceCode", class),
+        Some(LinkRefusal::OutOfMemory) => ("OutOfMemory", b"", b""),
     }
-    if files.len() > 4096 {
-        return Ok(String::from_str(alloc, "too many")?);
-    }
-    match check_links(alloc, &files) {
-        Ok(()) => Ok(String::from_str(alloc, "links")?),
-        Err(refusal) => refusal_text(alloc, &refusal),
-    }
+}
+
+fn one<'a>(word: &'a str, class: &'a Bytes) -> (&'a str, &'a [u8], &'a [u8]) {
+    (word, class.as_slice(), b"")
+}
+
+fn two<'a>(word: &'a str, class: &'a Bytes, other: &'a Bytes) -> (&'a str, &'a [u8], &'a [u8]) {
+    (word, class.as_slice(), other.as_slice())
+}
+
+/// A listing, the word of its refusal, and the classes that this names.
+type Row = (&'static [u8], &'static str, &'static str, &'static str);
+
+static ROWS: [Row; 23] = [
+    (b"", "links", "", ""),
+    (b".class A\n.super java/lang/Object\n", "links", "", ""),
+    (
+        b".class A\n.super java/lang/Exception\n.implements java/lang/Cloneable\n\
+        .method m ()V 0 0 static\nreturn\n.end\n",
+        "links",
+        "",
+        "",
+    ),
+    (
+        b".class B\n.super A\n.implements I\n.interface I\n.super java/lang/Object\n\
+        .implements java/lang/Runnable\n.method <clinit> ()V 0 0 static\nreturn\n.end\n\
+        .class A\n.super java/lang/Object\n",
+        "links",
+        "",
+        "",
+    ),
+    (
+        b".class A\n.super java/lang/Object\n.class A\n.super java/lang/Object\n",
+        "DuplicateClass",
+        "A",
+        "",
+    ),
+    (
+        b".class java/lang/String\n.super java/lang/Object\n",
+        "DuplicateClass",
+        "java/lang/String",
+        "",
+    ),
+    (b".class A\n.super B\n", "MissingSuper", "A", "B"),
+    (
+        b".class A\n.super java/lang/Object\n.implements I\n",
+        "MissingSuper",
+        "A",
+        "I",
+    ),
+    (
+        b".class A\n.super java/lang/Runnable\n",
+        "SuperKind",
+        "A",
+        "java/lang/Runnable",
+    ),
+    (
+        b".class B\n.super java/lang/Object\n.implements A\n.class A\n.super java/lang/Object\n",
+        "SuperKind",
+        "B",
+        "A",
+    ),
+    (
+        b".class A\n.super java/lang/String\n",
+        "FinalSuper",
+        "A",
+        "java/lang/String",
+    ),
+    (
+        b".class A\n.super B\n.final B\n.super java/lang/Object\n",
+        "FinalSuper",
+        "A",
+        "B",
+    ),
+    (b".class A\n.super A\n", "CircularSuper", "A", ""),
+    (
+        b".class C\n.super A\n.class A\n.super B\n.class B\n.super A\n",
+        "CircularSuper",
+        "A",
+        "",
+    ),
+    (
+        b".class D\n.super A\n.class A\n.super B\n.class B\n.super C\n.class C\n.super A\n",
+        "CircularSuper",
+        "A",
+        "",
+    ),
+    (
+        b".interface I\n.super java/lang/Object\n.implements J\n\
+        .interface J\n.super java/lang/Object\n.implements I\n",
+        "CircularSuper",
+        "I",
+        "",
+    ),
+    (
+        b".interface I\n.super java/lang/Object\n.method <clinit> ()V 0 0 static\nreturn\n.end\n\
+        .method m ()V 0 0 static\nreturn\n.end\n",
+        "InterfaceCode",
+        "I",
+        "",
+    ),
+    (
+        b".interface I\n.super java/lang/Object\n.method <clinit> ()V 0 0 static\nreturn\n.end\n\
+        .method m ()V 0 0 abstract\n.end\n",
+        "links",
+        "",
+        "",
+    ),
+    // the later class breaks the condition that is checked first
+    (
+        b".class M\n.super B\n.class M\n.super java/lang/Object\n",
+        "DuplicateClass",
+        "M",
+        "",
+    ),
+    (
+        b".class K\n.super java/lang/Runnable\n.class M\n.super B\n",
+        "MissingSuper",
+        "M",
+        "B",
+    ),
+    (
+        b".class F\n.super java/lang/System\n.class K\n.super java/lang/Runnable\n",
+        "SuperKind",
+        "K",
+        "java/lang/Runnable",
+    ),
+    (
+        b".class C\n.super C\n.class F\n.super java/lang/System\n",
+        "FinalSuper",
+        "F",
+        "java/lang/System",
+    ),
+    (
+        b".interface I\n.super java/lang/Object\n.method m ()V 0 0 static\nreturn\n.end\n\
+        .class C\n.super C\n",
+        "CircularSuper",
+        "C",
+        "",
+    ),
+];
+
+/// Whether a row is right.
+fn is_right(alloc: Global, row: &Row) -> Result<bool, Fail> {
+    let (listing, word, class, other) = *row;
+    let refusal = refusal_of(alloc, listing)?;
+    let found = parts_of(&refusal);
+    Ok(found == (word, class.as_bytes(), other.as_bytes()))
 }
 
 #[test]
 fn classes_that_link_and_others(rt: HostRuntime) -> Result<(), Fail> {
-    for (lines, want) in [
-        ("", "links"),
-        ("class A java/lang/Object", "links"),
-        (
-            "class A java/lang/Exception java/lang/Cloneable; m",
-            "links",
-        ),
-        (
-            "class B A I, interface I java/lang/Object java/lang/Runnable; <clinit>, class A java/lang/Object",
-            "links",
-        ),
-        (
-            "class A java/lang/Object, class A java/lang/Object",
-            "DuplicateClass A ",
-        ),
-        (
-            "class java/lang/String java/lang/Object",
-            "DuplicateClass java/lang/String ",
-        ),
-        ("class A B", "MissingSuper A B"),
-        ("class A java/lang/Object I", "MissingSuper A I"),
-        (
-            "class A java/lang/Runnable",
-            "SuperKind A java/lang/Runnable",
-        ),
-        (
-            "class B java/lang/Object A, class A java/lang/Object",
-            "SuperKind B A",
-        ),
-        ("class A java/lang/String", "FinalSuper A java/lang/String"),
-        ("class A B, final B java/lang/Object", "FinalSuper A B"),
-        ("class A A", "CircularSuper A "),
-        ("class C A, class A B, class B A", "CircularSuper A "),
-        (
-            "class D A, class A B, class B C, class C A",
-            "CircularSuper A ",
-        ),
-        (
-            "interface I java/lang/Object J, interface J java/lang/Object I",
-            "CircularSuper I ",
-        ),
-        (
-            "interface I java/lang/Object; <clinit> m",
-            "InterfaceCode I ",
-        ),
-        // the later class breaks the condition that is checked first
-        ("class M B, class M java/lang/Object", "DuplicateClass M "),
-        ("class K java/lang/Runnable, class M B", "MissingSuper M B"),
-        (
-            "class F java/lang/System, class K java/lang/Runnable",
-            "SuperKind K java/lang/Runnable",
-        ),
-        (
-            "class C C, class F java/lang/System",
-            "FinalSuper F java/lang/System",
-        ),
-        (
-            "interface I java/lang/Object; m, class C C",
-            "CircularSuper C ",
-        ),
-    ] {
-        assert_eq!(rt; linked(rt.alloc(), lines)?.as_str(), want, "{lines}");
+    for (number, row) in ROWS.iter().enumerate() {
+        assert!(rt; is_right(rt.alloc(), row)?, "row {number}: {}", row.1);
     }
     Ok(())
+}
+
+/// The last four digits of a number.
+fn digits(number: u32) -> [u8; 4] {
+    [
+        b'0' + (number / 1000 % 10) as u8,
+        b'0' + (number / 100 % 10) as u8,
+        b'0' + (number / 10 % 10) as u8,
+        b'0' + (number % 10) as u8,
+    ]
+}
+
+/// What stands in a class file before its name, between it and its superclass's, and behind that,
+/// where both are four digits behind a `C`.
+static PARTS: [&[u8]; 3] = [
+    b"\xca\xfe\xba\xbe\x00\x00\x004\x00\x05\x01\x00\x05C",
+    b"\x07\x00\x01\x01\x00\x05C",
+    b"\x07\x00\x03\x00\x21\x00\x02\x00\x04\x00\x00\x00\x00\x00\x00\x00\x00",
+];
+
+/// The class of one number, whose superclass has the other.
+fn link(alloc: Global, number: u32, above: u32) -> Result<ClassFile, ClassRefusal> {
+    let mut bytes = Vec::new(alloc);
+    bytes.extend_from_slice(PARTS[0])?;
+    bytes.extend_from_slice(&digits(number))?;
+    bytes.extend_from_slice(PARTS[1])?;
+    bytes.extend_from_slice(&digits(above))?;
+    bytes.extend_from_slice(PARTS[2])?;
+    read_class(alloc, &bytes)
+}
+
+/// A chain of so many classes.
+fn chain(alloc: Global, count: u32) -> Result<Vec<ClassFile>, Fail> {
+    let mut classes = assemble(alloc, b".class C0000\n.super java/lang/Object\n")?;
+    for above in 0..count.saturating_sub(1) {
+        classes.push(link(alloc, above + 1, above)?)?;
+    }
+    Ok(classes)
 }
 
 // A chain of as many classes as may be.
 #[test]
 fn long_chain_links(rt: HostRuntime) -> Result<(), Fail> {
-    let alloc = rt.alloc();
-    let mut lines = String::from_str(alloc, "class C0 java/lang/Object")?;
-    for number in 1..4096u32 {
-        lines.push_str(&format!(in alloc; ", class C{number} C{}", number - 1)?)?;
-    }
-    assert_eq!(rt; linked(alloc, &lines)?.as_str(), "links");
+    let classes = chain(rt.alloc(), 4096)?;
+    let refusal = refusal_of_all(rt.alloc(), &classes)?;
+    assert!(rt; classes.len() == 4096 && refusal.is_none(), "a long chain");
     Ok(())
 }

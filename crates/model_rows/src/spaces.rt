@@ -22,10 +22,8 @@ fn words_are_taken_one_after_another(rt: HostRuntime) -> Result<(), Fail> {
         space.take(1),
         space.take(0),
     ];
-    assert_eq!(rt;
-        (taken, space.left()),
-        ([Some(0), None, Some(4), None, Some(9)], 0)
-    );
+    assert!(rt; taken == [Some(0), None, Some(4), None, Some(9)], "words");
+    assert!(rt; space.left() == 0, "no word is left");
     Ok(())
 }
 
@@ -34,10 +32,8 @@ fn lines_are_taken_one_after_another(rt: HostRuntime) -> Result<(), Fail> {
     let mut space = PersistSpace::new(20_577, 20_580);
     let taken = [space.take(2), space.take(2), space.take(1), space.take(1)];
     let past = PersistSpace::new(20_581, 20_580).left();
-    assert_eq!(rt;
-        (taken, space.left(), past),
-        ([Some(20_577), None, Some(20_579), None], 0, 0)
-    );
+    assert!(rt; taken == [Some(20_577), None, Some(20_579), None], "lines");
+    assert!(rt; space.left() == 0 && past == 0, "no line is left");
     Ok(())
 }
 
@@ -59,9 +55,9 @@ fn words_of_states(rt: HostRuntime) -> Result<(), Fail> {
         (0x1_0000_0001, None),
         (0xc, None),
     ] {
-        assert_eq!(rt; state_of(word), state, "the word {word}");
+        assert!(rt; state_of(word) == state, "the word {word}");
     }
-    assert_eq!(rt; state_word(State::Copying(last, 20_577)), 0x5061_0000_01fa);
+    assert!(rt; state_word(State::Copying(last, 20_577)) == 0x5061_0000_01fa);
     Ok(())
 }
 
@@ -118,14 +114,10 @@ fn an_object_is_claimed_once(rt: HostRuntime) -> Result<(), Fail> {
     let again = claimed(&mut space, at, ThreadNo::main());
     space.set(at, state_word(State::Durable(20_577)));
     let sealed = claimed(&mut space, at, other);
-    assert_eq!(rt;
-        [first, again, sealed],
-        [
-            Some(Claimed::Now),
-            Some(Claimed::By(other)),
-            Some(Claimed::Already)
-        ]
-    );
+    let are_right = first == Some(Claimed::Now)
+        && again == Some(Claimed::By(other))
+        && sealed == Some(Claimed::Already);
+    assert!(rt; are_right, "three claims");
     Ok(())
 }
 
@@ -140,55 +132,72 @@ fn a_forward_leads_to_the_copy(rt: HostRuntime) -> Result<(), Fail> {
         (State::Converted(ThreadNo::main(), 20_577), (copy, copy)),
         (State::Durable(20_577), (copy, copy)),
     ] {
-        assert_eq!(rt; read_at(rt.alloc(), state)?, Some(want));
+        assert!(rt; read_at(rt.alloc(), state)? == Some(want), "{state:?}");
     }
-    assert_eq!(rt;
-        (resolve(&space, Ref::Null), resolve(&space, copy)),
-        (Ref::Null, copy)
-    );
+    let are_same = resolve(&space, Ref::Null) == Ref::Null && resolve(&space, copy) == copy;
+    assert!(rt; are_same, "null and a copy lead to themselves");
     Ok(())
 }
 
-// A class and two objects have the same number.
+/// The number of the thread that holds a monitor, where another thread enters it; 64 where no more may be held.
+fn holder(monitors: &mut Monitors, thread: u8, key: Key) -> Option<u8> {
+    match monitors.enter(ThreadNo::new(thread)?, key) {
+        Enter::Taken => None,
+        Enter::Held(thread) => Some(thread.number()),
+        Enter::Full => Some(64),
+    }
+}
+
+/// Whether a thread leaves a monitor that it holds.
+fn is_left(monitors: &mut Monitors, thread: u8, key: Key) -> bool {
+    match ThreadNo::new(thread) {
+        Some(thread) => monitors.exit(thread, key).is_ok(),
+        None => false,
+    }
+}
+
+const HERE: Key = Key::Object(Ref::Volatile(5));
+
+const THERE: Key = Key::Object(Ref::Persistent(5));
+
+/// A class that has the number of two objects.
+const CLASS: Key = Key::Class(5);
+
+/// Threads that enter a monitor, one after another, and who holds it.
+static ENTERS: [(u8, Key, Option<u8>); 6] = [
+    (0, HERE, None),
+    (1, HERE, Some(0)),
+    (0, HERE, None),
+    (1, THERE, None),
+    (1, CLASS, None),
+    (0, CLASS, Some(1)),
+];
+
+/// Threads that then leave one, and whether they hold it.
+static EXITS: [(u8, Key, bool); 6] = [
+    (1, HERE, false),
+    (0, HERE, true),
+    (0, HERE, true),
+    (0, HERE, false),
+    (1, THERE, true),
+    (1, CLASS, true),
+];
+
 #[test]
 fn monitors_have_an_owner_and_a_count(rt: HostRuntime) -> Result<(), Fail> {
-    let (a, b) = (ThreadNo::main(), ThreadNo::new(1).ok_or("1 is a thread")?);
-    let (here, there) = (
-        Key::Object(Ref::Volatile(5)),
-        Key::Object(Ref::Persistent(5)),
-    );
-    let class = Key::Class(5);
     let mut monitors = Monitors::reserve(rt.alloc())?;
-    let entered = [
-        monitors.enter(a, here),
-        monitors.enter(b, here),
-        monitors.enter(a, here),
-        monitors.enter(b, there),
-        monitors.enter(b, class),
-        monitors.enter(a, class),
-    ];
-    let left = [
-        monitors.exit(b, here),
-        monitors.exit(a, here),
-        monitors.exit(a, here),
-        monitors.exit(a, here),
-        monitors.exit(b, there),
-        monitors.exit(b, class),
-    ];
-    assert_eq!(rt;
-        (entered, left),
-        (
-            [
-                Enter::Taken,
-                Enter::Held(a),
-                Enter::Taken,
-                Enter::Taken,
-                Enter::Taken,
-                Enter::Held(b)
-            ],
-            [Err(NotOwner), Ok(()), Ok(()), Err(NotOwner), Ok(()), Ok(())]
-        )
-    );
+    for (thread, key, want) in &ENTERS {
+        assert!(rt;
+            holder(&mut monitors, *thread, *key) == *want,
+            "{thread} enters {key:?}"
+        );
+    }
+    for (thread, key, want) in &EXITS {
+        assert!(rt;
+            is_left(&mut monitors, *thread, *key) == *want,
+            "{thread} leaves {key:?}"
+        );
+    }
     Ok(())
 }
 
@@ -210,18 +219,22 @@ fn a_monitor_keeps_its_owner_under_another_key(rt: HostRuntime) -> Result<(), Fa
     Ok(())
 }
 
-#[test]
-fn as_many_monitors_are_held_as_may_be(rt: HostRuntime) -> Result<(), Fail> {
-    let mut monitors = Monitors::reserve(rt.alloc())?;
+/// Whether the first thread enters as many monitors as may be held.
+fn are_all_taken(monitors: &mut Monitors) -> bool {
     let mut all = true;
     for n in 0..MOST_MONITORS as u32 {
         let entered = monitors.enter(ThreadNo::main(), Key::Class(n * 3));
         all = all && entered == Enter::Taken;
     }
-    let others = [
-        monitors.enter(ThreadNo::main(), Key::Class(1)),
-        monitors.enter(ThreadNo::main(), Key::Class(3 * 17)),
-    ];
-    assert_eq!(rt; (all, others), (true, [Enter::Full, Enter::Taken]));
+    all
+}
+
+#[test]
+fn as_many_monitors_are_held_as_may_be(rt: HostRuntime) -> Result<(), Fail> {
+    let mut monitors = Monitors::reserve(rt.alloc())?;
+    let are_right = are_all_taken(&mut monitors)
+        && holder(&mut monitors, 0, Key::Class(1)) == Some(64)
+        && holder(&mut monitors, 0, Key::Class(3 * 17)).is_none();
+    assert!(rt; are_right, "no further monitor, but one again");
     Ok(())
 }

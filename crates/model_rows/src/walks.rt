@@ -50,39 +50,45 @@ fn visited_from(alloc: Global, edges: &[ListOf<u32>], starts: &[u32]) -> Result<
     Ok(Reached::from(alloc, edges, starts)?.into_order())
 }
 
+/// Graphs, a vertex of each, and the vertices in the order in which they are first visited from there.
+static VISITS: [(&str, u32, &[u32]); 11] = [
+    ("", 0, &[0]),
+    ("1, 2, 3, ", 0, &[0, 1, 2, 3]),
+    ("1, 2, 3, ", 2, &[2, 3]),
+    ("1 2, 3, 3, ", 0, &[0, 1, 3, 2]),
+    ("2 1, 3, 3, ", 0, &[0, 2, 3, 1]),
+    ("3 1, 2, 3, ", 0, &[0, 3, 1, 2]),
+    ("1 1 2, 2 2, ", 0, &[0, 1, 2]),
+    ("4 1, 2 3, 5, 5, 5, ", 0, &[0, 4, 5, 1, 2, 3]),
+    ("2, , 3, ", 1, &[1]),
+    // with circles
+    ("0", 0, &[0]),
+    ("1, 2, 0", 1, &[1, 2, 0]),
+];
+
 #[test]
 fn vertices_in_the_order_of_the_first_visits(rt: HostRuntime) -> Result<(), Fail> {
     let alloc = rt.alloc();
-    for (graph, vertex, want) in [
-        ("", 0, &[0][..]),
-        ("1, 2, 3, ", 0, &[0, 1, 2, 3]),
-        ("1, 2, 3, ", 2, &[2, 3]),
-        ("1 2, 3, 3, ", 0, &[0, 1, 3, 2]),
-        ("2 1, 3, 3, ", 0, &[0, 2, 3, 1]),
-        ("3 1, 2, 3, ", 0, &[0, 3, 1, 2]),
-        ("1 1 2, 2 2, ", 0, &[0, 1, 2]),
-        ("4 1, 2 3, 5, 5, 5, ", 0, &[0, 4, 5, 1, 2, 3]),
-        ("2, , 3, ", 1, &[1]),
-        // with circles
-        ("0", 0, &[0]),
-        ("1, 2, 0", 1, &[1, 2, 0]),
-    ] {
-        let order = visited(alloc, &edges(alloc, graph)?, vertex)?;
-        assert_eq!(rt; order.as_slice(), want, "{graph} from {vertex}");
+    for (graph, vertex, want) in &VISITS {
+        let order = visited(alloc, &edges(alloc, graph)?, *vertex)?;
+        assert!(rt; order.as_slice() == *want, "{graph} from {vertex}");
     }
     Ok(())
 }
 
+/// Graphs, two vertices of each, and the vertices in the order in which they are first visited from there.
+static STARTS: [(&str, [u32; 2], &[u32]); 3] = [
+    ("2, 3, 4, 4 5, , ", [1, 0], &[1, 3, 4, 5, 0, 2]),
+    ("2, 3, 4, 4 5, , ", [0, 1], &[0, 2, 4, 1, 3, 5]),
+    ("1, , 0", [0, 1], &[0, 1]),
+];
+
 #[test]
 fn vertices_from_two_starts(rt: HostRuntime) -> Result<(), Fail> {
     let alloc = rt.alloc();
-    for (graph, starts, want) in [
-        ("2, 3, 4, 4 5, , ", [1, 0], &[1, 3, 4, 5, 0, 2][..]),
-        ("2, 3, 4, 4 5, , ", [0, 1], &[0, 2, 4, 1, 3, 5]),
-        ("1, , 0", [0, 1], &[0, 1]),
-    ] {
-        let order = visited_from(alloc, &edges(alloc, graph)?, &starts)?;
-        assert_eq!(rt; order.as_slice(), want, "{graph}");
+    for (graph, starts, want) in &STARTS {
+        let order = visited_from(alloc, &edges(alloc, graph)?, starts)?;
+        assert!(rt; order.as_slice() == *want, "{graph}");
     }
     Ok(())
 }
@@ -96,25 +102,32 @@ fn long_path(rt: HostRuntime) -> Result<(), Fail> {
         edges.push(ListOf::from_vec([next].to_vec(alloc)?))?;
     }
     edges.push(ListOf::new(alloc))?;
-    assert_eq!(rt; visited(alloc, &edges, 0)?.len(), 1_000_001);
+    assert!(rt; visited(alloc, &edges, 0)?.len() == 1_000_001);
     Ok(())
+}
+
+/// Graphs, and the first vertex of each that lies on a circle.
+static CIRCLES: [(&str, Option<u32>); 5] = [
+    ("", None),
+    ("0", Some(0)),
+    ("1 2, 3, 3, ", None),
+    ("2 1, 3, 3, 1", Some(1)),
+    ("1, 2, 3, 2 3", Some(2)),
+];
+
+/// The first vertex on a circle of a small graph.
+fn on_circle(alloc: Global, graph: &str) -> Result<Option<u32>, Fail> {
+    let edges = edges(alloc, graph)?;
+    if edges.len() > 10 || !are_there(&edges) {
+        return Err("a small graph".into());
+    }
+    Ok(first_on_circle(alloc, &edges)?)
 }
 
 #[test]
 fn first_vertices_on_circles(rt: HostRuntime) -> Result<(), Fail> {
-    let alloc = rt.alloc();
-    for (graph, want) in [
-        ("", None),
-        ("0", Some(0)),
-        ("1 2, 3, 3, ", None),
-        ("2 1, 3, 3, 1", Some(1)),
-        ("1, 2, 3, 2 3", Some(2)),
-    ] {
-        let edges = edges(alloc, graph)?;
-        if edges.len() > 10 || !are_there(&edges) {
-            return Err("a small graph")?;
-        }
-        assert_eq!(rt; first_on_circle(alloc, &edges)?, want, "{graph}");
+    for (graph, want) in &CIRCLES {
+        assert!(rt; on_circle(rt.alloc(), graph)? == *want, "{graph}");
     }
     Ok(())
 }

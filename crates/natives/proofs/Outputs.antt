@@ -74,29 +74,31 @@ module _ {R V : Type 0} (x : Values R V) (known : Known) (from : At) (chars : Li
   at_bytes s a b e p = let P : List ℕ → Type 0 = Prints x chars s in subst P e p
 
   pub left_prints : (g : Script R V) (out : List ℕ) (most : ℕ)
-      → ((piece : List ℕ) → length piece ≤ most → Prints x chars (prints x known from most piece g) (piece
-      ++ out))
+      → ((b : ℕ) (bytes : List ℕ) → length (b ∷ bytes) ≤ most
+      → Prints x chars (prints x known from most (b ∷ bytes) g) (b ∷ bytes ++ out))
       → Prints x chars g out → (left : List ℕ) → length left ≤ most
       → Prints x chars (if is_empty left then g else prints x known from most left g) (left ++ out)
   left_prints g out most later last [] few = last
-  left_prints g out most later last (b ∷ bytes) few = later (b ∷ bytes) few
+  left_prints g out most later last (b ∷ bytes) few = later b bytes few
 
-  pub pieces_print : (g : Script R V) (out : List ℕ) → Prints x chars g out → (most : ℕ) (piece : List ℕ)
-      → length piece ≤ most → Prints x chars (prints x known from most piece g) (piece ++ out)
-  pieces_print g out last zero [] few = last
-  pieces_print g out last zero (b ∷ bytes) few = absurd (omega arith)
-  pieces_print g out last (suc most) piece few = λ n some within. let one : max 1 n ≡ n = omega arith in (
-    drop n piece ++ out,
-    sym (append_assoc (take n piece) (drop n piece) out) ∙ ap (λ b. b ++ out) (take-append-drop n piece),
-    rw one (left_prints g out most (pieces_print g out last most) last (drop n piece) (rw length-drop
-        (omega arith))),
+  pub pieces_print : (g : Script R V) (out : List ℕ) → Prints x chars g out → (most b : ℕ) (bytes : List ℕ)
+      → length (b ∷ bytes) ≤ most → Prints x chars (prints x known from most (b ∷ bytes) g) (b ∷ bytes ++ out)
+  pieces_print g out last zero b bytes few = absurd (omega arith)
+  pieces_print g out last (suc most) b bytes few = (
+    omega arith,
+    λ n some within. let one : max 1 n ≡ n = omega arith in let piece = b ∷ bytes in (
+      drop n piece ++ out,
+      sym (append_assoc (take n piece) (drop n piece) out) ∙ ap (λ b. b ++ out) (take-append-drop n piece),
+      rw one (left_prints g out most (pieces_print g out last most) last (drop n piece) (rw length-drop
+          (omega arith))),
+    ),
   )
 
   pub all_print : (g : Script R V) (out : List ℕ) → Prints x chars g out → (piece : List ℕ)
       → Prints x chars (prints_all x known from piece g) (piece ++ out)
   all_print g out last [] = last
   all_print g out last (b ∷ bytes) =
-      pieces_print g out last (length (b ∷ bytes)) (b ∷ bytes) (omega arith)
+      pieces_print g out last (length (b ∷ bytes)) b bytes (omega arith)
 
   pub gathered_print : (g : List ℕ → Script R V) (out : List ℕ)
       → ((piece : List ℕ) → Prints x chars (g piece) (piece ++ out)) → (cs : List (List ℕ)) (piece : List ℕ)

@@ -1,6 +1,5 @@
 -- The positions of built-in methods: the request for whose reply each waits, and what comes of a reply. That
--- they
--- make the request lists of `Scripts` is a law.
+-- they make the request lists of `Scripts` is a law.
 use Rattle.std.specs.Prelude.{ℕ, ◌+◌, max, nat_lt, Bool, true, false, List, [], ◌∷◌, ◌++◌, length, drop, slice_index, ℤ, pos, ◌+ℤ◌, int_lt, Option, Some, None, if◌then◌else◌}
 use Rattle.std.specs.List.{concat}
 use Rattle.std.specs.Ordering.{int_eq}

@@ -16,10 +16,11 @@ abbrev pub char_of_text : List ℕ → ℤ → ℕ
 char_of_text chars (pos i) = slice_index chars i
 char_of_text chars (negsuc i) = 0
 
--- The list prints these bytes where the heap has one String of these chars.
+-- The list prints these bytes where the heap has one String of these chars, in pieces that have a byte.
 abbrev pub Prints : {R V : Type 0} → Values R V → List ℕ → Script R V → List ℕ → Type 0
-Prints x chars (Ask (ask.Print from piece) goes_on) out = (n : ℕ) → 0 < n → n ≤ length piece
-    → (rest : List ℕ) × (take n piece ++ rest ≡ out) × Prints x chars (goes_on (reply.Printed n)) rest
+Prints x chars (Ask (ask.Print from piece) goes_on) out = (0 < length piece) × ((n : ℕ) → 0 < n
+    → n ≤ length piece
+    → (rest : List ℕ) × (take n piece ++ rest ≡ out) × Prints x chars (goes_on (reply.Printed n)) rest)
 Prints x chars (Ask (ask.Length from text) goes_on) out =
     Prints x chars (goes_on (reply.Item (x.of_int (pos (length chars))))) out
 Prints x chars (Ask (ask.GetElement from text i kind) goes_on) out =

@@ -213,8 +213,7 @@ abbrev pub makes : ℕ → Step
 makes n = asks (ask.NewArray native_at 1 (pos n))
 
 -- A full builder of two chars gets two more and becomes one of 2 * 2 + 2; one of one char that gets five
--- more,
--- one of 1 + 5. One with room gets the chars of a String. toString() makes a String of the chars.
+-- more, one of 1 + 5. One with room gets the chars of a String. toString() makes a String of the chars.
 abbrev pub built : List Row
 built = (
   native.AppendInt,

@@ -1,6 +1,6 @@
 -- What each built-in method that asks something asks, one request after the other, and what it gives back:
--- its
--- request list (docs/MODEL.md, "Built-in methods"). The methods do what those of their names do in Java SE 8.
+-- its request list (docs/MODEL.md, "Built-in methods"). The methods do what those of their names do in Java
+-- SE 8, but that a StringBuilder is made of a null String as of the text `null`, as `append` takes it.
 use Rattle.std.specs.Prelude.{ℕ, zero, suc, ◌+◌, max, Bool, true, false, List, [], ◌∷◌, ◌++◌, length, drop, ℤ, pos, negsuc, int_lt, Option, Some, None, if◌then◌else◌}
 use Rattle.std.specs.Int.{w32, int_wrapping_add}
 use Rattle.std.specs.Ordering.{int_eq}

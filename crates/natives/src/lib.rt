@@ -1,6 +1,5 @@
 //! What a thread asks of the shared heap, and what the heap replies; and the built-in methods,
-//! each the list of its
-//! requests.
+//! each the list of its requests.
 #![tactic(auto)]
 
 mod beginnings;

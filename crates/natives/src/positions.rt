@@ -153,8 +153,7 @@ pub enum Append<R = Ref> {
 }
 
 /// What follows once chars are copied: the larger array becomes the builder's; the builder's count
-/// is put; or the
-/// new String is given back.
+/// is put; or the new String is given back.
 #[derive(Clone, Copy)]
 pub enum Copied<R = Ref> {
     Larger {
@@ -196,8 +195,7 @@ pub enum BuiltText<R = Ref> {
 }
 
 /// A String of `length` chars. The one at `at` is read next, or, while a piece is printed, was
-/// read last; `held` is
-/// the last one, where it may be the first of a pair.
+/// read last; `held` is the last one, where it may be the first of a pair.
 #[derive(Clone, Copy)]
 pub struct Reading<R = Ref> {
     pub text: R,
@@ -254,8 +252,7 @@ pub enum Position<R = Ref> {
 }
 
 /// What becomes of a reply: the method waits at a position, calls a method of a class and waits
-/// for its result, or
-/// gives a value back.
+/// for its result, or gives a value back.
 pub enum Moved<R = Ref, V = Item> {
     Asks(Position<R>),
     Calls {

@@ -70,8 +70,7 @@ impl Position {
 
 impl NativeState {
     /// The method, given its arguments, of which the first is the receiver unless the method is
-    /// static. All its
-    /// requests come from `from`.
+    /// static. All its requests come from `from`.
     pub fn start(method: Native, known: &Known, from: At, args: &[Item]) -> NativeState
         ensures { result ≡ started items method known.now from args.now }
     {
@@ -94,8 +93,7 @@ impl NativeState {
 }
 
 /// Goes on by the reply to the last request, or by what a method gave back that it called, as an
-/// item, or Done. The
-/// reply before the first request says nothing.
+/// item, or Done. The reply before the first request says nothing.
 pub fn next_request(state: &mut NativeState, reply: &Reply) -> NativeStep
     ensures step { result ≡ step_of items state.old (moved_of items state.old reply.now) }
     ensures state { state.new ≡ state_after state.old (moved_of items state.old reply.now) }

@@ -1,5 +1,5 @@
 -- Fields by the plain step.
-use Rattle.std.proofs.Common.{◌≡◌, ℕ, ◌<◌, true, false, length, Option, Some, None, refl, ap, ◌∙◌, sym}
+use Rattle.std.proofs.Common.{◌≡◌, ℕ, ◌<◌, true, false, Option, Some, None, refl, ap, ◌∙◌, sym}
 use Rattle.ap_base.specs.declared.place.Place.TheVariants.{Static, Slot}
 use Rattle.run_types.specs.declared.resolved.At.{At}
 use Rattle.run_types.specs.declared.resolved.FieldAt.{FieldAt}
@@ -8,7 +8,7 @@ use Rattle.natives.specs.declared.requests.Request.TheVariants as ask
 use Rattle.run_history.specs.Worlds.{World}
 use Rattle.plain_model.specs.declared.throws.Throws.TheVariants as exception
 use Rattle.plain_model.specs.Facts.{SetFacts, is_sub}
-use Rattle.plain_model.specs.Steps.{Step, WrongOperand, step, throws, with_object, with_class, is_of, reads, stores, shape_of, next_number}
+use Rattle.plain_model.specs.Steps.{WrongOperand, step, throws, with_object, with_class, is_of, reads, stores, shape_of, next_number}
 use Rattle.shared_objects.specs.Shown.{number_value}
 use Rattle.step_forms.proofs.Ways.{object_none, object_wrong, object_right}
 

@@ -8,7 +8,7 @@ use Rattle.natives.specs.declared.requests.Request.TheVariants as ask
 use Rattle.run_history.specs.Worlds.{World, may_have}
 use Rattle.plain_model.specs.declared.throws.Throws.TheVariants as exception
 use Rattle.plain_model.specs.Facts.{SetFacts, class_at, element_of, shapes_of, string_number}
-use Rattle.plain_model.specs.Steps.{Step, step, throws, new_array, allocates, new_length, with_class}
+use Rattle.plain_model.specs.Steps.{step, throws, new_array, allocates, new_length, with_class}
 use Rattle.plain_model.proofs.SetHeaps.{shape_is}
 use Rattle.shared_objects.specs.Shown.{Shown, shape_in}
 use Rattle.shared_objects.specs.Worlds.{heap_of}

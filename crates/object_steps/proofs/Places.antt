@@ -1,5 +1,5 @@
 -- Kinds of values, and which places take them.
-use Rattle.std.proofs.Common.{◌≡◌, ◌≢◌, ℕ, pos, ◌<◌, List, [], Bool, true, false, not, ◌&&◌, nat_eq, length, slice_get, Option, Some, None, refl, ap, ◌∙◌, sym, subst, unwrap_or}
+use Rattle.std.proofs.Common.{◌≡◌, ℕ, pos, ◌<◌, [], true, not, ◌&&◌, nat_eq, length, slice_get, Option, Some, None, refl, ap, ◌∙◌, sym, subst}
 use Rattle.std.proofs.lemmas.Bool.{false≢true, eqb-true, and_parts}
 use Rattle.std.proofs.lemmas.List.Elements.{All-get_or}
 use Rattle.std.proofs.lemmas.Option.{slice_get_within}
@@ -10,8 +10,7 @@ use Rattle.graph_model.specs.declared.types.Value.{Value}
 use Rattle.graph_model.specs.declared.types.Value.TheVariants.{Int, Long, Null, Obj as Object}
 use Rattle.graph_model.specs.declared.types.Shape.{Shape}
 use Rattle.graph_model.specs.declared.types.Field.{Field}
-use Rattle.graph_model.specs.declared.types.Obj.{Obj}
-use Rattle.graph_model.specs.Heaps.{no_object, shape_at}
+use Rattle.graph_model.specs.Heaps.{no_object}
 use Rattle.run_history.specs.Worlds.{World}
 use Rattle.plain_model.specs.Facts.{SetFacts, class_at, element_of, is_sub, string_number}
 use Rattle.plain_model.specs.Kinds.{HasKind, narrowed}

@@ -1,27 +1,27 @@
 -- What reads and stores come to.
-use Rattle.std.proofs.Common.{◌≡◌, ℕ, List, [], length, Some, None, refl, ap, ◌∙◌, sym, slice_set}
+use Rattle.std.proofs.Common.{◌≡◌, ℕ, List, [], Some, refl, ap, ◌∙◌, sym, subst, slice_set}
 use Rattle.ap_base.specs.declared.reference.Ref.{Ref}
 use Rattle.ap_base.specs.declared.reference.Item.{Item}
 use Rattle.ap_base.specs.declared.place.Place.{Place}
 use Rattle.ap_base.specs.declared.place.Place.TheVariants.{Static, Slot}
 use Rattle.graph_model.specs.declared.types.Value.{Value}
 use Rattle.graph_model.specs.declared.types.Root.{Root}
-use Rattle.graph_model.specs.declared.types.Heap.{Heap}
 use Rattle.graph_model.specs.Heaps.{stored, with_slot, value_at}
 use Rattle.natives.specs.declared.requests.Reply.TheVariants as reply
 use Rattle.run_history.specs.declared.act.Op.TheVariants as op
-use Rattle.run_history.specs.Worlds.{World, after}
 use Rattle.plain_model.specs.Facts.{SetFacts}
-use Rattle.plain_model.specs.Steps.{Step, Does, reads}
-use Rattle.shared_objects.specs.declared.rest.Rest.{Rest}
+use Rattle.plain_model.specs.Steps.{Does, reads}
 use Rattle.shared_objects.specs.Shown.{Shown, IsKnownItem, item_value, object_in}
 use Rattle.shared_objects.specs.Changes.{StoresSlot, StoresStatic, GoesOn}
-use Rattle.shared_objects.specs.Worlds.{heap_of, world_of, KnowsMonitors}
+use Rattle.shared_objects.specs.Worlds.{heap_of}
+use Rattle.step_forms.specs.declared.stepped.Stepped.{Stepped}
 use Rattle.step_forms.specs.declared.stepped.Stepped.TheVariants as stepped
-use Rattle.step_forms.specs.Follows.{HeapGoes, Goes, stored_as}
+use Rattle.step_forms.specs.Becomes.{Becomes}
+use Rattle.step_forms.specs.Follows.{HeapGoes, stored_as}
 use Rattle.step_forms.proofs.Going.{heap_did}
 use Rattle.step_forms.proofs.Kept.{kept_known}
 use Rattle.step_forms.proofs.Making.{heap_is, world_is}
+use Rattle.object_steps.specs.Stores.{stored_by}
 
 -- what a place holds is read
 pub read_goes : (set : SetFacts) (shown : Shown) (place : Place) (item : Item) (value : Value)
@@ -71,3 +71,12 @@ module _ (before now : Shown) (kept : Item) (value : Value) (is : value ≡ item
       heap_is roots now before.shapes before.objects (slice_set before.statics field value)
       made.goes_on.shapes made.objects
       (made.statics ∙ ap (λ (v : Value). slice_set before.statics field v) (sym is)))
+
+-- ---- what a store makes of the heap itself
+
+pub store_becomes : {Heap : Type 0} (shown : Heap → Shown) (stores : Heap → Place → Item → Heap → Type 0)
+    (makes : Heap → Heap → Type 0) (before now : Heap) (place : Place) (kept : Item) (result : Stepped)
+    → result ≡ stored_by place (item_value (shown before).number kept) → stores before place kept now
+    → Becomes shown stores makes before result now
+store_becomes shown stores makes before now place kept result did made =
+    subst (λ (r : Stepped). Becomes shown stores makes before r now) (sym did) (kept, refl, made)

@@ -1,6 +1,5 @@
 -- Tests of classes and references by the plain step.
-use Rattle.std.proofs.Common.{◌≡◌, ℕ, ◌<◌, Bool, true, false, nat_eq, Option, Some, None, if◌then◌else◌, refl, ap, ◌∙◌, sym}
-use Rattle.ap_base.specs.declared.reference.Item.{Item}
+use Rattle.std.proofs.Common.{◌≡◌, ℕ, ◌<◌, Bool, true, false, Option, Some, None, if◌then◌else◌, refl, ap, ◌∙◌, sym}
 use Rattle.run_types.specs.declared.resolved.At.{At}
 use Rattle.graph_model.specs.declared.types.Value.{Value}
 use Rattle.natives.specs.declared.requests.Request.TheVariants as ask
@@ -9,7 +8,7 @@ use Rattle.run_history.specs.declared.act.Op.TheVariants as op
 use Rattle.run_history.specs.Worlds.{World}
 use Rattle.plain_model.specs.declared.throws.Throws.TheVariants as exception
 use Rattle.plain_model.specs.Facts.{SetFacts, is_sub}
-use Rattle.plain_model.specs.Steps.{Step, Does, WrongOperand, step, throws, with_object, with_reference, is_of, class_act, null_class, shape_of, next_number, casts, tests, compares, is_same, bool_value}
+use Rattle.plain_model.specs.Steps.{Does, WrongOperand, step, throws, with_object, with_reference, is_of, class_act, null_class, shape_of, next_number, casts, tests, compares, is_same, bool_value}
 use Rattle.shared_objects.specs.Shown.{Numbers, IsKnownItem, number_value, item_value}
 use Rattle.step_forms.proofs.Ways.{object_none, object_wrong, object_right, reference_none, reference_some}
 use Rattle.object_steps.specs.Tests.{same_number, item_of}

@@ -8,6 +8,7 @@ ghost use Rattle.plain_model.specs.Facts.{element_of};
 ghost use Rattle.plain_model.specs.Steps.{allocates, new_array as plain_array};
 ghost use Rattle.shared_objects.specs.Shown.{shape_in};
 ghost use Rattle.shared_objects.specs.Worlds.{KnowsMonitors};
+ghost use Rattle.step_forms.specs.Becomes.{Becomes};
 ghost use Rattle.step_forms.specs.Follows.{HeapGoes, IsHeapOf, IsHeapStep, IsStep};
 
 use crate::finding::counted;
@@ -25,8 +26,9 @@ fn allocate<C: Types, O: Objects>(set: &C, objects: &mut O, shape: u32, slots: u
     requires class { IsClass (C.facts set.now) shape }
     requires few { slots < 2 ^ 31 }
     requires slots { IsTrue (may_have (shape_in (O.shown objects.old) shape) slots) }
-    ensures { HeapGoes (λ world. allocates (C.facts set.now) world shape slots)
+    ensures step { HeapGoes (λ world. allocates (C.facts set.now) world shape slots)
         (O.shown objects.old) result (O.shown objects.new) }
+    ensures heap { Becomes O.shown O.stores O.makes objects.old result objects.new }
 {
     match objects.alloc(shape, slots) {
         Err(full) => Stepped::Over(RunFault::Full(full)),
@@ -53,8 +55,9 @@ pub fn new_object<C: Types, O: Objects>(
     requires monitors { KnowsMonitors (O.shown objects.old) rest.old }
     requires class { IsClass (C.facts set.now) class }
     requires there { class < length rest.old.classes.items }
-    ensures { (from : From) → IsStep (C.facts set.now) t (ask.New from class)
+    ensures step { (from : From) → IsStep (C.facts set.now) t (ask.New from class)
         (O.shown objects.old) rest.old result (O.shown objects.new) rest.new }
+    ensures heap { Becomes O.shown O.stores O.makes objects.old result objects.new }
 {
     if let Some(first) = initialise_first(rest, t, class) {
         return first;
@@ -67,8 +70,9 @@ fn new_elements<C: Types, O: Objects>(set: &C, objects: &mut O, shape: u32, leng
     requires heap { IsHeapOf (C.facts set.now) (O.shown objects.old) }
     requires class { IsClass (C.facts set.now) shape }
     requires elements { IsSome (element_of (C.facts set.now) shape) }
-    ensures { HeapGoes (λ world. plain_array (C.facts set.now) world shape length)
+    ensures step { HeapGoes (λ world. plain_array (C.facts set.now) world shape length)
         (O.shown objects.old) result (O.shown objects.new) }
+    ensures heap { Becomes O.shown O.stores O.makes objects.old result objects.new }
 {
     let Some(slots) = counted(length) else {
         return throw(set, objects, Throws::NegativeArraySize);
@@ -81,8 +85,9 @@ pub fn new_array<C: Types, O: Objects>(set: &C, objects: &mut O, shape: u32, len
     requires heap { IsHeapOf (C.facts set.now) (O.shown objects.old) }
     requires class { IsClass (C.facts set.now) shape }
     requires elements { IsSome (element_of (C.facts set.now) shape) }
-    ensures { IsHeapStep (C.facts set.now) (λ from. ask.NewArray from shape length)
+    ensures step { IsHeapStep (C.facts set.now) (λ from. ask.NewArray from shape length)
         (O.shown objects.old) result (O.shown objects.new) }
+    ensures heap { Becomes O.shown O.stores O.makes objects.old result objects.new }
 {
     new_elements(set, objects, shape, length)
 }
@@ -90,8 +95,9 @@ pub fn new_array<C: Types, O: Objects>(set: &C, objects: &mut O, shape: u32, len
 /// Makes a String of so many chars.
 pub fn new_text<C: Types, O: Objects>(set: &C, objects: &mut O, length: i32) -> Stepped
     requires heap { IsHeapOf (C.facts set.now) (O.shown objects.old) }
-    ensures { IsHeapStep (C.facts set.now) (λ from. ask.NewText from length)
+    ensures step { IsHeapStep (C.facts set.now) (λ from. ask.NewText from length)
         (O.shown objects.old) result (O.shown objects.new) }
+    ensures heap { Becomes O.shown O.stores O.makes objects.old result objects.new }
 {
     new_elements(set, objects, set.known().string, length)
 }

@@ -5,9 +5,10 @@ ghost use Rattle.plain_model.specs.Duties.{IsInstanceField};
 ghost use Rattle.plain_model.specs.Kinds.{HasKind};
 ghost use Rattle.plain_model.specs.Facts.{classes_of, element_of};
 ghost use Rattle.shared_objects.specs.Shown.{IsKnown, IsKnownItem, item_value, static_in};
+ghost use Rattle.step_forms.specs.Becomes.{IsNoStore, IsQuiet};
 ghost use Rattle.step_forms.specs.Follows.{IsHeapOf};
 ghost use Rattle.step_forms.specs.Needs.{ElementIsHere, HeadIsHere, ItemIsHere, SlotIsHere};
-ghost use Rattle.object_steps.specs.Stores.{IsPlan, IsStaticPlan, IfStores, IsStoreHere, holds_by_class};
+ghost use Rattle.object_steps.specs.Stores.{IsPlan, IsStaticPlan, IfEnds, IfStores, IsKeptOf, IsStoreHere, PlanBecomes, holds_by_class};
 
 use crate::finding::{has_elements, index_below};
 use crate::{Planned, Store, Target};
@@ -30,10 +31,14 @@ pub fn plan_static<O: Objects>(
     requires held { HasKind field.kind (static_in (O.shown objects.now) field.at) }
     requires kind { HasKind field.kind (item_value (O.shown objects.now).number value) }
     requires known { IsKnownItem (O.shown objects.now).number value }
+    requires static_here { O.is_static_here objects.now field.at }
     requires here { ItemIsHere (O.is_here objects.now) (O.shown objects.now) value }
     ensures plan { IsStaticPlan t (λ from. ask.PutStatic from field value)
         (O.shown objects.now) rest.old result rest.new }
-    ensures here { IfStores result (IsStoreHere (O.is_here objects.now) (O.shown objects.now)) }
+    ensures here { IfStores result (IsStoreHere (O.is_here objects.now)
+        (O.is_static_here objects.now) (O.shown objects.now)) }
+    ensures kept { IfStores result (λ store. IsKeptOf value store.kept) }
+    ensures quiet { IfEnds result IsQuiet }
 {
     if let Some(first) = initialise_first(rest, t, field.class) {
         return Planned::Ends(first);
@@ -62,7 +67,11 @@ pub fn plan_field<C: Types, O: Objects>(
     requires value { ItemIsHere (O.is_here objects.old) (O.shown objects.old) value }
     ensures plan { IsPlan (C.facts set.now) (λ from. ask.PutField from holder field value)
         (O.shown objects.old) result (O.shown objects.new) }
-    ensures here { IfStores result (IsStoreHere (O.is_here objects.new) (O.shown objects.new)) }
+    ensures here { IfStores result (IsStoreHere (O.is_here objects.new)
+        (O.is_static_here objects.new) (O.shown objects.new)) }
+    ensures kept { IfStores result (λ store. IsKeptOf value store.kept) }
+    ensures heap { PlanBecomes O.shown O.stores O.makes objects.old result objects.new }
+    ensures no_store { IfEnds result IsNoStore }
 {
     let Some(object) = numbered(objects, holder) else {
         return Planned::Ends(throw(set, objects, Throws::NullPointer));
@@ -127,7 +136,11 @@ pub fn plan_element<C: Types, O: Objects>(
     requires value { ItemIsHere (O.is_here objects.old) (O.shown objects.old) value }
     ensures plan { IsPlan (C.facts set.now) (λ from. ask.PutElement from array index kind value)
         (O.shown objects.old) result (O.shown objects.new) }
-    ensures here { IfStores result (IsStoreHere (O.is_here objects.new) (O.shown objects.new)) }
+    ensures here { IfStores result (IsStoreHere (O.is_here objects.new)
+        (O.is_static_here objects.new) (O.shown objects.new)) }
+    ensures kept { IfStores result (λ store. IsKeptOf value store.kept) }
+    ensures heap { PlanBecomes O.shown O.stores O.makes objects.old result objects.new }
+    ensures no_store { IfEnds result IsNoStore }
 {
     let Some(object) = numbered(objects, array) else {
         return Planned::Ends(throw(set, objects, Throws::NullPointer));

@@ -9,6 +9,7 @@ ghost use Rattle.plain_model.specs.Facts.{SetFacts};
 ghost use Rattle.plain_model.specs.Steps.{reads};
 ghost use Rattle.shared_objects.specs.Shown.{IsKnown, object_in, slot_in, static_in};
 ghost use Rattle.shared_objects.specs.Worlds.{KnowsMonitors};
+ghost use Rattle.step_forms.specs.Becomes.{Becomes, IsQuiet};
 ghost use Rattle.step_forms.specs.Follows.{HeapGoes, IsHeapOf, IsHeapStep, IsStep};
 ghost use Rattle.step_forms.specs.Needs.{ElementIsHere, HeadIsHere, ReferredElementIsHere, ReferredIsHere, SlotIsHere, ValueIsHere};
 
@@ -25,10 +26,12 @@ use step_forms::{Stepped, initialise_first, numbered, throw, valued};
 pub fn get_static<O: Objects>(objects: &O, rest: &mut Rest, t: ThreadNo, field: FieldAt) -> Stepped
     requires class { field.class < length_of rest.old.classes.items }
     requires there { field.at < length_of (O.shown objects.now).statics }
+    requires static_here { O.is_static_here objects.now field.at }
     requires here { ValueIsHere (O.is_here objects.now) (static_in (O.shown objects.now) field.at) }
-    ensures { (set : SetFacts) (from : From) → KnowsMonitors (O.shown objects.now) rest.old
+    ensures step { (set : SetFacts) (from : From) → KnowsMonitors (O.shown objects.now) rest.old
         → IsStep set t (ask.GetStatic from field)
         (O.shown objects.now) rest.old result (O.shown objects.now) rest.new }
+    ensures quiet { IsQuiet result }
 {
     if let Some(first) = initialise_first(rest, t, field.class) {
         return first;
@@ -49,8 +52,9 @@ fn read_slot<O: Objects>(objects: &O, holder: Ref, object: u32, index: u32) -> S
     requires here { O.is_here objects.now object index }
     requires referred { ValueIsHere (O.is_here objects.now)
         (slot_in (O.shown objects.now) object index) }
-    ensures { (set : SetFacts) → HeapGoes (λ world. reads set world (SlotPlace object index))
+    ensures step { (set : SetFacts) → HeapGoes (λ world. reads set world (SlotPlace object index))
         (O.shown objects.now) result (O.shown objects.now) }
+    ensures heap { Becomes O.shown O.stores O.makes objects.now result objects.now }
 {
     let item = objects.read(holder, index);
     let place = Place::Slot { object, index };
@@ -75,8 +79,9 @@ pub fn get_field<C: Types, O: Objects>(
     requires slot { SlotIsHere (O.is_here objects.old) (O.shown objects.old) holder field.at }
     requires referred { ReferredIsHere (O.is_here objects.old) (O.shown objects.old) holder
         field.at }
-    ensures { IsHeapStep (C.facts set.now) (λ from. ask.GetField from holder field)
+    ensures step { IsHeapStep (C.facts set.now) (λ from. ask.GetField from holder field)
         (O.shown objects.old) result (O.shown objects.new) }
+    ensures heap { Becomes O.shown O.stores O.makes objects.old result objects.new }
 {
     let Some(object) = numbered(objects, holder) else {
         return throw(set, objects, Throws::NullPointer);
@@ -101,8 +106,9 @@ pub fn get_element<C: Types, O: Objects>(
     requires slot { ElementIsHere (O.is_here objects.old) (O.shown objects.old) array index }
     requires referred { ReferredElementIsHere (O.is_here objects.old) (O.shown objects.old) array
         index }
-    ensures { IsHeapStep (C.facts set.now) (λ from. ask.GetElement from array index kind)
+    ensures step { IsHeapStep (C.facts set.now) (λ from. ask.GetElement from array index kind)
         (O.shown objects.old) result (O.shown objects.new) }
+    ensures heap { Becomes O.shown O.stores O.makes objects.old result objects.new }
 {
     let Some(object) = numbered(objects, array) else {
         return throw(set, objects, Throws::NullPointer);
@@ -121,8 +127,9 @@ pub fn length<C: Types, O: Objects>(set: &C, objects: &mut O, array: Ref) -> Ste
     requires heap { IsHeapOf (C.facts set.now) (O.shown objects.old) }
     requires known { IsKnown (O.shown objects.old).number array }
     requires head { HeadIsHere (O.is_here objects.old) (O.shown objects.old) array }
-    ensures { IsHeapStep (C.facts set.now) (λ from. ask.Length from array)
+    ensures step { IsHeapStep (C.facts set.now) (λ from. ask.Length from array)
         (O.shown objects.old) result (O.shown objects.new) }
+    ensures heap { Becomes O.shown O.stores O.makes objects.old result objects.new }
 {
     let Some(object) = numbered(objects, array) else {
         return throw(set, objects, Throws::NullPointer);

@@ -7,8 +7,10 @@ ghost use Rattle.plain_model.specs.Facts.{SetFacts};
 ghost use Rattle.plain_model.specs.Kinds.{HasKind};
 ghost use Rattle.shared_objects.specs.Shown.{IsKnown, IsKnownItem, item_value, static_in};
 ghost use Rattle.shared_objects.specs.Worlds.{KnowsMonitors};
+ghost use Rattle.step_forms.specs.Becomes.{Becomes, MayKeep};
 ghost use Rattle.step_forms.specs.Follows.{IsHeapOf, IsHeapStep, IsStep};
 ghost use Rattle.step_forms.specs.Needs.{ElementIsHere, HeadIsHere, ItemIsHere, SlotIsHere};
+ghost use Rattle.object_steps.specs.Stores.{IsStaticStoreOf, IsStoreOf};
 
 use crate::commits::commit;
 use crate::plans::{plan_element, plan_field, plan_static};
@@ -57,10 +59,15 @@ pub fn put_static<O: Objects>(
     requires held { HasKind field.kind (static_in (O.shown objects.old) field.at) }
     requires kind { HasKind field.kind (item_value (O.shown objects.old).number value) }
     requires known { IsKnownItem (O.shown objects.old).number value }
+    requires static_here { O.is_static_here objects.old field.at }
     requires here { ItemIsHere (O.is_here objects.old) (O.shown objects.old) value }
-    ensures { (set : SetFacts) (from : From) → KnowsMonitors (O.shown objects.old) rest.old
+    requires may { MayKeep (O.may_store objects.old) value
+        (IsStaticStoreOf t (λ from. ask.PutStatic from field value)
+        (O.shown objects.old) rest.old) }
+    ensures step { (set : SetFacts) (from : From) → KnowsMonitors (O.shown objects.old) rest.old
         → IsStep set t (ask.PutStatic from field value)
         (O.shown objects.old) rest.old result (O.shown objects.new) rest.new }
+    ensures heap { Becomes O.shown O.stores O.makes objects.old result objects.new }
 {
     match plan_static(objects, rest, t, field, value) {
         Planned::Ends(result) => result,
@@ -84,8 +91,12 @@ pub fn put_field<C: Types, O: Objects>(
     requires head { HeadIsHere (O.is_here objects.old) (O.shown objects.old) holder }
     requires slot { SlotIsHere (O.is_here objects.old) (O.shown objects.old) holder field.at }
     requires value { ItemIsHere (O.is_here objects.old) (O.shown objects.old) value }
-    ensures { IsHeapStep (C.facts set.now) (λ from. ask.PutField from holder field value)
+    requires may { MayKeep (O.may_store objects.old) value
+        (IsStoreOf (C.facts set.now) (λ from. ask.PutField from holder field value)
+        (O.shown objects.old)) }
+    ensures step { IsHeapStep (C.facts set.now) (λ from. ask.PutField from holder field value)
         (O.shown objects.old) result (O.shown objects.new) }
+    ensures heap { Becomes O.shown O.stores O.makes objects.old result objects.new }
 {
     match plan_field(set, objects, holder, field, value) {
         Planned::Ends(result) => result,
@@ -109,8 +120,12 @@ pub fn put_element<C: Types, O: Objects>(
     requires head { HeadIsHere (O.is_here objects.old) (O.shown objects.old) array }
     requires slot { ElementIsHere (O.is_here objects.old) (O.shown objects.old) array index }
     requires value { ItemIsHere (O.is_here objects.old) (O.shown objects.old) value }
-    ensures { IsHeapStep (C.facts set.now) (λ from. ask.PutElement from array index kind value)
+    requires may { MayKeep (O.may_store objects.old) value
+        (IsStoreOf (C.facts set.now) (λ from. ask.PutElement from array index kind value)
+        (O.shown objects.old)) }
+    ensures step { IsHeapStep (C.facts set.now) (λ from. ask.PutElement from array index kind value)
         (O.shown objects.old) result (O.shown objects.new) }
+    ensures heap { Becomes O.shown O.stores O.makes objects.old result objects.new }
 {
     match plan_element(set, objects, array, index, kind, value) {
         Planned::Ends(result) => result,

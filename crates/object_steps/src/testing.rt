@@ -4,6 +4,7 @@ ghost use Rattle.natives.specs.declared.requests.Request.TheVariants as ask;
 ghost use Rattle.plain_model.specs.Duties.{IsClass};
 ghost use Rattle.plain_model.specs.Facts.{SetFacts};
 ghost use Rattle.shared_objects.specs.Shown.{IsKnown};
+ghost use Rattle.step_forms.specs.Becomes.{Becomes, IsQuiet};
 ghost use Rattle.step_forms.specs.Follows.{IsHeapOf, IsHeapStep};
 ghost use Rattle.step_forms.specs.Needs.{HeadIsHere};
 ghost use Rattle.object_steps.specs.Tests.{item_of, same_number};
@@ -20,8 +21,9 @@ pub fn class_of<C: Types, O: Objects>(set: &C, objects: &mut O, object: Ref, wit
     requires heap { IsHeapOf (C.facts set.now) (O.shown objects.old) }
     requires known { IsKnown (O.shown objects.old).number object }
     requires head { HeadIsHere (O.is_here objects.old) (O.shown objects.old) object }
-    ensures { IsHeapStep (C.facts set.now) (λ from. ask.ClassOf from object within)
+    ensures step { IsHeapStep (C.facts set.now) (λ from. ask.ClassOf from object within)
         (O.shown objects.old) result (O.shown objects.new) }
+    ensures heap { Becomes O.shown O.stores O.makes objects.old result objects.new }
 {
     let Some(n) = numbered(objects, object) else {
         return throw(set, objects, Throws::NullPointer);
@@ -44,8 +46,9 @@ pub fn cast<C: Types, O: Objects>(set: &C, objects: &mut O, object: Ref, target:
     requires heap { IsHeapOf (C.facts set.now) (O.shown objects.old) }
     requires known { IsKnown (O.shown objects.old).number object }
     requires head { HeadIsHere (O.is_here objects.old) (O.shown objects.old) object }
-    ensures { IsHeapStep (C.facts set.now) (λ from. ask.Cast from object target)
+    ensures step { IsHeapStep (C.facts set.now) (λ from. ask.Cast from object target)
         (O.shown objects.old) result (O.shown objects.new) }
+    ensures heap { Becomes O.shown O.stores O.makes objects.old result objects.new }
 {
     let Some(n) = numbered(objects, object) else {
         return Stepped::Did {
@@ -80,8 +83,9 @@ pub fn is_a<C: Types, O: Objects>(set: &C, objects: &O, object: Ref, target: u32
     requires heap { IsHeapOf (C.facts set.now) (O.shown objects.now) }
     requires known { IsKnown (O.shown objects.now).number object }
     requires head { HeadIsHere (O.is_here objects.now) (O.shown objects.now) object }
-    ensures { IsHeapStep (C.facts set.now) (λ from. ask.IsA from object target)
+    ensures step { IsHeapStep (C.facts set.now) (λ from. ask.IsA from object target)
         (O.shown objects.now) result (O.shown objects.now) }
+    ensures quiet { IsQuiet result }
 {
     let Some(n) = numbered(objects, object) else {
         return Stepped::Did {
@@ -120,8 +124,9 @@ pub fn same<O: Objects>(objects: &O, left: Ref, right: Ref) -> Stepped
     requires known_right { IsKnown (O.shown objects.now).number right }
     requires left { HeadIsHere (O.is_here objects.now) (O.shown objects.now) left }
     requires right { HeadIsHere (O.is_here objects.now) (O.shown objects.now) right }
-    ensures { (set : SetFacts) → IsHeapStep set (λ from. ask.Same from left right)
+    ensures step { (set : SetFacts) → IsHeapStep set (λ from. ask.Same from left right)
         (O.shown objects.now) result (O.shown objects.now) }
+    ensures quiet { IsQuiet result }
 {
     let yes = is_same(numbered(objects, left), numbered(objects, right));
     Stepped::Did {

@@ -193,6 +193,8 @@ element_stores =
     ∷ row 0 (ask.PutElement here (Object one_string) (pos 1) L (Object a_box))
     (throws array_index_out_of_bounds)
     ∷ row 0 (ask.PutElement here (Object one_string) (negsuc 0) L Null) (throws array_index_out_of_bounds)
+    ∷ row 0 (ask.PutElement here (Object a_text) (pos 2) Text (int 72)) (throws array_index_out_of_bounds)
+    ∷ row 0 (ask.PutElement here (Object a_text) (negsuc 0) Text (int 72)) (throws array_index_out_of_bounds)
     ∷ []
 
 abbrev pub class_test : ℕ → ℕ → Value → Step
@@ -283,6 +285,11 @@ threads =
     ∷ row 1 (ask.Leave None) (Does (op.Ended None) reply.Done)
     ∷ row 1 (ask.Leave (Some runtime_exception)) (Does (op.Ended (Some runtime_exception)) reply.Done)
     ∷ []
+
+-- where there are 63 threads one more is started
+abbrev pub nearly_crowded : List Row
+nearly_crowded =
+    row 0 (ask.Start here (Object new_thread_object)) (Does (op.Start new_thread_object 63) reply.Done) ∷ []
 
 -- where there are 64 threads no further one is started
 abbrev pub crowded : List Row

@@ -278,6 +278,10 @@ box_world = record {
   threads = box_threads;
 }
 
+-- the same world with 63 threads
+abbrev pub nearly_crowded_world : World
+nearly_crowded_world = record box_world { threads = replicate 63 (new_thread None) }
+
 -- the same world with 64 threads
 abbrev pub crowded_world : World
 crowded_world = record box_world { threads = replicate 64 (new_thread None) }

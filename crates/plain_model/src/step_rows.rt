@@ -1,7 +1,7 @@
 // The step of each request in one world, by computation.
-ghost use Rattle.plain_model.specs.StepWorld.{box_world, crowded_world};
+ghost use Rattle.plain_model.specs.StepWorld.{box_world, crowded_world, nearly_crowded_world};
 ghost use Rattle.plain_model.specs.StepRows.{AreSteps, KindsServeTheirOwn, PrintsAFront, making, statics, fields, element_reads, element_stores};
-ghost use Rattle.plain_model.specs.StepRows.{tests, monitors, threads, crowded, others};
+ghost use Rattle.plain_model.specs.StepRows.{tests, monitors, threads, nearly_crowded, crowded, others};
 ghost use Rattle.plain_model.specs.FitRows.{MadeClassesAreMade, BegunClassesAreDone, ThrowablesAreThrown};
 ghost use Rattle.plain_model.specs.FitRows.{FieldsAreOfTheirKind, PiecesArePrinted, TurnsBreakBy};
 
@@ -28,6 +28,7 @@ pub fn tests_step_by_the_table()
 pub fn threads_step_by_the_table()
     ensures monitors { AreSteps box_world monitors }
     ensures threads { AreSteps box_world threads }
+    ensures nearly { AreSteps nearly_crowded_world nearly_crowded }
     ensures crowded { AreSteps crowded_world crowded }
     ensures others { AreSteps box_world others }
     ensures prints { PrintsAFront }

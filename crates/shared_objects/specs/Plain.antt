@@ -39,11 +39,26 @@ KnowsRequest number (ask.Enter from k) = IsKnownKey number k
 KnowsRequest number (ask.Exit from k) = IsKnownKey number k
 KnowsRequest number (ask.Start from thread) = IsKnown number thread
 KnowsRequest number (ask.Join from thread) = IsKnown number thread
-KnowsRequest number request = Unit {0}
+KnowsRequest number ask.Pause = Unit {0}
+KnowsRequest number (ask.Broken f) = Unit {0}
+KnowsRequest number (ask.New from class) = Unit {0}
+KnowsRequest number (ask.NewArray from shape count) = Unit {0}
+KnowsRequest number (ask.NewText from count) = Unit {0}
+KnowsRequest number (ask.GetStatic from field) = Unit {0}
+KnowsRequest number (ask.Init from class) = Unit {0}
+KnowsRequest number (ask.InitDone from class) = Unit {0}
+KnowsRequest number (ask.Print from piece) = Unit {0}
+KnowsRequest number (ask.Raise from class) = Unit {0}
+KnowsRequest number (ask.Begin from) = Unit {0}
+KnowsRequest number (ask.End from) = Unit {0}
+KnowsRequest number (ask.Leave uncaught) = Unit {0}
 
 -- the same for a reply
 abbrev pub KnowsReply : Numbers → Reply Ref Item → Type 0
 KnowsReply number (reply.Item value) = IsKnownItem number value
 KnowsReply number (reply.Made r) = IsKnown number r
 KnowsReply number (reply.Thrown r class) = IsKnown number r
-KnowsReply number r = Unit {0}
+KnowsReply number reply.Done = Unit {0}
+KnowsReply number (reply.Shape shape) = Unit {0}
+KnowsReply number (reply.Init class) = Unit {0}
+KnowsReply number (reply.Printed count) = Unit {0}

@@ -1,5 +1,5 @@
 -- The plain world that a heap of objects stands for, with monitors, classes and threads.
-use Rattle.std.specs.Prelude.{◌≡◌, ℕ, ◌<◌, ◌-◌, ◌^◌, true, List, map, length, All, Option, Some, None, IsSome}
+use Rattle.std.specs.Prelude.{◌≡◌, ℕ, ◌<◌, ◌-◌, ◌^◌, true, List, map, All, Option, Some, None, IsSome}
 use Rattle.std.specs.List.{AllByRecursion}
 use Rattle.ap_base.specs.declared.reference.Ref.{Ref}
 use Rattle.run_types.specs.declared.key.Key.{Key}

@@ -1,35 +1,42 @@
 -- What a request needs, by what it is, and what it comes to.
-use Rattle.std.proofs.Common.{◌≡◌, ℕ, ◌<◌, List, [], length, refl, ap, ◌∙◌, sym, subst, arith, slice_get, Option, Some}
-use Rattle.std.specs.Prelude.{slice_index_or}
-use Rattle.std.proofs.lemmas.Option.{slice_get_within}
+use Rattle.std.proofs.Common.{◌≡◌, ℕ, ◌<◌, List, length, refl, sym, subst, arith, Option, Some}
 use Rattle.ap_base.specs.declared.reference.Ref.{Ref}
 use Rattle.ap_base.specs.declared.reference.Item.{Item}
+use Rattle.ap_base.specs.declared.place.Place.{Place}
 use Rattle.run_types.specs.declared.resolved.At.{At}
 use Rattle.run_types.specs.declared.resolved.FieldAt.{FieldAt}
 use Rattle.run_types.specs.declared.fault.RunFault.{RunFault}
 use Rattle.natives.specs.declared.requests.Request.{Request}
 use Rattle.natives.specs.declared.requests.Request.TheVariants as ask
 use Rattle.run_history.specs.Worlds.{World}
-use Rattle.plain_model.specs.Facts.{SetFacts, classes_of}
+use Rattle.plain_model.specs.Facts.{SetFacts}
 use Rattle.plain_model.specs.Kinds.{HasKind}
 use Rattle.plain_model.specs.Duties.{IsClass, IsStaticField}
-use Rattle.plain_model.specs.Steps.{Step, IsOver, step, throwing}
-use Rattle.plain_model.specs.Typed.{static_kind}
+use Rattle.plain_model.specs.Steps.{IsOver, step, throwing}
 use Rattle.plain_model.proofs.SetHeaps.{static_there, static_kind_is}
 use Rattle.shared_objects.specs.declared.rest.Rest.{Rest}
 use Rattle.shared_objects.specs.Shown.{Shown, static_in}
 use Rattle.shared_objects.specs.Worlds.{world_of, KnowsMonitors}
 use Rattle.step_forms.specs.declared.stepped.Stepped.{Stepped}
 use Rattle.step_forms.specs.declared.stepped.Stepped.TheVariants as stepped
-use Rattle.step_forms.specs.Follows.{Agrees, IsHeapOf, IsHeapStep, IsStep}
+use Rattle.step_forms.specs.Becomes.{MayBeStored, MayKeep, AsksStore, given}
+use Rattle.step_forms.specs.Follows.{Agrees, IsStep}
 use Rattle.step_forms.specs.Needs.{Here, IsAskable}
 use Rattle.step_forms.proofs.Going.{over_goes}
-use Rattle.shared_steps.specs.Output.{OutputGoes, FaultsGo}
+use Rattle.shared_steps.specs.Output.{OutputGoes, FaultsGo, SharesGo}
+
+-- what may be stored, by what the request is
+pub may_is : (set : SetFacts) (shown : Shown) (rest : Rest) (t : ℕ) {may : Place → Item → Type 0}
+    {q r : Request Ref Item} {item : Item} → q ≡ r → MayBeStored may set shown rest t q → given r ≡ Some item
+    → MayKeep may item (AsksStore set shown rest t r)
+may_is set shown rest t {may} {q} {r} {item} is holds gives =
+    subst (λ (x : Request Ref Item). MayBeStored may set shown rest t x) is holds item gives
 
 module _ {set : SetFacts} {shown : Shown} {rest : Rest} where
-  pub asks_is : {here : Here} {t : ℕ} {q r : Request Ref Item} → q ≡ r → IsAskable set here shown rest t q
-      → IsAskable set here shown rest t r
-  asks_is {here} {t} is asks = subst (λ (x : Request Ref Item). IsAskable set here shown rest t x) is asks
+  pub asks_is : {here : Here} {static_here : ℕ → Type 0} {t : ℕ} {q r : Request Ref Item} → q ≡ r
+      → IsAskable set here static_here shown rest t q → IsAskable set here static_here shown rest t r
+  asks_is {here} {static_here} {t} is asks =
+      subst (λ (x : Request Ref Item). IsAskable set here static_here shown rest t x) is asks
 
   pub class_there : Agrees set shown rest → (class : ℕ) → IsClass set class
       → class < length rest.classes.items
@@ -81,3 +88,7 @@ faults_are q r before result now is goes = subst (λ (x : Request Ref Item). Fau
 pub quiet_faults : (q r : Request Ref Item) (before : ℕ) (result : Stepped) → q ≡ r
     → FaultsGo r before result before → FaultsGo q before result before
 quiet_faults q r before result is goes = faults_are q r before result before is goes
+
+pub share_is : (q r : Request Ref Item) (takes : ℕ → Option ℕ) (result : Stepped) → q ≡ r
+    → SharesGo r takes result → SharesGo q takes result
+share_is q r takes result is goes = subst (λ (x : Request Ref Item). SharesGo x takes result) (sym is) goes

@@ -5,7 +5,7 @@ use Rattle.ap_base.specs.declared.reference.Item.{Item}
 use Rattle.natives.specs.declared.requests.Request.{Request}
 use Rattle.natives.specs.declared.requests.Request.TheVariants as ask
 use Rattle.step_forms.specs.declared.stepped.Stepped.{Stepped}
-use Rattle.world_steps.specs.Printing.{PrintsTo, HasSinkCause}
+use Rattle.world_steps.specs.Printing.{PrintsTo, HasSinkCause, TakesShare}
 
 -- A print puts into the sink what its act says; any other request puts nothing.
 abbrev pub OutputGoes : Request Ref Item → Option (List ℕ) → Stepped → Option (List ℕ) → Type 0
@@ -16,3 +16,8 @@ OutputGoes request before result now = now ≡ before
 abbrev pub FaultsGo : Request Ref Item → ℕ → Stepped → ℕ → Type 0
 FaultsGo (ask.Print from piece) before result now = HasSinkCause before now result
 FaultsGo request before result now = now ≡ before
+
+-- a print prints as many bytes of its piece as the sink takes of the whole, where the sink tells that
+abbrev pub SharesGo : Request Ref Item → (ℕ → Option ℕ) → Stepped → Type 0
+SharesGo (ask.Print from piece) takes result = TakesShare takes piece result
+SharesGo request takes result = Unit {0}

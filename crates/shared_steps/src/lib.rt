@@ -3,6 +3,8 @@
 //! monitors, classes and threads stand for.
 #![tactic(auto)]
 
+mod laws;
 mod step;
 
+pub use laws::{a_step_leaves_the_words_of_the_limits, a_step_leaves_what_agrees};
 pub use step::take_step;

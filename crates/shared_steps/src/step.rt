@@ -1,7 +1,8 @@
 // The step of a request.
+ghost use Rattle.step_forms.specs.Becomes.{Becomes, MayBeStored};
 ghost use Rattle.step_forms.specs.Follows.{Agrees, IsStep};
 ghost use Rattle.step_forms.specs.Needs.{IsAskable};
-ghost use Rattle.shared_steps.specs.Output.{FaultsGo, OutputGoes};
+ghost use Rattle.shared_steps.specs.Output.{FaultsGo, OutputGoes, SharesGo};
 
 use ap_base::{Sink, ThreadNo};
 use natives::Request;
@@ -27,10 +28,14 @@ pub fn take_step<C: Types, O: Objects, S: Sink>(
     request: &Request,
 ) -> Stepped
     requires agrees { Agrees (C.facts set.now) (O.shown objects.old) rest.old }
-    requires asks { IsAskable (C.facts set.now) (O.is_here objects.old) (O.shown objects.old)
+    requires asks { IsAskable (C.facts set.now) (O.is_here objects.old)
+        (O.is_static_here objects.old) (O.shown objects.old) rest.old t request.now }
+    requires may { MayBeStored (O.may_store objects.old) (C.facts set.now) (O.shown objects.old)
         rest.old t request.now }
     ensures step { IsStep (C.facts set.now) t request.now
         (O.shown objects.old) rest.old result (O.shown objects.new) rest.new }
+    ensures heap { Becomes O.shown O.stores O.makes objects.old result objects.new }
+    ensures share { SharesGo request.now (S.takes sink.old) result }
     ensures output { OutputGoes request.now (S.taken sink.old) result (S.taken sink.new) }
     ensures cause { FaultsGo request.now (S.faults sink.old) result (S.faults sink.new) }
 {

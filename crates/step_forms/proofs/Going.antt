@@ -1,5 +1,5 @@
 -- How what a step comes to follows the plain step.
-use Rattle.std.proofs.Common.{◌≡◌, ◌⊎◌, ℕ, List, [], Option, Some, None, refl, ap, ◌∙◌, sym, subst, inl, inr}
+use Rattle.std.proofs.Common.{◌≡◌, ℕ, List, [], Option, None, refl, sym, subst, inl, inr}
 use Rattle.std.proofs.Math.Path.{fun_ext}
 use Rattle.run_types.specs.declared.fault.RunFault.{RunFault}
 use Rattle.run_types.specs.declared.wait.On.{On}
@@ -7,7 +7,6 @@ use Rattle.run_types.specs.declared.resolved.At.{At}
 use Rattle.ap_base.specs.declared.reference.Ref.{Ref}
 use Rattle.ap_base.specs.declared.reference.Item.{Item}
 use Rattle.graph_model.specs.declared.types.Root.{Root}
-use Rattle.graph_model.specs.declared.types.Heap.{Heap}
 use Rattle.natives.specs.declared.requests.Reply.{Reply}
 use Rattle.natives.specs.declared.requests.Request.{Request}
 use Rattle.run_history.specs.declared.act.Op.{Op}
@@ -17,7 +16,7 @@ use Rattle.plain_model.specs.Limits.{words_made}
 use Rattle.plain_model.specs.Steps.{Step, Does, Waits, WrongOperand, IsOver, step}
 use Rattle.plain_model.specs.Codes.{taken_by}
 use Rattle.shared_objects.specs.declared.rest.Rest.{Rest}
-use Rattle.shared_objects.specs.Shown.{Numbers, Shown}
+use Rattle.shared_objects.specs.Shown.{Shown}
 use Rattle.shared_objects.specs.Changes.{GoesOn}
 use Rattle.shared_objects.specs.Plain.{plain_request, plain_reply, KnowsReply}
 use Rattle.shared_objects.specs.Worlds.{heap_of, world_of, KnowsMonitors}

@@ -1,3 +1,4 @@
+pub mod Becoming
 pub mod Going
 pub mod Kept
 pub mod Making

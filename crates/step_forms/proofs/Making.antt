@@ -1,6 +1,5 @@
 -- The world with one more object.
-use Rattle.std.proofs.Common.{◌≡◌, ◌<◌, ℕ, ◌+◌, ◌-◌, ◌≤◌, ◌↔◌, inl, inr, true, false, List, [], ◌∷◌, ◌++◌, length, map, Option, Some, None, IsTrue, refl, ap, ◌∙◌, sym, subst, arith, rules}
-use Rattle.std.specs.Prelude.{replicate}
+use Rattle.std.proofs.Common.{◌≡◌, ◌<◌, ℕ, ◌+◌, ◌≤◌, ◌↔◌, inl, inr, true, false, List, [], ◌∷◌, ◌++◌, length, map, Option, Some, None, refl, ap, ◌∙◌, sym, subst, rules}
 use Rattle.std.proofs.lemmas.Bool.{cases_lt, false≢true}
 use Rattle.std.proofs.lemmas.List.{length-map, length-replicate}
 use Rattle.ap_base.specs.declared.kind.Kind.{Kind}
@@ -15,24 +14,20 @@ use Rattle.graph_model.specs.declared.types.Value.{Value}
 use Rattle.graph_model.specs.declared.types.Value.TheVariants.{Obj as Object}
 use Rattle.graph_model.specs.declared.types.Root.{Root}
 use Rattle.graph_model.specs.declared.types.Heap.{Heap}
-use Rattle.graph_model.specs.Heaps.{default_of, fresh_values, shape_at, with_fresh}
-use Rattle.natives.specs.declared.requests.Reply.{Reply}
+use Rattle.graph_model.specs.Heaps.{default_of, fresh_values, with_fresh}
 use Rattle.natives.specs.declared.requests.Reply.TheVariants as reply
-use Rattle.run_history.specs.declared.act.Op.{Op}
 use Rattle.run_history.specs.declared.act.Op.TheVariants as op
 use Rattle.run_history.specs.declared.plain.Monitor.{Monitor as PlainMonitor}
 use Rattle.run_history.specs.Worlds.{World, after, may_have}
 use Rattle.plain_model.specs.Facts.{SetFacts, class_at, shapes_of}
-use Rattle.plain_model.specs.Limits.{words_made}
-use Rattle.plain_model.specs.Steps.{Step, Does, throwing, allocates}
+use Rattle.plain_model.specs.Steps.{Does, throwing, allocates}
 use Rattle.plain_model.proofs.SetHeaps.{shape_is}
 use Rattle.shared_objects.specs.declared.rest.Rest.{Rest}
 use Rattle.shared_objects.specs.Shown.{Shown, number_value, shape_in}
 use Rattle.shared_objects.specs.Changes.{GoesOn, Allocates}
-use Rattle.shared_objects.specs.Plain.{plain_reply, KnowsReply}
 use Rattle.shared_objects.specs.Worlds.{plain_monitor, heap_of, world_of, KnowsMonitors}
 use Rattle.step_forms.specs.declared.stepped.Stepped.TheVariants as stepped
-use Rattle.step_forms.specs.Follows.{Goes, Agrees, TakesWords, IsOutOfWords}
+use Rattle.step_forms.specs.Follows.{Goes, TakesWords}
 use Rattle.step_forms.specs.Needs.{own_slots}
 use Rattle.step_forms.proofs.Going.{limit_goes}
 use Rattle.step_forms.proofs.Kept.{kept_monitors, kept_known, known_ref, some_of, same_number}

@@ -1,7 +1,5 @@
 -- Ways through the plain step: an operand, and a class that has to be initialised first.
-use Rattle.std.proofs.Common.{◌≡◌, ◌≢◌, ℕ, zero, suc, ◌<◌, Bool, true, false, ◌&&◌, nat_lt, nat_eq, List, [], ◌∷◌, get_or, length, slice_get, Option, Some, None, if◌then◌else◌, refl, ap, ◌∙◌, sym, arith, rules}
-use Rattle.ap_base.specs.declared.reference.Ref.{Ref}
-use Rattle.graph_model.specs.declared.types.Value.{Value}
+use Rattle.std.proofs.Common.{◌≡◌, ◌≢◌, ℕ, zero, suc, ◌<◌, Bool, true, false, ◌&&◌, nat_lt, nat_eq, List, [], ◌∷◌, get_or, length, slice_get, Option, Some, None, if◌then◌else◌, ap, ◌∙◌, sym, arith, rules}
 use Rattle.graph_model.specs.declared.types.Value.TheVariants.{Obj as Object}
 use Rattle.natives.specs.declared.requests.Reply.TheVariants as reply
 use Rattle.run_types.specs.declared.wait.On.TheVariants as on

@@ -1,5 +1,5 @@
 -- What a step of a shared world does is what the plain step does.
-use Rattle.std.specs.Prelude.{◌≡◌, ◌⊎◌, ◌<◌, ◌≤◌, ◌-◌, ℕ, List, [], ◌∷◌, length, Option, None, Some}
+use Rattle.std.specs.Prelude.{◌≡◌, ◌⊎◌, ◌<◌, ◌≤◌, ◌-◌, ℕ, List, [], length, Option, None, Some}
 use Rattle.ap_base.specs.declared.reference.Ref.{Ref}
 use Rattle.ap_base.specs.declared.reference.Item.{Item}
 use Rattle.ap_base.specs.declared.place.Place.{Place}
@@ -108,7 +108,8 @@ pub record Agrees (set : SetFacts) (shown : Shown) (rest : Rest) : Type 0 where
   pub monitors : KnowsMonitors shown rest
   pub counts : HasCounts rest
 
--- What a heap and the rest show goes as the plain step says, whatever the durable roots are.
+-- What a heap and the rest show goes as the plain step says, whatever the durable roots are. A move of an
+-- object is no step: it turns keys false.
 pub record Goes (plain : List Root → ℕ → Step) (t : ℕ) (before : Shown) (rest : Rest) (result : Stepped) (now
     : Shown)
     (rest_now : Rest) : Type 0 where

@@ -1,2 +1,3 @@
+pub mod Becomes
 pub mod Follows
 pub mod Needs

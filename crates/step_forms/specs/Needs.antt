@@ -50,41 +50,54 @@ abbrev pub KeyIsHere : Here → Shown → Key Ref → Type 0
 KeyIsHere here shown (key.Object r) = HeadIsHere here shown r
 KeyIsHere here shown (key.Class n) = Unit {0}
 
--- What a request reads and stores to can be read and stored to now.
-abbrev pub IsHere : Here → Shown → Request Ref Item → Type 0
-IsHere here shown (ask.GetStatic from field) = ValueIsHere here (static_in shown field.at)
-IsHere here shown (ask.PutStatic from field value) = ItemIsHere here shown value
-IsHere here shown (ask.GetField from holder field) =
+-- What a request reads and stores to can be read and stored to now: objects, and static fields.
+abbrev pub IsHere : Here → (ℕ → Type 0) → Shown → Request Ref Item → Type 0
+IsHere here static_here shown (ask.GetStatic from field) =
+    static_here field.at × ValueIsHere here (static_in shown field.at)
+IsHere here static_here shown (ask.PutStatic from field value) =
+    static_here field.at × ItemIsHere here shown value
+IsHere here static_here shown (ask.GetField from holder field) =
     HeadIsHere here shown holder × SlotIsHere here shown holder field.at
     × ReferredIsHere here shown holder field.at
-IsHere here shown (ask.PutField from holder field value) =
+IsHere here static_here shown (ask.PutField from holder field value) =
     HeadIsHere here shown holder × SlotIsHere here shown holder field.at × ItemIsHere here shown value
-IsHere here shown (ask.GetElement from array index kind) =
+IsHere here static_here shown (ask.GetElement from array index kind) =
     HeadIsHere here shown array × ElementIsHere here shown array index
     × ReferredElementIsHere here shown array index
-IsHere here shown (ask.PutElement from array index kind value) =
+IsHere here static_here shown (ask.PutElement from array index kind value) =
     HeadIsHere here shown array × ElementIsHere here shown array index × ItemIsHere here shown value
-IsHere here shown (ask.Length from array) = HeadIsHere here shown array
-IsHere here shown (ask.ClassOf from object within) = HeadIsHere here shown object
-IsHere here shown (ask.Cast from object target) = HeadIsHere here shown object
-IsHere here shown (ask.IsA from object target) = HeadIsHere here shown object
-IsHere here shown (ask.Same from left right) = HeadIsHere here shown left × HeadIsHere here shown right
-IsHere here shown (ask.Enter from k) = KeyIsHere here shown k
-IsHere here shown (ask.Exit from k) = KeyIsHere here shown k
-IsHere here shown (ask.Start from thread) = HeadIsHere here shown thread
-IsHere here shown (ask.Join from thread) = HeadIsHere here shown thread
-IsHere here shown request = Unit {0}
+IsHere here static_here shown (ask.Length from array) = HeadIsHere here shown array
+IsHere here static_here shown (ask.ClassOf from object within) = HeadIsHere here shown object
+IsHere here static_here shown (ask.Cast from object target) = HeadIsHere here shown object
+IsHere here static_here shown (ask.IsA from object target) = HeadIsHere here shown object
+IsHere here static_here shown (ask.Same from left right) =
+    HeadIsHere here shown left × HeadIsHere here shown right
+IsHere here static_here shown (ask.Enter from k) = KeyIsHere here shown k
+IsHere here static_here shown (ask.Exit from k) = KeyIsHere here shown k
+IsHere here static_here shown (ask.Start from thread) = HeadIsHere here shown thread
+IsHere here static_here shown (ask.Join from thread) = HeadIsHere here shown thread
+IsHere here static_here shown ask.Pause = Unit {0}
+IsHere here static_here shown (ask.Broken f) = Unit {0}
+IsHere here static_here shown (ask.New from class) = Unit {0}
+IsHere here static_here shown (ask.NewArray from shape count) = Unit {0}
+IsHere here static_here shown (ask.NewText from count) = Unit {0}
+IsHere here static_here shown (ask.Init from class) = Unit {0}
+IsHere here static_here shown (ask.InitDone from class) = Unit {0}
+IsHere here static_here shown (ask.Print from piece) = Unit {0}
+IsHere here static_here shown (ask.Raise from class) = Unit {0}
+IsHere here static_here shown (ask.Begin from) = Unit {0}
+IsHere here static_here shown (ask.End from) = Unit {0}
+IsHere here static_here shown (ask.Leave uncaught) = Unit {0}
 
 -- Thread t may ask: it was started, the plain request names what it may, each reference is null or an
 -- object's, and what the request
--- reads and stores to is at hand.
-pub record IsAskable (set : SetFacts) (is_here : Here) (shown : Shown) (rest : Rest) (t : ℕ) (request :
-    Request Ref Item)
-    : Type 0 where
+-- reads and stores to is at hand. That it has not ended is for the caller to see to.
+pub record IsAskable (set : SetFacts) (is_here : Here) (is_static_here : ℕ → Type 0) (shown : Shown)
+    (rest : Rest) (t : ℕ) (request : Request Ref Item) : Type 0 where
   pub thread : t < length rest.threads
   pub fit : IsFit set (world_of [] shown rest) t (plain_request shown.number request)
   pub known : KnowsRequest shown.number request
-  pub here : IsHere is_here shown request
+  pub here : IsHere is_here is_static_here shown request
 
 -- how many slots an object of a class without elements has; none of one with elements
 abbrev pub own_slots : SetFacts → ℕ → ℕ

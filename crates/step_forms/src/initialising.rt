@@ -1,5 +1,6 @@
 // The initialisation of a class before its first use.
-ghost use Rattle.std.specs.Prelude.{◌≡◌, ◌<◌, length};
+ghost use Rattle.std.specs.Prelude.{◌≡◌, ◌<◌, IfSome, length};
+ghost use Rattle.step_forms.specs.Becomes.{IsQuiet};
 ghost use Rattle.step_forms.specs.Follows.{InitialisesFirst};
 
 use crate::Stepped;
@@ -16,7 +17,8 @@ use shared_objects::Rest;
 /// begun it.
 pub fn initialise_first(rest: &mut Rest, t: ThreadNo, class: u32) -> Option<Stepped>
     requires there { class < length rest.old.classes.items }
-    ensures { InitialisesFirst t class rest.old result rest.new }
+    ensures first { InitialisesFirst t class rest.old result rest.new }
+    ensures quiet { IfSome result IsQuiet }
 {
     let at = class as usize;
     match rest.classes[at] {

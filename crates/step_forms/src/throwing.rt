@@ -2,6 +2,7 @@
 ghost use Rattle.std.specs.Prelude.{◌≡◌, ◌<◌, ◌^◌, length};
 ghost use Rattle.plain_model.specs.Facts.{classes_of};
 ghost use Rattle.plain_model.specs.Steps.{throwing, throws};
+ghost use Rattle.step_forms.specs.Becomes.{Becomes, IsNoStore};
 ghost use Rattle.step_forms.specs.Follows.{HeapGoes, IsHeapOf};
 ghost use Rattle.step_forms.specs.Needs.{own_slots};
 
@@ -28,8 +29,10 @@ fn slots_of<C: Types>(set: &C, class: u32) -> u32
 pub fn throw_class<C: Types, O: Objects>(set: &C, objects: &mut O, class: u32) -> Stepped
     requires heap { IsHeapOf (C.facts set.now) (O.shown objects.old) }
     requires there { class < length (classes_of (C.facts set.now)) }
-    ensures { HeapGoes (λ world. throwing (C.facts set.now) world class)
+    ensures step { HeapGoes (λ world. throwing (C.facts set.now) world class)
         (O.shown objects.old) result (O.shown objects.new) }
+    ensures heap { Becomes O.shown O.stores O.makes objects.old result objects.new }
+    ensures no_store { IsNoStore result }
 {
     let slots = slots_of(set, class);
     match objects.alloc(class, slots) {
@@ -47,8 +50,10 @@ pub fn throw_class<C: Types, O: Objects>(set: &C, objects: &mut O, class: u32) -
 /// Throws one of the throwables that requests throw.
 pub fn throw<C: Types, O: Objects>(set: &C, objects: &mut O, which: Throws) -> Stepped
     requires heap { IsHeapOf (C.facts set.now) (O.shown objects.old) }
-    ensures { HeapGoes (λ world. throws (C.facts set.now) world which)
+    ensures step { HeapGoes (λ world. throws (C.facts set.now) world which)
         (O.shown objects.old) result (O.shown objects.new) }
+    ensures heap { Becomes O.shown O.stores O.makes objects.old result objects.new }
+    ensures no_store { IsNoStore result }
 {
     throw_class(set, objects, set.thrown(which))
 }

@@ -1,6 +1,6 @@
 //! Texts in the order of their bytes.
 
-ghost use Rattle.std.specs.Prelude.{◌≡◌, [], IfOk, OnErr, OnOk};
+ghost use Rattle.std.specs.Prelude.{◌≡◌, ℕ, ◌<◌, [], length, take, IfOk, OnErr, OnOk};
 ghost use Rattle.text_table.specs.Texts.{with_texts};
 ghost use Rattle.text_table.specs.Sorted.{insert_text, has_text};
 
@@ -54,9 +54,12 @@ impl SortedTexts {
 }
 
 impl Texts {
-    /// Adds texts in their order, each where it isn't there yet. Want of numbers is want of memory.
+    /// Adds texts in their order, each where it isn't there yet. Want of numbers is want of memory. An
+    /// `Err` leaves the first of them added, and not all.
     pub fn add_all(&mut self, alloc: Global, texts: &SortedTexts) -> Result<(), AllocError>
-        ensures { OnOk result (self.new ≡ with_texts self.old texts.now) }
+        ensures added { OnOk result (self.new ≡ with_texts self.old texts.now) }
+        ensures first { OnErr result
+            ((n : ℕ) × (n < length texts.now) × (self.new ≡ with_texts self.old (take n texts.now))) }
     {
         for text in texts.items.iter() {
             if self.len() >= u32::MAX - 1 {

@@ -1,5 +1,5 @@
 -- Monitors by reference are monitors by number.
-use Rattle.std.proofs.Common.{◌≡◌, ◌⊎◌, ◌≢◌, ◌<◌, ◌≤◌, ◌-◌, ◌^◌, ◌+◌, ℕ, zero, suc, pred, min, Bool, true, false, nat_eq, ltb, List, [], ◌∷◌, map, length, Option, Some, None, IsSome, if◌then◌else◌, refl, ap, ◌∙◌, sym, subst, arith, rules}
+use Rattle.std.proofs.Common.{◌≡◌, ◌≢◌, ◌<◌, ◌≤◌, ◌-◌, ◌^◌, ℕ, suc, pred, Bool, true, false, nat_eq, ltb, List, [], ◌∷◌, map, length, Option, Some, None, IsSome, if◌then◌else◌, refl, ap, ◌∙◌, sym, subst, arith, rules}
 use Rattle.std.specs.List.{AllByRecursion}
 use Rattle.std.specs.Prelude.{All}
 use Rattle.std.proofs.lemmas.Bool.{eqb-true, eq-eqb, ne_eqb, false≢true}
@@ -11,7 +11,6 @@ use Rattle.ap_base.specs.declared.reference.Ref.TheVariants.{Null as NoRef, Pers
 use Rattle.run_types.specs.declared.key.Key.{Key}
 use Rattle.run_types.specs.declared.key.Key.TheVariants as key
 use Rattle.run_types.specs.declared.wait.On.TheVariants as on
-use Rattle.run_types.specs.declared.fault.Full.{Full}
 use Rattle.run_types.specs.declared.fault.Which.TheVariants as which
 use Rattle.run_types.specs.declared.fault.RunFault.TheVariants as fault
 use Rattle.graph_model.specs.declared.types.Root.{Root}
@@ -27,7 +26,6 @@ use Rattle.monitors.specs.Keys.{is_ref, is_key}
 use Rattle.monitors.specs.Held.{monitor_of, entry_of, enter_answer, entered, exited, one_less, IsHeldBy}
 use Rattle.natives.specs.declared.requests.Reply.TheVariants as reply
 use Rattle.plain_model.specs.Facts.{SetFacts}
-use Rattle.plain_model.specs.Limits.{monitors_left}
 use Rattle.plain_model.specs.Steps.{Step, Does, Waits, enters, enters_held, exits, exits_held, throws}
 use Rattle.plain_model.specs.declared.throws.Throws.TheVariants as exception
 use Rattle.shared_objects.specs.declared.rest.Rest.{Rest}

@@ -1,5 +1,5 @@
 -- Threads and regions: what they come to.
-use Rattle.std.proofs.Common.{◌≡◌, ℕ, zero, suc, ◌<◌, ◌≤◌, ◌-◌, ◌↔◌, inl, inr, is_some, Bool, true, false, nat_lt, List, [], ◌∷◌, ◌++◌, map, length, Option, Some, None, if◌then◌else◌, refl, ap, ◌∙◌, sym, subst, arith, rules}
+use Rattle.std.proofs.Common.{◌≡◌, ℕ, ◌<◌, ◌≤◌, ◌↔◌, inl, inr, is_some, Bool, true, false, nat_lt, List, [], ◌∷◌, ◌++◌, map, length, Option, Some, None, if◌then◌else◌, refl, ap, ◌∙◌, sym, subst, arith, rules}
 use Rattle.std.proofs.lemmas.Bool.{cases_lt, false≢true}
 use Rattle.std.proofs.lemmas.List.{length-map, map-append}
 use Rattle.run_types.specs.declared.resolved.At.{At}
@@ -10,7 +10,7 @@ use Rattle.graph_model.specs.declared.types.Root.{Root}
 use Rattle.natives.specs.declared.requests.Request.TheVariants as ask
 use Rattle.natives.specs.declared.requests.Reply.TheVariants as reply
 use Rattle.run_history.specs.declared.act.Op.TheVariants as op
-use Rattle.run_history.specs.Worlds.{Thread, World, new_thread}
+use Rattle.run_history.specs.Worlds.{Thread, World}
 use Rattle.plain_model.specs.Facts.{SetFacts}
 use Rattle.plain_model.specs.Limits.{threads_left}
 use Rattle.plain_model.specs.Steps.{Step, Does, Waits, IsOver, step, starts_thread}
@@ -19,13 +19,12 @@ use Rattle.shared_objects.specs.declared.threads.ThreadState.{ThreadState}
 use Rattle.shared_objects.specs.Shown.{Shown}
 use Rattle.shared_objects.specs.Threads.{ThreadsFull, at_state, deepened, raised, ended, new_state, started_from}
 use Rattle.shared_objects.specs.Worlds.{plain_thread, world_of, KnowsMonitors, HasCounts}
-use Rattle.step_forms.specs.declared.stepped.Stepped.{Stepped}
 use Rattle.step_forms.specs.declared.stepped.Stepped.TheVariants as stepped
 use Rattle.step_forms.specs.Follows.{Goes}
 use Rattle.step_forms.proofs.Going.{did_goes, over_goes, waits_goes}
 use Rattle.world_steps.specs.Rests.{awaited}
 use Rattle.world_steps.proofs.Running.{deepened_plain, raised_plain, ended_plain, plain_started}
-use Rattle.world_steps.proofs.Worldly.{step_begin, step_leave, end_inside}
+use Rattle.world_steps.proofs.Worldly.{step_begin, step_leave}
 
 module _ (t : ℕ) (shown : Shown) (rest : Rest) (known : KnowsMonitors shown rest) where
   abbrev world_with : List Root → List Thread → World

@@ -1,19 +1,17 @@
 -- Threads by their states are plain threads.
-use Rattle.std.proofs.Common.{◌≡◌, ℕ, zero, suc, pred, ◌<◌, ◌≤◌, ◌-◌, ◌+◌, ◌^◌, sub-one, Bool, true, false, nat_eq, nat_lt, List, [], ◌∷◌, ◌++◌, map, length, slice_get, Option, Some, None, is_some, if◌then◌else◌, refl, ap, ◌∙◌, sym, arith, rules}
+use Rattle.std.proofs.Common.{◌≡◌, ℕ, zero, suc, pred, ◌<◌, ◌-◌, ◌^◌, sub-one, Bool, true, false, nat_eq, List, [], ◌∷◌, map, slice_get, Option, Some, None, is_some, if◌then◌else◌, refl, ap, ◌∙◌, arith}
 use Rattle.std.specs.Prelude.{All}
-use Rattle.std.proofs.lemmas.List.{length-map, map-append}
 use Rattle.std.proofs.lemmas.List.Elements.{All-head, All-tail, All-from_get_or}
 use Rattle.ap_base.specs.Causes.{next_count}
 use Rattle.run_types.specs.declared.wait.On.TheVariants as on
-use Rattle.run_types.specs.declared.fault.RunFault.TheVariants as fault
 use Rattle.run_history.specs.declared.act.Op.TheVariants as op
-use Rattle.run_history.specs.Worlds.{Thread, World, at_thread, depth_in, new_thread}
+use Rattle.run_history.specs.Worlds.{Thread, World, at_thread, depth_in}
 use Rattle.natives.specs.declared.requests.Reply.TheVariants as reply
 use Rattle.plain_model.specs.declared.throws.Throws.TheVariants as exception
 use Rattle.plain_model.specs.Facts.{SetFacts}
-use Rattle.plain_model.specs.Steps.{Step, Does, Waits, IsOver, throws, thread_from, starts_thread, joins_thread}
+use Rattle.plain_model.specs.Steps.{Does, Waits, throws, thread_from, starts_thread, joins_thread}
 use Rattle.shared_objects.specs.declared.threads.ThreadState.{ThreadState}
-use Rattle.shared_objects.specs.Threads.{ThreadsFull, is_of_object, started_from, depth_at, at_state, deepened, raised, ended, new_state}
+use Rattle.shared_objects.specs.Threads.{is_of_object, started_from, depth_at, at_state, deepened, raised, ended, new_state}
 use Rattle.shared_objects.specs.Worlds.{plain_thread}
 
 -- ---- the thread of a Thread object

@@ -1,7 +1,8 @@
 -- What a print puts into the sink.
-use Rattle.std.specs.Prelude.{◌≡◌, ◌≤◌, ℕ, List, Option}
+use Rattle.std.specs.Prelude.{◌≡◌, ◌≤◌, ℕ, List, length, Option, IfSome}
 use Rattle.ap_base.specs.Sinks.{with_bytes}
 use Rattle.ap_base.specs.Causes.{Rose}
+use Rattle.run_history.specs.declared.act.Op.TheVariants as op
 use Rattle.plain_model.specs.Runs.{printed_by}
 use Rattle.step_forms.specs.declared.stepped.Stepped.{Stepped}
 use Rattle.step_forms.specs.declared.stepped.Stepped.TheVariants as stepped
@@ -15,3 +16,9 @@ PrintsTo before other now = now ≡ before
 abbrev pub HasSinkCause : ℕ → ℕ → Stepped → Type 0
 HasSinkCause before now (stepped.Over f) = Rose before now
 HasSinkCause before now other = before ≤ now
+
+-- The operation prints as many bytes of the piece as the sink takes of the whole, where the sink tells that.
+abbrev pub TakesShare : (ℕ → Option ℕ) → List ℕ → Stepped → Type 0
+TakesShare takes piece (stepped.Did (op.Print bytes) r) =
+    IfSome (takes (length piece)) (λ m. length bytes ≡ m)
+TakesShare takes piece result = Unit {0}

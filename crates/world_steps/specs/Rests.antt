@@ -20,10 +20,11 @@ abbrev pub IsRestStep : SetFacts → ℕ → (At → Request Ref Item) → Rest 
 IsRestStep set t request before result now = (shown : Shown) (from : At) → KnowsMonitors shown before
     → IsStep set t (request from) shown before result shown now
 
-abbrev pub joined : ℕ → Stepped
-joined object = stepped.Did (op.Join object) reply.Done
+-- the thread has ended, or there is none
+abbrev pub waited_for : ℕ → Stepped
+waited_for object = stepped.Did (op.Join object) reply.Done
 
 -- a thread that was started is waited for until it has ended
 abbrev pub awaited : ℕ → ℕ → Bool → Stepped
-awaited object t true = joined object
+awaited object t true = waited_for object
 awaited object t false = stepped.Waits (on.Join t)

@@ -2,6 +2,7 @@
 ghost use Rattle.std.specs.Prelude.{◌<◌, ℕ, length};
 ghost use Rattle.natives.specs.declared.requests.Request.TheVariants as ask;
 ghost use Rattle.plain_model.specs.Facts.{SetFacts};
+ghost use Rattle.step_forms.specs.Becomes.{IsQuiet};
 ghost use Rattle.world_steps.specs.Rests.{IsRestStep};
 
 use ap_base::ThreadNo;
@@ -13,8 +14,9 @@ use step_forms::{Stepped, initialise_first};
 /// Asks for the initialisation of a class.
 pub fn init(rest: &mut Rest, t: ThreadNo, class: u32) -> Stepped
     requires there { class < length rest.old.classes.items }
-    ensures { (set : SetFacts) → IsRestStep set t (λ from. ask.Init from class) rest.old result
+    ensures step { (set : SetFacts) → IsRestStep set t (λ from. ask.Init from class) rest.old result
         rest.new }
+    ensures quiet { IsQuiet result }
 {
     if let Some(first) = initialise_first(rest, t, class) {
         return first;
@@ -31,8 +33,9 @@ pub fn init(rest: &mut Rest, t: ThreadNo, class: u32) -> Stepped
 /// The initialiser of a class has ended.
 pub fn init_done(rest: &mut Rest, class: u32) -> Stepped
     requires there { class < length rest.old.classes.items }
-    ensures { (set : SetFacts) (t : ℕ) → IsRestStep set t (λ from. ask.InitDone from class)
+    ensures step { (set : SetFacts) (t : ℕ) → IsRestStep set t (λ from. ask.InitDone from class)
         rest.old result rest.new }
+    ensures quiet { IsQuiet result }
 {
     rest.classes[class as usize] = Progress::Finished;
     Stepped::Did {

@@ -7,6 +7,7 @@ ghost use Rattle.plain_model.specs.Facts.{SetFacts};
 ghost use Rattle.plain_model.specs.Steps.{enters, exits};
 ghost use Rattle.shared_objects.specs.Shown.{IsKnown};
 ghost use Rattle.shared_objects.specs.Worlds.{HasCounts, IsHeldKey, KnowsMonitors, plain_key, world_of};
+ghost use Rattle.step_forms.specs.Becomes.{Becomes};
 ghost use Rattle.step_forms.specs.Follows.{Goes, IsHeapOf, IsStep};
 ghost use Rattle.step_forms.specs.Needs.{HeadIsHere};
 
@@ -31,9 +32,10 @@ fn enter_key<O: Objects>(
     requires counts { HasCounts rest.old }
     requires held { IsHeldKey (O.shown objects.now) key }
     requires plain { plain ≡ plain_key (O.shown objects.now).number key }
-    ensures { (set : SetFacts) → Goes (λ roots taken.
+    ensures step { (set : SetFacts) → Goes (λ roots taken.
         enters set (world_of roots (O.shown objects.now) rest.old) t plain)
         t (O.shown objects.now) rest.old result (O.shown objects.now) rest.new }
+    ensures heap { Becomes O.shown O.stores O.makes objects.now result objects.now }
 {
     let _ = objects;
     match rest.monitors.enter(t, key) {
@@ -63,8 +65,10 @@ pub fn enter_object<C: Types, O: Objects>(
     requires counts { HasCounts rest.old }
     requires known { IsKnown (O.shown objects.old).number object }
     requires head { HeadIsHere (O.is_here objects.old) (O.shown objects.old) object }
-    ensures { (from : From) → IsStep (C.facts set.now) t (ask.Enter from (key_of.Object object))
+    ensures step { (from : From)
+        → IsStep (C.facts set.now) t (ask.Enter from (key_of.Object object))
         (O.shown objects.old) rest.old result (O.shown objects.new) rest.new }
+    ensures heap { Becomes O.shown O.stores O.makes objects.old result objects.new }
 {
     let Some(n) = numbered(objects, object) else {
         return throw(set, objects, Throws::NullPointer);
@@ -77,8 +81,10 @@ pub fn enter_object<C: Types, O: Objects>(
 pub fn enter_class<O: Objects>(objects: &O, rest: &mut Rest, t: ThreadNo, class: u32) -> Stepped
     requires monitors { KnowsMonitors (O.shown objects.now) rest.old }
     requires counts { HasCounts rest.old }
-    ensures { (set : SetFacts) (from : From) → IsStep set t (ask.Enter from (key_of.Class class))
+    ensures step { (set : SetFacts) (from : From)
+        → IsStep set t (ask.Enter from (key_of.Class class))
         (O.shown objects.now) rest.old result (O.shown objects.now) rest.new }
+    ensures heap { Becomes O.shown O.stores O.makes objects.now result objects.now }
 {
     enter_key(objects, rest, t, Key::Class(class), PlainKey::Class(class))
 }
@@ -96,9 +102,10 @@ fn exit_key<C: Types, O: Objects>(
     requires monitors { KnowsMonitors (O.shown objects.old) rest.old }
     requires held { IsHeldKey (O.shown objects.old) key }
     requires plain { plain ≡ plain_key (O.shown objects.old).number key }
-    ensures { Goes (λ roots taken.
+    ensures step { Goes (λ roots taken.
         exits (C.facts set.now) (world_of roots (O.shown objects.old) rest.old) t plain)
         t (O.shown objects.old) rest.old result (O.shown objects.new) rest.new }
+    ensures heap { Becomes O.shown O.stores O.makes objects.old result objects.new }
 {
     match rest.monitors.exit(t, key) {
         Ok(()) => Stepped::Did {
@@ -121,8 +128,9 @@ pub fn exit_object<C: Types, O: Objects>(
     requires monitors { KnowsMonitors (O.shown objects.old) rest.old }
     requires known { IsKnown (O.shown objects.old).number object }
     requires head { HeadIsHere (O.is_here objects.old) (O.shown objects.old) object }
-    ensures { (from : From) → IsStep (C.facts set.now) t (ask.Exit from (key_of.Object object))
+    ensures step { (from : From) → IsStep (C.facts set.now) t (ask.Exit from (key_of.Object object))
         (O.shown objects.old) rest.old result (O.shown objects.new) rest.new }
+    ensures heap { Becomes O.shown O.stores O.makes objects.old result objects.new }
 {
     let Some(n) = numbered(objects, object) else {
         return throw(set, objects, Throws::NullPointer);
@@ -141,8 +149,9 @@ pub fn exit_class<C: Types, O: Objects>(
 ) -> Stepped
     requires heap { IsHeapOf (C.facts set.now) (O.shown objects.old) }
     requires monitors { KnowsMonitors (O.shown objects.old) rest.old }
-    ensures { (from : From) → IsStep (C.facts set.now) t (ask.Exit from (key_of.Class class))
+    ensures step { (from : From) → IsStep (C.facts set.now) t (ask.Exit from (key_of.Class class))
         (O.shown objects.old) rest.old result (O.shown objects.new) rest.new }
+    ensures heap { Becomes O.shown O.stores O.makes objects.old result objects.new }
 {
     exit_key(
         set,

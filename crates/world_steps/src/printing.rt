@@ -3,8 +3,9 @@ ghost use Rattle.std.specs.Prelude.{ℕ};
 ghost use Rattle.natives.specs.declared.requests.Request.TheVariants as ask;
 ghost use Rattle.plain_model.specs.Facts.{SetFacts};
 ghost use Rattle.shared_objects.specs.declared.rest.Rest.{Rest as RestOf};
+ghost use Rattle.step_forms.specs.Becomes.{IsQuiet};
 ghost use Rattle.world_steps.specs.Rests.{IsRestStep};
-ghost use Rattle.world_steps.specs.Printing.{HasSinkCause, PrintsTo};
+ghost use Rattle.world_steps.specs.Printing.{HasSinkCause, PrintsTo, TakesShare};
 
 use ap_base::{Piece, Sink};
 use natives::Reply;
@@ -12,12 +13,14 @@ use run_history::Op;
 use run_types::RunFault;
 use step_forms::Stepped;
 
-/// Prints at least one byte of a piece.
+/// Prints as many bytes of a piece as the sink takes, at least one.
 ///
 /// The run is over where the sink fails, and nothing is printed then.
 pub fn print<S: Sink>(sink: &mut S, piece: Piece) -> Stepped
     ensures step { (set : SetFacts) (t : ℕ) (rest : RestOf)
         → IsRestStep set t (λ from. ask.Print from piece) rest result rest }
+    ensures quiet { IsQuiet result }
+    ensures share { TakesShare (S.takes sink.old) piece result }
     ensures told { PrintsTo (S.taken sink.old) result (S.taken sink.new) }
     ensures cause { HasSinkCause (S.faults sink.old) (S.faults sink.new) result }
 {

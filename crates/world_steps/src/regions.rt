@@ -4,6 +4,7 @@ ghost use Rattle.natives.specs.declared.requests.Request.TheVariants as ask;
 ghost use Rattle.run_types.specs.declared.resolved.At.{At as From};
 ghost use Rattle.plain_model.specs.Facts.{SetFacts};
 ghost use Rattle.shared_objects.specs.Worlds.{HasCounts, KnowsMonitors};
+ghost use Rattle.step_forms.specs.Becomes.{Becomes, IsQuiet};
 ghost use Rattle.step_forms.specs.Follows.{IsHeapOf, IsStep};
 ghost use Rattle.world_steps.specs.Rests.{IsRestStep};
 
@@ -18,7 +19,9 @@ use step_forms::{Stepped, throw};
 pub fn begin(rest: &mut Rest, t: ThreadNo) -> Stepped
     requires there { t < length rest.old.threads }
     requires counts { HasCounts rest.old }
-    ensures { (set : SetFacts) → IsRestStep set t (λ from. ask.Begin from) rest.old result rest.new }
+    ensures step { (set : SetFacts) → IsRestStep set t (λ from. ask.Begin from) rest.old result
+        rest.new }
+    ensures quiet { IsQuiet result }
 {
     rest.threads.begin(t);
     Stepped::Did {
@@ -32,8 +35,9 @@ pub fn end<C: Types, O: Objects>(set: &C, objects: &mut O, rest: &mut Rest, t: T
     requires heap { IsHeapOf (C.facts set.now) (O.shown objects.old) }
     requires monitors { KnowsMonitors (O.shown objects.old) rest.old }
     requires there { t < length rest.old.threads }
-    ensures { (from : From) → IsStep (C.facts set.now) t (ask.End from)
+    ensures step { (from : From) → IsStep (C.facts set.now) t (ask.End from)
         (O.shown objects.old) rest.old result (O.shown objects.new) rest.new }
+    ensures heap { Becomes O.shown O.stores O.makes objects.old result objects.new }
 {
     if rest.threads.depth(t) == 0 {
         return throw(set, objects, Throws::IllegalState);

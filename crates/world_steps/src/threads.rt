@@ -6,9 +6,10 @@ ghost use Rattle.plain_model.specs.Facts.{SetFacts};
 ghost use Rattle.shared_objects.specs.Shown.{IsKnown};
 ghost use Rattle.shared_objects.specs.declared.rest.Rest.{Rest as RestOf};
 ghost use Rattle.shared_objects.specs.Worlds.{KnowsMonitors};
+ghost use Rattle.step_forms.specs.Becomes.{Becomes, IsQuiet};
 ghost use Rattle.step_forms.specs.Follows.{IsHeapOf, IsStep};
 ghost use Rattle.step_forms.specs.Needs.{HeadIsHere};
-ghost use Rattle.world_steps.specs.Rests.{IsRestStep, awaited, joined};
+ghost use Rattle.world_steps.specs.Rests.{IsRestStep, awaited, waited_for};
 
 use ap_base::{Ref, ThreadNo};
 use natives::Reply;
@@ -20,8 +21,9 @@ use step_forms::{Stepped, numbered, throw};
 
 /// A turn ended without a shared instruction.
 pub fn pause() -> Stepped
-    ensures { (set : SetFacts) (t : ℕ) (rest : RestOf)
+    ensures step { (set : SetFacts) (t : ℕ) (rest : RestOf)
         → IsRestStep set t (λ from. ask.Pause) rest result rest }
+    ensures quiet { IsQuiet result }
 {
     Stepped::Did {
         op: Op::Pause,
@@ -40,8 +42,9 @@ pub fn start<C: Types, O: Objects>(
     requires monitors { KnowsMonitors (O.shown objects.old) rest.old }
     requires known { IsKnown (O.shown objects.old).number thread }
     requires head { HeadIsHere (O.is_here objects.old) (O.shown objects.old) thread }
-    ensures { (t : ℕ) (from : From) → IsStep (C.facts set.now) t (ask.Start from thread)
+    ensures step { (t : ℕ) (from : From) → IsStep (C.facts set.now) t (ask.Start from thread)
         (O.shown objects.old) rest.old result (O.shown objects.new) rest.new }
+    ensures heap { Becomes O.shown O.stores O.makes objects.old result objects.new }
 {
     let Some(object) = numbered(objects, thread) else {
         return throw(set, objects, Throws::NullPointer);
@@ -61,8 +64,9 @@ pub fn start<C: Types, O: Objects>(
     }
 }
 
-fn joined(object: u32) -> Stepped
-    ensures { result ≡ joined object }
+fn waited_for(object: u32) -> Stepped
+    ensures is { result ≡ waited_for object }
+    ensures quiet { IsQuiet result }
 {
     Stepped::Did {
         op: Op::Join { object },
@@ -72,10 +76,11 @@ fn joined(object: u32) -> Stepped
 
 // A thread that was started is waited for until it has ended.
 fn await_end(object: u32, t: ThreadNo, ended: bool) -> Stepped
-    ensures { result ≡ awaited object t ended }
+    ensures is { result ≡ awaited object t ended }
+    ensures quiet { IsQuiet result }
 {
     if ended {
-        joined(object)
+        waited_for(object)
     } else {
         Stepped::Waits(On::Join(t))
     }
@@ -87,8 +92,9 @@ pub fn join<C: Types, O: Objects>(set: &C, objects: &mut O, rest: &Rest, thread:
     requires monitors { KnowsMonitors (O.shown objects.old) rest.now }
     requires known { IsKnown (O.shown objects.old).number thread }
     requires head { HeadIsHere (O.is_here objects.old) (O.shown objects.old) thread }
-    ensures { (t : ℕ) (from : From) → IsStep (C.facts set.now) t (ask.Join from thread)
+    ensures step { (t : ℕ) (from : From) → IsStep (C.facts set.now) t (ask.Join from thread)
         (O.shown objects.old) rest.now result (O.shown objects.new) rest.now }
+    ensures heap { Becomes O.shown O.stores O.makes objects.old result objects.new }
 {
     let Some(object) = numbered(objects, thread) else {
         return throw(set, objects, Throws::NullPointer);
@@ -97,7 +103,7 @@ pub fn join<C: Types, O: Objects>(set: &C, objects: &mut O, rest: &Rest, thread:
         return Stepped::Wrong;
     }
     match rest.threads.started(object) {
-        None => joined(object),
+        None => waited_for(object),
         Some(found) => await_end(object, found.0, found.1.ended),
     }
 }
@@ -105,8 +111,9 @@ pub fn join<C: Types, O: Objects>(set: &C, objects: &mut O, rest: &Rest, thread:
 /// The thread has ended, by a throwable of this class if there is one.
 pub fn leave(rest: &mut Rest, t: ThreadNo, uncaught: Option<u32>) -> Stepped
     requires there { t < length rest.old.threads }
-    ensures { (set : SetFacts) → IsRestStep set t (λ from. ask.Leave uncaught) rest.old result
+    ensures step { (set : SetFacts) → IsRestStep set t (λ from. ask.Leave uncaught) rest.old result
         rest.new }
+    ensures quiet { IsQuiet result }
 {
     rest.threads.leave(t, uncaught);
     Stepped::Did {

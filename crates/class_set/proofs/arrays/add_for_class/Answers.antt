@@ -12,6 +12,9 @@ loop-method-preserved c =
     let items = c.as_slice-method-items.result.now in
     let i = c.loop-method.method-index in
     let needed = λ (m : Method). listed_by_code c.args.what c.args.file.now.pool (code_in m.attributes) in
-    ap (λ ns. with_arrays ns (flat_map needed (drop (i + 1) items))) c.in_ok-add_for_method.ensures
-    ∙ needed_next needed items i c.method-item.result c.loop-method.arrays (omega arith) c.method-item.is
-    ∙ c.loop-method.invariant
+    record {
+      listed = ap (λ ns. with_arrays ns (flat_map needed (drop (i + 1) items))) c.in_ok-add_for_method.ensures.arrays
+          ∙ needed_next needed items i c.method-item.result c.loop-method.arrays (omega arith) c.method-item.is
+          ∙ c.loop-method.invariant.listed;
+      marked = c.in_ok-add_for_method.ensures.marked;
+    }

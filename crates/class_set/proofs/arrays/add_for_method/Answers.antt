@@ -9,14 +9,14 @@ use Rattle.class_set.specs.ArrayTypes.{named, with_arrays}
 use Rattle.class_set.proofs.Needed.{with_arrays-append}
 use Rattle.class_set.proofs.arrays.add_for_method.Goals as goal
 
-pub returns-in_ok-add_for_instructions-in-Some : goal.returns-in_ok-add_for_instructions-in-Some
-returns-in_ok-add_for_instructions-in-Some c =
+pub returns-in_ok-add_for_instructions-in-Some-clause-arrays : goal.returns-in_ok-add_for_instructions-in-Some-clause-arrays
+returns-in_ok-add_for_instructions-in-Some-clause-arrays c =
     let pool = c.args.pool.now in
     let code = c.in-Some.code.now in
     let one = flat_map (λ (p : Placed). listed_by c.args.what pool p.ins) code.instructions in
     let other = flat_map (λ (h : Handler). named c.args.what (class_name pool h.catch)) code.handlers in
     subst (λ ts. OnOk c.add_for_handlers.result (c.add_for_handlers.new.arrays ≡ ts))
-    (ap (λ ns. with_arrays ns other) c.in_ok-add_for_instructions-in-Some.ensures
+    (ap (λ ns. with_arrays ns other) c.in_ok-add_for_instructions-in-Some.ensures.arrays
     ∙ with_arrays-append c.args.arrays.now one other
     ∙ ap (λ o. with_arrays c.args.arrays.now (listed_by_code c.args.what pool o)) c.in-Some.ensures)
-    c.add_for_handlers.ensures
+    c.add_for_handlers.ensures.arrays

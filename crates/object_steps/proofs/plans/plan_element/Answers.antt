@@ -1,4 +1,4 @@
-use Rattle.std.proofs.Common.{rules, refl, ◌∙◌, ◌≡◌, ◌<◌, ap, sym, true, false, None, Some, subst, if◌then◌else◌, unwrap_or}
+use Rattle.std.proofs.Common.{rules, refl, ◌∙◌, ◌≡◌, ◌<◌, ap, sym, true, false, None, Some, subst, unwrap_or}
 use Rattle.std.proofs.Math.Facts.{to_z-of_z}
 use Rattle.ap_base.specs.declared.place.Place.TheVariants.{Slot}
 use Rattle.natives.specs.declared.requests.Request.TheVariants as ask
@@ -6,7 +6,7 @@ use Rattle.plain_model.specs.declared.throws.Throws.TheVariants as exception
 use Rattle.plain_model.specs.Facts.{element_of}
 use Rattle.plain_model.specs.Kinds.{HasKind}
 use Rattle.plain_model.specs.Steps.{WrongOperand, throws}
-use Rattle.shared_objects.specs.Shown.{item_value, object_in, slot_kind}
+use Rattle.shared_objects.specs.Shown.{item_value, slot_kind}
 use Rattle.shared_objects.specs.Worlds.{world_of}
 use Rattle.step_forms.specs.Follows.{stored_as}
 use Rattle.step_forms.proofs.Going.{heap_step, heap_wrong}
@@ -25,7 +25,7 @@ returns-in_default-clause-plan g c =
     (λ roots rest t taken from. put_none facts (world_of roots before rest) t taken from _ c.args.index
     c.args.kind
     (item_value before.number c.args.value) (search rules))
-    c.throw.ensures
+    c.throw.ensures.step
 
 pub returns-then-not-has_elements-clause-plan : goal.returns-then-not-has_elements-clause-plan
 returns-then-not-has_elements-clause-plan g c =
@@ -56,7 +56,7 @@ returns-in_default-index_below-clause-plan g c =
     c.in-Some.ensures.number)
     c.length_of.result c.args.index c.args.kind (item_value before.number c.args.value) test
     (c.length_of.ensures.length c.in-Some.object c.in-Some.ensures.number) over)
-    c.throw-in_default-index_below.ensures
+    c.throw-in_default-index_below.ensures.step
 
 pub returns-then-not-may_hold-clause-plan : goal.returns-then-not-may_hold-clause-plan
 returns-then-not-may_hold-clause-plan g c =
@@ -77,7 +77,7 @@ returns-then-not-may_hold-clause-plan g c =
     c.in-Some.ensures.number)
     c.length_of.result c.in-Some-index_below.at c.args.index c.args.kind value test
     (c.length_of.ensures.length n c.in-Some.ensures.number) inside before (λ m. refl) refused)
-    c.throw-then-not-may_hold.ensures
+    c.throw-then-not-may_hold.ensures.step
 
 pub returns-clause-plan : goal.returns-clause-plan
 returns-clause-plan g c =
@@ -132,3 +132,6 @@ returns-clause-here g c =
       value = λ m e. c.requires.value m (kept_object c.kind_of_elements.result (item_value before.number
           c.args.value) m (sym kept ∙ e));
     }
+
+pub returns-clause-kept : goal.returns-clause-kept
+returns-clause-kept g c = (c.kind_of_elements.result, c.narrow.ensures.value)

@@ -5,7 +5,7 @@ use Rattle.plain_model.specs.declared.throws.Throws.TheVariants as exception
 use Rattle.plain_model.specs.Facts.{is_sub}
 use Rattle.plain_model.specs.Kinds.{HasKind}
 use Rattle.plain_model.specs.Steps.{WrongOperand, throws}
-use Rattle.shared_objects.specs.Shown.{item_value, object_in, slot_kind}
+use Rattle.shared_objects.specs.Shown.{item_value, slot_kind}
 use Rattle.shared_objects.specs.Worlds.{world_of}
 use Rattle.step_forms.specs.Follows.{stored_as}
 use Rattle.step_forms.proofs.Going.{heap_step, heap_wrong}
@@ -21,7 +21,7 @@ returns-in_default-clause-plan g c =
     c.args.holder c.args.field c.args.value)
     (λ roots rest t taken from. put_field_none facts (world_of roots before rest) t taken from c.args.field _
     (item_value before.number c.args.value) (search rules))
-    c.throw.ensures
+    c.throw.ensures.step
 
 pub returns-then-not-is_sub-clause-plan : goal.returns-then-not-is_sub-clause-plan
 returns-then-not-is_sub-clause-plan g c =
@@ -83,3 +83,6 @@ returns-clause-here g c =
       value = λ m e. c.requires.value m (kept_object c.args.field.kind (item_value before.number
           c.args.value) m (sym kept ∙ e));
     }
+
+pub returns-clause-kept : goal.returns-clause-kept
+returns-clause-kept g c = (c.args.field.kind, c.narrow.ensures.value)

@@ -1,6 +1,6 @@
-use Rattle.std.proofs.Common.{refl, ◌∙◌, ◌≡◌, ap, sym, subst}
+use Rattle.std.proofs.Common.{refl, ◌∙◌, ap, sym}
 use Rattle.ap_base.specs.declared.place.Place.TheVariants.{Static}
-use Rattle.plain_model.specs.Kinds.{HasKind, narrowed}
+use Rattle.plain_model.specs.Kinds.{HasKind}
 use Rattle.plain_model.specs.Steps.{stores}
 use Rattle.shared_objects.specs.Shown.{item_value, static_in}
 use Rattle.shared_objects.specs.Worlds.{world_of}
@@ -16,7 +16,7 @@ returns-in-Some-clause-plan g c set from known =
     let value = item_value shown.number c.args.value in
     same_goes (λ roots taken. step_put_static set (world_of roots shown c.args.rest.now) c.args.t taken from
     c.args.field value)
-    (c.in-Some.ensures set shown (λ roots taken. stores set (world_of roots shown c.args.rest.now)
+    (c.in-Some.ensures.first set shown (λ roots taken. stores set (world_of roots shown c.args.rest.now)
     c.args.field.kind (Static c.args.field.at) value) known)
 
 pub returns-clause-plan : goal.returns-clause-plan
@@ -28,7 +28,7 @@ returns-clause-plan g c =
     rw kept (narrowed_form c.args.field.kind value c.requires.kind) in (
       λ set taken roots from.
           step_put_static set (world_of roots shown c.args.rest.now) c.args.t taken from c.args.field value
-          ∙ c.in_default.ensures.0 set (world_of roots shown c.args.rest.now)
+          ∙ c.in_default.ensures.first.0 set (world_of roots shown c.args.rest.now)
           (stores set (world_of roots shown c.args.rest.now) c.args.field.kind (Static c.args.field.at)
           value) refl
           ∙ ap (stored_as (Static c.args.field.at)) (sym kept),
@@ -40,7 +40,7 @@ returns-clause-plan g c =
               shown.number c.narrow.result) c.requires.held form,
         );
       },
-      c.in_default.ensures.1,
+      c.in_default.ensures.first.1,
     )
 
 pub returns-clause-here : goal.returns-clause-here
@@ -48,7 +48,10 @@ returns-clause-here g c =
     let shown = g.O.Objects.shown c.args.objects.now in
     let kept = c.narrow.ensures.value shown.number in
     record {
-      target = tt;
+      target = c.requires.static_here;
       value = λ n e. c.requires.here n (kept_object c.args.field.kind (item_value shown.number c.args.value)
           n (sym kept ∙ e));
     }
+
+pub returns-clause-kept : goal.returns-clause-kept
+returns-clause-kept g c = (c.args.field.kind, c.narrow.ensures.value)

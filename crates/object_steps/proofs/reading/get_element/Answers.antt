@@ -1,4 +1,4 @@
-use Rattle.std.proofs.Common.{rules, refl, ◌≡◌, None, Some, true, false, sym, ◌∙◌}
+use Rattle.std.proofs.Common.{rules, refl, ◌≡◌, None, Some, true, false}
 use Rattle.std.proofs.Math.Facts.{to_z-of_z}
 use Rattle.ap_base.specs.declared.place.Place.TheVariants.{Slot}
 use Rattle.natives.specs.declared.requests.Request.TheVariants as ask
@@ -10,18 +10,18 @@ use Rattle.object_steps.specs.Elements.{has_elements_of, end_thrown, IsBelowInde
 use Rattle.object_steps.proofs.Arrays.{get_none, get_wrong, get_past, get_read}
 use Rattle.object_steps.proofs.reading.get_element.Goals as goal
 
-pub returns-in_default : goal.returns-in_default
-returns-in_default g c =
+pub returns-in_default-clause-step : goal.returns-in_default-clause-step
+returns-in_default-clause-step g c =
     let facts = g.C.Types.facts c.args.set.now in
     let before = g.O.Objects.shown c.args.objects.now in
     heap_step (λ world. throws facts world exception.NullPointer) facts (λ from. ask.GetElement from
     c.args.array c.args.index c.args.kind)
     (λ roots rest t taken from. get_none facts (world_of roots before rest) t taken from _ c.args.index
     c.args.kind (search rules))
-    c.throw.ensures
+    c.throw.ensures.step
 
-pub returns-then-not-has_elements : goal.returns-then-not-has_elements
-returns-then-not-has_elements g c =
+pub returns-then-not-has_elements-clause-step : goal.returns-then-not-has_elements-clause-step
+returns-then-not-has_elements-clause-step g c =
     let facts = g.C.Types.facts c.args.set.now in
     let before = g.O.Objects.shown c.args.objects.now in
     let test : has_elements_of facts c.args.kind c.shape_of.result ≡ false = search rules in
@@ -34,8 +34,8 @@ returns-then-not-has_elements g c =
     c.args.index c.args.kind test)
     (heap_wrong (λ world. WrongOperand) (λ roots rest. refl))
 
-pub returns-in_default-index_below : goal.returns-in_default-index_below
-returns-in_default-index_below g c =
+pub returns-in_default-index_below-clause-step : goal.returns-in_default-index_below-clause-step
+returns-in_default-index_below-clause-step g c =
     let facts = g.C.Types.facts c.args.set.now in
     let before = g.O.Objects.shown c.args.objects.now in
     let test : has_elements_of facts c.args.kind c.shape_of.result ≡ true = search rules in
@@ -49,10 +49,10 @@ returns-in_default-index_below g c =
     c.in-Some.ensures.number)
     c.length_of.result c.args.index c.args.kind test (c.length_of.ensures.length c.in-Some.object
     c.in-Some.ensures.number) over)
-    (rw (← c.past_end.ensures) c.throw-in_default-index_below.ensures)
+    (rw (← c.past_end.ensures) c.throw-in_default-index_below.ensures.step)
 
-pub returns : goal.returns
-returns g c =
+pub returns-clause-step : goal.returns-clause-step
+returns-clause-step g c =
     let facts = g.C.Types.facts c.args.set.now in
     let before = g.O.Objects.shown c.args.objects.now in
     let test : has_elements_of facts c.args.kind c.shape_of.result ≡ true = search rules in
@@ -66,4 +66,4 @@ returns g c =
     c.in-Some.ensures.number)
     c.length_of.result c.in-Some-index_below.at c.args.index c.args.kind test
     (c.length_of.ensures.length c.in-Some.object c.in-Some.ensures.number) inside)
-    (c.read_slot.ensures facts)
+    (c.read_slot.ensures.step facts)

@@ -10,18 +10,18 @@ use Rattle.object_steps.proofs.Fields.{get_field_none, get_field_wrong, get_fiel
 use Rattle.object_steps.proofs.Places.{field_slot, HasItsSlot}
 use Rattle.object_steps.proofs.reading.get_field.Goals as goal
 
-pub returns-in_default : goal.returns-in_default
-returns-in_default g c =
+pub returns-in_default-clause-step : goal.returns-in_default-clause-step
+returns-in_default-clause-step g c =
     let facts = g.C.Types.facts c.args.set.now in
     let before = g.O.Objects.shown c.args.objects.now in
     heap_step (λ world. throws facts world exception.NullPointer) facts (λ from. ask.GetField from
     c.args.holder c.args.field)
     (λ roots rest t taken from. get_field_none facts (world_of roots before rest) t taken from c.args.field _
     (search rules))
-    c.throw.ensures
+    c.throw.ensures.step
 
-pub returns-then-not-is_sub : goal.returns-then-not-is_sub
-returns-then-not-is_sub g c =
+pub returns-then-not-is_sub-clause-step : goal.returns-then-not-is_sub-clause-step
+returns-then-not-is_sub-clause-step g c =
     let facts = g.C.Types.facts c.args.set.now in
     let before = g.O.Objects.shown c.args.objects.now in
     let test : is_sub facts c.shape_of.result c.args.field.class ≡ false = search rules in
@@ -56,8 +56,8 @@ read_slot-requires-clause-here g c =
     (ap (λ s. is_sub facts s c.args.field.class) (sym its) ∙ test) in
     c.requires.slot n c.in-Some.ensures.number slot.within
 
-pub returns : goal.returns
-returns g c =
+pub returns-clause-step : goal.returns-clause-step
+returns-clause-step g c =
     let facts = g.C.Types.facts c.args.set.now in
     let before = g.O.Objects.shown c.args.objects.now in
     let test : is_sub facts c.shape_of.result c.args.field.class ≡ true = search rules in
@@ -67,4 +67,4 @@ returns g c =
     _ c.in-Some.object c.shape_of.result
     c.in-Some.ensures.number c.in-Some.ensures.below (c.shape_of.ensures.shape c.in-Some.object
     c.in-Some.ensures.number) test)
-    (c.read_slot.ensures facts)
+    (c.read_slot.ensures.step facts)

@@ -13,16 +13,16 @@ use Rattle.step_forms.proofs.Going.{heap_step, heap_wrong, heap_did}
 use Rattle.object_steps.proofs.Arrays.{length_none, length_wrong, length_right}
 use Rattle.object_steps.proofs.reading.length.Goals as goal
 
-pub returns-in_default : goal.returns-in_default
-returns-in_default g c =
+pub returns-in_default-clause-step : goal.returns-in_default-clause-step
+returns-in_default-clause-step g c =
     let facts = g.C.Types.facts c.args.set.now in
     let before = g.O.Objects.shown c.args.objects.now in
     heap_step (λ world. throws facts world exception.NullPointer) facts (λ from. ask.Length from c.args.array)
     (λ roots rest t taken from. length_none facts (world_of roots before rest) t taken from _ (search rules))
-    c.throw.ensures
+    c.throw.ensures.step
 
-pub returns-then-is_none : goal.returns-then-is_none
-returns-then-is_none g c =
+pub returns-then-is_none-clause-step : goal.returns-then-is_none-clause-step
+returns-then-is_none-clause-step g c =
     let facts = g.C.Types.facts c.args.set.now in
     let before = g.O.Objects.shown c.args.objects.now in
     let absent : is_some (element_of facts c.shape_of.result) ≡ false = search rules in
@@ -33,8 +33,8 @@ returns-then-is_none g c =
     c.in-Some.ensures.number) absent)
     (heap_wrong (λ world. WrongOperand) (λ roots rest. refl))
 
-pub returns : goal.returns
-returns g c =
+pub returns-clause-step : goal.returns-clause-step
+returns-clause-step g c =
     let facts = g.C.Types.facts c.args.set.now in
     let before = g.O.Objects.shown c.args.objects.now in
     let n = c.in-Some.object in

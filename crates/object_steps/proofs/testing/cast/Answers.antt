@@ -10,8 +10,8 @@ use Rattle.step_forms.proofs.Going.{heap_step, heap_did}
 use Rattle.object_steps.proofs.Tested.{cast_none, cast_wrong, cast_right}
 use Rattle.object_steps.proofs.testing.cast.Goals as goal
 
-pub returns-in_default : goal.returns-in_default
-returns-in_default g c =
+pub returns-in_default-clause-step : goal.returns-in_default-clause-step
+returns-in_default-clause-step g c =
     let facts = g.C.Types.facts c.args.set.now in
     let before = g.O.Objects.shown c.args.objects.now in
     heap_step (λ world. Does (op.Class None None) reply.Done) facts (λ from. ask.Cast from c.args.object
@@ -21,8 +21,8 @@ returns-in_default g c =
     (heap_did (λ world. Does (op.Class None None) reply.Done) (op.Class None None) reply.Done
     (λ roots rest. refl) tt refl (λ world t. refl))
 
-pub returns-then-not-is_sub : goal.returns-then-not-is_sub
-returns-then-not-is_sub g c =
+pub returns-then-not-is_sub-clause-step : goal.returns-then-not-is_sub-clause-step
+returns-then-not-is_sub-clause-step g c =
     let facts = g.C.Types.facts c.args.set.now in
     let before = g.O.Objects.shown c.args.objects.now in
     let test : is_sub facts c.shape_of-shape.result c.args.target ≡ false = search rules in
@@ -32,10 +32,10 @@ returns-then-not-is_sub g c =
     c.shape_of-shape.result
     c.in-Some.ensures.number c.in-Some.ensures.below (c.shape_of-shape.ensures.shape c.in-Some.n
     c.in-Some.ensures.number) c.args.target test)
-    c.throw.ensures
+    c.throw.ensures.step
 
-pub returns : goal.returns
-returns g c =
+pub returns-clause-step : goal.returns-clause-step
+returns-clause-step g c =
     let facts = g.C.Types.facts c.args.set.now in
     let before = g.O.Objects.shown c.args.objects.now in
     let n = c.in-Some.n in

@@ -10,18 +10,18 @@ use Rattle.step_forms.proofs.Going.{heap_step, heap_wrong, heap_did}
 use Rattle.object_steps.proofs.Tested.{class_none, class_wrong, class_right}
 use Rattle.object_steps.proofs.testing.class_of.Goals as goal
 
-pub returns-in_default : goal.returns-in_default
-returns-in_default g c =
+pub returns-in_default-clause-step : goal.returns-in_default-clause-step
+returns-in_default-clause-step g c =
     let facts = g.C.Types.facts c.args.set.now in
     let before = g.O.Objects.shown c.args.objects.now in
     heap_step (λ world. throws facts world exception.NullPointer) facts (λ from. ask.ClassOf from
     c.args.object c.args.within)
     (λ roots rest t taken from. class_none facts (world_of roots before rest) t taken from _ c.args.within
     (search rules))
-    c.throw.ensures
+    c.throw.ensures.step
 
-pub returns-then-not-is_sub : goal.returns-then-not-is_sub
-returns-then-not-is_sub g c =
+pub returns-then-not-is_sub-clause-step : goal.returns-then-not-is_sub-clause-step
+returns-then-not-is_sub-clause-step g c =
     let facts = g.C.Types.facts c.args.set.now in
     let before = g.O.Objects.shown c.args.objects.now in
     let test : is_sub facts c.shape_of-shape.result c.args.within ≡ false = search rules in
@@ -32,8 +32,8 @@ returns-then-not-is_sub g c =
     c.in-Some.ensures.number) c.args.within test)
     (heap_wrong (λ world. WrongOperand) (λ roots rest. refl))
 
-pub returns : goal.returns
-returns g c =
+pub returns-clause-step : goal.returns-clause-step
+returns-clause-step g c =
     let facts = g.C.Types.facts c.args.set.now in
     let before = g.O.Objects.shown c.args.objects.now in
     let n = c.in-Some.n in

@@ -1,8 +1,7 @@
-use Rattle.std.proofs.Common.{rules, refl, ◌≡◌, false, Some, None}
+use Rattle.std.proofs.Common.{rules, refl, false, Some, None}
 use Rattle.natives.specs.declared.requests.Request.TheVariants as ask
 use Rattle.natives.specs.declared.requests.Reply.TheVariants as reply
 use Rattle.run_history.specs.declared.act.Op.TheVariants as op
-use Rattle.plain_model.specs.Facts.{is_sub}
 use Rattle.plain_model.specs.Steps.{Does, bool_value}
 use Rattle.shared_objects.specs.Shown.{item_value}
 use Rattle.shared_objects.specs.Worlds.{world_of}
@@ -11,8 +10,8 @@ use Rattle.object_steps.specs.Tests.{item_of}
 use Rattle.object_steps.proofs.Tested.{is_a_none, is_a_told, known_bool}
 use Rattle.object_steps.proofs.testing.is_a.Goals as goal
 
-pub returns-in_default : goal.returns-in_default
-returns-in_default g c =
+pub returns-in_default-clause-step : goal.returns-in_default-clause-step
+returns-in_default-clause-step g c =
     let facts = g.C.Types.facts c.args.set.now in
     let before = g.O.Objects.shown c.args.objects.now in
     heap_step (λ world. Does (op.Class None None) (reply.Item (bool_value false))) facts (λ from. ask.IsA
@@ -23,8 +22,8 @@ returns-in_default g c =
     (op.Class None None)
     (reply.Item (item_of false)) (λ roots rest. refl) tt refl (λ world t. refl)))
 
-pub returns : goal.returns
-returns g c =
+pub returns-clause-step : goal.returns-clause-step
+returns-clause-step g c =
     let facts = g.C.Types.facts c.args.set.now in
     let before = g.O.Objects.shown c.args.objects.now in
     let n = c.in-Some.n in

@@ -1,4 +1,4 @@
-use Rattle.std.proofs.Common.{refl, ◌≡◌, ap, sym, ◌∙◌}
+use Rattle.std.proofs.Common.{refl}
 use Rattle.natives.specs.declared.requests.Request.TheVariants as ask
 use Rattle.natives.specs.declared.requests.Reply.TheVariants as reply
 use Rattle.run_history.specs.declared.act.Op.TheVariants as op
@@ -10,8 +10,8 @@ use Rattle.object_steps.specs.Tests.{item_of, same_number}
 use Rattle.object_steps.proofs.Tested.{same_is, known_bool}
 use Rattle.object_steps.proofs.testing.same.Goals as goal
 
-pub returns : goal.returns
-returns g c set =
+pub returns-clause-step : goal.returns-clause-step
+returns-clause-step g c set =
     let before = g.O.Objects.shown c.args.objects.now in
     let yes = same_number (before.number c.args.left) (before.number c.args.right) in
     let value = item_value before.number (item_of yes) in

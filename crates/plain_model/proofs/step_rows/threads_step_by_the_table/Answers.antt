@@ -11,6 +11,10 @@ pub returns-clause-threads : goal.returns-clause-threads
 unfolding step int_wrap
 returns-clause-threads c = refl
 
+pub returns-clause-nearly : goal.returns-clause-nearly
+unfolding step int_wrap
+returns-clause-nearly c = refl
+
 pub returns-clause-crowded : goal.returns-clause-crowded
 unfolding step int_wrap
 returns-clause-crowded c = refl

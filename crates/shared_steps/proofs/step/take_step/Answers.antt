@@ -1,18 +1,19 @@
-use Rattle.std.proofs.Common.{rules, refl, ◌≡◌, ap, sym, ◌∙◌, [], w32}
+use Rattle.std.proofs.Common.{rules, refl, ap, ◌∙◌, [], w32}
 use Rattle.std.proofs.lemmas.Int.{to_z-of_z}
 use Rattle.std.proofs.lemmas.Option.{slice_get_within}
 use Rattle.natives.specs.declared.requests.Request.TheVariants as ask
 use Rattle.plain_model.proofs.SetHeaps.{form_is}
 use Rattle.shared_objects.specs.Worlds.{world_of}
 use Rattle.step_forms.proofs.Going.{asked, same_goes}
-use Rattle.shared_steps.proofs.Asking.{asks_is, class_there, field_there, held_kind, broken_goes, step_raise, quiet_output, quiet_faults, output_is, faults_are}
+use Rattle.step_forms.proofs.Becoming.{quiet_becomes}
+use Rattle.shared_steps.proofs.Asking.{asks_is, class_there, field_there, held_kind, broken_goes, step_raise, quiet_output, quiet_faults, output_is, faults_are, share_is, may_is}
 use Rattle.shared_steps.proofs.step.take_step.Goals as goal
 
 pub returns-in-Pause-clause-step : goal.returns-in-Pause-clause-step
 returns-in-Pause-clause-step g c =
     let facts = g.C.Types.facts c.args.set.now in
     let shown = g.O.Objects.shown c.args.objects.now in
-    asked facts c.args.t c.in-Pause.is (c.pause.ensures facts c.args.t c.args.rest.now shown (record {
+    asked facts c.args.t c.in-Pause.is (c.pause.ensures.step facts c.args.t c.args.rest.now shown (record {
       class
           = 0;
       method = 0;
@@ -54,7 +55,7 @@ pub returns-in-New-clause-step : goal.returns-in-New-clause-step
 returns-in-New-clause-step g c =
     let facts = g.C.Types.facts c.args.set.now in
     let shown = g.O.Objects.shown c.args.objects.now in
-    asked facts c.args.t c.in-New.is (c.new_object.ensures c.in-New.from)
+    asked facts c.args.t c.in-New.is (c.new_object.ensures.step c.in-New.from)
 
 pub returns-in-New-clause-output : goal.returns-in-New-clause-output
 returns-in-New-clause-output g c = quiet_output _ _ _ _ c.in-New.is refl
@@ -79,7 +80,7 @@ returns-in-NewArray-clause-step g c =
     let facts = g.C.Types.facts c.args.set.now in
     let shown = g.O.Objects.shown c.args.objects.now in
     asked facts c.args.t c.in-NewArray.is (rw (← to_z-of_z w32 c.in-NewArray.length (search rules))
-    (c.new_array.ensures c.args.t c.args.rest.now c.in-NewArray.from c.requires.agrees.monitors))
+    (c.new_array.ensures.step c.args.t c.args.rest.now c.in-NewArray.from c.requires.agrees.monitors))
 
 pub returns-in-NewArray-clause-output : goal.returns-in-NewArray-clause-output
 returns-in-NewArray-clause-output g c = quiet_output _ _ _ _ c.in-NewArray.is refl
@@ -92,7 +93,7 @@ returns-in-NewText-clause-step g c =
     let facts = g.C.Types.facts c.args.set.now in
     let shown = g.O.Objects.shown c.args.objects.now in
     asked facts c.args.t c.in-NewText.is (rw (← to_z-of_z w32 c.in-NewText.length (search rules))
-    (c.new_text.ensures c.args.t c.args.rest.now c.in-NewText.from c.requires.agrees.monitors))
+    (c.new_text.ensures.step c.args.t c.args.rest.now c.in-NewText.from c.requires.agrees.monitors))
 
 pub returns-in-NewText-clause-output : goal.returns-in-NewText-clause-output
 returns-in-NewText-clause-output g c = quiet_output _ _ _ _ c.in-NewText.is refl
@@ -112,17 +113,23 @@ get_static-requires-clause-there g c =
     let asks = asks_is c.in-GetStatic.is c.requires.asks in
     field_there c.requires.agrees c.in-GetStatic.field asks.fit
 
+pub get_static-requires-clause-static_here : goal.get_static-requires-clause-static_here
+get_static-requires-clause-static_here g c =
+    let facts = g.C.Types.facts c.args.set.now in
+    let asks = asks_is c.in-GetStatic.is c.requires.asks in
+    asks.here.0
+
 pub get_static-requires-clause-here : goal.get_static-requires-clause-here
 get_static-requires-clause-here g c =
     let facts = g.C.Types.facts c.args.set.now in
     let asks = asks_is c.in-GetStatic.is c.requires.asks in
-    asks.here
+    asks.here.1
 
 pub returns-in-GetStatic-clause-step : goal.returns-in-GetStatic-clause-step
 returns-in-GetStatic-clause-step g c =
     let facts = g.C.Types.facts c.args.set.now in
     let shown = g.O.Objects.shown c.args.objects.now in
-    asked facts c.args.t c.in-GetStatic.is (c.get_static.ensures facts c.in-GetStatic.from
+    asked facts c.args.t c.in-GetStatic.is (c.get_static.ensures.step facts c.in-GetStatic.from
     c.requires.agrees.monitors)
 
 pub returns-in-GetStatic-clause-output : goal.returns-in-GetStatic-clause-output
@@ -162,17 +169,23 @@ put_static-requires-clause-known g c =
     let asks = asks_is c.in-PutStatic.is c.requires.asks in
     asks.known
 
+pub put_static-requires-clause-static_here : goal.put_static-requires-clause-static_here
+put_static-requires-clause-static_here g c =
+    let facts = g.C.Types.facts c.args.set.now in
+    let asks = asks_is c.in-PutStatic.is c.requires.asks in
+    asks.here.0
+
 pub put_static-requires-clause-here : goal.put_static-requires-clause-here
 put_static-requires-clause-here g c =
     let facts = g.C.Types.facts c.args.set.now in
     let asks = asks_is c.in-PutStatic.is c.requires.asks in
-    asks.here
+    asks.here.1
 
 pub returns-in-PutStatic-clause-step : goal.returns-in-PutStatic-clause-step
 returns-in-PutStatic-clause-step g c =
     let facts = g.C.Types.facts c.args.set.now in
     let shown = g.O.Objects.shown c.args.objects.now in
-    asked facts c.args.t c.in-PutStatic.is (c.put_static.ensures facts c.in-PutStatic.from
+    asked facts c.args.t c.in-PutStatic.is (c.put_static.ensures.step facts c.in-PutStatic.from
     c.requires.agrees.monitors)
 
 pub returns-in-PutStatic-clause-output : goal.returns-in-PutStatic-clause-output
@@ -215,7 +228,7 @@ pub returns-in-GetField-clause-step : goal.returns-in-GetField-clause-step
 returns-in-GetField-clause-step g c =
     let facts = g.C.Types.facts c.args.set.now in
     let shown = g.O.Objects.shown c.args.objects.now in
-    asked facts c.args.t c.in-GetField.is (c.get_field.ensures c.args.t c.args.rest.now c.in-GetField.from
+    asked facts c.args.t c.in-GetField.is (c.get_field.ensures.step c.args.t c.args.rest.now c.in-GetField.from
     c.requires.agrees.monitors)
 
 pub returns-in-GetField-clause-output : goal.returns-in-GetField-clause-output
@@ -271,7 +284,7 @@ pub returns-in-PutField-clause-step : goal.returns-in-PutField-clause-step
 returns-in-PutField-clause-step g c =
     let facts = g.C.Types.facts c.args.set.now in
     let shown = g.O.Objects.shown c.args.objects.now in
-    asked facts c.args.t c.in-PutField.is (c.put_field.ensures c.args.t c.args.rest.now c.in-PutField.from
+    asked facts c.args.t c.in-PutField.is (c.put_field.ensures.step c.args.t c.args.rest.now c.in-PutField.from
     c.requires.agrees.monitors)
 
 pub returns-in-PutField-clause-output : goal.returns-in-PutField-clause-output
@@ -309,7 +322,7 @@ returns-in-GetElement-clause-step g c =
     let facts = g.C.Types.facts c.args.set.now in
     let shown = g.O.Objects.shown c.args.objects.now in
     asked facts c.args.t c.in-GetElement.is (rw (← to_z-of_z w32 c.in-GetElement.index (search rules))
-    (c.get_element.ensures c.args.t c.args.rest.now c.in-GetElement.from c.requires.agrees.monitors))
+    (c.get_element.ensures.step c.args.t c.args.rest.now c.in-GetElement.from c.requires.agrees.monitors))
 
 pub returns-in-GetElement-clause-output : goal.returns-in-GetElement-clause-output
 returns-in-GetElement-clause-output g c = quiet_output _ _ _ _ c.in-GetElement.is refl
@@ -359,7 +372,7 @@ returns-in-PutElement-clause-step g c =
     let facts = g.C.Types.facts c.args.set.now in
     let shown = g.O.Objects.shown c.args.objects.now in
     asked facts c.args.t c.in-PutElement.is (rw (← to_z-of_z w32 c.in-PutElement.index (search rules))
-    (c.put_element.ensures c.args.t c.args.rest.now c.in-PutElement.from c.requires.agrees.monitors))
+    (c.put_element.ensures.step c.args.t c.args.rest.now c.in-PutElement.from c.requires.agrees.monitors))
 
 pub returns-in-PutElement-clause-output : goal.returns-in-PutElement-clause-output
 returns-in-PutElement-clause-output g c = quiet_output _ _ _ _ c.in-PutElement.is refl
@@ -383,7 +396,7 @@ pub returns-in-Length-clause-step : goal.returns-in-Length-clause-step
 returns-in-Length-clause-step g c =
     let facts = g.C.Types.facts c.args.set.now in
     let shown = g.O.Objects.shown c.args.objects.now in
-    asked facts c.args.t c.in-Length.is (c.length.ensures c.args.t c.args.rest.now c.in-Length.from
+    asked facts c.args.t c.in-Length.is (c.length.ensures.step c.args.t c.args.rest.now c.in-Length.from
     c.requires.agrees.monitors)
 
 pub returns-in-Length-clause-output : goal.returns-in-Length-clause-output
@@ -408,7 +421,7 @@ pub returns-in-ClassOf-clause-step : goal.returns-in-ClassOf-clause-step
 returns-in-ClassOf-clause-step g c =
     let facts = g.C.Types.facts c.args.set.now in
     let shown = g.O.Objects.shown c.args.objects.now in
-    asked facts c.args.t c.in-ClassOf.is (c.class_of.ensures c.args.t c.args.rest.now c.in-ClassOf.from
+    asked facts c.args.t c.in-ClassOf.is (c.class_of.ensures.step c.args.t c.args.rest.now c.in-ClassOf.from
     c.requires.agrees.monitors)
 
 pub returns-in-ClassOf-clause-output : goal.returns-in-ClassOf-clause-output
@@ -433,7 +446,7 @@ pub returns-in-Cast-clause-step : goal.returns-in-Cast-clause-step
 returns-in-Cast-clause-step g c =
     let facts = g.C.Types.facts c.args.set.now in
     let shown = g.O.Objects.shown c.args.objects.now in
-    asked facts c.args.t c.in-Cast.is (c.cast.ensures c.args.t c.args.rest.now c.in-Cast.from
+    asked facts c.args.t c.in-Cast.is (c.cast.ensures.step c.args.t c.args.rest.now c.in-Cast.from
     c.requires.agrees.monitors)
 
 pub returns-in-Cast-clause-output : goal.returns-in-Cast-clause-output
@@ -458,7 +471,7 @@ pub returns-in-IsA-clause-step : goal.returns-in-IsA-clause-step
 returns-in-IsA-clause-step g c =
     let facts = g.C.Types.facts c.args.set.now in
     let shown = g.O.Objects.shown c.args.objects.now in
-    asked facts c.args.t c.in-IsA.is (c.is_a.ensures c.args.t c.args.rest.now c.in-IsA.from
+    asked facts c.args.t c.in-IsA.is (c.is_a.ensures.step c.args.t c.args.rest.now c.in-IsA.from
     c.requires.agrees.monitors)
 
 pub returns-in-IsA-clause-output : goal.returns-in-IsA-clause-output
@@ -495,7 +508,7 @@ pub returns-in-Same-clause-step : goal.returns-in-Same-clause-step
 returns-in-Same-clause-step g c =
     let facts = g.C.Types.facts c.args.set.now in
     let shown = g.O.Objects.shown c.args.objects.now in
-    asked facts c.args.t c.in-Same.is (c.same.ensures facts c.args.t c.args.rest.now c.in-Same.from
+    asked facts c.args.t c.in-Same.is (c.same.ensures.step facts c.args.t c.args.rest.now c.in-Same.from
     c.requires.agrees.monitors)
 
 pub returns-in-Same-clause-output : goal.returns-in-Same-clause-output
@@ -520,7 +533,7 @@ pub returns-in-Start-clause-step : goal.returns-in-Start-clause-step
 returns-in-Start-clause-step g c =
     let facts = g.C.Types.facts c.args.set.now in
     let shown = g.O.Objects.shown c.args.objects.now in
-    asked facts c.args.t c.in-Start.is (c.start.ensures c.args.t c.in-Start.from)
+    asked facts c.args.t c.in-Start.is (c.start.ensures.step c.args.t c.in-Start.from)
 
 pub returns-in-Start-clause-output : goal.returns-in-Start-clause-output
 returns-in-Start-clause-output g c = quiet_output _ _ _ _ c.in-Start.is refl
@@ -544,7 +557,7 @@ pub returns-in-Join-clause-step : goal.returns-in-Join-clause-step
 returns-in-Join-clause-step g c =
     let facts = g.C.Types.facts c.args.set.now in
     let shown = g.O.Objects.shown c.args.objects.now in
-    asked facts c.args.t c.in-Join.is (c.join.ensures c.args.t c.in-Join.from)
+    asked facts c.args.t c.in-Join.is (c.join.ensures.step c.args.t c.in-Join.from)
 
 pub returns-in-Join-clause-output : goal.returns-in-Join-clause-output
 returns-in-Join-clause-output g c = quiet_output _ _ _ _ c.in-Join.is refl
@@ -562,7 +575,7 @@ pub returns-in-Init-clause-step : goal.returns-in-Init-clause-step
 returns-in-Init-clause-step g c =
     let facts = g.C.Types.facts c.args.set.now in
     let shown = g.O.Objects.shown c.args.objects.now in
-    asked facts c.args.t c.in-Init.is (c.init.ensures facts shown c.in-Init.from c.requires.agrees.monitors)
+    asked facts c.args.t c.in-Init.is (c.init.ensures.step facts shown c.in-Init.from c.requires.agrees.monitors)
 
 pub returns-in-Init-clause-output : goal.returns-in-Init-clause-output
 returns-in-Init-clause-output g c = quiet_output _ _ _ _ c.in-Init.is refl
@@ -580,7 +593,7 @@ pub returns-in-InitDone-clause-step : goal.returns-in-InitDone-clause-step
 returns-in-InitDone-clause-step g c =
     let facts = g.C.Types.facts c.args.set.now in
     let shown = g.O.Objects.shown c.args.objects.now in
-    asked facts c.args.t c.in-InitDone.is (c.init_done.ensures facts c.args.t shown c.in-InitDone.from
+    asked facts c.args.t c.in-InitDone.is (c.init_done.ensures.step facts c.args.t shown c.in-InitDone.from
     c.requires.agrees.monitors)
 
 pub returns-in-InitDone-clause-output : goal.returns-in-InitDone-clause-output
@@ -613,7 +626,7 @@ returns-in-Raise-clause-step g c =
     let facts = g.C.Types.facts c.args.set.now in
     let shown = g.O.Objects.shown c.args.objects.now in
     asked facts c.args.t c.in-Raise.is (same_goes (λ roots taken. step_raise facts (world_of roots shown
-    c.args.rest.now) c.args.t taken c.in-Raise.from c.in-Raise.class) (c.throw_class.ensures c.args.t
+    c.args.rest.now) c.args.t taken c.in-Raise.from c.in-Raise.class) (c.throw_class.ensures.step c.args.t
     c.args.rest.now c.requires.agrees.monitors))
 
 pub returns-in-Raise-clause-output : goal.returns-in-Raise-clause-output
@@ -632,7 +645,7 @@ pub returns-in-Begin-clause-step : goal.returns-in-Begin-clause-step
 returns-in-Begin-clause-step g c =
     let facts = g.C.Types.facts c.args.set.now in
     let shown = g.O.Objects.shown c.args.objects.now in
-    asked facts c.args.t c.in-Begin.is (c.begin.ensures facts shown c.in-Begin.from
+    asked facts c.args.t c.in-Begin.is (c.begin.ensures.step facts shown c.in-Begin.from
     c.requires.agrees.monitors)
 
 pub returns-in-Begin-clause-output : goal.returns-in-Begin-clause-output
@@ -651,7 +664,7 @@ pub returns-in-End-clause-step : goal.returns-in-End-clause-step
 returns-in-End-clause-step g c =
     let facts = g.C.Types.facts c.args.set.now in
     let shown = g.O.Objects.shown c.args.objects.now in
-    asked facts c.args.t c.in-End.is (c.end.ensures c.in-End.from)
+    asked facts c.args.t c.in-End.is (c.end.ensures.step c.in-End.from)
 
 pub returns-in-End-clause-output : goal.returns-in-End-clause-output
 returns-in-End-clause-output g c = quiet_output _ _ _ _ c.in-End.is refl
@@ -669,7 +682,7 @@ pub returns-in-Leave-clause-step : goal.returns-in-Leave-clause-step
 returns-in-Leave-clause-step g c =
     let facts = g.C.Types.facts c.args.set.now in
     let shown = g.O.Objects.shown c.args.objects.now in
-    asked facts c.args.t c.in-Leave.is (c.leave.ensures facts shown (record {
+    asked facts c.args.t c.in-Leave.is (c.leave.ensures.step facts shown (record {
       class = 0;
       method = 0;
       pc = 0;
@@ -685,22 +698,156 @@ pub returns-in-Object-clause-step : goal.returns-in-Object-clause-step
 returns-in-Object-clause-step g c =
     let facts = g.C.Types.facts c.args.set.now in
     asked facts c.args.t (c.in-Enter.is ∙ ap (ask.Enter c.in-Enter.from) c.in-Object.is)
-    (c.enter_object.ensures c.in-Enter.from)
+    (c.enter_object.ensures.step c.in-Enter.from)
 
 pub returns-in-Class-clause-step : goal.returns-in-Class-clause-step
 returns-in-Class-clause-step g c =
     let facts = g.C.Types.facts c.args.set.now in
     asked facts c.args.t (c.in-Enter.is ∙ ap (ask.Enter c.in-Enter.from) c.in-Class.is)
-    (c.enter_class.ensures facts c.in-Enter.from)
+    (c.enter_class.ensures.step facts c.in-Enter.from)
 
 pub returns-in-Object-key-clause-step : goal.returns-in-Object-key-clause-step
 returns-in-Object-key-clause-step g c =
     let facts = g.C.Types.facts c.args.set.now in
     asked facts c.args.t (c.in-Exit.is ∙ ap (ask.Exit c.in-Exit.from) c.in-Object-key.is)
-    (c.exit_object.ensures c.in-Exit.from)
+    (c.exit_object.ensures.step c.in-Exit.from)
 
 pub returns-in-Class-key-clause-step : goal.returns-in-Class-key-clause-step
 returns-in-Class-key-clause-step g c =
     let facts = g.C.Types.facts c.args.set.now in
     asked facts c.args.t (c.in-Exit.is ∙ ap (ask.Exit c.in-Exit.from) c.in-Class-key.is)
-    (c.exit_class.ensures c.in-Exit.from)
+    (c.exit_class.ensures.step c.in-Exit.from)
+
+pub returns-in-Pause-clause-share : goal.returns-in-Pause-clause-share
+returns-in-Pause-clause-share g c = share_is _ _ _ _ c.in-Pause.is tt
+
+pub returns-in-Pause-clause-heap : goal.returns-in-Pause-clause-heap
+returns-in-Pause-clause-heap g c = quiet_becomes g.O.Objects.shown g.O.Objects.stores g.O.Objects.makes
+    c.args.objects.now c.pause.result c.pause.ensures.quiet
+
+pub returns-in-Broken-clause-share : goal.returns-in-Broken-clause-share
+returns-in-Broken-clause-share g c = share_is _ _ _ _ c.in-Broken.is tt
+
+pub returns-in-New-clause-share : goal.returns-in-New-clause-share
+returns-in-New-clause-share g c = share_is _ _ _ _ c.in-New.is tt
+
+pub returns-in-NewArray-clause-share : goal.returns-in-NewArray-clause-share
+returns-in-NewArray-clause-share g c = share_is _ _ _ _ c.in-NewArray.is tt
+
+pub returns-in-NewText-clause-share : goal.returns-in-NewText-clause-share
+returns-in-NewText-clause-share g c = share_is _ _ _ _ c.in-NewText.is tt
+
+pub returns-in-GetStatic-clause-share : goal.returns-in-GetStatic-clause-share
+returns-in-GetStatic-clause-share g c = share_is _ _ _ _ c.in-GetStatic.is tt
+
+pub returns-in-GetStatic-clause-heap : goal.returns-in-GetStatic-clause-heap
+returns-in-GetStatic-clause-heap g c = quiet_becomes g.O.Objects.shown g.O.Objects.stores g.O.Objects.makes
+    c.args.objects.now c.get_static.result c.get_static.ensures.quiet
+
+pub returns-in-PutStatic-clause-share : goal.returns-in-PutStatic-clause-share
+returns-in-PutStatic-clause-share g c = share_is _ _ _ _ c.in-PutStatic.is tt
+
+pub returns-in-GetField-clause-share : goal.returns-in-GetField-clause-share
+returns-in-GetField-clause-share g c = share_is _ _ _ _ c.in-GetField.is tt
+
+pub returns-in-PutField-clause-share : goal.returns-in-PutField-clause-share
+returns-in-PutField-clause-share g c = share_is _ _ _ _ c.in-PutField.is tt
+
+pub returns-in-GetElement-clause-share : goal.returns-in-GetElement-clause-share
+returns-in-GetElement-clause-share g c = share_is _ _ _ _ c.in-GetElement.is tt
+
+pub returns-in-PutElement-clause-share : goal.returns-in-PutElement-clause-share
+returns-in-PutElement-clause-share g c = share_is _ _ _ _ c.in-PutElement.is tt
+
+pub returns-in-Length-clause-share : goal.returns-in-Length-clause-share
+returns-in-Length-clause-share g c = share_is _ _ _ _ c.in-Length.is tt
+
+pub returns-in-ClassOf-clause-share : goal.returns-in-ClassOf-clause-share
+returns-in-ClassOf-clause-share g c = share_is _ _ _ _ c.in-ClassOf.is tt
+
+pub returns-in-Cast-clause-share : goal.returns-in-Cast-clause-share
+returns-in-Cast-clause-share g c = share_is _ _ _ _ c.in-Cast.is tt
+
+pub returns-in-IsA-clause-share : goal.returns-in-IsA-clause-share
+returns-in-IsA-clause-share g c = share_is _ _ _ _ c.in-IsA.is tt
+
+pub returns-in-IsA-clause-heap : goal.returns-in-IsA-clause-heap
+returns-in-IsA-clause-heap g c = quiet_becomes g.O.Objects.shown g.O.Objects.stores g.O.Objects.makes
+    c.args.objects.now c.is_a.result c.is_a.ensures.quiet
+
+pub returns-in-Same-clause-share : goal.returns-in-Same-clause-share
+returns-in-Same-clause-share g c = share_is _ _ _ _ c.in-Same.is tt
+
+pub returns-in-Same-clause-heap : goal.returns-in-Same-clause-heap
+returns-in-Same-clause-heap g c = quiet_becomes g.O.Objects.shown g.O.Objects.stores g.O.Objects.makes
+    c.args.objects.now c.same.result c.same.ensures.quiet
+
+pub returns-in-Start-clause-share : goal.returns-in-Start-clause-share
+returns-in-Start-clause-share g c = share_is _ _ _ _ c.in-Start.is tt
+
+pub returns-in-Join-clause-share : goal.returns-in-Join-clause-share
+returns-in-Join-clause-share g c = share_is _ _ _ _ c.in-Join.is tt
+
+pub returns-in-Init-clause-share : goal.returns-in-Init-clause-share
+returns-in-Init-clause-share g c = share_is _ _ _ _ c.in-Init.is tt
+
+pub returns-in-Init-clause-heap : goal.returns-in-Init-clause-heap
+returns-in-Init-clause-heap g c = quiet_becomes g.O.Objects.shown g.O.Objects.stores g.O.Objects.makes
+    c.args.objects.now c.init.result c.init.ensures.quiet
+
+pub returns-in-InitDone-clause-share : goal.returns-in-InitDone-clause-share
+returns-in-InitDone-clause-share g c = share_is _ _ _ _ c.in-InitDone.is tt
+
+pub returns-in-InitDone-clause-heap : goal.returns-in-InitDone-clause-heap
+returns-in-InitDone-clause-heap g c = quiet_becomes g.O.Objects.shown g.O.Objects.stores g.O.Objects.makes
+    c.args.objects.now c.init_done.result c.init_done.ensures.quiet
+
+pub returns-in-Print-clause-share : goal.returns-in-Print-clause-share
+returns-in-Print-clause-share g c = share_is _ _ _ _ c.in-Print.is c.print.ensures.share
+
+pub returns-in-Print-clause-heap : goal.returns-in-Print-clause-heap
+returns-in-Print-clause-heap g c = quiet_becomes g.O.Objects.shown g.O.Objects.stores g.O.Objects.makes
+    c.args.objects.now c.print.result c.print.ensures.quiet
+
+pub returns-in-Raise-clause-share : goal.returns-in-Raise-clause-share
+returns-in-Raise-clause-share g c = share_is _ _ _ _ c.in-Raise.is tt
+
+pub returns-in-Begin-clause-share : goal.returns-in-Begin-clause-share
+returns-in-Begin-clause-share g c = share_is _ _ _ _ c.in-Begin.is tt
+
+pub returns-in-Begin-clause-heap : goal.returns-in-Begin-clause-heap
+returns-in-Begin-clause-heap g c = quiet_becomes g.O.Objects.shown g.O.Objects.stores g.O.Objects.makes
+    c.args.objects.now c.begin.result c.begin.ensures.quiet
+
+pub returns-in-End-clause-share : goal.returns-in-End-clause-share
+returns-in-End-clause-share g c = share_is _ _ _ _ c.in-End.is tt
+
+pub returns-in-Leave-clause-share : goal.returns-in-Leave-clause-share
+returns-in-Leave-clause-share g c = share_is _ _ _ _ c.in-Leave.is tt
+
+pub returns-in-Leave-clause-heap : goal.returns-in-Leave-clause-heap
+returns-in-Leave-clause-heap g c = quiet_becomes g.O.Objects.shown g.O.Objects.stores g.O.Objects.makes
+    c.args.objects.now c.leave.result c.leave.ensures.quiet
+
+pub put_static-requires-clause-may : goal.put_static-requires-clause-may
+put_static-requires-clause-may g c place kind kept narrowed stores =
+    let facts = g.C.Types.facts c.args.set.now in
+    let shown = g.O.Objects.shown c.args.objects.now in
+    may_is facts shown c.args.rest.now c.args.t c.in-PutStatic.is c.requires.may refl place kind kept narrowed
+    (stores facts 0 [] c.in-PutStatic.from)
+
+pub put_field-requires-clause-may : goal.put_field-requires-clause-may
+put_field-requires-clause-may g c place kind kept narrowed stores =
+    let facts = g.C.Types.facts c.args.set.now in
+    let shown = g.O.Objects.shown c.args.objects.now in
+    may_is facts shown c.args.rest.now c.args.t c.in-PutField.is c.requires.may refl place kind kept narrowed
+    (stores c.args.t 0 [] c.args.rest.now c.in-PutField.from)
+
+pub put_element-requires-clause-may : goal.put_element-requires-clause-may
+put_element-requires-clause-may g c place kind kept narrowed stores =
+    let facts = g.C.Types.facts c.args.set.now in
+    let shown = g.O.Objects.shown c.args.objects.now in
+    may_is facts shown c.args.rest.now c.args.t c.in-PutElement.is c.requires.may refl place kind kept
+    narrowed
+    (rw (to_z-of_z w32 c.in-PutElement.index (search rules)) at (stores c.args.t 0 [] c.args.rest.now
+    c.in-PutElement.from))

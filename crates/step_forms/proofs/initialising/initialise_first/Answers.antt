@@ -1,4 +1,4 @@
-use Rattle.std.proofs.Common.{refl, ◌≡◌, ◌≢◌, ap, sym, ◌∙◌, rules, slice_get, Some}
+use Rattle.std.proofs.Common.{refl, ◌≡◌, ◌≢◌, ap, ◌∙◌, rules, slice_get}
 use Rattle.run_types.specs.declared.wait.On.TheVariants as on
 use Rattle.natives.specs.declared.requests.Reply.TheVariants as reply
 use Rattle.run_history.specs.declared.act.Op.TheVariants as op
@@ -9,16 +9,16 @@ use Rattle.step_forms.proofs.Going.{did_goes, waits_goes}
 use Rattle.step_forms.proofs.Ways.{class_untouched, class_finished, class_own, class_waits, progress_is}
 use Rattle.step_forms.proofs.initialising.initialise_first.Goals as goal
 
-pub returns-in-Untouched : goal.returns-in-Untouched
-returns-in-Untouched c set shown go known =
+pub returns-in-Untouched-clause-first : goal.returns-in-Untouched-clause-first
+returns-in-Untouched-clause-first c set shown go known =
     let is = progress_is c.args.rest.now.classes.items c.args.class c.index.result.now Untouched
     c.requires.there c.index.ensures c.in-Untouched.is in
     did_goes (op.Init c.args.class stage.Begun) (reply.Init c.args.class)
     (λ roots. class_untouched set (world_of roots shown c.args.rest.now) c.args.t c.args.class (go roots 1)
     is) tt refl (λ roots. refl) known
 
-pub returns-then-number : goal.returns-then-number
-returns-then-number c =
+pub returns-then-number-clause-first : goal.returns-then-number-clause-first
+returns-then-number-clause-first c =
     let is = progress_is c.args.rest.now.classes.items c.args.class c.index.result.now (BegunBy
     c.in-BegunBy.u) c.requires.there c.index.ensures c.in-BegunBy.is in
     let own : c.in-BegunBy.u ≡ c.args.t = search rules in (
@@ -27,8 +27,8 @@ returns-then-number c =
       refl,
     )
 
-pub returns-else-number : goal.returns-else-number
-returns-else-number c set shown go known =
+pub returns-else-number-clause-first : goal.returns-else-number-clause-first
+returns-else-number-clause-first c set shown go known =
     let is = progress_is c.args.rest.now.classes.items c.args.class c.index.result.now (BegunBy
     c.in-BegunBy.u) c.requires.there c.index.ensures c.in-BegunBy.is in
     let other : c.in-BegunBy.u ≢ c.args.t = search rules in
@@ -36,8 +36,8 @@ returns-else-number c set shown go known =
     (λ roots taken. class_waits set (world_of roots shown c.args.rest.now) c.args.t c.args.class
     c.in-BegunBy.u (go roots taken) is other) known
 
-pub returns-in-Finished : goal.returns-in-Finished
-returns-in-Finished c =
+pub returns-in-Finished-clause-first : goal.returns-in-Finished-clause-first
+returns-in-Finished-clause-first c =
     let is = progress_is c.args.rest.now.classes.items c.args.class c.index.result.now Finished
     c.requires.there c.index.ensures c.in-Finished.is in (
       λ set world go same. class_finished set world c.args.t c.args.class go (ap (λ ps. slice_get ps

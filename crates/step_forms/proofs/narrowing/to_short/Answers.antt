@@ -1,6 +1,6 @@
-use Rattle.std.proofs.Common.{◌≡◌, ◌∙◌, ap, ℤ, pos, ◌^◌, w32, unsigned_abs}
+use Rattle.std.proofs.Common.{◌∙◌, ap, ℤ, pos, ◌^◌, w32, unsigned_abs}
 use Rattle.std.proofs.Math.Facts.{to_z-of_z}
-use Rattle.std.specs.Int.{int_wrap, int_rem_euclid, w8, w16, cast_signed}
+use Rattle.std.specs.Int.{int_wrap, int_rem_euclid, w16, cast_signed}
 use Rattle.step_forms.proofs.narrowing.to_short.Goals as goal
 
 pub returns : goal.returns

@@ -5,5 +5,5 @@ pub throw_class-requires-clause-there : goal.throw_class-requires-clause-there
 throw_class-requires-clause-there g c =
     rw c.thrown.ensures (throwables_there (g.C.Types.facts c.args.set.now) c.args.which)
 
-pub returns : goal.returns
-returns g c = rw (← c.thrown.ensures) c.throw_class.ensures
+pub returns-clause-step : goal.returns-clause-step
+returns-clause-step g c = rw (← c.thrown.ensures) c.throw_class.ensures.step

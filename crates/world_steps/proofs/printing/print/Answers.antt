@@ -1,4 +1,4 @@
-use Rattle.std.proofs.Common.{refl, ◌≡◌, ap, sym, ◌∙◌, take, length, ◌<◌, ◌≤◌, inl, subst, arith}
+use Rattle.std.proofs.Common.{refl, ◌≡◌, ap, sym, ◌∙◌, take, length, ◌<◌, ◌≤◌, subst, arith}
 use Rattle.std.proofs.lemmas.List.{length-take-le}
 use Rattle.natives.specs.declared.requests.Request.TheVariants as ask
 use Rattle.natives.specs.declared.requests.Reply.TheVariants as reply
@@ -31,3 +31,12 @@ returns-in-Some-clause-step g c set t rest shown from known =
     (λ roots. ap (λ k. step set (world_of roots shown rest) t k (ask.Print from c.args.piece)) long
     ∙ some_printed set (world_of roots shown rest) t c.in-Ok.taken from c.args.piece some most
     ∙ ap (λ bs. Does (op.Print bs) (reply.Printed c.in-Ok.taken)) (sym is)) tt refl (λ roots. refl) known
+
+pub returns-in-Some-clause-share : goal.returns-in-Some-clause-share
+returns-in-Some-clause-share g c =
+    let is : c.in-Some.bytes ≡ take c.in-Ok.taken c.args.piece = c.in-Some.ensures.same
+    ∙ ap (take c.in-Ok.taken) c.as_slice-in-Ok.ensures.same in
+    let most : c.in-Ok.taken ≤ length c.args.piece = rw (← c.as_slice.ensures.same) c.in-Ok.ensures.some.1 in
+    let long : length c.in-Some.bytes ≡ c.in-Ok.taken = ap length is
+    ∙ length-take-le c.in-Ok.taken c.args.piece most in
+    rw (long, ← c.as_slice.ensures.same) c.in-Ok.ensures.told

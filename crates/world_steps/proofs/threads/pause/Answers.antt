@@ -6,7 +6,7 @@ use Rattle.step_forms.proofs.Going.{did_goes}
 use Rattle.world_steps.proofs.Worldly.{step_pause}
 use Rattle.world_steps.proofs.threads.pause.Goals as goal
 
-pub returns : goal.returns
-returns c set t rest shown from known =
+pub returns-clause-step : goal.returns-clause-step
+returns-clause-step c set t rest shown from known =
     did_goes op.Pause reply.Done (λ roots. step_pause set (world_of roots shown rest) t 1 from) tt refl (λ
     roots. refl) known

@@ -1,5 +1,4 @@
-use Rattle.std.proofs.Common.{rules, refl, ◌≡◌, ◌<◌, ◌≤◌, ◌∙◌, true, false, None, Some, ap, sym, is_some, arith}
-use Rattle.std.proofs.lemmas.Bool.{cases_lt, false≢true}
+use Rattle.std.proofs.Common.{rules, refl, ◌≡◌, ◌∙◌, true, false, None, ap, is_some}
 use Rattle.run_types.specs.declared.known.Known.{Known}
 use Rattle.plain_model.specs.Facts.{is_sub}
 use Rattle.plain_model.specs.Steps.{starts_thread}
@@ -11,16 +10,16 @@ use Rattle.world_steps.proofs.Resting.{start_goes, start_full, room_left, none_o
 use Rattle.world_steps.proofs.Worldly.{start_none, start_wrong, start_right}
 use Rattle.world_steps.proofs.threads.start.Goals as goal
 
-pub returns-in_default : goal.returns-in_default
-returns-in_default g c t from =
+pub returns-in_default-clause-step : goal.returns-in_default-clause-step
+returns-in_default-clause-step g c t from =
     let facts = g.C.Types.facts c.args.set.now in
     let before = g.O.Objects.shown c.args.objects.now in
     same_goes (λ roots taken. start_none facts (world_of roots before c.args.rest.now) t taken from _ (search
     rules))
-    (c.throw.ensures t c.args.rest.now c.requires.monitors)
+    (c.throw.ensures.step t c.args.rest.now c.requires.monitors)
 
-pub returns-then-not-is_sub : goal.returns-then-not-is_sub
-returns-then-not-is_sub g c t from =
+pub returns-then-not-is_sub-clause-step : goal.returns-then-not-is_sub-clause-step
+returns-then-not-is_sub-clause-step g c t from =
     let facts = g.C.Types.facts c.args.set.now in
     let before = g.O.Objects.shown c.args.objects.now in
     let test : is_sub facts c.shape_of.result c.known.result.thread ≡ false = search rules in
@@ -30,8 +29,8 @@ returns-then-not-is_sub g c t from =
     (c.shape_of.ensures.shape c.in-Some.object c.in-Some.ensures.number) (ap (λ (k : Known). k.thread)
     c.known.ensures) test) c.requires.monitors
 
-pub returns-then-is_some : goal.returns-then-is_some
-returns-then-is_some g c t from =
+pub returns-then-is_some-clause-step : goal.returns-then-is_some-clause-step
+returns-then-is_some-clause-step g c t from =
     let facts = g.C.Types.facts c.args.set.now in
     let before = g.O.Objects.shown c.args.objects.now in
     let rest = c.args.rest.now in
@@ -43,10 +42,10 @@ returns-then-is_some g c t from =
     (c.shape_of.ensures.shape n c.in-Some.ensures.number) (ap (λ (k : Known). k.thread) c.known.ensures) test
     ∙ ap (starts_thread facts (world_of roots before rest) n) (found_plain 0 n rest.threads)
     ∙ started_again facts (world_of roots before rest) rest.threads n (started_from 0 rest.threads n) some)
-    (c.throw-then-is_some.ensures t rest c.requires.monitors)
+    (c.throw-then-is_some.ensures.step t rest c.requires.monitors)
 
-pub returns-in-Err : goal.returns-in-Err
-returns-in-Err g c t from =
+pub returns-in-Err-clause-step : goal.returns-in-Err-clause-step
+returns-in-Err-clause-step g c t from =
     let facts = g.C.Types.facts c.args.set.now in
     let before = g.O.Objects.shown c.args.objects.now in
     let rest = c.args.rest.now in
@@ -62,8 +61,8 @@ returns-in-Err g c t from =
     (c.in-Err.ensures.full.0 refl)
     c.in-Err.ensures.numbers c.in-Err.ensures.same)
 
-pub returns-in-Ok : goal.returns-in-Ok
-returns-in-Ok g c t from =
+pub returns-in-Ok-clause-step : goal.returns-in-Ok-clause-step
+returns-in-Ok-clause-step g c t from =
     let facts = g.C.Types.facts c.args.set.now in
     let before = g.O.Objects.shown c.args.objects.now in
     let rest = c.args.rest.now in

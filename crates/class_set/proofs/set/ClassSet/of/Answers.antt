@@ -22,7 +22,7 @@ pub types-requires-clause-names : goal.types-requires-clause-names
 types-requires-clause-names c =
     let files = c.args.files.items in
     let linked : AreLinked files c.add_all.new.self =
-    names_linked files c.add_all.new.self c.requires.small (c.in_ok-add_all.ensures
+    names_linked files c.add_all.new.self c.requires.small (c.in_ok-add_all.ensures.added
     ∙ ap (λ ns. with_texts ns c.in_ok-needed.needed) (c.in_ok-names.ensures ∙ ap class_names c.as_slice.ensures.value)
     ∙ ap (with_texts (class_names files)) (c.in_ok-needed.ensures ∙ ap (listed_arrays Needed) c.as_slice-5.ensures.value)) in
     names_named files c.add_all.new.self linked ∙ ap (λ fs. names_of (linked_of fs c.add_all.new.self)) (sym c.as_slice-7.ensures.value)
@@ -31,7 +31,7 @@ pub types-requires-clause-arrays : goal.types-requires-clause-arrays
 types-requires-clause-arrays c =
     let files = c.args.files.items in
     let linked : AreLinked files c.add_all.new.self =
-    names_linked files c.add_all.new.self c.requires.small (c.in_ok-add_all.ensures
+    names_linked files c.add_all.new.self c.requires.small (c.in_ok-add_all.ensures.added
     ∙ ap (λ ns. with_texts ns c.in_ok-needed.needed) (c.in_ok-names.ensures ∙ ap class_names c.as_slice.ensures.value)
     ∙ ap (with_texts (class_names files)) (c.in_ok-needed.ensures ∙ ap (listed_arrays Needed) c.as_slice-5.ensures.value)) in
     let count : length c.as_slice-8.result.now ≡ length files + 28 =
@@ -49,7 +49,7 @@ pub invariant_of-result : goal.invariant_of-result
 invariant_of-result c =
     let files = c.args.files.items in
     let linked : AreLinked files c.add_all.new.self =
-    names_linked files c.add_all.new.self c.requires.small (c.in_ok-add_all.ensures
+    names_linked files c.add_all.new.self c.requires.small (c.in_ok-add_all.ensures.added
     ∙ ap (λ ns. with_texts ns c.in_ok-needed.needed) (c.in_ok-names.ensures ∙ ap class_names c.as_slice.ensures.value)
     ∙ ap (with_texts (class_names files)) (c.in_ok-needed.ensures ∙ ap (listed_arrays Needed) c.as_slice-5.ensures.value)) in
     let new = c.add_all.new.self in (
@@ -84,7 +84,7 @@ pub returns : goal.returns
 returns c =
     let files = c.args.files.items in
     let linked : AreLinked files c.add_all.new.self =
-    names_linked files c.add_all.new.self c.requires.small (c.in_ok-add_all.ensures
+    names_linked files c.add_all.new.self c.requires.small (c.in_ok-add_all.ensures.added
     ∙ ap (λ ns. with_texts ns c.in_ok-needed.needed) (c.in_ok-names.ensures ∙ ap class_names c.as_slice.ensures.value)
     ∙ ap (with_texts (class_names files)) (c.in_ok-needed.ensures ∙ ap (listed_arrays Needed) c.as_slice-5.ensures.value)) in
     linked_same files c.add_all.new.self linked

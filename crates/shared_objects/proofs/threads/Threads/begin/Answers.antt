@@ -1,5 +1,5 @@
-use Rattle.std.proofs.Common.{◌≡◌, ◌∙◌, ◌<◌, ap, length, slice_set, rules}
-use Rattle.shared_objects.specs.Threads.{deepened, at_state}
+use Rattle.std.proofs.Common.{◌<◌, length}
+use Rattle.shared_objects.specs.Threads.{deepened}
 use Rattle.shared_objects.proofs.States.{state_set}
 use Rattle.shared_objects.proofs.threads.Threads.begin.Goals as goal
 

@@ -1,4 +1,4 @@
-use Rattle.std.proofs.Common.{◌≡◌, ◌∙◌, ◌<◌, ap, length, rules}
+use Rattle.std.proofs.Common.{◌<◌, length}
 use Rattle.shared_objects.proofs.States.{depth_got}
 use Rattle.shared_objects.proofs.threads.Threads.depth.Goals as goal
 

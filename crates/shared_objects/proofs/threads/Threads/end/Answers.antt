@@ -1,5 +1,5 @@
-use Rattle.std.proofs.Common.{◌≡◌, ◌∙◌, ◌<◌, ap, length, slice_set, rules}
-use Rattle.shared_objects.specs.Threads.{raised, at_state}
+use Rattle.std.proofs.Common.{◌<◌, length}
+use Rattle.shared_objects.specs.Threads.{raised}
 use Rattle.shared_objects.proofs.States.{state_set}
 use Rattle.shared_objects.proofs.threads.Threads.end.Goals as goal
 

@@ -1,0 +1,61 @@
+use Rattle.std.proofs.Common.{rules, ◌≡◌, ◌-◌, ◌<◌, [], Some, None, true, false, map, length, refl, ap, sym, ◌∙◌, subst, arith}
+use Rattle.std.specs.Prelude.{slice_get, slice_index_or, nat_lt}
+use Rattle.std.proofs.lemmas.Bool.Decides.{nat_tests}
+use Rattle.std.proofs.lemmas.List.{length-map}
+use Rattle.std.proofs.lemmas.Option.{slice_get_read, slice_get_past}
+use Rattle.built_in_table.specs.Rows.{member_facts, row_members}
+use Rattle.class_set.specs.Linked.{Linked}
+use Rattle.class_set.specs.Members.{method_facts, own_methods}
+use Rattle.class_set.proofs.Declared.{members_counted}
+use Rattle.class_code.specs.Declarations.{declared_by}
+use Rattle.class_code.proofs.Declaring.{none_declared, own_of_file, own_of_row}
+use Rattle.class_code.proofs.declared.Numbered.declared_by.Goals as goal
+
+pub declared_in_file-requires : goal.declared_in_file-requires
+declared_in_file-requires c =
+    let set = c.self.inside.set.now in
+    let files = set.files in
+    let same = c.files-files.ensures in
+    let file = c.index-files-class.result in
+    let l : c.args.class < length files = omega (arith, c.if-class-files.true, ap length same) in
+    let at : file ≡ slice_index_or files c.args.class file = c.index-files-class.is ∙ ap (λ xs. slice_index_or xs c.args.class file) same in
+    let there = slice_get_read files (length files) c.args.class file refl l at in
+    record {
+      own = subst (λ (s : Linked). own_methods s c.args.class ≡ map (method_facts file.pool) file.methods) c.self.view_is
+          (own_of_file set c.args.class file there);
+    }
+
+pub declared_built_in-requires : goal.declared_built_in-requires
+declared_built_in-requires c =
+    let set = c.self.inside.set.now in
+    let files = set.files in
+    let given = c.files-files.result.now in
+    let row = c.in-Some.built_in.now in
+    let k = c.args.class - length given in
+    let rows = c.built_in_classes.result.now in
+    let size : length given ≡ length files = ap length c.files-files.ensures in
+    let counted : length rows ≡ 28 = sym (length-map rows row_members) ∙ ap length c.built_in_classes.ensures.members ∙ members_counted in
+    let none : slice_get files c.args.class ≡ None = slice_get_past files c.args.class (omega (arith, size, c.if-class-files.false)) in
+    let test : nat_lt k (length rows) ≡ true = sym c.in-Some.ensures.lookup.0 in
+    let low : k < length rows = grind (arith, nat_tests) in
+    let there : slice_get rows k ≡ Some row = slice_get_read rows (length rows) k row refl low c.in-Some.ensures.lookup.1 in
+    let few : c.args.class - length files < 28 = omega (arith, low, counted, size) in
+    let at : slice_get rows (c.args.class - length files) ≡ Some row = ap (λ n. slice_get rows (c.args.class - n)) (sym size) ∙ there in
+    record {
+      own = subst (λ (s : Linked). own_methods s c.args.class ≡ map member_facts row.methods.now) c.self.view_is
+          (own_of_row set c.args.class rows row c.built_in_classes.ensures.members none few at);
+    }
+
+pub returns-in-None : goal.returns-in-None
+returns-in-None c =
+    let set = c.self.inside.set.now in
+    let files = set.files in
+    let given = c.files-files.result.now in
+    let size : length given ≡ length files = ap length c.files-files.ensures in
+    let rows = c.built_in_classes.result.now in
+    let counted : length rows ≡ 28 = sym (length-map rows row_members) ∙ ap length c.built_in_classes.ensures.members ∙ members_counted in
+    let none : slice_get files c.args.class ≡ None = slice_get_past files c.args.class (omega (arith, size, c.if-class-files.false)) in
+    let past : nat_lt (c.args.class - length files) 28 ≡ false =
+    ap (λ n. nat_lt (c.args.class - n) 28) (sym size) ∙ ap (nat_lt (c.args.class - length given)) (sym counted) ∙ sym c.in-None.ensures.lookup.0 in
+    let empty : c.new.result ≡ [] = search rules in
+    empty ∙ none_declared set c.args.class none past ∙ ap (λ (s : Linked). declared_by s c.args.class) c.self.view_is

@@ -1,0 +1,25 @@
+//! Laws of the classes of programs. Each function states some in its contract, and does nothing.
+
+ghost use Rattle.std.specs.Prelude.{◌≡◌, ℕ, ◌<◌, length, Option};
+ghost use Rattle.plain_frames.specs.Tables.{NamesWhatIsThere};
+ghost use Rattle.class_links.specs.Links.{Links};
+ghost use Rattle.class_set.specs.Facts.{facts_of};
+ghost use Rattle.class_set.specs.Linked.{Linked, names_of};
+ghost use Rattle.class_set.specs.Sets.{IsLinked};
+ghost use Rattle.class_code.specs.Inherited.{IsInherited};
+ghost use Rattle.class_code.specs.Programs.{program_of};
+
+/// In the program of a set that links a call finds a method that the receiver's class declares, or
+/// else what it finds from the superclass on; what it finds can be called on an object; and an
+/// initialiser is the class's own.
+pub fn calls_find_own_methods_first<M>()
+    ensures { (native_at : (place number : ℕ) → Option M) (set : Linked) (n : ℕ) → Links set.files
+        → n < length (names_of set) → IsInherited set (program_of native_at set) n }
+{}
+
+/// The program of a linked set names what is there, and of the sort that each instruction needs.
+/// M is the type of native methods.
+pub fn programs_name_what_is_there<M>()
+    ensures { (native_at : (place number : ℕ) → Option M) (set : Linked) → IsLinked set
+        → NamesWhatIsThere (facts_of set) (program_of native_at set) }
+{}

@@ -1,0 +1,6 @@
+pub mod Chains
+pub mod Marks
+pub mod Notes
+pub mod Queues
+pub mod Threads
+pub mod Work

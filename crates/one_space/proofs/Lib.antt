@@ -1,0 +1,11 @@
+pub mod Adds
+pub mod Agreeing
+pub mod Begun
+pub mod Laid
+pub mod Making
+pub mod PartsGiven
+pub mod Placed
+pub mod Showing
+pub mod Statics
+pub mod Stored
+pub mod Stores

@@ -1,0 +1,330 @@
+-- The fault of a step is that by which the event ends the plain run.
+use Rattle.std.proofs.Common.{◌≡◌, ℕ, zero, suc, ◌-◌, ◌<◌, ◌≤◌, ◌&&◌, ◌||◌, Bool, true, false, not, List, ◌∷◌, length, map, drop, replicate, nat_le, is_some, sum_by, Option, Some, None, inl, inr, refl, ap, sym, subst, ◌∙◌, arith, if◌then◌else◌}
+use Rattle.std.specs.Prelude.{slice_get, slice_set}
+use Rattle.std.proofs.lemmas.Bool.Decides.{nat_tests}
+use Rattle.std.proofs.lemmas.List.{length-map}
+use Rattle.std.proofs.lemmas.Option.{slice_get_past}
+use Rattle.ap_base.specs.declared.reference.Ref.{Ref}
+use Rattle.ap_base.specs.declared.reference.Item.{Item}
+use Rattle.run_types.specs.declared.fault.RunFault.{RunFault}
+use Rattle.run_types.specs.declared.fault.RunFault.TheVariants as fault
+use Rattle.run_types.specs.declared.fault.Which.{Which}
+use Rattle.run_types.specs.declared.fault.Which.TheVariants as which
+use Rattle.run_types.specs.declared.resolved.At.{At}
+use Rattle.run_types.specs.declared.wait.On.{On}
+use Rattle.graph_model.specs.declared.types.Value.{Value}
+use Rattle.natives.specs.declared.requests.Request.{Request}
+use Rattle.natives.specs.declared.requests.Request.TheVariants as ask
+use Rattle.run_history.specs.declared.act.Op.{Op}
+use Rattle.run_history.specs.declared.act.Op.TheVariants as op
+use Rattle.run_history.specs.Recorded.{Recorded}
+use Rattle.run_history.specs.Worlds.{World, held}
+use Rattle.run_history.specs.Knowing.{Knowledge, owes_fence}
+use Rattle.plain_model.specs.Facts.{SetFacts}
+use Rattle.plain_model.specs.First.{first_known}
+use Rattle.plain_model.specs.Requests.{PlainRequest, from_of}
+use Rattle.plain_model.specs.Limits.{words_of, words_made, words_left, acts_left, monitors_left}
+use Rattle.plain_model.specs.Steps.{Step, Does, Waits, WrongOperand, IsOver, step}
+use Rattle.plain_model.specs.Codes.{asks_live}
+use Rattle.plain_model.specs.Runs.{request_after}
+use Rattle.plain_model.specs.Duties.{IsFit}
+use Rattle.plain_model.specs.Ends.{full, full_unless, bad_code, all_wait, waits_from, waits_of, wait_at, wait_of, fault_of_op, fault_of_words, fault_of_enter, fault_of_step, fault_of_request, fault_after, Prints}
+use Rattle.plain_model.proofs.Within.{each_act_leaves_a_mark}
+use Rattle.frames.specs.Maps.{map_request}
+use Rattle.shared_objects.specs.declared.rest.Rest.{Rest}
+use Rattle.shared_objects.specs.Shown.{Shown}
+use Rattle.shared_objects.specs.Plain.{plain_request}
+use Rattle.shared_objects.specs.Worlds.{plain_thread, world_of}
+use Rattle.step_forms.specs.declared.stepped.Stepped.{Stepped}
+use Rattle.step_forms.specs.declared.stepped.Stepped.TheVariants as stepped
+use Rattle.step_forms.specs.Follows.{IsStep, IsFullOf, IsLimit, DoesPrint, words_of_step}
+use Rattle.run_forms.specs.Views.{ThreadFrames}
+use Rattle.run_forms.specs.Standing.{Launch, IsLaunch, IsAsking, plain_code, known_at, frames_at}
+use Rattle.run_forms.specs.Volatile.{IsVolatile}
+use Rattle.run_forms.specs.Ends.{IsEndedBy, Ends, from_in}
+use Rattle.run_forms.proofs.Asked.{BuiltIns, asked, fit-here}
+use Rattle.run_forms.proofs.Visible.{is_outside, prints, step-silent, step-inside}
+
+no-false : {P : Type 0} → true ≡ false → P
+no-false e = absurd (let no : true ≡ false = e in cc)
+
+none-some : {X : Type 0} (v : X) {P : Type 0} → ◌≡◌ {A = Option X} None (Some v) → P
+none-some v e = absurd (let no = e in cc)
+
+-- an instruction that finds a wrong operand asks
+wrong-from : (set : SetFacts) (world : World) (t : ℕ) (f : Ref → Value) (h : Item → Value) (q : Request Ref Item)
+    → step set world t 1 (map_request f h q) ≡ WrongOperand
+    → (from : At) × (from_in q ≡ Some from) × (from_of (map_request f h q) ≡ Some from)
+unfolding step
+wrong-from set world t f h ask.Pause e = absurd (let no = e in cc)
+wrong-from set world t f h (ask.Broken b) e = absurd (let no = e in cc)
+wrong-from set world t f h (ask.Leave uncaught) e = absurd (let no = e in cc)
+wrong-from set world t f h (ask.New from class) e = (from, refl, refl)
+wrong-from set world t f h (ask.NewArray from shape count) e = (from, refl, refl)
+wrong-from set world t f h (ask.NewText from count) e = (from, refl, refl)
+wrong-from set world t f h (ask.GetStatic from field) e = (from, refl, refl)
+wrong-from set world t f h (ask.PutStatic from field v) e = (from, refl, refl)
+wrong-from set world t f h (ask.GetField from r field) e = (from, refl, refl)
+wrong-from set world t f h (ask.PutField from r field v) e = (from, refl, refl)
+wrong-from set world t f h (ask.GetElement from r index k) e = (from, refl, refl)
+wrong-from set world t f h (ask.PutElement from r index k v) e = (from, refl, refl)
+wrong-from set world t f h (ask.Length from r) e = (from, refl, refl)
+wrong-from set world t f h (ask.ClassOf from r within) e = (from, refl, refl)
+wrong-from set world t f h (ask.Cast from r target) e = (from, refl, refl)
+wrong-from set world t f h (ask.IsA from r target) e = (from, refl, refl)
+wrong-from set world t f h (ask.Same from l r) e = (from, refl, refl)
+wrong-from set world t f h (ask.Enter from k) e = (from, refl, refl)
+wrong-from set world t f h (ask.Exit from k) e = (from, refl, refl)
+wrong-from set world t f h (ask.Start from r) e = (from, refl, refl)
+wrong-from set world t f h (ask.Join from r) e = (from, refl, refl)
+wrong-from set world t f h (ask.Init from class) e = (from, refl, refl)
+wrong-from set world t f h (ask.InitDone from class) e = (from, refl, refl)
+wrong-from set world t f h (ask.Print from piece) e = (from, refl, refl)
+wrong-from set world t f h (ask.Raise from class) e = (from, refl, refl)
+wrong-from set world t f h (ask.Begin from) e = (from, refl, refl)
+wrong-from set world t f h (ask.End from) e = (from, refl, refl)
+
+-- all further threads wait for nothing
+none-from : (waits : ℕ → Option On) (n t : ℕ) → ((u : ℕ) → t ≤ u → waits u ≡ None)
+    → waits_from waits t n ≡ replicate n None
+none-from waits zero t none = refl
+none-from waits (suc n) t none =
+    let first = none t (omega arith) in
+    let others = none-from waits n (suc t) (λ u more. none u (omega (arith, more))) in
+    λ i. first i ∷ others i
+
+printing : (q : PlainRequest) → prints q ≡ true → Prints (Some q)
+printing (ask.Print from piece) e = (from, piece, refl)
+printing q e = absurd (let no : false ≡ true = e in cc)
+
+module _ (laws : BuiltIns) (launch : Launch) (calls : ℕ) (acts : List Recorded) (shown : Shown) (rest : Rest)
+    (threads : List ThreadFrames) (is : IsLaunch launch)
+    (here : IsVolatile launch calls acts shown rest threads)
+    (lines t : ℕ) (fs : ThreadFrames) (q : Request Ref Item) (asking : IsAsking launch rest threads t fs q) where
+  abbrev known : Knowledge
+  known = known_at launch acts
+
+  abbrev requests : ℕ → Option PlainRequest
+  requests = request_after launch.set launch.main launch.opening (plain_code launch) acts
+
+  abbrev pq : PlainRequest
+  pq = plain_request shown.number q
+
+  abbrev left : ℕ
+  left = acts_left launch.limits known
+
+  abbrev fault_here : Option RunFault
+  fault_here = fault_after launch.set launch.main launch.opening (plain_code launch) launch.limits lines acts t
+
+  abbrev fault_so : Step → Option RunFault
+  fault_so s = fault_of_step launch.set launch.opening launch.limits known requests t pq s
+
+  asks-here : requests t ≡ Some pq
+  asks-here = (asked laws launch acts shown rest threads is here.stands t fs q asking).plain
+
+  fits : IsFit launch.set known.world t pq
+  fits = fit-here laws launch acts shown rest threads is here.stands t fs q asking
+
+  marks-are : length known.marks ≡ length acts
+  marks-are =
+      let e = each_act_leaves_a_mark (first_known launch.set launch.opening) acts in omega (arith, e)
+
+  owes-none : owes_fence known.unfenced t ≡ false
+  owes-none = ap (λ us. owes_fence us t) here.nothing.unfenced
+
+  opens : fault_here ≡ (if nat_le 1 left then (if owes_fence known.unfenced t then None
+      else fault_so (step launch.set known.world t 1 pq)) else Some (full which.Acts 1 left))
+  opens = ap (fault_of_request launch.set launch.opening launch.limits known requests t) asks-here
+
+  pub full-history : launch.limits.acts ≤ length acts
+      → IsEndedBy launch lines acts t (full which.Acts 1 0)
+  full-history enough =
+      let none : left ≡ 0 = omega (arith, enough, marks-are) in
+      inl (opens ∙ ap (λ n. if nat_le 1 n then (if owes_fence known.unfenced t then None
+      else fault_so (step launch.set known.world t 1 pq)) else Some (full which.Acts 1 n)) none)
+
+  module _ (room : length acts < launch.limits.acts) where
+    tells : fault_here ≡ fault_so (step launch.set known.world t 1 pq)
+    tells =
+        let some : 1 ≤ left = omega (arith, room, marks-are) in
+        let so : nat_le 1 left ≡ true = grind (arith, nat_tests) in
+        opens ∙ ap (λ b. if b then (if owes_fence known.unfenced t then None
+        else fault_so (step launch.set known.world t 1 pq)) else Some (full which.Acts 1 left)) so
+        ∙ ap (λ b. if b then None else fault_so (step launch.set known.world t 1 pq)) owes-none
+
+    comes : (f : RunFault) → is_outside f ≡ false → fault_here ≡ Some f → IsEndedBy launch lines acts t f
+    comes (fault.BadCode from) inside e = inl e
+    comes (fault.RegionRace u v place) inside e = inl e
+    comes (fault.Full it) inside e = inl e
+    comes fault.SinkFault inside e = no-false inside
+    comes fault.ImageFault inside e = no-false inside
+    comes (fault.Stuck waits) inside e = inl e
+    comes (fault.LinkFault kind class index) inside e = inl e
+
+    -- ---- limits
+
+    unless-fewer : (w : Which) (need there : ℕ) → there < need → full_unless w need there ≡ Some (full w need there)
+    unless-fewer w need there short =
+        let so : nat_le need there ≡ false = grind (arith, nat_tests) in
+        ap (λ b. if b then None else Some (full w need there)) so
+
+    words-fault : (o : Op) (need : ℕ) → words_made known.world.heap o ≡ Some need
+        → fault_of_op launch.set launch.opening launch.limits known t o
+        ≡ fault_of_words launch.set launch.opening launch.limits known (Some need)
+    words-fault (op.Stored place v) need e = none-some need e
+    words-fault (op.Enter key) need e = none-some need e
+    words-fault o need e = ap (fault_of_words launch.set launch.opening launch.limits known) e
+
+    words-there : words_left launch.limits launch.opening known.world.heap ≡ shown.left
+    words-there =
+        ap (λ (w : World). words_left launch.limits launch.opening w.heap) here.stands.world
+        ∙ ap (λ nodes. launch.limits.heap_words
+        - sum_by words_of (drop (length nodes) shown.objects)) here.nodes
+        ∙ sym here.words
+
+    abbrev world : World
+    world = world_of here.stands.roots shown rest
+
+    step-here : step launch.set known.world t 1 pq ≡ step launch.set world t 1 pq
+    step-here = ap (λ w. step launch.set w t 1 pq) here.stands.world
+
+    tells-of : (s : Step) → step launch.set world t 1 pq ≡ s → fault_here ≡ fault_so s
+    tells-of s e = tells ∙ ap fault_so (step-here ∙ e)
+
+    full-words : (s : Step) → step launch.set world t 1 pq ≡ s → (need there : ℕ)
+        → words_of_step world.heap s ≡ Some need → there ≡ shown.left → shown.left < need
+        → fault_here ≡ Some (full which.VolatileWords need there)
+    full-words (Does o r) e need there made is_left short =
+        tells-of (Does o r) e
+        ∙ words-fault o need (ap (λ (w : World). words_made w.heap o) here.stands.world ∙ made)
+        ∙ ap (full_unless which.VolatileWords need) words-there
+        ∙ unless-fewer which.VolatileWords need shown.left short
+        ∙ ap (λ n. Some (full which.VolatileWords need n)) (sym is_left)
+    full-words (Waits on) e need there made is_left short = none-some need made
+    full-words WrongOperand e need there made is_left short = none-some need made
+    full-words (IsOver f) e need there made is_left short = none-some need made
+
+    full-of : (w : Which) (need there : ℕ)
+        → IsFullOf world shown.left (step launch.set world t 1 pq)
+        (record { which = w; need = need; left = there }) w
+        → fault_here ≡ Some (full w need there)
+    full-of which.VolatileWords need there h =
+        full-words (step launch.set world t 1 pq) refl need there h.need h.left h.short
+    full-of which.Monitors need there h =
+        let (k, does, free) = h.takes in
+        tells-of (Does (op.Enter k) _) does
+        ∙ ap (λ (w : World). fault_of_enter launch.set launch.opening launch.limits known (held w.monitors k))
+        here.stands.world
+        ∙ ap (fault_of_enter launch.set launch.opening launch.limits known) free
+        ∙ ap (λ (w : World). full_unless which.Monitors 1 (monitors_left w.monitors)) here.stands.world
+        ∙ unless-fewer which.Monitors 1 (monitors_left world.monitors)
+        (omega (arith, h.short, h.need, h.left))
+        ∙ (λ i. Some (full which.Monitors (sym h.need i) (sym h.left i)))
+    full-of which.ImageLines need there h = absurd h
+    full-of which.LogEntries need there h = absurd h
+    full-of which.Threads need there h = absurd h
+    full-of which.FrameSlots need there h = absurd h
+    full-of which.Acts need there h = absurd h
+    full-of which.DirectoryWords need there h = absurd h
+    full-of which.Roots need there h = absurd h
+    full-of which.Files need there h = absurd h
+    full-of which.FileBytes need there h = absurd h
+
+    -- only a print prints
+    prints-it : (s : Step) → step launch.set known.world t 1 pq ≡ s → DoesPrint s → prints pq ≡ true
+    prints-it (Does (op.Print bytes) r) e is_print_step = by-test (prints pq) refl
+      where
+        by-test : (b : Bool) → prints pq ≡ b → b ≡ true
+        by-test true p = refl
+        by-test false p =
+            absurd (let no : true ≡ false = (step-silent launch.set known.world t 1 pq (op.Print bytes) r fits p e).1
+            in cc)
+    prints-it (Waits on) e h = absurd h
+    prints-it WrongOperand e h = absurd h
+    prints-it (IsOver f) e h = absurd h
+    prints-it (Does o r) e h = absurd h
+
+    print-faultless : (s : Step) → DoesPrint s → fault_so s ≡ None
+    print-faultless (Does (op.Print bytes) r) h = refl
+    print-faultless (Waits on) h = absurd h
+    print-faultless WrongOperand h = absurd h
+    print-faultless (IsOver f) h = absurd h
+    print-faultless (Does o r) h = absurd h
+
+    limit-comes : (f : RunFault) → IsLimit world shown.left (step launch.set world t 1 pq) f
+        → IsEndedBy launch lines acts t f
+    limit-comes (fault.Full it) h = inl (full-of it.which it.need it.left h)
+    limit-comes fault.SinkFault h =
+        let does : DoesPrint (step launch.set known.world t 1 pq) = subst DoesPrint (sym step-here) h in (
+          subst Prints (sym asks-here) (printing pq (prints-it (step launch.set known.world t 1 pq) refl does)),
+          tells ∙ print-faultless (step launch.set known.world t 1 pq) does,
+          owes-none,
+        )
+    limit-comes (fault.BadCode from) h = absurd h
+    limit-comes (fault.RegionRace u v place) h = absurd h
+    limit-comes fault.ImageFault h = absurd h
+    limit-comes (fault.Stuck waits) h = absurd h
+    limit-comes (fault.LinkFault kind class index) h = absurd h
+
+    -- ---- waiting
+
+    waits-none : length rest.threads ≡ 1 → (u : ℕ) → 1 ≤ u
+        → waits_of launch.set known requests u ≡ None
+    waits-none one u more =
+        let past : slice_get known.world.threads u ≡ None =
+        ap (λ (w : World). slice_get w.threads u) here.stands.world
+        ∙ slice_get_past (map plain_thread rest.threads) u
+        (omega (arith, one, more, length-map rest.threads plain_thread)) in
+        let silent : requests u ≡ None = ap (λ thread. asks_live launch.set launch.main launch.opening
+        (plain_code launch) thread (slice_get (frames_at launch acts) u)) past in
+        ap (λ us. if owes_fence us u then None else wait_at launch.set known.world u (requests u))
+        here.nothing.unfenced
+        ∙ ap (wait_at launch.set known.world u) silent
+
+    waits-here : (on : On) → step launch.set world t 1 pq ≡ Waits on
+        → waits_of launch.set known requests t ≡ Some on
+    waits-here on e =
+        ap (λ b. if b then None else wait_at launch.set known.world t (requests t)) owes-none
+        ∙ ap (wait_at launch.set known.world t) asks-here
+        ∙ ap wait_of (step-here ∙ e)
+
+    or-true : (b : Bool) → ((b || true) && true) ≡ true
+    or-true true = refl
+    or-true false = refl
+
+    stuck-so : (on : On) → step launch.set world t 1 pq ≡ Waits on → length rest.threads ≡ 1 → t ≡ 0
+        → fault_so (Waits on) ≡ Some (fault.Stuck (slice_set (replicate 64 None) 0 (Some on)))
+    stuck-so on e one first =
+        let waits = waits_of launch.set known requests in
+        let count : length known.world.threads ≡ 1 =
+        ap (λ (w : World). length w.threads) here.stands.world
+        ∙ length-map rest.threads plain_thread ∙ one in
+        let own : waits 0 ≡ Some on = subst (λ u. waits u ≡ Some on) first (waits-here on e) in
+        let others : waits_from waits 1 63 ≡ replicate 63 None = none-from waits 63 1 (waits-none one) in
+        ap (λ n. if all_wait requests waits n then Some (fault.Stuck (waits_from waits 0 64)) else None) count
+        ∙ ap (λ (w : Option On). if (not (is_some (requests 0)) || is_some w) && true
+        then Some (fault.Stuck (waits_from waits 0 64)) else None) own
+        ∙ ap (λ b. if b then Some (fault.Stuck (waits_from waits 0 64)) else None)
+        (or-true (not (is_some (requests 0))))
+        ∙ (λ i. Some (fault.Stuck (own i ∷ others i)))
+
+    -- ---- steps
+
+    pub step-ends : (result : Stepped) (now : Shown) (rest_now : Rest)
+        → IsStep launch.set t q shown rest result now rest_now
+        → Ends launch lines acts rest t q result
+    step-ends (stepped.Did o r) now rest_now steps = tt
+    step-ends stepped.Wrong now rest_now steps =
+        let wrong = (steps.follows here.stands.roots).0 1 in
+        let (from, own, seen) = wrong-from launch.set world t _ _ q wrong in
+        (from, own, comes (fault.BadCode from) refl (tells-of WrongOperand wrong ∙ ap bad_code seen))
+    step-ends (stepped.Over f) now rest_now steps =
+        elim (steps.follows here.stands.roots).0 [
+          | inl limit ↦ limit-comes f limit
+          | inr over ↦
+              comes f (step-inside launch.set known.world t 1 pq f fits (step-here ∙ over 1))
+              (tells-of (IsOver f) (over 1))
+        ]
+    step-ends (stepped.Waits on) now rest_now steps = λ one first.
+        inl (tells-of (Waits on) ((steps.follows here.stands.roots).0 1)
+        ∙ stuck-so on ((steps.follows here.stands.roots).0 1) one first)

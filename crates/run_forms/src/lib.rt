@@ -1,0 +1,9 @@
+//! When a machine of frames, a heap and the rest of a world stands for a plain run, and what steps and
+//! answers make of it.
+#![tactic(auto)]
+
+mod laws;
+
+pub use laws::{
+    machines_go_on_as_plain_runs, volatile_machines_go_on, volatile_runs_end_by_their_faults,
+};

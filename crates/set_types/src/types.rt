@@ -1,0 +1,66 @@
+// A class set as steps ask it.
+ghost use Rattle.std.specs.Prelude.{◌≡◌};
+ghost use Rattle.class_set.specs.Sets.{IsLinked};
+
+use crate::throwables::before_throwable;
+use ap_base::Kind;
+use class_set::ClassSet;
+use plain_model::Throws;
+use run_types::Known;
+use shared_objects::Types;
+use std::marker::Model;
+
+/// A class set as steps ask it: its classes and array types by their numbers.
+#[derive(Drop)]
+pub struct SetTypes<'a> {
+    set: &'a ClassSet,
+}
+
+impl<'a> Model for SetTypes<'a> {
+    ghost use Rattle.class_set.specs.Linked.{Linked};
+
+    ghost Value = { Linked };
+
+    ghost view = { λ s. s.set.now };
+}
+
+impl<'a> SetTypes<'a> {
+    /// The types of a class set.
+    pub fn of(set: &'a ClassSet) -> SetTypes<'a>
+        ensures types { result ≡ set.now }
+        ensures linked { IsLinked set.now }
+    {
+        let _shapes = set.shapes();
+        SetTypes { set }
+    }
+}
+
+impl<'a> Types for SetTypes<'a> {
+    ghost use Rattle.class_set.specs.Facts.{facts_of};
+
+    ghost facts = { λ s. facts_of s };
+
+    fn known(&self) -> Known {
+        self.set.known()
+    }
+
+    fn thrown(&self, which: Throws) -> u32 {
+        self.set.known().throwable - before_throwable(which)
+    }
+
+    fn element(&self, class: u32) -> Option<Kind> {
+        self.set.shape(class)?.element
+    }
+
+    fn fields(&self, class: u32) -> u32 {
+        self.set.field_count(class)
+    }
+
+    fn is_sub(&self, class: u32, target: u32) -> bool {
+        self.set.is_sub(class, target)
+    }
+
+    fn may_hold(&self, array: u32, class: u32) -> bool {
+        self.set.may_hold(array, class)
+    }
+}
