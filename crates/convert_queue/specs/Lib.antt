@@ -1,4 +1,5 @@
 pub mod Chains
+pub mod Laws
 pub mod Marks
 pub mod Notes
 pub mod Queues

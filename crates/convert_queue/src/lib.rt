@@ -3,6 +3,7 @@
 
 mod conversions;
 mod groups;
+mod laws;
 mod line_marks;
 mod marks_tree;
 mod phase;
@@ -10,4 +11,5 @@ mod queue_lists;
 mod thread_set;
 
 pub use conversions::Conversions;
+pub use laws::each_step_takes_work;
 pub use phase::{Phase, Unready};

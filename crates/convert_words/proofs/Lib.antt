@@ -1,0 +1,17 @@
+pub mod Adding
+pub mod Basics
+pub mod Bridges
+pub mod Claiming
+pub mod Converted
+pub mod Copying
+pub mod Meeting
+pub mod Moves
+pub mod Noting
+pub mod Quiet
+pub mod Released
+pub mod Settled
+pub mod Starting
+pub mod StepKinds
+pub mod StepLaws
+pub mod Storing
+pub mod Tied

@@ -1,0 +1,2 @@
+mod Referring
+pub mod Beginning
