@@ -49,34 +49,45 @@ durable_claimed es es' t line n0 ln young one n =
       ],
     )
 
+-- one entry of a table
+pub one_set : (es : List Entry) (n : ℕ) (e' : Entry) → n < length es → OneBecomes n e' es (slice_set es n e')
+one_set es n e' ln = record { long = length-set es n e'; here = entry_here es n e' ln; others = λ m ne. entry_other es n m e' ne }
+
 -- all members of a set of 64 threads
 all_settled : (q : Queues) (set : ℕ) → set < 2 ^ 64 → AllSettled q set → (t : ℕ) → has set t ≡ true → IsSettled q t
 all_settled q set small settled t h = elim (below_or_not t 64) [ inl lt ↦ settled t lt h | inr le ↦ absurd (false≢true (sym (above_none set t small le) ∙ h)) ]
 
 -- The seal of the thread's group, all of whose members are settled, is a step of a conversion.
 pub sealed_converts : (s : Scene) (heap : Twin) (q : Queues) (es es' : List Entry) (t set : ℕ) → set < 2 ^ 64 → IsGroupOf s.queue.needs t set → AllSettled s.queue set →
-    Moved (view_of s.heap) es (view_of heap) es' → AreSealed (OfSet es set) es es' → heap.memory ≡ s.heap.memory → Released set s.queue q →
+    Moved (view_of s.heap) es (view_of heap) es' → AreSealed (OfSet es set) es es' → heap.memory ≡ s.heap.memory → heap.marks.kinds ≡ s.heap.marks.kinds → heap.space.left ≡ s.heap.space.left → Released set s.queue q →
     AgreesAt s es → Converts t (step.Sealed set) s (record s { heap = heap; queue = q }) es es'
-sealed_converts s heap q es es' t set small group settled moved those same released a =
+sealed_converts s heap q es es' t set small group settled moved those same kinds left released a =
     let all = all_settled s.queue set small settled in
     let closed = settled_sets_are_closed s es set a group.closed all in
     record {
       shows = moved.same;
       agrees = seals_keep s heap q es es' set all moved those same released a;
-      leaves = λ l w x _ left. subst (λ (m : Memory). CanLeave m l w x) same left;
+      size = ap (λ (m : Memory). m.size) same;
+      kinds = kinds;
+      left = left;
+      others = λ l w _ _. ap (λ (m : Memory). shown m l w) same;
+      leaves = λ l w x _ may. subst (λ (m : Memory). CanLeave m l w x) same may;
       calls = record { calls = ap (λ (m : Memory). m.calls) same; image = ap (λ (m : Memory). m.image) same; faults = ap (λ (m : Memory). m.faults) same };
-      says = (
-        group,
-        settled,
-        record {
+      says = record {
+        group = group;
+        settled = settled;
+        fenced = record {
           forwarded = closed.forwarded;
           shown = λ u n j x member c lt kept left. closed.shown u n j x member c lt kept (subst (λ (m : Memory). held_of m (8 * (entry es n).line + j) x) same left)
               ∙ ap (λ (m : Memory). shown m ((8 * (entry es n).line + j) / 8) ((8 * (entry es n).line + j) % 8)) (sym same);
           refers = λ u n k x member c ref kept lk left. closed.refers u n k x member c (sym (kind_of u n k member c lk) ∙ ref) kept lk (subst (λ (m : Memory). held_of m (8 * (entry es n).line + 1 + k) x) same left);
-        },
-        λ n. seals_make_durable s es es' set a all those n,
-        refl,
-      );
+        };
+        sealed = those;
+        durable = λ n. seals_make_durable s es es' set a all those n;
+        released = released;
+        memory = same;
+        free = refl;
+      };
     }
   where
     kind_of : (u n k : ℕ) → has set u ≡ true → IsClaimed es u n → k < (entry es n).slots → refers (view_of heap) (entry es n) k ≡ refers (view_of s.heap) (entry es n) k

@@ -116,7 +116,7 @@ next_line v held back q free keys es t i0 n0 a is0 copying at copied met i n is 
 
 -- All objects of the queue are forwarded: repair begins.
 pub to_repair : (v : View) (held : ℕ → ℕ → Type 0) (back : ℕ → Type 0) (q : Queues) (free : ℕ) (keys : ℕ → Type 0) (es : List Entry) (t : ℕ) → Agrees v held back q free keys es →
-    phase_of q t ≡ Copy → (place_of q t).0 ≡ length (queue_of q t) → (i n : ℕ) → Is q es t i n → Reaches v es (needs_of q.needs) Repair 0 0 t i (entry es n)
+    phase_of q t ≡ Copy → length (queue_of q t) ≤ (place_of q t).0 → (i n : ℕ) → Is q es t i n → Reaches v es (needs_of q.needs) Repair 0 0 t i (entry es n)
 to_repair v held back q free keys es t a copying at i n is =
     let r = (a.on_way t i n is).reaches in
     let pl = place_of q t in
@@ -187,7 +187,7 @@ next_repaired_object v held back q free keys es t i0 n0 a is0 repairing at all i
 
 -- All objects of the queue are repaired: the flush begins.
 pub to_flush : (v : View) (held : ℕ → ℕ → Type 0) (back : ℕ → Type 0) (q : Queues) (free : ℕ) (keys : ℕ → Type 0) (es : List Entry) (t : ℕ) → Agrees v held back q free keys es →
-    phase_of q t ≡ Repair → (place_of q t).0 ≡ length (queue_of q t) → (i n : ℕ) → Is q es t i n → Reaches v es (needs_of q.needs) Flush 0 0 t i (entry es n)
+    phase_of q t ≡ Repair → length (queue_of q t) ≤ (place_of q t).0 → (i n : ℕ) → Is q es t i n → Reaches v es (needs_of q.needs) Flush 0 0 t i (entry es n)
 to_flush v held back q free keys es t a repairing at i n is =
     let r = (a.on_way t i n is).reaches in
     let p = phase_of q t in

@@ -188,7 +188,7 @@ MetLinesGoOn = (s : Scene) (es : List Entry) (t i0 n0 : ℕ) → AgreesAt s es �
 -- All objects of a queue are forwarded: the thread may begin its repair.
 abbrev pub ForwardedQueuesRepair : Type 0
 ForwardedQueuesRepair = (s : Scene) (es : List Entry) (t : ℕ) → AgreesAt s es
-    → phase_of s.queue t ≡ Copy → (place_of s.queue t).0 ≡ length (queue_of s.queue t)
+    → phase_of s.queue t ≡ Copy → length (queue_of s.queue t) ≤ (place_of s.queue t).0
     → (i n : ℕ) → Is s.queue es t i n → Reaches (view_of s.heap) es (needs_of s.queue.needs) Repair 0 0 t i (entry es n)
 
 -- The line at the place is repaired: the thread may go on to the next line, and behind the last one to the next object.
@@ -207,5 +207,5 @@ RepairedObjectsGoOn = (s : Scene) (es : List Entry) (t i0 n0 : ℕ) → AgreesAt
 -- All objects of a queue are repaired: the thread may begin its flush.
 abbrev pub RepairedQueuesFlush : Type 0
 RepairedQueuesFlush = (s : Scene) (es : List Entry) (t : ℕ) → AgreesAt s es
-    → phase_of s.queue t ≡ Repair → (place_of s.queue t).0 ≡ length (queue_of s.queue t)
+    → phase_of s.queue t ≡ Repair → length (queue_of s.queue t) ≤ (place_of s.queue t).0
     → (i n : ℕ) → Is s.queue es t i n → Reaches (view_of s.heap) es (needs_of s.queue.needs) Flush 0 0 t i (entry es n)

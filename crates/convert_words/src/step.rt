@@ -4,7 +4,7 @@ use ap_base::ThreadNo;
 /// What a step of a thread's conversion did, or what it lacks.
 #[derive(Clone, Copy)]
 pub enum ConvertStep {
-    /// claimed an object to which a copied line refers
+    /// claimed the first unclaimed object to which the copied line at the place refers
     Claimed,
     /// copied a line
     CopiedLine,
@@ -20,8 +20,8 @@ pub enum ConvertStep {
     Touched,
     /// sealed this set of threads
     Sealed(u64),
-    /// nothing: it lacks what this thread has to do
+    /// no step: it lacks what this thread has to do
     Wait(ThreadNo),
-    /// nothing: an object needs so many lines, and fewer are left
+    /// nothing: the object that is to be claimed needs so many lines, and fewer are left
     Full { need: u32, left: u32 },
 }

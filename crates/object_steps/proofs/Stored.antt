@@ -16,12 +16,12 @@ use Rattle.shared_objects.specs.Changes.{StoresSlot, StoresStatic, GoesOn}
 use Rattle.shared_objects.specs.Worlds.{heap_of}
 use Rattle.step_forms.specs.declared.stepped.Stepped.{Stepped}
 use Rattle.step_forms.specs.declared.stepped.Stepped.TheVariants as stepped
-use Rattle.step_forms.specs.Becomes.{Becomes}
+use Rattle.step_forms.specs.Becomes.{Becomes, IsNoStore}
 use Rattle.step_forms.specs.Follows.{HeapGoes, stored_as}
 use Rattle.step_forms.proofs.Going.{heap_did}
 use Rattle.step_forms.proofs.Kept.{kept_known}
 use Rattle.step_forms.proofs.Making.{heap_is, world_is}
-use Rattle.object_steps.specs.Stores.{stored_by}
+use Rattle.object_steps.specs.Stores.{stored_by, IsKeptOf, StoresOf}
 
 -- what a place holds is read
 pub read_goes : (set : SetFacts) (shown : Shown) (place : Place) (item : Item) (value : Value)
@@ -80,3 +80,16 @@ pub store_becomes : {Heap : Type 0} (shown : Heap → Shown) (stores : Heap → 
     → Becomes shown stores makes before result now
 store_becomes shown stores makes before now place kept result did made =
     subst (λ (r : Stepped). Becomes shown stores makes before r now) (sym did) (kept, refl, made)
+
+pub store_given : {Heap : Type 0} (shown : Heap → Shown) (stores : Heap → Place → Item → Heap → Type 0)
+    (before now : Heap) (place : Place) (value kept : Item) (result : Stepped)
+    → result ≡ stored_by place (item_value (shown before).number kept) → IsKeptOf value kept
+    → stores before place kept now → StoresOf shown stores before value result now
+store_given shown stores before now place value kept result did is made =
+    subst (λ (r : Stepped). StoresOf shown stores before value r now) (sym did) (kept, is, refl, made)
+
+pub none_given : {Heap : Type 0} (shown : Heap → Shown) (stores : Heap → Place → Item → Heap → Type 0)
+    (before now : Heap) (value : Item) (result : Stepped) → IsNoStore result
+    → StoresOf shown stores before value result now
+none_given shown stores before now value (stepped.Did (op.Stored place v) r) quiet = absurd quiet
+none_given shown stores before now value result quiet = tt

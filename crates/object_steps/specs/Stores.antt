@@ -78,6 +78,14 @@ IfEnds (Ends result) P = P result
 abbrev pub IsKeptOf : Item → Item → Type 0
 IsKeptOf value kept = (kind : Kind) × IsNarrowed kind value kept
 
+-- A store stores what a place keeps of this very item, and makes of the heap what a store of that makes of it.
+abbrev pub StoresOf : {Heap : Type 0} → (Heap → Shown) → (Heap → Place → Item → Heap → Type 0) → Heap → Item
+    → Stepped → Heap → Type 0
+StoresOf shown stores before value (stepped.Did (op.Stored place v) r) now =
+    (kept : Item) × IsKeptOf value kept × (item_value (shown before).number kept ≡ v)
+    × stores before place kept now
+StoresOf shown stores before value result now = Unit {0}
+
 -- Tests that are passed leave the heap as it is, whole; a step that is over makes of it what it makes.
 abbrev pub PlanBecomes : {Heap : Type 0} → (Heap → Shown) → (Heap → Place → Item → Heap → Type 0)
     → (Heap → Heap → Type 0) → Heap → Planned → Heap → Type 0

@@ -26,6 +26,7 @@ fn allocate<C: Types, O: Objects>(set: &C, objects: &mut O, shape: u32, slots: u
     requires class { IsClass (C.facts set.now) shape }
     requires few { slots < 2 ^ 31 }
     requires slots { IsTrue (may_have (shape_in (O.shown objects.old) shape) slots) }
+    requires make { O.may_make objects.old }
     ensures step { HeapGoes (λ world. allocates (C.facts set.now) world shape slots)
         (O.shown objects.old) result (O.shown objects.new) }
     ensures heap { Becomes O.shown O.stores O.makes objects.old result objects.new }
@@ -55,6 +56,7 @@ pub fn new_object<C: Types, O: Objects>(
     requires monitors { KnowsMonitors (O.shown objects.old) rest.old }
     requires class { IsClass (C.facts set.now) class }
     requires there { class < length rest.old.classes.items }
+    requires make { O.may_make objects.old }
     ensures step { (from : From) → IsStep (C.facts set.now) t (ask.New from class)
         (O.shown objects.old) rest.old result (O.shown objects.new) rest.new }
     ensures heap { Becomes O.shown O.stores O.makes objects.old result objects.new }
@@ -70,6 +72,7 @@ fn new_elements<C: Types, O: Objects>(set: &C, objects: &mut O, shape: u32, leng
     requires heap { IsHeapOf (C.facts set.now) (O.shown objects.old) }
     requires class { IsClass (C.facts set.now) shape }
     requires elements { IsSome (element_of (C.facts set.now) shape) }
+    requires make { O.may_make objects.old }
     ensures step { HeapGoes (λ world. plain_array (C.facts set.now) world shape length)
         (O.shown objects.old) result (O.shown objects.new) }
     ensures heap { Becomes O.shown O.stores O.makes objects.old result objects.new }
@@ -85,6 +88,7 @@ pub fn new_array<C: Types, O: Objects>(set: &C, objects: &mut O, shape: u32, len
     requires heap { IsHeapOf (C.facts set.now) (O.shown objects.old) }
     requires class { IsClass (C.facts set.now) shape }
     requires elements { IsSome (element_of (C.facts set.now) shape) }
+    requires make { O.may_make objects.old }
     ensures step { IsHeapStep (C.facts set.now) (λ from. ask.NewArray from shape length)
         (O.shown objects.old) result (O.shown objects.new) }
     ensures heap { Becomes O.shown O.stores O.makes objects.old result objects.new }
@@ -95,6 +99,7 @@ pub fn new_array<C: Types, O: Objects>(set: &C, objects: &mut O, shape: u32, len
 /// Makes a String of so many chars.
 pub fn new_text<C: Types, O: Objects>(set: &C, objects: &mut O, length: i32) -> Stepped
     requires heap { IsHeapOf (C.facts set.now) (O.shown objects.old) }
+    requires make { O.may_make objects.old }
     ensures step { IsHeapStep (C.facts set.now) (λ from. ask.NewText from length)
         (O.shown objects.old) result (O.shown objects.new) }
     ensures heap { Becomes O.shown O.stores O.makes objects.old result objects.new }

@@ -65,6 +65,7 @@ pub fn plan_field<C: Types, O: Objects>(
     requires head { HeadIsHere (O.is_here objects.old) (O.shown objects.old) holder }
     requires slot { SlotIsHere (O.is_here objects.old) (O.shown objects.old) holder field.at }
     requires value { ItemIsHere (O.is_here objects.old) (O.shown objects.old) value }
+    requires make { O.may_make objects.old }
     ensures plan { IsPlan (C.facts set.now) (λ from. ask.PutField from holder field value)
         (O.shown objects.old) result (O.shown objects.new) }
     ensures here { IfStores result (IsStoreHere (O.is_here objects.new)
@@ -134,6 +135,7 @@ pub fn plan_element<C: Types, O: Objects>(
     requires head { HeadIsHere (O.is_here objects.old) (O.shown objects.old) array }
     requires slot { ElementIsHere (O.is_here objects.old) (O.shown objects.old) array index }
     requires value { ItemIsHere (O.is_here objects.old) (O.shown objects.old) value }
+    requires make { O.may_make objects.old }
     ensures plan { IsPlan (C.facts set.now) (λ from. ask.PutElement from array index kind value)
         (O.shown objects.old) result (O.shown objects.new) }
     ensures here { IfStores result (IsStoreHere (O.is_here objects.new)

@@ -79,6 +79,7 @@ pub fn get_field<C: Types, O: Objects>(
     requires slot { SlotIsHere (O.is_here objects.old) (O.shown objects.old) holder field.at }
     requires referred { ReferredIsHere (O.is_here objects.old) (O.shown objects.old) holder
         field.at }
+    requires make { O.may_make objects.old }
     ensures step { IsHeapStep (C.facts set.now) (λ from. ask.GetField from holder field)
         (O.shown objects.old) result (O.shown objects.new) }
     ensures heap { Becomes O.shown O.stores O.makes objects.old result objects.new }
@@ -106,6 +107,7 @@ pub fn get_element<C: Types, O: Objects>(
     requires slot { ElementIsHere (O.is_here objects.old) (O.shown objects.old) array index }
     requires referred { ReferredElementIsHere (O.is_here objects.old) (O.shown objects.old) array
         index }
+    requires make { O.may_make objects.old }
     ensures step { IsHeapStep (C.facts set.now) (λ from. ask.GetElement from array index kind)
         (O.shown objects.old) result (O.shown objects.new) }
     ensures heap { Becomes O.shown O.stores O.makes objects.old result objects.new }
@@ -127,6 +129,7 @@ pub fn length<C: Types, O: Objects>(set: &C, objects: &mut O, array: Ref) -> Ste
     requires heap { IsHeapOf (C.facts set.now) (O.shown objects.old) }
     requires known { IsKnown (O.shown objects.old).number array }
     requires head { HeadIsHere (O.is_here objects.old) (O.shown objects.old) array }
+    requires make { O.may_make objects.old }
     ensures step { IsHeapStep (C.facts set.now) (λ from. ask.Length from array)
         (O.shown objects.old) result (O.shown objects.new) }
     ensures heap { Becomes O.shown O.stores O.makes objects.old result objects.new }

@@ -10,7 +10,7 @@ ghost use Rattle.shared_objects.specs.Worlds.{KnowsMonitors};
 ghost use Rattle.step_forms.specs.Becomes.{Becomes, MayKeep};
 ghost use Rattle.step_forms.specs.Follows.{IsHeapOf, IsHeapStep, IsStep};
 ghost use Rattle.step_forms.specs.Needs.{ElementIsHere, HeadIsHere, ItemIsHere, SlotIsHere};
-ghost use Rattle.object_steps.specs.Stores.{IsStaticStoreOf, IsStoreOf};
+ghost use Rattle.object_steps.specs.Stores.{IsStaticStoreOf, IsStoreOf, StoresOf};
 
 use crate::commits::commit;
 use crate::plans::{plan_element, plan_field, plan_static};
@@ -68,6 +68,7 @@ pub fn put_static<O: Objects>(
         → IsStep set t (ask.PutStatic from field value)
         (O.shown objects.old) rest.old result (O.shown objects.new) rest.new }
     ensures heap { Becomes O.shown O.stores O.makes objects.old result objects.new }
+    ensures given { StoresOf O.shown O.stores objects.old value result objects.new }
 {
     match plan_static(objects, rest, t, field, value) {
         Planned::Ends(result) => result,
@@ -94,9 +95,11 @@ pub fn put_field<C: Types, O: Objects>(
     requires may { MayKeep (O.may_store objects.old) value
         (IsStoreOf (C.facts set.now) (λ from. ask.PutField from holder field value)
         (O.shown objects.old)) }
+    requires make { O.may_make objects.old }
     ensures step { IsHeapStep (C.facts set.now) (λ from. ask.PutField from holder field value)
         (O.shown objects.old) result (O.shown objects.new) }
     ensures heap { Becomes O.shown O.stores O.makes objects.old result objects.new }
+    ensures given { StoresOf O.shown O.stores objects.old value result objects.new }
 {
     match plan_field(set, objects, holder, field, value) {
         Planned::Ends(result) => result,
@@ -123,9 +126,11 @@ pub fn put_element<C: Types, O: Objects>(
     requires may { MayKeep (O.may_store objects.old) value
         (IsStoreOf (C.facts set.now) (λ from. ask.PutElement from array index kind value)
         (O.shown objects.old)) }
+    requires make { O.may_make objects.old }
     ensures step { IsHeapStep (C.facts set.now) (λ from. ask.PutElement from array index kind value)
         (O.shown objects.old) result (O.shown objects.new) }
     ensures heap { Becomes O.shown O.stores O.makes objects.old result objects.new }
+    ensures given { StoresOf O.shown O.stores objects.old value result objects.new }
 {
     match plan_element(set, objects, array, index, kind, value) {
         Planned::Ends(result) => result,

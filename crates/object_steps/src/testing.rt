@@ -21,6 +21,7 @@ pub fn class_of<C: Types, O: Objects>(set: &C, objects: &mut O, object: Ref, wit
     requires heap { IsHeapOf (C.facts set.now) (O.shown objects.old) }
     requires known { IsKnown (O.shown objects.old).number object }
     requires head { HeadIsHere (O.is_here objects.old) (O.shown objects.old) object }
+    requires make { O.may_make objects.old }
     ensures step { IsHeapStep (C.facts set.now) (λ from. ask.ClassOf from object within)
         (O.shown objects.old) result (O.shown objects.new) }
     ensures heap { Becomes O.shown O.stores O.makes objects.old result objects.new }
@@ -46,6 +47,7 @@ pub fn cast<C: Types, O: Objects>(set: &C, objects: &mut O, object: Ref, target:
     requires heap { IsHeapOf (C.facts set.now) (O.shown objects.old) }
     requires known { IsKnown (O.shown objects.old).number object }
     requires head { HeadIsHere (O.is_here objects.old) (O.shown objects.old) object }
+    requires make { O.may_make objects.old }
     ensures step { IsHeapStep (C.facts set.now) (λ from. ask.Cast from object target)
         (O.shown objects.old) result (O.shown objects.new) }
     ensures heap { Becomes O.shown O.stores O.makes objects.old result objects.new }

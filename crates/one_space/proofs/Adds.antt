@@ -46,11 +46,11 @@ row_front : {A : Type 0} (n : ℕ) (f : ℕ → A) → row (suc n) f ≡ f 0 ∷
 row_front zero f = refl
 row_front (suc n) f = ap (λ xs. xs ++ f (suc n) ∷ []) (row_front n f)
 
-row_replicate : {A : Type 0} (n : ℕ) (x : A) → row n (λ i. x) ≡ replicate n x
+pub row_replicate : {A : Type 0} (n : ℕ) (x : A) → row n (λ i. x) ≡ replicate n x
 row_replicate zero x = refl
 row_replicate (suc n) x = row_front n (λ i. x) ∙ ap (λ xs. x ∷ xs) (row_replicate n x)
 
-row_fields : {A : Type 0} (fields : List Field) (f : Option Field → A) (g : Field → A)
+pub row_fields : {A : Type 0} (fields : List Field) (f : Option Field → A) (g : Field → A)
     → ((x : Field) → f (Some x) ≡ g x)
     → row (length fields) (λ i. f (slice_get fields i)) ≡ map g fields
 row_fields [] f g same = refl

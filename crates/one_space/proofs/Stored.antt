@@ -35,7 +35,7 @@ ref_kind J (Some n) r h = h
 ref_kind Text None r h = h
 ref_kind Text (Some n) r h = h
 
-item_kind : (number : Numbers) (k : Kind) (item : Item) → HasKind k (item_value number item)
+pub item_kind : (number : Numbers) (k : Kind) (item : Item) → HasKind k (item_value number item)
     → HasItemKind k item
 item_kind number k (RefItem r) h = ref_kind k (number r) r h
 item_kind number Z (IntItem i) h = h

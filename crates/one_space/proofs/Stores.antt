@@ -67,7 +67,7 @@ same_or m n = elim (three_ways m n) [
   | inr g ↦ inr (λ e. omega (arith, g, e))
 ]
 
-row_set : {A : Type 0} (n : ℕ) (f g : ℕ → A) (i : ℕ) (x : A) → i < n → g i ≡ x
+pub row_set : {A : Type 0} (n : ℕ) (f g : ℕ → A) (i : ℕ) (x : A) → i < n → g i ≡ x
     → ((k : ℕ) → k < n → k ≢ i → g k ≡ f k) → row n g ≡ set (row n f) i x
 row_set n f g i x below is same =
     ext_get_or x _ _ (length-row n g ∙ sym (length-set (row n f) i x ∙ length-row n f)) (λ k inside.

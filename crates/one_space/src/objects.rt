@@ -19,6 +19,8 @@ impl Objects for OneSpace {
 
     ghost may_store = { λ heap place item. Unit {0} };
 
+    ghost may_make = { λ heap. Unit {0} };
+
     ghost stores = { λ heap place item now. Unit {0} };
 
     ghost makes = { λ heap now. Unit {0} };

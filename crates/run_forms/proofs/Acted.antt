@@ -44,7 +44,7 @@ some-same : {X : Type 0} (v w : X) → ◌≡◌ {A = Option X} (Some v) (Some w
 some-same v w e = cc
 
 -- a list of frames seen in two ways, alike for each of them
-map-same : {X Y : Type 0} (f g : X → Y) (xs : List X)
+pub map-same : {X Y : Type 0} (f g : X → Y) (xs : List X)
     → ((u : ℕ) (x : X) → slice_get xs u ≡ Some x → f x ≡ g x) → map f xs ≡ map g xs
 map-same f g [] same = refl
 map-same f g (x ∷ xs) same =

@@ -1,5 +1,5 @@
--- The fault of a step is that by which the event ends the plain run.
-use Rattle.std.proofs.Common.{◌≡◌, ℕ, zero, suc, ◌-◌, ◌<◌, ◌≤◌, ◌&&◌, ◌||◌, Bool, true, false, not, List, ◌∷◌, length, map, drop, replicate, nat_le, is_some, sum_by, Option, Some, None, inl, inr, refl, ap, sym, subst, ◌∙◌, arith, if◌then◌else◌}
+-- The fault of a step is that by which the event ends the plain run, and a step that does an operation met none.
+use Rattle.std.proofs.Common.{◌≡◌, ℕ, zero, suc, ◌-◌, ◌<◌, ◌≤◌, ◌&&◌, ◌||◌, Bool, true, false, not, List, [], ◌∷◌, length, map, drop, replicate, take, nat_le, nat_lt, is_some, sum_by, Option, Some, None, inl, inr, refl, ap, sym, subst, ◌∙◌, arith, if◌then◌else◌}
 use Rattle.std.specs.Prelude.{slice_get, slice_set}
 use Rattle.std.proofs.lemmas.Bool.Decides.{nat_tests}
 use Rattle.std.proofs.lemmas.List.{length-map}
@@ -15,35 +15,40 @@ use Rattle.run_types.specs.declared.wait.On.{On}
 use Rattle.graph_model.specs.declared.types.Value.{Value}
 use Rattle.natives.specs.declared.requests.Request.{Request}
 use Rattle.natives.specs.declared.requests.Request.TheVariants as ask
+use Rattle.natives.specs.declared.requests.Reply.{Reply}
+use Rattle.natives.specs.declared.requests.Reply.TheVariants as reply
+use Rattle.run_history.specs.declared.act.PlainKey.{PlainKey}
 use Rattle.run_history.specs.declared.act.Op.{Op}
 use Rattle.run_history.specs.declared.act.Op.TheVariants as op
+use Rattle.run_history.specs.declared.plain.Monitor.{Monitor}
 use Rattle.run_history.specs.Recorded.{Recorded}
-use Rattle.run_history.specs.Worlds.{World, held}
-use Rattle.run_history.specs.Knowing.{Knowledge, owes_fence}
+use Rattle.run_history.specs.Worlds.{World, entered, held, key_is, monitors_after_op}
+use Rattle.run_history.specs.Knowing.{Knowledge, guard_of, owes_fence}
 use Rattle.plain_model.specs.Facts.{SetFacts}
 use Rattle.plain_model.specs.First.{first_known}
-use Rattle.plain_model.specs.Requests.{PlainRequest, from_of}
+use Rattle.plain_model.specs.Requests.{PlainReply, PlainRequest, from_of}
 use Rattle.plain_model.specs.Limits.{words_of, words_made, words_left, acts_left, monitors_left}
 use Rattle.plain_model.specs.Steps.{Step, Does, Waits, WrongOperand, IsOver, step}
-use Rattle.plain_model.specs.Codes.{asks_live}
+use Rattle.plain_model.specs.Codes.{asks_live, taken_by}
 use Rattle.plain_model.specs.Runs.{request_after}
 use Rattle.plain_model.specs.Duties.{IsFit}
-use Rattle.plain_model.specs.Ends.{full, full_unless, bad_code, all_wait, waits_from, waits_of, wait_at, wait_of, fault_of_op, fault_of_words, fault_of_enter, fault_of_step, fault_of_request, fault_after, Prints}
+use Rattle.plain_model.specs.Ends.{full, full_unless, bad_code, all_wait, waits_from, waits_of, wait_at, wait_of, fault_of_op, fault_of_words, fault_of_enter, fault_of_durable_store, fault_of_step, fault_of_request, fault_after, Prints}
 use Rattle.plain_model.proofs.Within.{each_act_leaves_a_mark}
 use Rattle.frames.specs.Maps.{map_request}
 use Rattle.shared_objects.specs.declared.rest.Rest.{Rest}
 use Rattle.shared_objects.specs.Shown.{Shown}
-use Rattle.shared_objects.specs.Plain.{plain_request}
-use Rattle.shared_objects.specs.Worlds.{plain_thread, world_of}
+use Rattle.shared_objects.specs.Plain.{plain_request, plain_reply}
+use Rattle.shared_objects.specs.Worlds.{plain_monitor, plain_thread, world_of}
 use Rattle.step_forms.specs.declared.stepped.Stepped.{Stepped}
 use Rattle.step_forms.specs.declared.stepped.Stepped.TheVariants as stepped
-use Rattle.step_forms.specs.Follows.{IsStep, IsFullOf, IsLimit, DoesPrint, words_of_step}
+use Rattle.step_forms.specs.Follows.{IsStep, IsFullOf, IsLimit, DoesPrint, TakesWords, words_of_step}
 use Rattle.run_forms.specs.Views.{ThreadFrames}
 use Rattle.run_forms.specs.Standing.{Launch, IsLaunch, IsAsking, plain_code, known_at, frames_at}
 use Rattle.run_forms.specs.Volatile.{IsVolatile}
-use Rattle.run_forms.specs.Ends.{IsEndedBy, Ends, from_in}
+use Rattle.run_forms.specs.Ends.{IsEndedBy, IsNoFault, Ends, MeetsNoFault, from_in}
 use Rattle.run_forms.proofs.Asked.{BuiltIns, asked, fit-here}
-use Rattle.run_forms.proofs.Visible.{is_outside, prints, step-silent, step-inside}
+use Rattle.run_forms.proofs.Visible.{is_outside, is_print, prints, step-silent, step-inside}
+use Rattle.run_forms.proofs.Volatile.{not-durable}
 
 no-false : {P : Type 0} → true ≡ false → P
 no-false e = absurd (let no : true ≡ false = e in cc)
@@ -96,6 +101,45 @@ none-from waits (suc n) t none =
 printing : (q : PlainRequest) → prints q ≡ true → Prints (Some q)
 printing (ask.Print from piece) e = (from, piece, refl)
 printing q e = absurd (let no : false ≡ true = e in cc)
+
+-- where a print does anything, one of a single byte does
+print-does : (set : SetFacts) (world : World) (t taken : ℕ) (q : PlainRequest) (o : Op) (r : PlainReply)
+    → prints q ≡ true → step set world t taken q ≡ Does o r → DoesPrint (step set world t 1 q)
+unfolding step
+print-does set world t zero (ask.Print from []) o r is e = absurd (let no = e in cc)
+print-does set world t (suc taken) (ask.Print from []) o r is e =
+    let below : nat_lt 0 (suc taken) ≡ true = grind (arith, nat_tests) in
+    let none : nat_le (suc taken) 0 ≡ false = grind (arith, nat_tests) in
+    absurd (let no : WrongOperand ≡ Does o r =
+    sym (λ i. if below i && none i then Does (op.Print (take (suc taken) [])) (reply.Printed (suc taken))
+    else WrongOperand) ∙ e in cc)
+print-does set world t taken (ask.Print from (byte ∷ bytes)) o r is e =
+    let one : nat_le 1 (suc (length bytes)) ≡ true = grind (arith, nat_tests) in
+    subst (λ b. DoesPrint (if b then Does (op.Print (byte ∷ [])) (reply.Printed 1) else WrongOperand)) (sym one) tt
+print-does set world t taken q o r is e = absurd (let no : false ≡ true = is in cc)
+
+none-left : (n : ℕ) → nat_le 1 n ≡ false → n ≡ 0
+none-left zero e = refl
+none-left (suc n) e =
+    let some : nat_le 1 (suc n) ≡ true = grind (arith, nat_tests) in
+    no-false (sym some ∙ e)
+
+taken-one : (o : Op) → is_print o ≡ false → taken_by o ≡ 1
+taken-one (op.Print bytes) e = no-false e
+taken-one o e = refl
+
+-- a monitor that nobody held is one more
+entered-free : (ms : List Monitor) (key : PlainKey) (t : ℕ) → held ms key ≡ None
+    → length (entered ms key t) ≡ suc (length ms)
+entered-free [] key t e = refl
+entered-free (m ∷ ms) key t e = by-key (key_is m.key key) e (λ free. ap suc (entered-free ms key t free))
+  where
+    by-key : (b : Bool) → (if b then Some m else held ms key) ≡ None
+        → (held ms key ≡ None → suc (length (entered ms key t)) ≡ suc (suc (length ms)))
+        → length (if b then record m { count = suc m.count } ∷ ms else m ∷ entered ms key t)
+        ≡ suc (suc (length ms))
+    by-key true is others = none-some m (sym is)
+    by-key false is others = others is
 
 module _ (laws : BuiltIns) (launch : Launch) (calls : ℕ) (acts : List Recorded) (shown : Shown) (rest : Rest)
     (threads : List ThreadFrames) (is : IsLaunch launch)
@@ -328,3 +372,85 @@ module _ (laws : BuiltIns) (launch : Launch) (calls : ℕ) (acts : List Recorded
     step-ends (stepped.Waits on) now rest_now steps = λ one first.
         inl (tells-of (Waits on) ((steps.follows here.stands.roots).0 1)
         ∙ stuck-so on ((steps.follows here.stands.roots).0 1) one first)
+
+    -- ---- no fault
+
+    enough : (w : Which) (need there : ℕ) → need ≤ there → full_unless w need there ≡ None
+    enough w need there fit =
+        let so : nat_le need there ≡ true = grind (arith, nat_tests) in
+        ap (λ b. if b then None else Some (full w need there)) so
+
+    words-none : (made : Option ℕ) (left_now : ℕ) → TakesWords made shown.left left_now
+        → fault_of_words launch.set launch.opening launch.limits known made ≡ None
+    words-none None left_now takes = refl
+    words-none (Some need) left_now takes =
+        ap (full_unless which.VolatileWords need) words-there
+        ∙ enough which.VolatileWords need shown.left takes.0
+
+    enter-free : (key : PlainKey) → held world.monitors key ≡ None → (b : Bool)
+        → nat_le 1 (monitors_left world.monitors) ≡ b
+        → IsNoFault (full_unless which.Monitors 1 (monitors_left world.monitors))
+        (length (entered world.monitors key t))
+    enter-free key e true is =
+        inl (ap (λ b. if b then None else Some (full which.Monitors 1 (monitors_left world.monitors))) is)
+    enter-free key e false is =
+        let none : monitors_left world.monitors ≡ 0 = none-left (monitors_left world.monitors) is in
+        inr (
+          ap (λ b. if b then None else Some (full which.Monitors 1 (monitors_left world.monitors))) is
+              ∙ ap (λ n. Some (full which.Monitors 1 n)) none,
+          omega (arith, none, entered-free world.monitors key t e),
+        )
+
+    enter-met : (key : PlainKey) (m : Option Monitor) → held world.monitors key ≡ m
+        → IsNoFault (fault_of_enter launch.set launch.opening launch.limits known m)
+        (length (entered world.monitors key t))
+    enter-met key (Some m) e = inl refl
+    enter-met key None e =
+        subst (λ (w : World). IsNoFault (full_unless which.Monitors 1 (monitors_left w.monitors))
+        (length (entered world.monitors key t))) (sym here.stands.world)
+        (enter-free key e (nat_le 1 (monitors_left world.monitors)) refl)
+
+    op-met : (o : Op) (left_now : ℕ) → TakesWords (words_made world.heap o) shown.left left_now
+        → IsNoFault (fault_of_op launch.set launch.opening launch.limits known t o)
+        (length (monitors_after_op world.monitors t o))
+    op-met (op.Stored place value) left_now takes =
+        inl (ap (λ b. if b then fault_of_durable_store launch.set launch.opening launch.limits known t place value
+        (guard_of known.guards place) else None) (not-durable known here.nothing place))
+    op-met (op.Enter key) left_now takes =
+        subst (λ (w : World). IsNoFault
+        (fault_of_enter launch.set launch.opening launch.limits known (held w.monitors key))
+        (length (entered world.monitors key t))) (sym here.stands.world)
+        (enter-met key (held world.monitors key) refl)
+    op-met o left_now takes =
+        inl (ap (λ (w : World). fault_of_words launch.set launch.opening launch.limits known (words_made w.heap o))
+        here.stands.world
+        ∙ words-none (words_made world.heap o) left_now takes)
+
+    module _ (o : Op) (r : Reply Ref Item) (now : Shown) (rest_now : Rest)
+        (steps : IsStep launch.set t q shown rest (stepped.Did o r) now rest_now) where
+      does : step launch.set known.world t (taken_by o) pq ≡ Does o (plain_reply now.number r)
+      does = ap (λ w. step launch.set w t (taken_by o) pq) here.stands.world
+          ∙ (steps.follows here.stands.roots).0
+
+      count : length (monitors_after_op world.monitors t o) ≡ length rest_now.monitors
+      count =
+          let same = ap (λ (w : World). length w.monitors) (steps.follows here.stands.roots).2 in
+          let own = length-map rest_now.monitors (plain_monitor now.number) in
+          omega (arith, same, own)
+
+      no-fault : (b : Bool) → prints pq ≡ b → IsNoFault fault_here (length rest_now.monitors)
+      no-fault true is = inl (tells ∙ print-faultless (step launch.set known.world t 1 pq)
+          (print-does launch.set known.world t (taken_by o) pq o (plain_reply now.number r) is does))
+      no-fault false is =
+          let one : taken_by o ≡ 1 = taken-one o (step-silent launch.set known.world t (taken_by o) pq o
+          (plain_reply now.number r) fits is does).1 in
+          let so : fault_here ≡ fault_of_op launch.set launch.opening launch.limits known t o =
+          tells
+          ∙ ap fault_so (subst (λ n. step launch.set known.world t n pq ≡ Does o (plain_reply now.number r))
+          one does) in
+          subst (λ met. IsNoFault met (length rest_now.monitors)) (sym so)
+          (subst (IsNoFault (fault_of_op launch.set launch.opening launch.limits known t o)) count
+          (op-met o now.left steps.words))
+
+      pub meets-none : MeetsNoFault launch lines acts t (length rest_now.monitors)
+      meets-none = (omega (arith, room, marks-are), no-fault (prints pq) refl)

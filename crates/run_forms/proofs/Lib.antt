@@ -6,3 +6,4 @@ pub mod Asked
 pub mod Acted
 pub mod Volatile
 pub mod Ending
+pub mod Shifted

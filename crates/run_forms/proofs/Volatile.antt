@@ -62,7 +62,7 @@ and-false false = refl
 
 -- ---- nothing is durable
 
-not-durable : (known : Knowledge) → HasNothingDurable known → (place : Place) → durable_at known place ≡ false
+pub not-durable : (known : Knowledge) → HasNothingDurable known → (place : Place) → durable_at known place ≡ false
 not-durable known none (Static n) = ap (λ roots. is_root roots n) none.roots
 not-durable known none (Slot n i) = ap (λ durable. has_number durable n) none.objects
 

@@ -3,6 +3,7 @@ use Rattle.std.specs.Prelude.{◌≡◌, ℕ, List, [], ◌∷◌, ◌++◌, map
 use Rattle.ap_base.specs.declared.reference.Ref.{Ref}
 use Rattle.ap_base.specs.declared.reference.Ref.TheVariants.{Null}
 use Rattle.ap_base.specs.declared.reference.Item.{Item}
+use Rattle.graph_model.specs.declared.types.Root.{Root}
 use Rattle.natives.specs.declared.requests.Request.{Request}
 use Rattle.natives.specs.declared.requests.Reply.{Reply}
 use Rattle.run_history.specs.Recorded.{Recorded}
@@ -10,8 +11,9 @@ use Rattle.plain_model.specs.Codes.{begun_by}
 use Rattle.plain_model.specs.Runs.{MayAct, wants_of}
 use Rattle.frames.specs.Turns.{turn, answer}
 use Rattle.shared_objects.specs.declared.rest.Rest.{Rest}
-use Rattle.shared_objects.specs.Shown.{Shown}
+use Rattle.shared_objects.specs.Shown.{Keeps, Shown}
 use Rattle.shared_objects.specs.Plain.{plain_request}
+use Rattle.shared_objects.specs.Worlds.{KnowsMonitors, world_of}
 use Rattle.step_forms.specs.declared.stepped.Stepped.TheVariants as stepped
 use Rattle.step_forms.specs.Follows.{IsHeapOf, IsStep}
 use Rattle.run_forms.specs.Views.{ThreadFrames, plain_frames}
@@ -62,3 +64,17 @@ ActsGoOn = OfMachines (λ launch acts shown rest threads.
     ≡ begun_by launch.set launch.main launch.opening (plain_code launch) a.act.op
     → StandsFor launch (acts ++ a ∷ []) now rest_now
     (answered_threads launch threads a.act.thread fs r begun))
+
+-- What a move of objects leaves: each reference stands for its number, and heap and rest show the same world, with
+-- monitors under their objects' keys.
+pub record ShowsSameWorld (before now : Shown) (rest rest_now : Rest) : Type 0 where
+  pub keeps : Keeps before.number now.number
+  pub world : (roots : List Root) → world_of roots now rest_now ≡ world_of roots before rest
+  pub monitors : KnowsMonitors now rest_now
+  pub null : now.number Null ≡ None
+
+-- Then the machine stands for the same acts, with the same frames.
+abbrev pub MovesStandForTheRun : Type 0
+MovesStandForTheRun = OfMachines (λ launch acts shown rest threads.
+    (now : Shown) (rest_now : Rest) → ShowsSameWorld shown now rest rest_now
+    → StandsFor launch acts now rest_now threads)

@@ -1,8 +1,8 @@
 //! Laws of machines that stand for plain runs. Each function states some in its contract, and does nothing
 //! but cite others.
 
-ghost use Rattle.run_forms.specs.Laws.{HeapsAreOfTheSet, ThreadsAskAlike, ActsGoOn};
-ghost use Rattle.run_forms.specs.Ends.{FullHistoriesEnd, StepsEnd};
+ghost use Rattle.run_forms.specs.Laws.{HeapsAreOfTheSet, ThreadsAskAlike, ActsGoOn, MovesStandForTheRun};
+ghost use Rattle.run_forms.specs.Ends.{ActsMeetNoFault, FullHistoriesEnd, StepsEnd};
 ghost use Rattle.run_forms.specs.Volatile.{VolatileMachinesAgree, VolatileActsAreRuns, VolatileActsGoOn};
 
 use ap_base::{Item, Ref};
@@ -15,6 +15,17 @@ pub fn machines_go_on_as_plain_runs()
     ensures heaps { HeapsAreOfTheSet }
     ensures asks { ThreadsAskAlike }
     ensures acts { ActsGoOn }
+{
+    plain_natives::built_in_methods_keep_in();
+    plain_natives::programs_with_built_in_methods_ask_what_is_fit();
+    plain_natives::machines_with_built_in_methods_go_alike::<Ref, Value, Item, Value>();
+    plain_natives::items_are_alike();
+}
+
+/// A machine whose objects have moved, so that it shows the same world, stands for the same plain run: its
+/// frames keep their references.
+pub fn moved_heaps_stand_for_the_same_run()
+    ensures stands { MovesStandForTheRun }
 {
     plain_natives::built_in_methods_keep_in();
     plain_natives::programs_with_built_in_methods_ask_what_is_fit();
@@ -36,10 +47,12 @@ pub fn volatile_machines_go_on()
 }
 
 /// Where nothing is durable, what a step finds wrong, waits for or lacks is the fault by which the event ends the
-/// plain run, and a full history ends it before all else.
+/// plain run, and a full history ends it before all else. The event of a step that does an operation met no
+/// fault, unless it was that of too many monitors.
 pub fn volatile_runs_end_by_their_faults()
     ensures full { FullHistoriesEnd }
     ensures steps { StepsEnd }
+    ensures acts { ActsMeetNoFault }
 {
     plain_natives::built_in_methods_keep_in();
     plain_natives::programs_with_built_in_methods_ask_what_is_fit();

@@ -5,5 +5,6 @@
 mod laws;
 
 pub use laws::{
-    machines_go_on_as_plain_runs, volatile_machines_go_on, volatile_runs_end_by_their_faults,
+    machines_go_on_as_plain_runs, moved_heaps_stand_for_the_same_run, volatile_machines_go_on,
+    volatile_runs_end_by_their_faults,
 };

@@ -31,6 +31,10 @@ pub trait Objects {
     /// an item has been converted before a durable place keeps it.
     ghost may_store: { Self → Place → KeptItem → Type 0 };
 
+    /// Whether the heap can take a new object now, if it has the words. The instance says what it asks
+    /// of its caller.
+    ghost may_make: { Self → Type 0 };
+
     /// What a store of an item to a place makes of the whole heap, and not only of what it shows.
     ghost stores: { Self → Place → KeptItem → Self → Type 0 };
 
@@ -117,6 +121,7 @@ pub trait Objects {
         requires shape { shape < length (shown self.old).shapes }
         requires few { slots < 2 ^ 31 }
         requires slots { IsTrue (may_have (shape_in (shown self.old) shape) slots) }
+        requires may { may_make self.old }
         ensures made { IfOk result (λ object. Allocates shape slots object (shown self.old) (shown
             self.new)) }
         ensures heap { OnOk result (makes self.old self.new) }

@@ -1,5 +1,6 @@
 -- What a request needs, by what it is, and what it comes to.
-use Rattle.std.proofs.Common.{◌≡◌, ℕ, ◌<◌, List, length, refl, sym, subst, arith, Option, Some}
+use Rattle.std.proofs.Common.{◌≡◌, ℕ, ◌<◌, List, length, refl, sym, subst, arith, ap, ◌∙◌, Option, Some, None}
+use Rattle.std.specs.Prelude.{IfSome}
 use Rattle.ap_base.specs.declared.reference.Ref.{Ref}
 use Rattle.ap_base.specs.declared.reference.Item.{Item}
 use Rattle.ap_base.specs.declared.place.Place.{Place}
@@ -92,3 +93,12 @@ quiet_faults q r before result is goes = faults_are q r before result before is 
 pub share_is : (q r : Request Ref Item) (takes : ℕ → Option ℕ) (result : Stepped) → q ≡ r
     → SharesGo r takes result → SharesGo q takes result
 share_is q r takes result is goes = subst (λ (x : Request Ref Item). SharesGo x takes result) (sym is) goes
+
+-- a request that gives nothing, and one that gives an item
+pub given_none : {q r : Request Ref Item} (P : Item → Type 0) → q ≡ r → given r ≡ None → IfSome (given q) P
+given_none {q} {r} P is none = subst (λ (o : Option Item). IfSome o P) (sym (ap given is ∙ none)) tt
+
+pub given_some : {q r : Request Ref Item} (P : Item → Type 0) (item : Item) → q ≡ r → given r ≡ Some item → P item
+    → IfSome (given q) P
+given_some {q} {r} P item is gives holds =
+    subst (λ (o : Option Item). IfSome o P) (sym (ap given is ∙ gives)) holds

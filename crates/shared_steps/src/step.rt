@@ -2,6 +2,7 @@
 ghost use Rattle.step_forms.specs.Becomes.{Becomes, MayBeStored};
 ghost use Rattle.step_forms.specs.Follows.{Agrees, IsStep};
 ghost use Rattle.step_forms.specs.Needs.{IsAskable};
+ghost use Rattle.shared_steps.specs.Giving.{StoresGiven};
 ghost use Rattle.shared_steps.specs.Output.{FaultsGo, OutputGoes, SharesGo};
 
 use ap_base::{Sink, ThreadNo};
@@ -32,9 +33,11 @@ pub fn take_step<C: Types, O: Objects, S: Sink>(
         (O.is_static_here objects.old) (O.shown objects.old) rest.old t request.now }
     requires may { MayBeStored (O.may_store objects.old) (C.facts set.now) (O.shown objects.old)
         rest.old t request.now }
+    requires make { O.may_make objects.old }
     ensures step { IsStep (C.facts set.now) t request.now
         (O.shown objects.old) rest.old result (O.shown objects.new) rest.new }
     ensures heap { Becomes O.shown O.stores O.makes objects.old result objects.new }
+    ensures given { StoresGiven O.shown O.stores objects.old request.now result objects.new }
     ensures share { SharesGo request.now (S.takes sink.old) result }
     ensures output { OutputGoes request.now (S.taken sink.old) result (S.taken sink.new) }
     ensures cause { FaultsGo request.now (S.faults sink.old) result (S.faults sink.new) }

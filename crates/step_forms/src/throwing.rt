@@ -29,6 +29,7 @@ fn slots_of<C: Types>(set: &C, class: u32) -> u32
 pub fn throw_class<C: Types, O: Objects>(set: &C, objects: &mut O, class: u32) -> Stepped
     requires heap { IsHeapOf (C.facts set.now) (O.shown objects.old) }
     requires there { class < length (classes_of (C.facts set.now)) }
+    requires make { O.may_make objects.old }
     ensures step { HeapGoes (λ world. throwing (C.facts set.now) world class)
         (O.shown objects.old) result (O.shown objects.new) }
     ensures heap { Becomes O.shown O.stores O.makes objects.old result objects.new }
@@ -50,6 +51,7 @@ pub fn throw_class<C: Types, O: Objects>(set: &C, objects: &mut O, class: u32) -
 /// Throws one of the throwables that requests throw.
 pub fn throw<C: Types, O: Objects>(set: &C, objects: &mut O, which: Throws) -> Stepped
     requires heap { IsHeapOf (C.facts set.now) (O.shown objects.old) }
+    requires make { O.may_make objects.old }
     ensures step { HeapGoes (λ world. throws (C.facts set.now) world which)
         (O.shown objects.old) result (O.shown objects.new) }
     ensures heap { Becomes O.shown O.stores O.makes objects.old result objects.new }

@@ -125,3 +125,7 @@ pub record Begins (kinds : List ShapeKinds) (lines : List ℕ) (size room : ℕ)
   pub births : (n : ℕ) → n < length lines → slice_index marks.births n ≡ 2 * slice_index lines n
   pub kinds_are : marks.kinds ≡ kinds
   pub room_is : marks.room ≡ room
+
+-- it lies at this index of the space, and is being copied
+abbrev pub IsBeingCopied : ℕ → View → List Entry → ℕ → Type 0
+IsBeingCopied at v es n = ((entry es n).at ≡ at) × ((entry es n).stage ≡ 1)

@@ -7,6 +7,7 @@ mod heap;
 mod marks;
 mod moves;
 mod opening;
+mod queued;
 mod residence;
 mod stores;
 

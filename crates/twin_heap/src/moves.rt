@@ -165,7 +165,7 @@ impl<I: Image> TwinHeap<I> {
 }
 
 // The line in an object's state.
-fn line_at(space: &VolatileSpace, object: u32) -> u32
+pub(crate) fn line_at(space: &VolatileSpace, object: u32) -> u32
     requires object { IsObject space.now.words object }
     ensures line { (s : ObjectState) → HasState space.now.words object s → result ≡ line_in s }
 {
@@ -215,7 +215,7 @@ fn copy_words<I: Image>(
 }
 
 // Whether a slot of a kind holds references.
-fn is_reference(kind: Option<Kind>) -> bool
+pub(crate) fn is_reference(kind: Option<Kind>) -> bool
     ensures { result ≡ is_reference kind }
 {
     match kind {

@@ -1,5 +1,5 @@
 -- What a turn does to a run that stands for a plain run.
-use Rattle.std.proofs.Common.{◌≡◌, ℕ, zero, suc, ◌<◌, ◌≤◌, Bool, true, false, not, List, [], ◌∷◌, ◌++◌, length, map, replicate, unwrap_or, Option, Some, None, refl, ap, sym, subst, ◌∙◌, arith, inl, inr}
+use Rattle.std.proofs.Common.{◌≡◌, ◌⊎◌, ℕ, zero, suc, ◌<◌, ◌≤◌, Bool, true, false, not, List, [], ◌∷◌, ◌++◌, append_assoc, length, map, replicate, unwrap_or, Option, Some, None, refl, ap, sym, subst, ◌∙◌, arith, inl, inr}
 use Rattle.std.specs.Prelude.{slice_get, slice_set, All}
 use Rattle.std.proofs.lemmas.List.{append-nil, length-append, length-map}
 use Rattle.std.proofs.lemmas.List.Elements.{All-nil, All-cons}
@@ -23,13 +23,18 @@ use Rattle.natives.specs.declared.states.NativeState.{NativeState}
 use Rattle.run_history.specs.declared.act.Op.{Op}
 use Rattle.run_history.specs.declared.act.Op.TheVariants as op
 use Rattle.run_history.specs.Recorded.{History, Recorded, with_seen}
-use Rattle.run_history.specs.Worlds.{Thread, World, at_thread, threads_after_op}
+use Rattle.run_history.specs.Knowing.{Knowledge}
+use Rattle.run_history.specs.Worlds.{Thread, World, after as after_act, at_thread, threads_after_op}
 use Rattle.plain_model.specs.Requests.{PlainRequest, PlainReply}
 use Rattle.plain_model.specs.Facts.{SetFacts}
+use Rattle.plain_model.specs.First.{first_known}
+use Rattle.plain_model.specs.LimitLaws.{HaveNoFault}
 use Rattle.plain_model.specs.Steps.{Step, Does, IsOver, step}
 use Rattle.plain_model.specs.Ends.{Ending, EndsAs, Fault, Finished, Uncaught, Prints, first_uncaught, full}
-use Rattle.plain_model.specs.Codes.{begun_by, taken_by}
+use Rattle.plain_model.specs.Codes.{begun_by, is_persistent, taken_by}
 use Rattle.plain_model.specs.Runs.{printed_by}
+use Rattle.plain_model.proofs.Appended.{known_after-append}
+use Rattle.plain_model.proofs.RunSound.{world_next, world_of_next}
 use Rattle.frames.specs.Settings.{Setting}
 use Rattle.frames.specs.Turns.{answer, turn}
 use Rattle.frame_steps.specs.Sized.{AreOf}
@@ -38,7 +43,7 @@ use Rattle.shared_objects.specs.declared.rest.Rest.{Rest}
 use Rattle.shared_objects.specs.declared.threads.ThreadState.{ThreadState}
 use Rattle.shared_objects.specs.Shown.{Shown}
 use Rattle.shared_objects.specs.Plain.{plain_request, plain_reply}
-use Rattle.shared_objects.specs.Worlds.{plain_thread, world_of}
+use Rattle.shared_objects.specs.Worlds.{plain_monitor, plain_thread, world_of}
 use Rattle.step_forms.specs.declared.stepped.Stepped.{Stepped}
 use Rattle.step_forms.specs.declared.stepped.Stepped.TheVariants as stepped
 use Rattle.step_forms.specs.Becomes.{MayBeStored}
@@ -48,12 +53,12 @@ use Rattle.shared_steps.specs.Output.{FaultsGo, OutputGoes, SharesGo}
 use Rattle.run_forms.specs.Views.{ThreadFrames}
 use Rattle.run_forms.specs.Standing.{Launch, IsLaunch, IsAsking, IsAsked, IsRun, known_at, plain_code, setting_of}
 use Rattle.run_forms.specs.Laws.{ThreadsAskAlike}
-use Rattle.run_forms.specs.Ends.{Ends, FullHistoriesEnd, IsEndedBy, StepsEnd, from_in}
+use Rattle.run_forms.specs.Ends.{ActsMeetNoFault, Ends, FullHistoriesEnd, IsEndedBy, MeetsNoFault, StepsEnd, from_in}
 use Rattle.run_forms.specs.Volatile.{IsVolatile, VolatileMachinesAgree, VolatileActsAreRuns, VolatileActsGoOn, act_of}
-use Rattle.run_forms.proofs.Visible.{is_print, prints, step-inside, step-silent}
+use Rattle.run_forms.proofs.Visible.{is_print, prints, step-inside, step-silent, step-visible}
 use Rattle.volatile_run.specs.declared.turns.Turned.{Turned}
 use Rattle.volatile_run.specs.declared.turns.Turned.TheVariants.{Acted, Started, Ended, Over}
-use Rattle.volatile_run.specs.Turning.{AddsShare, DoesSo, HasEnded, HasTold, IsCaused, IsShare, Stands, StartsAfter, TurnsTo, ending_of, is_live, is_start, uncaught_in, with_all}
+use Rattle.volatile_run.specs.Turning.{AddsShare, DoesSo, HadNoFault, HasEnded, HasTold, HeldFew, IsCaused, IsShare, Stands, StartsAfter, TurnsTo, ending_of, is_live, is_start, uncaught_in, with_all}
 
 -- what the laws of machines say
 pub record Laws : Type 0 where
@@ -63,6 +68,7 @@ pub record Laws : Type 0 where
   pub acts : VolatileActsGoOn
   pub full : FullHistoriesEnd
   pub steps : StepsEnd
+  pub meets : ActsMeetNoFault
 
 -- ---- parts
 
@@ -279,6 +285,59 @@ pub shared : (q : Request Ref Item) (asks : Option (Request Ref Item)) → Some 
 shared q asks e takes calls o r before now pushed share =
     inr (o, ap (λ (h : History). h.acts) pushed, share-of q asks e takes o r share)
 
+-- ---- no fault
+
+-- the empty list has no further element
+nil-more : {X : Type 0} (front rest : List X) (b : X) {P : Type 0} → [] ≡ front ++ b ∷ rest → P
+nil-more front rest b e = absurd (omega (arith, ap length e, length-append front (b ∷ rest)))
+
+-- what stands in a list that has one more stands before it, or is it
+last-or : {X : Type 0} (xs : List X) (a : X) (front : List X) (b : X) (rest : List X) → xs ++ a ∷ [] ≡ front ++ b ∷ rest
+    → ((front ≡ xs) × (b ≡ a)) ⊎ ((more : List X) × (xs ≡ front ++ b ∷ more))
+last-or [] a [] b rest e = inl (refl, let is : b ≡ a = cc in is)
+last-or [] a (f ∷ front) b rest e = let others : [] ≡ front ++ b ∷ rest = cc in nil-more front rest b others
+last-or (x ∷ xs) a [] b rest e = let is : x ≡ b = cc in inr (xs, ap (λ y. y ∷ xs) is)
+last-or (x ∷ xs) a (f ∷ front) b rest e =
+    let first : x ≡ f = cc in
+    let others : xs ++ a ∷ [] ≡ front ++ b ∷ rest = cc in
+    elim (last-or xs a front b rest others) [
+      | inl it ↦ inl (λ i. sym first i ∷ it.0 i, it.1)
+      | inr it ↦ inr (it.0, λ i. first i ∷ it.1 i)
+    ]
+
+-- no act met a fault
+pub none-yet : (launch : Launch) → HadNoFault launch []
+none-yet launch lines front a rest e = nil-more front rest a e
+
+none-more : (launch : Launch) (acts : List Recorded) (a : Recorded) → HadNoFault launch acts
+    → ((lines : ℕ) → MeetsNoFault launch lines acts a.act.thread
+    (length (known_at launch (acts ++ a ∷ [])).world.monitors))
+    → HadNoFault launch (acts ++ a ∷ [])
+none-more launch acts a had meets lines front b rest e = elim (last-or acts a front b rest e) [
+  | inl it ↦
+      subst (λ (xs : List Recorded). MeetsNoFault launch lines xs b.act.thread
+      (length (known_at launch (xs ++ b ∷ [])).world.monitors)) (sym it.0)
+      (subst (λ (c : Recorded). MeetsNoFault launch lines acts c.act.thread
+      (length (known_at launch (acts ++ c ∷ [])).world.monitors)) (sym it.1) (meets lines))
+  | inr it ↦ had lines front b it.0 it.1
+]
+
+-- none at all, where no more monitors were held than may be
+pub none-at-all : (launch : Launch) (acts : List Recorded) → HadNoFault launch acts → HeldFew launch acts → (lines : ℕ)
+    → HaveNoFault launch.set launch.main launch.opening (plain_code launch) launch.limits lines acts
+none-at-all launch acts had few lines front a rest e =
+    let here = had lines front a rest e in (
+      here.0,
+      elim here.1 [
+        | inl none ↦ none
+        | inr over ↦ absurd (omega (
+          arith,
+          over.1,
+          few (front ++ a ∷ []) rest (e ∙ sym (append_assoc front (a ∷ []) rest)),
+        ))
+      ],
+    )
+
 -- ---- a turn
 
 -- the laws, and what a turn is given: the run, its setting, and the request of its thread
@@ -445,6 +504,28 @@ module _ (launch : Launch) (calls : ℕ) (history : History) (shown : Shown) (re
           (started, starts-so calls history.acts after.acts o (ap (λ (h : History). h.acts) pushed) it)
       goes null turned is_turned (Ended uncaught) fs it = absurd it
       goes null turned is_turned (Over f) fs it = absurd it
+
+      monitors-now : length (known_at launch (history.acts ++ act_of 0 calls o ∷ [])).world.monitors
+          ≡ length rest_now.monitors
+      monitors-now =
+          let stands = here.stands.machine.stands in
+          let visible : is_persistent o ≡ false = step-visible launch.set (world_of [] shown rest) 0 (taken_by o)
+          (plain_request shown.number q) o (plain_reply now.number r) asked.fit does in
+          ap (λ (k : Knowledge). length k.world.monitors)
+          (known_after-append (first_known launch.set launch.opening) history.acts (act_of 0 calls o ∷ []))
+          ∙ ap (λ (w : World). length w.monitors)
+          (world_of_next (known_at launch history.acts) (act_of 0 calls o)
+          ∙ ap (world_next (known_at launch history.acts).world (act_of 0 calls o)) visible
+          ∙ ap (λ (w : World). after_act w 0 o) stands.world ∙ sym (did.follows stands.roots).2)
+          ∙ length-map rest_now.monitors (plain_monitor now.number)
+
+      pub unfaulted : length history.acts < launch.limits.acts → HadNoFault launch history.acts
+          → HadNoFault launch after.acts
+      unfaulted room none = subst (λ (h : History). HadNoFault launch h.acts) (sym pushed)
+          (none-more launch history.acts (act_of 0 calls o) none (λ lines.
+          subst (MeetsNoFault launch lines history.acts 0) (sym monitors-now)
+          (here.laws.meets launch calls history.acts shown rest (frames ∷ []) here.is here.stands.machine lines 0
+          frames q o r now rest_now asking did room)))
 
       silent : prints (plain_request shown.number q) ≡ false → printed_by o ≡ []
       silent quiet = printed-none o (step-silent launch.set (world_of [] shown rest) 0 (taken_by o)

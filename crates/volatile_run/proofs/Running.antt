@@ -1,6 +1,6 @@
 -- Turn after turn.
-use Rattle.std.proofs.Common.{◌≡◌, ◌≤◌, ℕ, true, false, List, [], ◌∷◌, ◌++◌, append_assoc, Option, Some, None, refl, ap, sym, subst, ◌∙◌, arith}
-use Rattle.std.proofs.lemmas.List.{append-nil}
+use Rattle.std.proofs.Common.{◌≡◌, inl, inr, map, ◌≤◌, ℕ, true, false, List, [], ◌∷◌, ◌++◌, append_assoc, Option, Some, None, refl, ap, sym, subst, ◌∙◌, arith}
+use Rattle.std.proofs.lemmas.List.{append-nil, map-append}
 use Rattle.ap_base.specs.Causes.{Rose}
 use Rattle.ap_base.specs.Sinks.{with_bytes}
 use Rattle.ap_base.specs.declared.reference.Ref.{Ref}
@@ -22,9 +22,10 @@ use Rattle.run_forms.specs.Standing.{Launch, IsRun}
 use Rattle.run_forms.specs.Volatile.{act_of}
 use Rattle.volatile_run.specs.declared.turns.Turned.{Turned}
 use Rattle.volatile_run.specs.declared.turns.Turned.TheVariants.{Acted, Started, Ended, Over}
-use Rattle.volatile_run.specs.Turning.{EndsBy, HasEnded, HasTold, IsCaused, IsFinal, IsReady, Stands, TurnsTo, ending_of, is_acted, with_all}
+use Rattle.natives.specs.declared.requests.Request.{Request}
+use Rattle.volatile_run.specs.Turning.{AddsShare, EndsBy, HadNoFault, HasActed, HasEnded, HasTold, IsCaused, IsFinal, IsReady, Stands, TurnsTo, ending_of, is_acted, with_all}
 
--- A launch is ready yet, and each one that was at first is.
+-- A launch is ready yet, and each one that was at first is; and by it no act since then met a fault.
 pub record IsStill (set : SetFacts) (x : Setting Native Ref (NativeState Ref) Item) (first calls_first : ℕ) (begun : History)
     (shown_first : Shown) (rest_first : Rest) (frames_first : ThreadFrames) (limit calls : ℕ) (history : History)
     (shown : Shown) (rest : Rest) (frames : ThreadFrames) : Type 0 where
@@ -33,6 +34,8 @@ pub record IsStill (set : SetFacts) (x : Setting Native Ref (NativeState Ref) It
       → IsReady launch set x limit calls history shown rest frames
   pub most : limit ≡ first
   pub same : calls ≡ calls_first
+  pub unfaulted : (launch : Launch) → IsReady launch set x first calls_first begun shown_first rest_first frames_first
+      → HadNoFault launch begun.acts → HadNoFault launch history.acts
 
 pub acted-is : (t : Turned) → is_acted t ≡ true → t ≡ Acted
 acted-is Acted e = refl
@@ -135,3 +138,22 @@ pub later-acted : (first before now : ℕ) (t : Turned) → is_acted t ≡ true 
     → IsCaused before now t → first ≤ now
 later-acted first before now t acted le is =
     caused-since first before now Acted le (subst (IsCaused before now) (acted-is t acted) is)
+
+-- ---- the acts of turns
+
+pub acted-once : (asks : Option (Request Ref Item)) (takes : ℕ → Option ℕ) (calls : ℕ) (before now : List Recorded)
+    → AddsShare asks takes calls before now → HasActed calls before now
+acted-once asks takes calls before now (inl same) = record { ops = []; acts = same ∙ sym (append-nil before) }
+acted-once asks takes calls before now (inr one) = record { ops = one.0 ∷ []; acts = one.1 }
+
+pub acted-both : (calls calls_then : ℕ) (first then last : List Recorded) → HasActed calls first then → calls_then ≡ calls
+    → HasActed calls_then then last → HasActed calls first last
+acted-both calls calls_then first then last one same other =
+    let more : last ≡ then ++ map (act_of 0 calls) other.ops =
+    other.acts ∙ ap (λ (n : ℕ). then ++ map (act_of 0 n) other.ops) same in
+    record {
+      ops = one.ops ++ other.ops;
+      acts = more ∙ ap (λ (xs : List Recorded). xs ++ map (act_of 0 calls) other.ops) one.acts
+          ∙ append_assoc first (map (act_of 0 calls) one.ops) (map (act_of 0 calls) other.ops)
+          ∙ ap (λ (xs : List Recorded). first ++ xs) (sym (map-append (act_of 0 calls) one.ops other.ops));
+    }

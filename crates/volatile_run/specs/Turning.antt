@@ -1,5 +1,5 @@
 -- What a turn leaves of a run without durable roots.
-use Rattle.std.specs.Prelude.{◌≡◌, ◌⊎◌, ◌≤◌, ℕ, suc, Bool, true, false, not, List, [], ◌∷◌, ◌++◌, length, Option, Some, None, IfSome}
+use Rattle.std.specs.Prelude.{◌≡◌, ◌⊎◌, ◌≤◌, ℕ, suc, Bool, true, false, not, List, [], ◌∷◌, ◌++◌, length, map, Option, Some, None, IfSome}
 use Rattle.ap_base.specs.Causes.{Rose, next_count}
 use Rattle.ap_base.specs.Sinks.{with_bytes}
 use Rattle.ap_base.specs.declared.reference.Ref.{Ref}
@@ -15,6 +15,7 @@ use Rattle.run_history.specs.declared.act.Op.{Op}
 use Rattle.run_history.specs.declared.act.Op.TheVariants as op
 use Rattle.run_history.specs.Recorded.{History, Recorded}
 use Rattle.plain_model.specs.Facts.{SetFacts}
+use Rattle.plain_model.specs.Limits.{most_monitors}
 use Rattle.plain_model.specs.Ends.{Ending, EndsAs, Fault, Finished, Uncaught}
 use Rattle.plain_model.specs.Runs.{output_of}
 use Rattle.frames.specs.Settings.{Setting}
@@ -25,8 +26,9 @@ use Rattle.shared_objects.specs.declared.threads.ThreadState.{ThreadState}
 use Rattle.shared_objects.specs.Shown.{Shown}
 use Rattle.shared_objects.specs.Worlds.{world_of}
 use Rattle.run_forms.specs.Views.{ThreadFrames}
-use Rattle.run_forms.specs.Standing.{Launch, IsLaunch, IsRun, plain_code, setting_of}
+use Rattle.run_forms.specs.Standing.{Launch, IsLaunch, IsRun, known_at, plain_code, setting_of}
 use Rattle.run_forms.specs.Volatile.{IsVolatile, act_of}
+use Rattle.run_forms.specs.Ends.{MeetsNoFault}
 use Rattle.volatile_run.specs.declared.turns.Turned.{Turned}
 use Rattle.volatile_run.specs.declared.turns.Turned.TheVariants.{Acted, Started, Ended, Over}
 
@@ -167,3 +169,21 @@ pub record HasTold (old new : List Recorded) (sees sees' : Option (List Recorded
   pub acts : new ≡ old ++ further
   pub watched : sees' ≡ with_all sees further
   pub printed : takes' ≡ with_bytes takes (output_of further)
+
+-- From the one list of acts to the other there were further ones, each of thread 0 after so many calls of an image,
+-- and naming no objects.
+pub record HasActed (calls : ℕ) (old new : List Recorded) : Type 0 where
+  pub ops : List Op
+  pub acts : new ≡ old ++ map (act_of 0 calls) ops
+
+-- Before each of these acts the history had room, and by what acts tell the event of its thread ended the run by
+-- no fault, unless more monitors were held after it than may be; however many lines an image has for objects.
+abbrev pub HadNoFault : Launch → List Recorded → Type 0
+HadNoFault launch acts = (lines : ℕ) (front : List Recorded) (a : Recorded) (rest : List Recorded)
+    → acts ≡ front ++ a ∷ rest
+    → MeetsNoFault launch lines front a.act.thread (length (known_at launch (front ++ a ∷ [])).world.monitors)
+
+-- after none of these acts more monitors were held than may be
+abbrev pub HeldFew : Launch → List Recorded → Type 0
+HeldFew launch acts = (front rest : List Recorded) → acts ≡ front ++ rest
+    → length (known_at launch front).world.monitors ≤ most_monitors

@@ -8,7 +8,7 @@ ghost use Rattle.private_steps.specs.Waits.{Waits};
 ghost use Rattle.run_history.specs.Recorded.{with_seen};
 ghost use Rattle.run_forms.specs.Standing.{Launch};
 ghost use Rattle.run_forms.specs.Volatile.{act_of};
-ghost use Rattle.volatile_run.specs.Turning.{AddsShare, DoesSo, HasTold, IsCaused, IsFinal, IsReady, Leaves, TurnsTo, is_live, turns_after};
+ghost use Rattle.volatile_run.specs.Turning.{AddsShare, DoesSo, HadNoFault, HasTold, IsCaused, IsFinal, IsReady, Leaves, TurnsTo, is_live, turns_after};
 
 use crate::parts::{asked, from_in, is_live, is_start, stuck, tell, uncaught_in};
 use crate::run::Run;
@@ -78,15 +78,20 @@ pub fn turn<
 >(run: &mut Run<O, S, W>, set: &C, host: &H, gate: &G) -> Turned
     requires ready { (launch : Launch) × IsReady launch (C.facts set.now) (H.setting host.now)
         run.old.limit run.old.calls run.old.acts (O.shown run.old.objects) run.old.rest run.old.frames }
-    // All words are at hand, and each place may keep each item: of this heap, and whatever becomes of it.
+    // All words are at hand, each place may keep each item, and objects may be made: of this heap, and whatever
+    // becomes of it.
     requires here { (objects : _) (n i : ℕ) → O.is_here objects n i }
     requires statics { (objects : _) (n : ℕ) → O.is_static_here objects n }
     requires may_store { (objects : _) (place : KeptPlace) (item : KeptItem)
         → O.may_store objects place item }
+    requires may_make { (objects : _) → O.may_make objects }
     ensures goes { (launch : Launch) → IsReady launch (C.facts set.now) (H.setting host.now)
         run.old.limit run.old.calls run.old.acts (O.shown run.old.objects) run.old.rest run.old.frames
         → TurnsTo launch run.old.calls run.old.acts.acts result run.new.acts (O.shown run.new.objects)
         run.new.rest run.new.frames }
+    ensures unfaulted { (launch : Launch) → IsReady launch (C.facts set.now) (H.setting host.now)
+        run.old.limit run.old.calls run.old.acts (O.shown run.old.objects) run.old.rest run.old.frames
+        → HadNoFault launch run.old.acts.acts → HadNoFault launch run.new.acts.acts }
     ensures told { HasTold run.old.acts.acts run.new.acts.acts (W.seen run.old.watcher)
         (W.seen run.new.watcher) (S.taken run.old.sink) (S.taken run.new.sink) }
     // A history without room for an act has none.

@@ -65,6 +65,7 @@ pub fn enter_object<C: Types, O: Objects>(
     requires counts { HasCounts rest.old }
     requires known { IsKnown (O.shown objects.old).number object }
     requires head { HeadIsHere (O.is_here objects.old) (O.shown objects.old) object }
+    requires make { O.may_make objects.old }
     ensures step { (from : From)
         → IsStep (C.facts set.now) t (ask.Enter from (key_of.Object object))
         (O.shown objects.old) rest.old result (O.shown objects.new) rest.new }
@@ -102,6 +103,7 @@ fn exit_key<C: Types, O: Objects>(
     requires monitors { KnowsMonitors (O.shown objects.old) rest.old }
     requires held { IsHeldKey (O.shown objects.old) key }
     requires plain { plain ≡ plain_key (O.shown objects.old).number key }
+    requires make { O.may_make objects.old }
     ensures step { Goes (λ roots taken.
         exits (C.facts set.now) (world_of roots (O.shown objects.old) rest.old) t plain)
         t (O.shown objects.old) rest.old result (O.shown objects.new) rest.new }
@@ -128,6 +130,7 @@ pub fn exit_object<C: Types, O: Objects>(
     requires monitors { KnowsMonitors (O.shown objects.old) rest.old }
     requires known { IsKnown (O.shown objects.old).number object }
     requires head { HeadIsHere (O.is_here objects.old) (O.shown objects.old) object }
+    requires make { O.may_make objects.old }
     ensures step { (from : From) → IsStep (C.facts set.now) t (ask.Exit from (key_of.Object object))
         (O.shown objects.old) rest.old result (O.shown objects.new) rest.new }
     ensures heap { Becomes O.shown O.stores O.makes objects.old result objects.new }
@@ -149,6 +152,7 @@ pub fn exit_class<C: Types, O: Objects>(
 ) -> Stepped
     requires heap { IsHeapOf (C.facts set.now) (O.shown objects.old) }
     requires monitors { KnowsMonitors (O.shown objects.old) rest.old }
+    requires make { O.may_make objects.old }
     ensures step { (from : From) → IsStep (C.facts set.now) t (ask.Exit from (key_of.Class class))
         (O.shown objects.old) rest.old result (O.shown objects.new) rest.new }
     ensures heap { Becomes O.shown O.stores O.makes objects.old result objects.new }

@@ -35,6 +35,7 @@ pub fn end<C: Types, O: Objects>(set: &C, objects: &mut O, rest: &mut Rest, t: T
     requires heap { IsHeapOf (C.facts set.now) (O.shown objects.old) }
     requires monitors { KnowsMonitors (O.shown objects.old) rest.old }
     requires there { t < length rest.old.threads }
+    requires make { O.may_make objects.old }
     ensures step { (from : From) → IsStep (C.facts set.now) t (ask.End from)
         (O.shown objects.old) rest.old result (O.shown objects.new) rest.new }
     ensures heap { Becomes O.shown O.stores O.makes objects.old result objects.new }

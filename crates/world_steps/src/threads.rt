@@ -42,6 +42,7 @@ pub fn start<C: Types, O: Objects>(
     requires monitors { KnowsMonitors (O.shown objects.old) rest.old }
     requires known { IsKnown (O.shown objects.old).number thread }
     requires head { HeadIsHere (O.is_here objects.old) (O.shown objects.old) thread }
+    requires make { O.may_make objects.old }
     ensures step { (t : ℕ) (from : From) → IsStep (C.facts set.now) t (ask.Start from thread)
         (O.shown objects.old) rest.old result (O.shown objects.new) rest.new }
     ensures heap { Becomes O.shown O.stores O.makes objects.old result objects.new }
@@ -92,6 +93,7 @@ pub fn join<C: Types, O: Objects>(set: &C, objects: &mut O, rest: &Rest, thread:
     requires monitors { KnowsMonitors (O.shown objects.old) rest.now }
     requires known { IsKnown (O.shown objects.old).number thread }
     requires head { HeadIsHere (O.is_here objects.old) (O.shown objects.old) thread }
+    requires make { O.may_make objects.old }
     ensures step { (t : ℕ) (from : From) → IsStep (C.facts set.now) t (ask.Join from thread)
         (O.shown objects.old) rest.now result (O.shown objects.new) rest.now }
     ensures heap { Becomes O.shown O.stores O.makes objects.old result objects.new }

@@ -3,9 +3,9 @@ use Rattle.natives.specs.declared.requests.Request.TheVariants as ask
 use Rattle.shared_objects.specs.Shown.{Shown, item_value}
 use Rattle.step_forms.specs.Follows.{HeapGoes, stored_as}
 use Rattle.step_forms.proofs.Going.{heap_step}
-use Rattle.object_steps.specs.Stores.{CanStore, place_of}
+use Rattle.object_steps.specs.Stores.{CanStore, StoresOf, place_of}
 use Rattle.step_forms.specs.Becomes.{Becomes}
-use Rattle.object_steps.proofs.Stored.{store_becomes}
+use Rattle.object_steps.proofs.Stored.{none_given, store_becomes, store_given}
 use Rattle.object_steps.proofs.storing.put_field.Goals as goal
 
 pub returns-in-Ends-clause-step : goal.returns-in-Ends-clause-step
@@ -49,3 +49,15 @@ returns-in-Stores-clause-heap g c =
     c.in-Stores.ensures.heap (store_becomes g.O.Objects.shown g.O.Objects.stores g.O.Objects.makes
     c.plan_field.new.objects c.commit.new.objects (place_of store.target) store.kept c.commit.result
     c.commit.ensures.did c.commit.ensures.heap)
+
+pub returns-in-Stores-clause-given : goal.returns-in-Stores-clause-given
+returns-in-Stores-clause-given g c =
+    let store = c.in-Stores.store in
+    subst (λ h. StoresOf g.O.Objects.shown g.O.Objects.stores h c.args.value c.commit.result c.commit.new.objects)
+    c.in-Stores.ensures.heap (store_given g.O.Objects.shown g.O.Objects.stores c.plan_field.new.objects
+    c.commit.new.objects (place_of store.target) c.args.value store.kept c.commit.result c.commit.ensures.did
+    c.in-Stores.ensures.kept c.commit.ensures.heap)
+
+pub returns-in-Ends-clause-given : goal.returns-in-Ends-clause-given
+returns-in-Ends-clause-given g c = none_given g.O.Objects.shown g.O.Objects.stores c.args.objects.now
+    c.plan_field.new.objects c.args.value c.in-Ends.result c.in-Ends.ensures.no_store

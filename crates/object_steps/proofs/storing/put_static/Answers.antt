@@ -2,8 +2,8 @@ use Rattle.shared_objects.specs.Shown.{item_value}
 use Rattle.step_forms.specs.Follows.{HeapGoes, stored_as}
 use Rattle.object_steps.specs.Stores.{place_of}
 use Rattle.step_forms.proofs.Going.{same_goes}
-use Rattle.step_forms.proofs.Becoming.{quiet_becomes}
-use Rattle.object_steps.proofs.Stored.{store_becomes}
+use Rattle.step_forms.proofs.Becoming.{quiet_becomes, quiet_no_store}
+use Rattle.object_steps.proofs.Stored.{none_given, store_becomes, store_given}
 use Rattle.object_steps.proofs.storing.put_static.Goals as goal
 
 pub returns-in-Ends-clause-step : goal.returns-in-Ends-clause-step
@@ -42,3 +42,13 @@ returns-in-Stores-clause-heap g c =
 pub returns-in-Ends-clause-heap : goal.returns-in-Ends-clause-heap
 returns-in-Ends-clause-heap g c = quiet_becomes g.O.Objects.shown g.O.Objects.stores g.O.Objects.makes
     c.args.objects.now c.in-Ends.result c.in-Ends.ensures.quiet
+
+pub returns-in-Stores-clause-given : goal.returns-in-Stores-clause-given
+returns-in-Stores-clause-given g c =
+    let store = c.in-Stores.store in
+    store_given g.O.Objects.shown g.O.Objects.stores c.args.objects.now c.commit.new.objects (place_of store.target)
+    c.args.value store.kept c.commit.result c.commit.ensures.did c.in-Stores.ensures.kept c.commit.ensures.heap
+
+pub returns-in-Ends-clause-given : goal.returns-in-Ends-clause-given
+returns-in-Ends-clause-given g c = none_given g.O.Objects.shown g.O.Objects.stores c.args.objects.now
+    c.args.objects.now c.args.value c.in-Ends.result (quiet_no_store c.in-Ends.result c.in-Ends.ensures.quiet)

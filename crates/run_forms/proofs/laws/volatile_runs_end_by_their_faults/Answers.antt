@@ -1,5 +1,5 @@
 use Rattle.run_forms.proofs.Asked.{BuiltIns}
-use Rattle.run_forms.proofs.Ending.{full-history, step-ends}
+use Rattle.run_forms.proofs.Ending.{full-history, meets-none, step-ends}
 use Rattle.run_forms.proofs.laws.volatile_runs_end_by_their_faults.Goals as goal
 
 pub returns : goal.returns
@@ -18,4 +18,7 @@ returns c =
       steps = λ launch calls acts shown rest threads is here lines t fs q result now rest_now asking steps room.
           step-ends laws launch calls acts shown rest threads is here lines t fs q asking room result now
           rest_now steps;
+      acts = λ launch calls acts shown rest threads is here lines t fs q o r now rest_now asking steps room.
+          meets-none laws launch calls acts shown rest threads is here lines t fs q asking room o r now rest_now
+          steps;
     }

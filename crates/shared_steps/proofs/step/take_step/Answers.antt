@@ -6,7 +6,7 @@ use Rattle.plain_model.proofs.SetHeaps.{form_is}
 use Rattle.shared_objects.specs.Worlds.{world_of}
 use Rattle.step_forms.proofs.Going.{asked, same_goes}
 use Rattle.step_forms.proofs.Becoming.{quiet_becomes}
-use Rattle.shared_steps.proofs.Asking.{asks_is, class_there, field_there, held_kind, broken_goes, step_raise, quiet_output, quiet_faults, output_is, faults_are, share_is, may_is}
+use Rattle.shared_steps.proofs.Asking.{asks_is, class_there, field_there, held_kind, broken_goes, step_raise, quiet_output, quiet_faults, output_is, faults_are, share_is, given_none, given_some, may_is}
 use Rattle.shared_steps.proofs.step.take_step.Goals as goal
 
 pub returns-in-Pause-clause-step : goal.returns-in-Pause-clause-step
@@ -851,3 +851,78 @@ put_element-requires-clause-may g c place kind kept narrowed stores =
     narrowed
     (rw (to_z-of_z w32 c.in-PutElement.index (search rules)) at (stores c.args.t 0 [] c.args.rest.now
     c.in-PutElement.from))
+
+pub returns-in-Pause-clause-given : goal.returns-in-Pause-clause-given
+returns-in-Pause-clause-given g c = given_none _ c.in-Pause.is refl
+
+pub returns-in-Broken-clause-given : goal.returns-in-Broken-clause-given
+returns-in-Broken-clause-given g c = given_none _ c.in-Broken.is refl
+
+pub returns-in-New-clause-given : goal.returns-in-New-clause-given
+returns-in-New-clause-given g c = given_none _ c.in-New.is refl
+
+pub returns-in-NewArray-clause-given : goal.returns-in-NewArray-clause-given
+returns-in-NewArray-clause-given g c = given_none _ c.in-NewArray.is refl
+
+pub returns-in-NewText-clause-given : goal.returns-in-NewText-clause-given
+returns-in-NewText-clause-given g c = given_none _ c.in-NewText.is refl
+
+pub returns-in-GetStatic-clause-given : goal.returns-in-GetStatic-clause-given
+returns-in-GetStatic-clause-given g c = given_none _ c.in-GetStatic.is refl
+
+pub returns-in-PutStatic-clause-given : goal.returns-in-PutStatic-clause-given
+returns-in-PutStatic-clause-given g c = given_some _ c.in-PutStatic.value c.in-PutStatic.is refl c.put_static.ensures.given
+
+pub returns-in-GetField-clause-given : goal.returns-in-GetField-clause-given
+returns-in-GetField-clause-given g c = given_none _ c.in-GetField.is refl
+
+pub returns-in-PutField-clause-given : goal.returns-in-PutField-clause-given
+returns-in-PutField-clause-given g c = given_some _ c.in-PutField.value c.in-PutField.is refl c.put_field.ensures.given
+
+pub returns-in-GetElement-clause-given : goal.returns-in-GetElement-clause-given
+returns-in-GetElement-clause-given g c = given_none _ c.in-GetElement.is refl
+
+pub returns-in-PutElement-clause-given : goal.returns-in-PutElement-clause-given
+returns-in-PutElement-clause-given g c = given_some _ c.in-PutElement.value c.in-PutElement.is refl c.put_element.ensures.given
+
+pub returns-in-Length-clause-given : goal.returns-in-Length-clause-given
+returns-in-Length-clause-given g c = given_none _ c.in-Length.is refl
+
+pub returns-in-ClassOf-clause-given : goal.returns-in-ClassOf-clause-given
+returns-in-ClassOf-clause-given g c = given_none _ c.in-ClassOf.is refl
+
+pub returns-in-Cast-clause-given : goal.returns-in-Cast-clause-given
+returns-in-Cast-clause-given g c = given_none _ c.in-Cast.is refl
+
+pub returns-in-IsA-clause-given : goal.returns-in-IsA-clause-given
+returns-in-IsA-clause-given g c = given_none _ c.in-IsA.is refl
+
+pub returns-in-Same-clause-given : goal.returns-in-Same-clause-given
+returns-in-Same-clause-given g c = given_none _ c.in-Same.is refl
+
+pub returns-in-Start-clause-given : goal.returns-in-Start-clause-given
+returns-in-Start-clause-given g c = given_none _ c.in-Start.is refl
+
+pub returns-in-Join-clause-given : goal.returns-in-Join-clause-given
+returns-in-Join-clause-given g c = given_none _ c.in-Join.is refl
+
+pub returns-in-Init-clause-given : goal.returns-in-Init-clause-given
+returns-in-Init-clause-given g c = given_none _ c.in-Init.is refl
+
+pub returns-in-InitDone-clause-given : goal.returns-in-InitDone-clause-given
+returns-in-InitDone-clause-given g c = given_none _ c.in-InitDone.is refl
+
+pub returns-in-Print-clause-given : goal.returns-in-Print-clause-given
+returns-in-Print-clause-given g c = given_none _ c.in-Print.is refl
+
+pub returns-in-Raise-clause-given : goal.returns-in-Raise-clause-given
+returns-in-Raise-clause-given g c = given_none _ c.in-Raise.is refl
+
+pub returns-in-Begin-clause-given : goal.returns-in-Begin-clause-given
+returns-in-Begin-clause-given g c = given_none _ c.in-Begin.is refl
+
+pub returns-in-End-clause-given : goal.returns-in-End-clause-given
+returns-in-End-clause-given g c = given_none _ c.in-End.is refl
+
+pub returns-in-Leave-clause-given : goal.returns-in-Leave-clause-given
+returns-in-Leave-clause-given g c = given_none _ c.in-Leave.is refl

@@ -1,5 +1,5 @@
 use Rattle.std.proofs.Common.{◌∙◌, ◌≤◌, length, sym, arith}
-use Rattle.volatile_run.proofs.Running.{caused-since, later-acted, next-ready, ends-by, final-is, told-both}
+use Rattle.volatile_run.proofs.Running.{acted-both, acted-once, caused-since, later-acted, next-ready, ends-by, final-is, told-both}
 use Rattle.volatile_run.proofs.runs.run_thread.Goals as goal
 
 pub returns-then-not-is_acted-clause-ends : goal.returns-then-not-is_acted-clause-ends
@@ -40,9 +40,12 @@ turns-preserved g c =
             c.turn-turned.new.run.calls c.turn-turned.ensures.limit c.turn-turned.ensures.calls;
         most = c.turn-turned.ensures.limit ∙ c.turns.invariant.0.most;
         same = c.turn-turned.ensures.calls ∙ c.turns.invariant.0.same;
+        unfaulted = λ other first none. c.turn-turned.ensures.unfaulted other
+            (c.turns.invariant.0.keeps other first) (c.turns.invariant.0.unfaulted other first none);
       },
       told-both _ _ _ _ _ _ _ _ _ c.turns.invariant.1 c.turn-turned.ensures.told,
       later-acted _ _ _ c.turn-turned.result acted c.turns.invariant.2 c.turn-turned.ensures.cause,
+      acted-both _ _ _ _ _ c.turns.invariant.3 c.turns.invariant.0.same (acted-once _ _ _ _ _ c.turn-turned.ensures.share),
     )
 
 pub returns-clause-ends : goal.returns-clause-ends
@@ -66,3 +69,21 @@ returns-then-not-is_acted-clause-cause g c =
 
 pub returns-clause-cause : goal.returns-clause-cause
 returns-clause-cause g c = caused-since _ _ _ c.turn.result c.turns.invariant.2 c.turn.ensures.cause
+
+pub returns-then-not-is_acted-clause-acted : goal.returns-then-not-is_acted-clause-acted
+returns-then-not-is_acted-clause-acted g c =
+    acted-both _ _ _ _ _ c.turns.invariant.3 c.turns.invariant.0.same (acted-once _ _ _ _ _ c.turn-turned.ensures.share)
+
+pub returns-clause-acted : goal.returns-clause-acted
+returns-clause-acted g c =
+    acted-both _ _ _ _ _ c.turns.invariant.3 c.turns.invariant.0.same (acted-once _ _ _ _ _ c.turn.ensures.share)
+
+pub returns-then-not-is_acted-clause-unfaulted : goal.returns-then-not-is_acted-clause-unfaulted
+returns-then-not-is_acted-clause-unfaulted g c launch first none =
+    c.turn-turned.ensures.unfaulted launch (c.turns.invariant.0.keeps launch first)
+    (c.turns.invariant.0.unfaulted launch first none)
+
+pub returns-clause-unfaulted : goal.returns-clause-unfaulted
+returns-clause-unfaulted g c launch first none =
+    c.turn.ensures.unfaulted launch (c.turns.invariant.0.keeps launch first)
+    (c.turns.invariant.0.unfaulted launch first none)

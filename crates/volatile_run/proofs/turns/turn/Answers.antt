@@ -2,7 +2,7 @@ use Rattle.std.proofs.Common.{◌∙◌, ◌<◌, ◌≤◌, length, sym, subst,
 use Rattle.step_forms.specs.declared.stepped.Stepped.TheVariants as stepped
 use Rattle.shared_steps.specs.Output.{FaultsGo, OutputGoes}
 use Rattle.volatile_run.specs.Turning.{HasEnded, TurnsTo, ending_of}
-use Rattle.volatile_run.proofs.Going.{IsTurning, agrees, askable, waits, goes, told, told-not, shared, full-ends, over-ends, stuck-ends, wrong-ends, caused, caused-did, has-ended}
+use Rattle.volatile_run.proofs.Going.{IsTurning, agrees, askable, waits, goes, told, told-not, shared, unfaulted, full-ends, over-ends, stuck-ends, wrong-ends, caused, caused-did, has-ended}
 use Rattle.volatile_run.proofs.turns.turn.Goals as goal
 
 pub take_step-requires-clause-agrees : goal.take_step-requires-clause-agrees
@@ -19,6 +19,7 @@ take_step-requires-clause-agrees g c =
         acts = c.volatile_machines_go_on.ensures.acts;
         full = c.volatile_runs_end_by_their_faults.ensures.full;
         steps = c.volatile_runs_end_by_their_faults.ensures.steps;
+        meets = c.volatile_runs_end_by_their_faults.ensures.acts;
       };
       is = ready.launched;
       stands = ready.stands;
@@ -46,6 +47,7 @@ take_step-requires-clause-asks g c =
         acts = c.volatile_machines_go_on.ensures.acts;
         full = c.volatile_runs_end_by_their_faults.ensures.full;
         steps = c.volatile_runs_end_by_their_faults.ensures.steps;
+        meets = c.volatile_runs_end_by_their_faults.ensures.acts;
       };
       is = ready.launched;
       stands = ready.stands;
@@ -75,6 +77,7 @@ did-requires-clause-waits g c =
         acts = c.volatile_machines_go_on.ensures.acts;
         full = c.volatile_runs_end_by_their_faults.ensures.full;
         steps = c.volatile_runs_end_by_their_faults.ensures.steps;
+        meets = c.volatile_runs_end_by_their_faults.ensures.acts;
       };
       is = ready.launched;
       stands = ready.stands;
@@ -101,6 +104,7 @@ returns-in-Did-clause-goes g c launch ready =
         acts = c.volatile_machines_go_on.ensures.acts;
         full = c.volatile_runs_end_by_their_faults.ensures.full;
         steps = c.volatile_runs_end_by_their_faults.ensures.steps;
+        meets = c.volatile_runs_end_by_their_faults.ensures.acts;
       };
       is = ready.launched;
       stands = ready.stands;
@@ -121,6 +125,33 @@ returns-in-Did-clause-goes g c launch ready =
     c.asked-request.new.frames c.asked-request.ensures.frames c.did.result c.did.new.run.frames
     c.did.ensures.does))
 
+pub returns-in-Did-clause-unfaulted : goal.returns-in-Did-clause-unfaulted
+returns-in-Did-clause-unfaulted g c launch ready =
+    let here : IsTurning launch c.args.run.now.calls c.args.run.now.acts (g.O.Objects.shown c.args.run.now.objects)
+    c.args.run.now.rest c.args.run.now.frames (g.C.Types.facts c.args.set.now) (g.H.Host.setting c.args.host.now)
+    c.asked-request.result = record {
+      laws = record {
+        asks = c.machines_go_on_as_plain_runs.ensures.asks;
+        agree = c.volatile_machines_go_on.ensures.agree;
+        runs = c.volatile_machines_go_on.ensures.runs;
+        acts = c.volatile_machines_go_on.ensures.acts;
+        full = c.volatile_runs_end_by_their_faults.ensures.full;
+        steps = c.volatile_runs_end_by_their_faults.ensures.steps;
+        meets = c.volatile_runs_end_by_their_faults.ensures.acts;
+      };
+      is = ready.launched;
+      stands = ready.stands;
+      is_set = ready.facts;
+      is_setting = ready.setting;
+      asks = c.asked-request.ensures.asks;
+      live = sym c.is_live.ensures ∙ c.if-not-is_live.false;
+    } in
+    unfaulted launch c.args.run.now.calls c.args.run.now.acts (g.O.Objects.shown c.args.run.now.objects) c.args.run.now.rest
+    c.args.run.now.frames (g.C.Types.facts c.args.set.now) (g.H.Host.setting c.args.host.now)
+    c.asked-request.result here
+    c.in-Did.op c.in-Did.reply (g.O.Objects.shown c.take_step.new.objects) c.take_step.new.rest c.main-main.result c.main-main.ensures.zero c.in-Did.ensures.step
+    c.did.new.run.acts c.did.ensures.acts (omega (arith, c.if-len-run.false, c.len.ensures.len, ready.most))
+
 pub returns-in-Did-clause-told : goal.returns-in-Did-clause-told
 returns-in-Did-clause-told g c =
     let launch = c.requires.ready.0 in
@@ -135,6 +166,7 @@ returns-in-Did-clause-told g c =
         acts = c.volatile_machines_go_on.ensures.acts;
         full = c.volatile_runs_end_by_their_faults.ensures.full;
         steps = c.volatile_runs_end_by_their_faults.ensures.steps;
+        meets = c.volatile_runs_end_by_their_faults.ensures.acts;
       };
       is = ready.launched;
       stands = ready.stands;
@@ -166,6 +198,7 @@ returns-in-Did-clause-cause g c =
         acts = c.volatile_machines_go_on.ensures.acts;
         full = c.volatile_runs_end_by_their_faults.ensures.full;
         steps = c.volatile_runs_end_by_their_faults.ensures.steps;
+        meets = c.volatile_runs_end_by_their_faults.ensures.acts;
       };
       is = ready.launched;
       stands = ready.stands;
@@ -207,6 +240,7 @@ returns-in-Waits-clause-goes g c launch ready =
         acts = c.volatile_machines_go_on.ensures.acts;
         full = c.volatile_runs_end_by_their_faults.ensures.full;
         steps = c.volatile_runs_end_by_their_faults.ensures.steps;
+        meets = c.volatile_runs_end_by_their_faults.ensures.acts;
       };
       is = ready.launched;
       stands = ready.stands;
@@ -237,6 +271,7 @@ returns-in-Wrong-clause-goes g c launch ready =
         acts = c.volatile_machines_go_on.ensures.acts;
         full = c.volatile_runs_end_by_their_faults.ensures.full;
         steps = c.volatile_runs_end_by_their_faults.ensures.steps;
+        meets = c.volatile_runs_end_by_their_faults.ensures.acts;
       };
       is = ready.launched;
       stands = ready.stands;
@@ -267,6 +302,7 @@ returns-in-Over-clause-goes g c launch ready =
         acts = c.volatile_machines_go_on.ensures.acts;
         full = c.volatile_runs_end_by_their_faults.ensures.full;
         steps = c.volatile_runs_end_by_their_faults.ensures.steps;
+        meets = c.volatile_runs_end_by_their_faults.ensures.acts;
       };
       is = ready.launched;
       stands = ready.stands;
@@ -298,6 +334,7 @@ returns-in-Over-clause-cause g c =
         acts = c.volatile_machines_go_on.ensures.acts;
         full = c.volatile_runs_end_by_their_faults.ensures.full;
         steps = c.volatile_runs_end_by_their_faults.ensures.steps;
+        meets = c.volatile_runs_end_by_their_faults.ensures.acts;
       };
       is = ready.launched;
       stands = ready.stands;
@@ -334,6 +371,7 @@ returns-then-len-run-clause-goes g c launch ready =
         acts = c.volatile_machines_go_on.ensures.acts;
         full = c.volatile_runs_end_by_their_faults.ensures.full;
         steps = c.volatile_runs_end_by_their_faults.ensures.steps;
+        meets = c.volatile_runs_end_by_their_faults.ensures.acts;
       };
       is = ready.launched;
       stands = ready.stands;

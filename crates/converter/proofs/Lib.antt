@@ -1,0 +1,11 @@
+pub mod Goings
+pub mod Looked
+pub mod Placed
+pub mod Starting
+pub mod Calling
+pub mod Doing
+pub mod Events
+pub mod Exact
+pub mod Worked
+pub mod Repaired
+pub mod Sealed

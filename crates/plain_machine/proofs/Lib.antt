@@ -1,0 +1,4 @@
+mod Making
+mod Looking
+mod Prints
+mod Following

@@ -1,0 +1,4 @@
+pub mod Ops
+pub mod Ahead
+pub mod Standing
+pub mod Beginnings

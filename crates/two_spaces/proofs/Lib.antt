@@ -1,0 +1,13 @@
+pub mod Finding
+pub mod Keeping
+pub mod Making
+pub mod Moved
+pub mod Numbering
+pub mod Parts
+pub mod Quieted
+pub mod Reading
+pub mod Rekeyed
+pub mod Shifting
+pub mod Starting
+pub mod Telling
+pub mod Valuing
