@@ -47,7 +47,7 @@ pub count_of_none : (set : Linked) (n : ℕ) → slice_get set.files n ≡ None 
 count_of_none set n none past = ap length (none_behind set n none past)
 
 -- behind the classes no number has a method
-past_all : (set : Linked) (n : ℕ) → class_count set ≤ n → method_count set n ≡ 0
+pub past_all : (set : Linked) (n : ℕ) → class_count set ≤ n → method_count set n ≡ 0
 past_all set n h =
     count_of_none set n (slice_get_past set.files n (omega arith)) (let far : 28 ≤ n - length set.files = omega arith in grind (arith, nat_tests))
 

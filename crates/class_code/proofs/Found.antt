@@ -38,7 +38,7 @@ own_there set name descriptor class m e = one (find_member (own_methods set clas
         let there : f.0 < length (own_methods set class) = omega (arith, below) in
         subst (IsThere set) same there
 
-first_there : (own : ℕ → Option MethodAt) (P : MethodAt → Type 0) (ns : List ℕ) (m : MethodAt)
+pub first_there : (own : ℕ → Option MethodAt) (P : MethodAt → Type 0) (ns : List ℕ) (m : MethodAt)
     → ((n : ℕ) → own n ≡ Some m → P m) → first_some own ns ≡ Some m → P m
 first_there own P [] m each e = let no : ⊥ = cc in absurd no
 first_there own P (n ∷ ns) m each e = one (λ h. first_there own P ns m each h) (own n) refl e

@@ -4,12 +4,12 @@ mod Leading
 mod Rowed
 mod Numbered
 mod Dispatching
-mod Found
+pub mod Found
 mod Instances
 mod Coding
 mod Counted
 mod Spelled
-mod FirstMethods
+pub mod FirstMethods
 mod Assembling
 mod Signed
 mod Selected
@@ -18,7 +18,13 @@ mod Filling
 mod Inheriting
 mod Declaring
 mod Along
-mod ClassesThere
+pub mod ClassesThere
 mod OpsNamed
 mod FieldsNamed
 mod Naming
+mod Subtypes
+mod MethodRows
+mod Ends
+mod MethodsFound
+mod CodeIn
+mod TablesOf

@@ -1,14 +1,13 @@
 -- What frames ask of each class of a set: what is above it, which methods its instances have, and its
 -- initialiser (JVMS 2.9, 5.4.3.3, 5.5).
-use Rattle.std.specs.Prelude.{ℕ, suc, nat_lt, false, List, [], ◌∷◌, ◌++◌, map, codes, length, Option, Some, None, Result, Ok, Err, if◌then◌else◌}
+use Rattle.std.specs.Prelude.{ℕ, suc, nat_lt, false, List, [], ◌∷◌, ◌++◌, map, filter, codes, length, Option, Some, None, Result, Ok, Err, if◌then◌else◌}
 use Rattle.std.specs.List.{range_with_len}
 use Rattle.run_types.specs.declared.fault.LinkKind.{LinkKind}
 use Rattle.run_types.specs.declared.resolved.MethodAt.{MethodAt}
-use Rattle.graph_walks.specs.Order.{visits}
-use Rattle.plain_model.specs.Facts.{class_at}
+use Rattle.plain_model.specs.Facts.{class_at, is_sub}
 use Rattle.class_set.specs.Linked.{Linked, class_count, names_of}
 use Rattle.class_set.specs.Facts.{facts_of}
-use Rattle.class_set.specs.Lookups.{class_edges, find_method, own_method}
+use Rattle.class_set.specs.Lookups.{find_method, own_method}
 use Rattle.frames.specs.declared.program.Class.{Class}
 use Rattle.frames.specs.declared.program.Dispatch.{Dispatch}
 use Rattle.frames.specs.declared.program.Target.{Target}
@@ -17,9 +16,12 @@ use Rattle.class_code.specs.Methods.{method_number}
 use Rattle.class_code.specs.Entries.{Signature, signatures_of, called_method}
 
 module _ (set : Linked) where
-  -- the class itself and all classes above it; of an array type nothing is told, as none is thrown
+  -- the classes of which it is a subtype, by number (JVMS 4.10.1.2); of an array type nothing is told, as none is
+  -- thrown
   abbrev pub supertypes_of : ℕ → List ℕ
-  supertypes_of n = if nat_lt n (class_count set) then visits (class_edges set.files) n else []
+  supertypes_of n =
+      if nat_lt n (class_count set) then filter (is_sub (facts_of set) n) (range_with_len 0 (class_count set))
+      else []
 
   abbrev pub target_of : Result MethodAt LinkKind → Target
   target_of (Ok m) = target.Method (method_number set m)

@@ -1,7 +1,7 @@
 //! Laws of the classes of programs. Each function states some in its contract, and does nothing.
 
 ghost use Rattle.std.specs.Prelude.{◌≡◌, ℕ, ◌<◌, length, Option};
-ghost use Rattle.plain_frames.specs.Tables.{NamesWhatIsThere};
+ghost use Rattle.plain_frames.specs.Tables.{IsProgramOf, NamesWhatIsThere};
 ghost use Rattle.class_links.specs.Links.{Links};
 ghost use Rattle.class_set.specs.Facts.{facts_of};
 ghost use Rattle.class_set.specs.Linked.{Linked, names_of};
@@ -22,4 +22,13 @@ pub fn calls_find_own_methods_first<M>()
 pub fn programs_name_what_is_there<M>()
     ensures { (native_at : (place number : ℕ) → Option M) (set : Linked) → IsLinked set
         → NamesWhatIsThere (facts_of set) (program_of native_at set) }
+{}
+
+/// The program of a linked set is its tables, in all that frames ask of them: operands name entries
+/// of its own tables and methods that may be called so, methods of files alone have code, and the
+/// supertypes, the initialiser and the look-ups of each class are the set's. M is the type of native
+/// methods.
+pub fn programs_are_their_sets<M>()
+    ensures { (native_at : (place number : ℕ) → Option M) (set : Linked) → IsLinked set
+        → IsProgramOf (facts_of set) (program_of native_at set) }
 {}

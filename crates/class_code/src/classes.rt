@@ -1,11 +1,11 @@
-//! What frames ask of each class (JVMS 2.9, 5.4.3.3, 5.5).
+//! What frames ask of each class (JVMS 2.9, 4.10.1.2, 5.4.3.3, 5.5).
 
 ghost use Rattle.std.specs.Prelude.{◌≡◌, length, IfOk};
-ghost use Rattle.class_set.specs.Linked.{names_of};
+ghost use Rattle.class_set.specs.Linked.{class_count, names_of};
 ghost use Rattle.class_code.specs.Firsts.{AreFirsts};
 ghost use Rattle.class_code.specs.Signatures.{signature_texts};
 ghost use Rattle.class_code.specs.Declarations.{all_declared};
-ghost use Rattle.class_code.specs.Classes.{class_of, classes_of, initialiser_of};
+ghost use Rattle.class_code.specs.Classes.{class_of, classes_of, initialiser_of, supertypes_of};
 
 use crate::declared::{Declared, Numbered};
 use crate::finding::{dispatch_in, found_from};
@@ -50,20 +50,44 @@ fn dispatch_from(
     dispatch_in(alloc, found.as_slice())
 }
 
-/// What frames ask of the class or the array type with this number.
+/// The classes of which a class is a subtype, by number; none of an array type.
+fn supertypes_of(
+    alloc: Global,
+    set: &ClassSet,
+    class: u32,
+    count: u32,
+) -> Result<ListOf<u32>, AllocError>
+    requires { count ≡ class_count set.now }
+    ensures { IfOk result (λ supertypes. supertypes ≡ supertypes_of set.now class) }
+{
+    let mut supertypes = Vec::new(alloc);
+    if class >= count {
+        return Ok(ListOf::from_vec(supertypes));
+    }
+    for above in 0..count {
+        if set.is_sub(class, above) {
+            supertypes.push(above)?;
+        }
+    }
+    Ok(ListOf::from_vec(supertypes))
+}
+
+/// What frames ask of the class or the array type with this number, where so many are no array
+/// types.
 fn class_of(
     alloc: Global,
     numbered: &Numbered<'_>,
     declared: &[ListOf<Declared>],
     class: u32,
+    count: u32,
 ) -> Result<Class, AllocError>
-    requires { declared.now ≡ all_declared numbered.now }
+    requires declared { declared.now ≡ all_declared numbered.now }
+    requires count { count ≡ class_count numbered.now }
     ensures { IfOk result (λ row. row ≡ class_of numbered.now class) }
 {
     let set = numbered.set();
-    let supertypes = set.search_order(class).to_vec(alloc)?;
     Ok(Class {
-        supertypes: ListOf::from_vec(supertypes),
+        supertypes: supertypes_of(alloc, set, class, count)?,
         dispatch: dispatch_from(alloc, numbered, declared, class)?,
         superclass: set.superclass(class),
         initialiser: initialiser_of(numbered, class),
@@ -91,10 +115,12 @@ pub(crate) fn classes_of(
         return Err(DecodeRefusal::TooLarge);
     }
     let numbered = Numbered::new(set, firsts, signatures);
-    let declared = numbered.all_declared(alloc, set.named_count() as u32)?;
+    let named = set.named_count() as u32;
+    let declared = numbered.all_declared(alloc, named)?;
     let mut classes = Vec::new(alloc);
     for class in 0..count as u32 {
-        classes.push(class_of(alloc, &numbered, declared.as_slice(), class)?)?;
+        let row = class_of(alloc, &numbered, declared.as_slice(), class, named)?;
+        classes.push(row)?;
     }
     Ok(ListOf::from_vec(classes))
 }

@@ -51,3 +51,4 @@ pub mod Named
 pub mod FieldsFound
 pub mod FirstWords
 pub mod FieldCounts
+pub mod ShortLiterals

@@ -33,7 +33,7 @@ added_all P texts t h p =
     elim (is_some (place_of texts t)) as (λ b. All P (if b then texts else texts ++ t ∷ []))
     [ true ↦ h | false ↦ All-append P texts (t ∷ []) h (All-cons P t [] p (All-nil P)) ]
 
-all_added : (P : List ℕ → Type 0) (texts others : List (List ℕ)) → All P texts → All P others → All P (with_texts texts others)
+pub all_added : (P : List ℕ → Type 0) (texts others : List (List ℕ)) → All P texts → All P others → All P (with_texts texts others)
 all_added P texts [] h k = h
 all_added P texts (t ∷ ts) h k = all_added P (with_text texts t) ts (added_all P texts t h (All-head P t ts k)) (All-tail P t ts k)
 

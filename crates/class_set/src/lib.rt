@@ -3,6 +3,7 @@
 
 mod arrays;
 mod asked;
+mod beginnings;
 mod each_once;
 mod fields;
 mod hierarchy;
@@ -22,6 +23,7 @@ mod subtypes;
 mod supers;
 mod types;
 
+pub use beginnings::literals_are_short;
 pub use laws::{
     a_small_set_is_looked_up, found_fields_are_where_they_say, linked_classes_are_consistent,
     linked_sets_are_consistent, literals_follow_the_first_objects, made_arrays_are_known,

@@ -15,7 +15,7 @@ use std::alloc::{AllocError, Global};
 use text_table::Texts;
 
 /// The UTF-16 code unit at the front of a text in modified UTF-8, and how many bytes spell it.
-fn front_char(text: &[u8]) -> (u16, usize)
+pub(crate) fn front_char(text: &[u8]) -> (u16, usize)
     requires { text.now ≢ [] }
     ensures char { chars_of text.now ≡ result.0 ∷ chars_of (drop result.1 text.now) }
     ensures some { 0 < result.1 }

@@ -51,7 +51,7 @@ pub struct ClassSet {
     /// Names by number: those of classes, and the descriptors of array types.
     names: Texts,
     supers: Vec<Option<u32>>,
-    literals: Texts,
+    pub(crate) literals: Texts,
     indices: Vec<Option<u32>>,
     /// Shapes by number.
     pub(crate) shapes: Vec<Shape>,
@@ -218,7 +218,7 @@ impl ClassSet {
     }
 
     /// The number of the array type with this descriptor; one past all where there is none.
-    fn array_named(&self, descriptor: &[u8]) -> u32
+    pub fn array_named(&self, descriptor: &[u8]) -> u32
         requires array { begins_with_bracket descriptor.now ≡ true }
         ensures { result ≡ array_named (facts_of self.now) descriptor.now }
     {

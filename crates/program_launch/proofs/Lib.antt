@@ -1,0 +1,4 @@
+mod FirstParts
+mod Launching
+mod MainMethods
+mod RootFields

@@ -1,0 +1,5 @@
+pub mod Told
+pub mod Behind
+pub mod Entries
+pub mod Ranges
+pub mod Whole

@@ -1,0 +1,16 @@
+//! How the top call ends: its statuses, with their numbers and texts, and the names in them.
+#![tactic(auto)]
+
+mod faults;
+mod laws;
+mod links;
+mod names;
+mod room;
+mod status;
+mod texts;
+
+pub use faults::{main_status, status_of_fault, thrown_status, uncaught_status};
+pub use laws::names_are_whole;
+pub use room::NameRoom;
+pub use status::Status;
+pub use texts::status_text;

@@ -1,0 +1,86 @@
+// How the top call ended.
+ghost use Rattle.std.specs.Prelude.{◌≡◌};
+ghost use Rattle.statuses.specs.Statuses.{number_of};
+
+use ap_base::{Bytes, Place, ThreadNo};
+use class_file::ClassRefusal;
+use class_links::LinkRefusal;
+use run_types::{Full, LinkKind, Waits};
+
+/// How the top call ended.
+#[derive(Drop)]
+pub enum Status {
+    /// All threads ended normally.
+    Ok,
+    /// All threads ended, and this is the least one that a throwable ended, with the name of its class.
+    Uncaught {
+        thread: ThreadNo,
+        class: Bytes,
+    },
+    /// The words are no command.
+    Usage,
+    /// This file is no class file of version 52.0, or uses what isn't in the profile.
+    BadClass {
+        file: Bytes,
+        refusal: ClassRefusal,
+    },
+    /// The class files don't link.
+    LinkRefused {
+        refusal: LinkRefusal,
+    },
+    /// An instruction of this method found an operand of a wrong kind, or left its stack, its locals or its code.
+    BadCode {
+        method: Bytes,
+        pc: u32,
+    },
+    /// A thread stored to a place that another thread's open region has guarded.
+    RegionRace {
+        thread: ThreadNo,
+        other: ThreadNo,
+        place: Place,
+    },
+    /// More was needed than there is.
+    Full(Full),
+    /// The source of class files failed.
+    SourceFault,
+    /// The image failed.
+    ImageFault,
+    /// The sink of printed bytes failed.
+    SinkFault,
+    /// There was no memory. Comes only before the first turn.
+    OutOfMemory,
+    /// Each live thread waits for another one.
+    Stuck(Waits),
+    /// A class or a member of this name can't be used.
+    LinkFault {
+        kind: LinkKind,
+        name: Bytes,
+    },
+    /// The classes, or the image, are of no form that is built yet.
+    NotBuilt,
+}
+
+impl Status {
+    /// The number with which the program ends.
+    pub fn number(&self) -> u8
+        ensures number { result ≡ number_of self.now }
+    {
+        match self {
+            Status::Ok => 0,
+            Status::Uncaught { .. } => 1,
+            Status::Usage => 2,
+            Status::BadClass { .. } => 3,
+            Status::LinkRefused { .. } => 5,
+            Status::BadCode { .. } => 7,
+            Status::RegionRace { .. } => 8,
+            Status::Full(_) => 9,
+            Status::SourceFault => 10,
+            Status::ImageFault => 11,
+            Status::SinkFault => 12,
+            Status::OutOfMemory => 13,
+            Status::Stuck(_) => 14,
+            Status::LinkFault { .. } => 15,
+            Status::NotBuilt => 17,
+        }
+    }
+}
