@@ -26,34 +26,40 @@ PROGRAM = """\
 //! Times the linking of class files that come on standard input, each behind its length in four bytes.
 #![tactic(auto)]
 
+ghost use Rattle.std.specs.Prelude.{◌≤◌, length, All, IfOk};
+ghost use Rattle.class_file.specs.Classes.{CanBeRead};
+
 use class_file::{ClassFile, read_class};
 use class_links::check_links;
 use class_set::link;
-use std::alloc::Global;
+use std::alloc::{AllocError, Global};
 use std::io::{self, Read};
 use std::time::Instant;
 
-/// The length of the file that comes next.
-fn length(bytes: &[u8]) -> Option<usize> {
-    match bytes {
-        [a, b, c, d, ..] => Some(u32::from_be_bytes([*a, *b, *c, *d]) as usize),
+/// The bytes of the file that begins at a place.
+fn file_at(bytes: &[u8], at: usize) -> Option<&[u8]> {
+    match bytes.get(at..)? {
+        [a, b, c, d, rest @ ..] => rest.get(..u32::from_be_bytes([*a, *b, *c, *d]) as usize),
         _ => None,
     }
 }
 
-/// The class files, up to the first that is none.
-fn files_of(alloc: Global, bytes: &[u8]) -> io::Result<Vec<ClassFile>> {
+/// The class files, up to the first that is none, and at most 4,096.
+fn files_of(alloc: Global, bytes: &[u8]) -> Result<Vec<ClassFile>, AllocError>
+    ensures few { IfOk result (λ files. length files.items ≤ 4096) }
+    ensures readable { IfOk result (λ files. All CanBeRead files.items) }
+{
     let mut files = Vec::new(alloc);
-    let mut rest = bytes;
-    while let Some(length) = length(rest) {
-        let Some(bytes) = rest.get(4..4 + length) else {
+    let mut at: usize = 0;
+    for count in 0..4096 {
+        let Some(own) = file_at(bytes, at) else {
             return Ok(files);
         };
-        let Ok(file) = read_class(alloc, bytes) else {
+        let Ok(file) = read_class(alloc, own) else {
             return Ok(files);
         };
+        at = at.saturating_add(own.len()).saturating_add(4);
         files.push(file)?;
-        rest = &rest[4 + length..];
     }
     Ok(files)
 }
@@ -66,9 +72,6 @@ fn main(rt: HostRuntime) -> io::Result<()> {
     let files = files_of(alloc, bytes.as_slice())?;
     let read = start.elapsed(&rt)?.as_millis();
     let count = files.len();
-    if count > 4096 {
-        return Ok(());
-    }
     let start = Instant::now(&rt)?;
     let links = check_links(alloc, files.as_slice()).is_ok();
     let checked = start.elapsed(&rt)?.as_millis();
@@ -77,6 +80,17 @@ fn main(rt: HostRuntime) -> io::Result<()> {
     let all = start.elapsed(&rt)?.as_millis();
     println!(rt; "{count} files, {} bytes: read in {read} ms, links checked in {checked} ms ({links}), linked in {all} ms ({linked})", bytes.len())
 }
+"""
+
+# how many files are read, and that each can be read
+INVARIANT = """\
+use Rattle.std.proofs.Common.{◌≡◌, length}
+use Rattle.std.specs.Prelude.{All}
+use Rattle.class_file.specs.Classes.{CanBeRead}
+use Rattle.bench_linking.proofs.files_of.Given as goal
+
+abbrev pub invariant-loop-count : goal.invariant-loop-count
+invariant-loop-count l = record { few : length l.files.items ≡ l.count; readable : All CanBeRead l.files.items }
 """
 
 
@@ -240,6 +254,8 @@ def measure(proved, names):
         crate = made / "crates" / NAME
         (crate / "src").mkdir(parents=True)
         (crate / "src" / "main.rt").write_text(PROGRAM)
+        (crate / "proofs" / "files_of").mkdir(parents=True)
+        (crate / "proofs" / "files_of" / "Invariants.antt").write_text(INVARIANT)
         (made / "cases").mkdir()
         for name in names:
             (made / "cases" / name).write_bytes(b"".join(u32(len(file)) + file for file in CASES[name]()))

@@ -1,32 +1,32 @@
--- The cause of each status.
+-- The cause of each status, by its stage.
 use Rattle.std.proofs.Common.{◌≡◌, ◌⊎◌, ℕ, List, Option, Some, None, [], Result, Ok, Err, refl, sym, ap, subst, ◌∙◌, inl, inr}
 use Rattle.std.specs.Prelude.{◌≢◌, IsOk, IfOk, IfErr}
-use Rattle.class_file.specs.declared.class.ClassFile.{ClassFile}
-use Rattle.autopersist.specs.declared.choice.Chosen.{Chosen}
+use Rattle.ap_base.specs.declared.source.NamedBytes.{NamedBytes}
 use Rattle.graph_model.specs.declared.types.Graph.{Graph}
 use Rattle.line_image.specs.Told.{Told}
 use Rattle.run_history.specs.Recorded.{Recorded}
 use Rattle.array_run.specs.declared.run.RunEnd.{RunEnd}
 use Rattle.array_run.specs.declared.run.RunEnd.TheVariants as end
-use Rattle.ap_base.specs.declared.source.NamedBytes.{NamedBytes}
+use Rattle.class_file.specs.declared.class.ClassFile.{ClassFile}
 use Rattle.class_links.specs.declared.refusal.LinkRefusal.{LinkRefusal}
 use Rattle.class_links.specs.Kept.{kept_files}
 use Rattle.class_links.proofs.Refusals.{link_unrefused, one_refusal}
-use Rattle.autopersist.specs.declared.status.Status.{Status}
-use Rattle.autopersist.specs.declared.status.Status.TheVariants as status
-use Rattle.autopersist.specs.Files.{classes_among, ClassesGive, GivenBy, FilesGive}
-use Rattle.array_program.specs.declared.program.Program.{Program}
+use Rattle.statuses.specs.declared.status.Status.{Status}
+use Rattle.statuses.specs.declared.status.Status.TheVariants as status
+use Rattle.autopersist.specs.Files.{Choice, OneArray, Classes, classes_among, ClassesGive, GivenBy, FilesGive}
 use Rattle.autopersist.specs.Images.{IsNotOfForm, status_of}
 use Rattle.autopersist.specs.Reading as reading
-use Rattle.autopersist.specs.Reading.{HasNoCause, IsOfFiles, IsOfClasses, IsLeft}
-use Rattle.autopersist.specs.TopCall.{ComesTo, IsAsked, OfProgram, IsCauseOf, AnswersFor, RunsOver, IsOfRun, IsOfWords, IsAfterTheFirstTurn}
+use Rattle.autopersist.specs.Reading.{HasNoCause, IsOfFiles, IsOfClasses, IsLeft, LeavesAt}
+use Rattle.autopersist.specs.Sets.{SetEndsAt}
+use Rattle.autopersist.specs.Stages.{Stage, OfWords, OfSource, OfMemory, OfFile, OfLinking, OfForm, OfRoom, OfNames, OfImage, OfTurns, stage_of, IsFreeStage, IsFilesStage, IsClassesStage, IsEarlyStage, IsRunStage}
+use Rattle.autopersist.specs.TopCall.{ComesTo, IsAsked, OfChoice, IsCauseOf, IsCauseAt, AnswersFor, RunsAs, HasRunTo, root_of, IsOfRun, IsOfWords, IsAfterTheFirstTurn, IsBegunStage}
 use Rattle.autopersist.specs.Words.{main_class}
 use Rattle.autopersist.proofs.SourceFiles.{all_read}
 
 some_same : {A : Type 0} (a b : A) → Some a ≡ Some b → a ≡ b
 some_same a b is = cc
 
-abbrev err : Status → Result Program Status
+abbrev err : Status → Result Choice Status
 err s = Err s
 
 err_same : (a b : Status) → err a ≡ err b → a ≡ b
@@ -39,7 +39,7 @@ refused_file : (name : List ℕ) (files : List NamedBytes) (e : Status) → clas
 refused_file name files e is = subst (λ (r : Result (List ClassFile) Status). GivenBy name r (Err e)) (sym is) refl
 
 -- what the words and the files come to, where the files are classes
-comes_to : (words : List (List ℕ)) (left : Option (List NamedBytes)) (name : List ℕ) (classes : List ClassFile) (answer : Result Program Status)
+comes_to : (words : List (List ℕ)) (left : Option (List NamedBytes)) (name : List ℕ) (classes : List ClassFile) (answer : Result Choice Status)
     → main_class words ≡ Some name → reading.FilesComeTo left (Ok classes) → ClassesGive name (kept_files classes) answer → ComesTo words left answer
 comes_to words left name classes answer asked comes give = record {
   name = name;
@@ -49,64 +49,86 @@ comes_to words left name classes answer asked comes give = record {
   is = subst (λ (r : Result (List ClassFile) Status). GivenBy name r answer) (sym comes.is) give;
 }
 
--- the program that the classes give, or why there is none
-pub program_asked : (words : List (List ℕ)) (left : Option (List NamedBytes)) (name : List ℕ) (classes : List ClassFile) (chosen : Result Chosen Status)
-    → main_class words ≡ Some name → reading.FilesComeTo left (Ok classes)
-    → IfOk chosen (λ found. ClassesGive name (kept_files classes) (Ok found.program)) → IfOk chosen (λ found. IsAsked words left found.program)
-program_asked words left name classes (Ok found) asked comes give = comes_to words left name classes (Ok found.program) asked comes give
-program_asked words left name classes (Err s) asked comes give = tt
+-- what the classes give to run, or why there is nothing
+pub choice_asked : {Found : Type 0} (view : Found → Choice) (words : List (List ℕ)) (left : Option (List NamedBytes)) (name : List ℕ)
+    (classes : List ClassFile) (chosen : Result Found Status) → main_class words ≡ Some name → reading.FilesComeTo left (Ok classes)
+    → IfOk chosen (λ found. ClassesGive name (kept_files classes) (Ok (view found))) → IfOk chosen (λ found. IsAsked words left (view found))
+choice_asked view words left name classes (Ok found) asked comes give = comes_to words left name classes (Ok (view found)) asked comes give
+choice_asked view words left name classes (Err s) asked comes give = tt
 
-no_program : (words : List (List ℕ)) (left : Option (List NamedBytes)) (start : Told) (s : Status) → IsOfClasses s
-    → (s ≡ status.OutOfMemory) ⊎ ComesTo words left (Err s) → IsCauseOf words left start [] s
-no_program words left start status.OutOfMemory of cause = tt
-no_program words left start (status.LinkRefused refusal) of (inl memory) = absurd cc
-no_program words left start (status.LinkRefused refusal) of (inr comes) = comes
-no_program words left start status.NotBuilt of (inl memory) = absurd cc
-no_program words left start status.NotBuilt of (inr comes) = inl comes
-no_program words left start status.Ok of cause = absurd of
-no_program words left start (status.Uncaught thread class) of cause = absurd of
-no_program words left start status.Usage of cause = absurd of
-no_program words left start (status.BadClass file refusal) of cause = absurd of
-no_program words left start (status.Full full) of cause = absurd of
-no_program words left start status.SourceFault of cause = absurd of
-no_program words left start status.ImageFault of cause = absurd of
-no_program words left start status.SinkFault of cause = absurd of
+-- ---- before the image is opened
 
-pub cause_of_choice : (words : List (List ℕ)) (left : Option (List NamedBytes)) (name : List ℕ) (classes : List ClassFile) (chosen : Result Chosen Status)
-    → main_class words ≡ Some name → reading.FilesComeTo left (Ok classes) → IfErr chosen IsOfClasses
+module _ (words : List (List ℕ)) (left : Option (List NamedBytes)) (start : Told) (s : Status) where
+  nothing_at : (stage : Stage) → IsClassesStage stage → (stage ≢ OfMemory → ComesTo words left (Err s)) → IsCauseAt stage words left start [] s
+  nothing_at OfMemory of comes = tt
+  nothing_at OfLinking of comes = comes (λ is. cc)
+  nothing_at OfForm of comes = inl (comes (λ is. cc))
+  nothing_at OfWords of comes = absurd of
+  nothing_at OfSource of comes = absurd of
+  nothing_at OfFile of comes = absurd of
+  nothing_at OfRoom of comes = absurd of
+  nothing_at OfNames of comes = absurd of
+  nothing_at OfImage of comes = absurd of
+  nothing_at OfTurns of comes = absurd of
+
+  file_at : (stage : Stage) → IsFilesStage stage → IsFreeStage stage ⊎ ComesTo words left (Err s) → IsCauseAt stage words left start [] s
+  file_at OfSource of cause = tt
+  file_at OfMemory of cause = tt
+  file_at OfFile of (inl free) = absurd free
+  file_at OfFile of (inr comes) = comes
+  file_at OfRoom of (inl free) = absurd free
+  file_at OfRoom of (inr comes) = inl comes
+  file_at OfWords of cause = absurd of
+  file_at OfLinking of cause = absurd of
+  file_at OfForm of cause = absurd of
+  file_at OfNames of cause = absurd of
+  file_at OfImage of cause = absurd of
+  file_at OfTurns of cause = absurd of
+
+memory_apart : (s : Status) → s ≡ status.OutOfMemory → stage_of s ≢ OfMemory → ⊥
+memory_apart s is apart = apart (ap stage_of is)
+
+pub cause_of_choice : {Found : Type 0} (words : List (List ℕ)) (left : Option (List NamedBytes)) (name : List ℕ) (classes : List ClassFile)
+    (chosen : Result Found Status) → main_class words ≡ Some name → reading.FilesComeTo left (Ok classes) → IfErr chosen IsOfClasses
     → IfErr chosen (λ s. (s ≡ status.OutOfMemory) ⊎ ClassesGive name (kept_files classes) (Err s))
     → IfErr chosen (λ s. (start : Told) → IsCauseOf words left start [] s)
 cause_of_choice words left name classes (Ok found) asked comes of refused = tt
-cause_of_choice words left name classes (Err s) asked comes of (inl memory) = λ start. no_program words left start s of (inl memory)
-cause_of_choice words left name classes (Err s) asked comes of (inr give) = λ start. no_program words left start s of
-    (inr (comes_to words left name classes (Err s) asked comes give))
+cause_of_choice words left name classes (Err s) asked comes of (inl memory) =
+    λ start. nothing_at words left start s (stage_of s) of (λ apart. absurd (memory_apart s memory apart))
+cause_of_choice words left name classes (Err s) asked comes of (inr give) =
+    λ start. nothing_at words left start s (stage_of s) of (λ apart. comes_to words left name classes (Err s) asked comes give)
+
+early_classes : (stage : Stage) → IsClassesStage stage → IsEarlyStage stage
+early_classes OfMemory of = tt
+early_classes OfLinking of = tt
+early_classes OfForm of = tt
+early_classes OfWords of = absurd of
+early_classes OfSource of = absurd of
+early_classes OfFile of = absurd of
+early_classes OfRoom of = absurd of
+early_classes OfNames of = absurd of
+early_classes OfImage of = absurd of
+early_classes OfTurns of = absurd of
 
 pub of_words_too : (s : Status) → IsOfClasses s → IsOfWords s
-of_words_too status.OutOfMemory of = tt
-of_words_too (status.LinkRefused refusal) of = tt
-of_words_too status.NotBuilt of = tt
-of_words_too status.Ok of = absurd of
-of_words_too (status.Uncaught thread class) of = absurd of
-of_words_too status.Usage of = absurd of
-of_words_too (status.BadClass file refusal) of = absurd of
-of_words_too (status.Full full) of = absurd of
-of_words_too status.SourceFault of = absurd of
-of_words_too status.ImageFault of = absurd of
-of_words_too status.SinkFault of = absurd of
+of_words_too s of = early_classes (stage_of s) of
+
+left_classes : (stage : Stage) (files : List NamedBytes) (left : Option (List NamedBytes)) (s : Status) → IsClassesStage stage
+    → IsOk (classes_among files) → left ≡ Some [] → LeavesAt stage files s left
+left_classes OfMemory files left s of unrefused none = all_read files left unrefused none
+left_classes OfLinking files left s of unrefused none = none
+left_classes OfForm files left s of unrefused none = none
+left_classes OfWords files left s of unrefused none = absurd of
+left_classes OfSource files left s of unrefused none = absurd of
+left_classes OfFile files left s of unrefused none = absurd of
+left_classes OfRoom files left s of unrefused none = absurd of
+left_classes OfNames files left s of unrefused none = absurd of
+left_classes OfImage files left s of unrefused none = absurd of
+left_classes OfTurns files left s of unrefused none = absurd of
 
 pub left_of_choice : (files : List NamedBytes) (left : Option (List NamedBytes)) (s : Status) → IsOfClasses s → IsOk (classes_among files) → left ≡ Some []
     → IsLeft files s left
-left_of_choice files left status.OutOfMemory of unrefused none = all_read files left unrefused none
-left_of_choice files left (status.LinkRefused refusal) of unrefused none = none
-left_of_choice files left status.NotBuilt of unrefused none = none
-left_of_choice files left status.Ok of unrefused none = absurd of
-left_of_choice files left (status.Uncaught thread class) of unrefused none = absurd of
-left_of_choice files left status.Usage of unrefused none = absurd of
-left_of_choice files left (status.BadClass file refusal) of unrefused none = absurd of
-left_of_choice files left (status.Full full) of unrefused none = absurd of
-left_of_choice files left status.SourceFault of unrefused none = absurd of
-left_of_choice files left status.ImageFault of unrefused none = absurd of
-left_of_choice files left status.SinkFault of unrefused none = absurd of
+left_of_choice files left s of unrefused none = left_classes (stage_of s) files left s of unrefused none
 
 of_files : (words : List (List ℕ)) (left : Option (List NamedBytes)) (name : List ℕ) (e : Status) → main_class words ≡ Some name
     → reading.FilesComeTo left (Err e) → ComesTo words left (Err e)
@@ -115,110 +137,161 @@ of_files words left name e asked comes = record { name = name; asked = asked; fi
 -- a file that is refused
 pub cause_of_files : (words : List (List ℕ)) (left : Option (List NamedBytes)) (start : Told) (name : List ℕ) (e : Status) → main_class words ≡ Some name
     → IsOfFiles e → HasNoCause e ⊎ reading.FilesComeTo left (Err e) → IsCauseOf words left start [] e
-cause_of_files words left start name status.Ok asked of cause = absurd of
-cause_of_files words left start name (status.Uncaught thread class) asked of cause = absurd of
-cause_of_files words left start name status.Usage asked of cause = absurd of
-cause_of_files words left start name status.ImageFault asked of cause = absurd of
-cause_of_files words left start name status.SinkFault asked of cause = absurd of
-cause_of_files words left start name status.NotBuilt asked of cause = absurd of
-cause_of_files words left start name (status.LinkRefused refusal) asked of cause = absurd of
-cause_of_files words left start name status.SourceFault asked of cause = tt
-cause_of_files words left start name status.OutOfMemory asked of cause = tt
-cause_of_files words left start name (status.BadClass file refusal) asked of (inl free) = absurd free
-cause_of_files words left start name (status.BadClass file refusal) asked of (inr comes) = of_files words left name (status.BadClass file refusal) asked comes
-cause_of_files words left start name (status.Full full) asked of (inl free) = absurd free
-cause_of_files words left start name (status.Full full) asked of (inr comes) = inl (of_files words left name (status.Full full) asked comes)
+cause_of_files words left start name e asked of (inl free) = file_at words left start e (stage_of e) of (inl free)
+cause_of_files words left start name e asked of (inr comes) = file_at words left start e (stage_of e) of (inr (of_files words left name e asked comes))
+
+early_files : (stage : Stage) → IsFilesStage stage → IsEarlyStage stage
+early_files OfSource of = tt
+early_files OfMemory of = tt
+early_files OfFile of = tt
+early_files OfRoom of = tt
+early_files OfWords of = absurd of
+early_files OfLinking of = absurd of
+early_files OfForm of = absurd of
+early_files OfNames of = absurd of
+early_files OfImage of = absurd of
+early_files OfTurns of = absurd of
 
 pub of_words : (e : Status) → IsOfFiles e → IsOfWords e
-of_words status.Ok of = absurd of
-of_words (status.Uncaught thread class) of = absurd of
-of_words status.Usage of = absurd of
-of_words status.ImageFault of = absurd of
-of_words status.SinkFault of = absurd of
-of_words status.NotBuilt of = absurd of
-of_words (status.LinkRefused refusal) of = absurd of
-of_words status.SourceFault of = tt
-of_words status.OutOfMemory of = tt
-of_words (status.BadClass file refusal) of = tt
-of_words (status.Full full) of = tt
+of_words e of = early_files (stage_of e) of
 
 pub no_usage : (e : Status) → IsOfFiles e → e ≡ status.Usage → ⊥
-no_usage status.Usage of is = of
-no_usage status.Ok of is = of
-no_usage (status.Uncaught thread class) of is = of
-no_usage status.ImageFault of is = of
-no_usage status.SinkFault of is = of
-no_usage status.NotBuilt of is = of
-no_usage (status.LinkRefused refusal) of is = of
-no_usage status.SourceFault of is = absurd cc
-no_usage status.OutOfMemory of is = absurd cc
-no_usage (status.BadClass file refusal) of is = absurd cc
-no_usage (status.Full full) of is = absurd cc
+no_usage e of is = subst (λ (s : Status). IsFilesStage (stage_of s)) is of
 
--- a program that ran
-module _ (words : List (List ℕ)) (left : Option (List NamedBytes)) (program : Program) (asked : IsAsked words left program) where
-  any_program : OfProgram words left (λ p. Unit {0})
-  any_program = record { program = program; is_asked = asked; holds = tt }
+-- ---- a run
 
-  pub cause_of_run : (start : Told) (opening : Graph) (acts : List Recorded) (after : Told) (s : Status) → RunsOver program start opening acts after s
-      → IsCauseOf words left start acts s
-  cause_of_run start opening acts after status.Ok ran = (ran.begun tt, any_program)
-  cause_of_run start opening acts after (status.Uncaught thread class) ran = (ran.begun tt, any_program)
-  cause_of_run start opening acts after status.SinkFault ran = (ran.begun tt, any_program)
-  cause_of_run start opening acts after status.ImageFault ran = any_program
-  cause_of_run start opening acts after status.OutOfMemory ran = tt
-  cause_of_run start opening acts after status.SourceFault ran = absurd ran.of_run
-  cause_of_run start opening acts after status.Usage ran = absurd ran.of_run
-  cause_of_run start opening acts after (status.BadClass file refusal) ran = absurd ran.of_run
-  cause_of_run start opening acts after (status.LinkRefused refusal) ran = absurd ran.of_run
-  cause_of_run start opening acts after status.NotBuilt ran = inr (record { program = program; is_asked = asked; holds = ran.not_built refl })
-  cause_of_run start opening acts after (status.Full full) ran = inr (ran.begun tt, any_program)
+-- a run that has another answer than want of memory has begun
+pub after_first : (acts : List Recorded) (answer : Result (Unit {0}) RunEnd) → (acts ≡ [] → answer ≡ no_memory) → IsAfterTheFirstTurn (status_of answer) → acts ≢ []
+after_first acts answer only is none = subst (λ (a : Result (Unit {0}) RunEnd). IsAfterTheFirstTurn (status_of a)) (only none) is
 
--- files that give a program aren't refused
-ok_before : (name : List ℕ) (r : Result (List ClassFile) Status) (program : Program) → GivenBy name r (Ok program) → IsOk r
-ok_before name (Ok classes) program give = refl
-ok_before name (Err s) program give = absurd (let e : err s ≡ Ok program = give in cc)
+module _ (words : List (List ℕ)) (left : Option (List NamedBytes)) (start : Told) (opening : Graph) (acts : List Recorded) (after : Told) (s : Status) where
+  abbrev Of : (Choice → Type 0) → Type 0
+  Of P = OfChoice words left P
 
-are_unrefused : (name : List ℕ) (files : List NamedBytes) (program : Program) → FilesGive name files (Ok program) → IsOk (classes_among files)
-are_unrefused name files program give = ok_before name (classes_among files) program give
+  so : (choice : Choice) → IsAsked words left choice → (P : Choice → Type 0) → P choice → Of P
+  so choice asked P holds = record { choice = choice; is_asked = asked; holds = holds }
+
+  -- ---- of a program with one durable array
+
+  module _ (choice : Choice) (asked : IsAsked words left choice) where
+    begun_at : (stage : Stage) → IsRunStage stage → (IsBegunStage stage → HasRunTo acts s choice)
+        → (stage ≡ OfForm → IsNotOfForm (root_of choice) start) → IsCauseAt stage words left start acts s
+    begun_at OfMemory of begun form = tt
+    begun_at OfForm of begun form = inr (so choice asked _ (inl (form refl)))
+    begun_at OfRoom of begun form = inr (so choice asked _ (inl (begun tt)))
+    begun_at OfNames of begun form = so choice asked _ (inl (begun tt))
+    begun_at OfImage of begun form = so choice asked _ tt
+    begun_at OfTurns of begun form = so choice asked _ (begun tt)
+    begun_at OfWords of begun form = absurd of
+    begun_at OfSource of begun form = absurd of
+    begun_at OfFile of begun form = absurd of
+    begun_at OfLinking of begun form = absurd of
+
+  ends_at : (stage : Stage) (set : _) (main : List ℕ) → IsAsked words left (Classes set main) → SetEndsAt stage set main start acts s
+      → IsCauseAt stage words left start acts s
+  ends_at OfMemory set main asked ends = tt
+  ends_at OfForm set main asked (inl form) = inr (so (Classes set main) asked _ (inl form))
+  ends_at OfForm set main asked (inr ran) = inr (so (Classes set main) asked _ (inr ran.1))
+  ends_at OfRoom set main asked (empty, inl run) = inr (so (Classes set main) asked _ (inl run))
+  ends_at OfRoom set main asked (empty, inr lacks) = inr (so (Classes set main) asked _ (inr (empty, lacks.0, lacks.1)))
+  ends_at OfNames set main asked (empty, inl run) = so (Classes set main) asked _ (inl run)
+  ends_at OfNames set main asked (empty, inr lacks) = so (Classes set main) asked _ (inr (empty, lacks.0, lacks.1))
+  ends_at OfImage set main asked ends = so (Classes set main) asked _ tt
+  ends_at OfTurns set main asked ends = so (Classes set main) asked _ ends.1
+  ends_at OfWords set main asked ends = absurd ends
+  ends_at OfSource set main asked ends = absurd ends
+  ends_at OfFile set main asked ends = absurd ends
+  ends_at OfLinking set main asked ends = absurd ends
+
+  form_only : (t : Status) → stage_of t ≡ OfForm → t ≡ status.NotBuilt
+  form_only status.NotBuilt is = refl
+  form_only status.Ok is = absurd cc
+  form_only (status.Uncaught thread class) is = absurd cc
+  form_only status.Usage is = absurd cc
+  form_only (status.BadClass file refusal) is = absurd cc
+  form_only (status.LinkRefused refusal) is = absurd cc
+  form_only (status.BadCode method pc) is = absurd cc
+  form_only (status.RegionRace thread other place) is = absurd cc
+  form_only (status.Full full) is = absurd cc
+  form_only status.SourceFault is = absurd cc
+  form_only status.ImageFault is = absurd cc
+  form_only status.SinkFault is = absurd cc
+  form_only status.OutOfMemory is = absurd cc
+  form_only (status.Stuck waits) is = absurd cc
+  form_only (status.LinkFault kind name) is = absurd cc
+
+  pub cause_of_run : (choice : Choice) → IsAsked words left choice → RunsAs choice start opening acts after s → IsCauseOf words left start acts s
+  cause_of_run (OneArray program) asked ran =
+      begun_at (OneArray program) asked (stage_of s) ran.of_run (λ is. ran.begun is) (λ is. ran.not_built (form_only s is))
+  cause_of_run (Classes set main) asked ran = ends_at (stage_of s) set main asked ran.cause
+
+  run_stage : (stage : Stage) (set : _) (main : List ℕ) → SetEndsAt stage set main start acts s → IsRunStage stage
+  run_stage OfMemory set main ends = tt
+  run_stage OfForm set main ends = tt
+  run_stage OfRoom set main ends = tt
+  run_stage OfNames set main ends = tt
+  run_stage OfImage set main ends = tt
+  run_stage OfTurns set main ends = tt
+  run_stage OfWords set main ends = absurd ends
+  run_stage OfSource set main ends = absurd ends
+  run_stage OfFile set main ends = absurd ends
+  run_stage OfLinking set main ends = absurd ends
+
+  pub of_run : (choice : Choice) → RunsAs choice start opening acts after s → IsOfRun s
+  of_run (OneArray program) ran = ran.of_run
+  of_run (Classes set main) ran = run_stage (stage_of s) set main ran.cause
+
+-- ---- what is left of the source
+
+-- files that give something to run aren't refused
+ok_before : (name : List ℕ) (r : Result (List ClassFile) Status) (choice : Choice) → GivenBy name r (Ok choice) → IsOk r
+ok_before name (Ok classes) choice give = refl
+ok_before name (Err s) choice give = absurd (let e : err s ≡ Ok choice = give in cc)
+
+are_unrefused : (name : List ℕ) (files : List NamedBytes) (choice : Choice) → FilesGive name files (Ok choice) → IsOk (classes_among files)
+are_unrefused name files choice give = ok_before name (classes_among files) choice give
 
 filed : (left : Option (List NamedBytes)) (seen files : List NamedBytes) → reading.HadLeft left seen → left ≡ Some files → seen ≡ files
 filed left seen files had told = sym (subst (λ (l : Option (List NamedBytes)). reading.HadLeft l seen) told had)
 
-pub asked_unrefused : (words : List (List ℕ)) (left : Option (List NamedBytes)) (program : Program) → IsAsked words left program
+pub asked_unrefused : (words : List (List ℕ)) (left : Option (List NamedBytes)) (choice : Choice) → IsAsked words left choice
     → (files : List NamedBytes) → left ≡ Some files → IsOk (classes_among files)
-asked_unrefused words left program asked files told =
-    subst (λ (fs : List NamedBytes). IsOk (classes_among fs)) (filed left asked.files files asked.told told) (are_unrefused asked.name asked.files program asked.is)
+asked_unrefused words left choice asked files told =
+    subst (λ (fs : List NamedBytes). IsOk (classes_among fs)) (filed left asked.files files asked.told told) (are_unrefused asked.name asked.files choice asked.is)
 
 pub class_unrefused : (left : Option (List NamedBytes)) (classes : List ClassFile) → reading.FilesComeTo left (Ok classes)
     → (files : List NamedBytes) → left ≡ Some files → IsOk (classes_among files)
 class_unrefused left classes comes files told =
     subst (λ (fs : List NamedBytes). IsOk (classes_among fs)) (filed left comes.files files comes.told told) (rw comes.is refl)
 
--- what is left of the source of a run that never began
-pub left_of_run : (files : List NamedBytes) → IsOk (classes_among files) → (program : Program) (start : Told) (opening : Graph) (acts : List Recorded) (after : Told) (s : Status)
-    (others : Option (List NamedBytes)) → RunsOver program start opening acts after s → acts ≡ [] → others ≡ Some [] → IsLeft files s others
-left_of_run files good program start opening acts after status.Ok others ran none all = all
-left_of_run files good program start opening acts after (status.Uncaught thread class) others ran none all = all
-left_of_run files good program start opening acts after status.SinkFault others ran none all = all
-left_of_run files good program start opening acts after status.ImageFault others ran none all = all
-left_of_run files good program start opening acts after status.OutOfMemory others ran none all = all_read files others good all
-left_of_run files good program start opening acts after status.SourceFault others ran none all = absurd ran.of_run
-left_of_run files good program start opening acts after status.Usage others ran none all = absurd ran.of_run
-left_of_run files good program start opening acts after (status.BadClass file refusal) others ran none all = absurd ran.of_run
-left_of_run files good program start opening acts after (status.LinkRefused refusal) others ran none all = absurd ran.of_run
-left_of_run files good program start opening acts after status.NotBuilt others ran none all = all
-left_of_run files good program start opening acts after (status.Full full) others ran none all = absurd (ran.begun tt none)
+unrefused_apart : (r : Result (List ClassFile) Status) (s : Status) → IsOk r → r ≡ Err s → ⊥
+unrefused_apart (Ok classes) s good is = cc
+unrefused_apart (Err e) s good is = cc
 
--- a run that has another answer than want of memory has begun
-pub after_first : (acts : List Recorded) (answer : Result (Unit {0}) RunEnd) → (acts ≡ [] → answer ≡ no_memory) → IsAfterTheFirstTurn (status_of answer) → acts ≢ []
-after_first acts answer only is none = subst (λ (a : Result (Unit {0}) RunEnd). IsAfterTheFirstTurn (status_of a)) (only none) is
+-- what is left of the source of a run without acts
+left_at : (stage : Stage) (files : List NamedBytes) (s : Status) (others : Option (List NamedBytes)) → IsRunStage stage → IsOk (classes_among files)
+    → others ≡ Some [] → LeavesAt stage files s others
+left_at OfMemory files s others of good all = all_read files others good all
+left_at OfForm files s others of good all = all
+left_at OfRoom files s others of good all = (λ refused. absurd (unrefused_apart (classes_among files) s good refused), λ is. all)
+left_at OfNames files s others of good all = all
+left_at OfImage files s others of good all = all
+left_at OfTurns files s others of good all = all
+left_at OfWords files s others of good all = absurd of
+left_at OfSource files s others of good all = absurd of
+left_at OfFile files s others of good all = absurd of
+left_at OfLinking files s others of good all = absurd of
 
--- what classes give is one answer
-abbrev link_err : LinkRefusal → Result Program Status
+pub left_of_run : (files : List NamedBytes) → IsOk (classes_among files) → (s : Status) (others : Option (List NamedBytes)) → IsOfRun s → others ≡ Some []
+    → IsLeft files s others
+left_of_run files good s others of all = left_at (stage_of s) files s others of good all
+
+-- ---- what classes give is one answer
+
+abbrev link_err : LinkRefusal → Result Choice Status
 link_err refusal = Err (status.LinkRefused refusal)
 
-one_given : (name : List ℕ) (r : Result (List ClassFile) Status) (a b : Result Program Status) → GivenBy name r a → GivenBy name r b → a ≡ b
+one_given : (name : List ℕ) (r : Result (List ClassFile) Status) (a b : Result Choice Status) → GivenBy name r a → GivenBy name r b → a ≡ b
 one_given name (Err s) a b one other = sym one ∙ other
 one_given name (Ok classes) a b (inl one) (inl other) = sym one.1 ∙ other.1
 one_given name (Ok classes) a b (inl one) (inr other) =
@@ -231,7 +304,7 @@ one_given name (Ok classes) a b (inr one) (inr other) =
     ∙ other.2
 
 -- what the words and the files come to, where both are known
-same_answer : (words : List (List ℕ)) (left : Option (List NamedBytes)) (answer : Result Program Status) (name : List ℕ) (files : List NamedBytes)
+same_answer : (words : List (List ℕ)) (left : Option (List NamedBytes)) (answer : Result Choice Status) (name : List ℕ) (files : List NamedBytes)
     → ComesTo words left answer → main_class words ≡ Some name → left ≡ Some files → FilesGive name files answer
 same_answer words left answer name files comes asked told =
     let named : comes.name ≡ name = some_same comes.name name (sym comes.asked ∙ asked) in
@@ -240,64 +313,63 @@ same_answer words left answer name files comes asked told =
 
 module _ (words : List (List ℕ)) (left : Option (List NamedBytes)) (start : Told) (name : List ℕ) (files : List NamedBytes)
     (asked : main_class words ≡ Some name) (told : left ≡ Some files) where
-  same_given : (a b : Result Program Status) → FilesGive name files a → ComesTo words left b → a ≡ b
+  same_given : (a b : Result Choice Status) → FilesGive name files a → ComesTo words left b → a ≡ b
   same_given a b give comes = one_given name (classes_among files) a b give (same_answer words left b name files comes asked told)
 
-  not_asked : (s : Status) (P : Program → Type 0) → FilesGive name files (Err s) → OfProgram words left P → ⊥
+  not_asked : (s : Status) (P : Choice → Type 0) → FilesGive name files (Err s) → OfChoice words left P → ⊥
   not_asked s P give of =
-      let other : err s ≡ Ok of.program = same_given (Err s) (Ok of.program) give of.is_asked in
+      let other : err s ≡ Ok of.choice = same_given (Err s) (Ok of.choice) give of.is_asked in
       cc
 
   same_status : (e s : Status) → FilesGive name files (Err s) → ComesTo words left (Err e) → e ≡ s
   same_status e s give comes = err_same e s (sym (same_given (Err s) (Err e) give comes))
 
-  refused_by_words : (e s : Status) → IsOfWords e → IsCauseOf words left start [] e → FilesGive name files (Err s) → HasNoCause e ⊎ (e ≡ s)
-  refused_by_words status.Ok s of cause is = absurd of
-  refused_by_words (status.Uncaught thread class) s of cause is = absurd of
-  refused_by_words status.ImageFault s of cause is = absurd of
-  refused_by_words status.SinkFault s of cause is = absurd of
-  refused_by_words status.Usage s of cause is = absurd (let e : None ≡ Some name = sym cause ∙ asked in cc)
-  refused_by_words status.SourceFault s of cause is = inl tt
-  refused_by_words status.OutOfMemory s of cause is = inl tt
-  refused_by_words (status.BadClass file refusal) s of cause is = inr (same_status (status.BadClass file refusal) s is cause)
-  refused_by_words (status.LinkRefused refusal) s of cause is = inr (same_status (status.LinkRefused refusal) s is cause)
-  refused_by_words (status.Full full) s of (inl comes) is = inr (same_status (status.Full full) s is comes)
-  refused_by_words (status.Full full) s of (inr begun) is = absurd (begun.0 refl)
-  refused_by_words status.NotBuilt s of (inl comes) is = inr (same_status status.NotBuilt s is comes)
-  refused_by_words status.NotBuilt s of (inr program) is = absurd (not_asked s (λ p. IsNotOfForm p start) is program)
+  refused_at : (stage : Stage) (e s : Status) → IsEarlyStage stage → IsCauseAt stage words left start [] e → FilesGive name files (Err s)
+      → IsFreeStage stage ⊎ (e ≡ s)
+  refused_at OfWords e s of cause is = absurd (let e : None ≡ Some name = sym cause ∙ asked in cc)
+  refused_at OfSource e s of cause is = inl tt
+  refused_at OfMemory e s of cause is = inl tt
+  refused_at OfFile e s of cause is = inr (same_status e s is cause)
+  refused_at OfLinking e s of cause is = inr (same_status e s is cause)
+  refused_at OfForm e s of (inl comes) is = inr (same_status e s is comes)
+  refused_at OfForm e s of (inr choice) is = absurd (not_asked s _ is choice)
+  refused_at OfRoom e s of (inl comes) is = inr (same_status e s is comes)
+  refused_at OfRoom e s of (inr choice) is = absurd (not_asked s _ is choice)
+  refused_at OfNames e s of cause is = absurd of
+  refused_at OfImage e s of cause is = absurd of
+  refused_at OfTurns e s of cause is = absurd of
 
-  not_refused : (e : Status) (program : Program) → FilesGive name files (Ok program) → ComesTo words left (Err e) → ⊥
-  not_refused e program give comes =
-      let other : Ok program ≡ err e = same_given (Ok program) (Err e) give comes in
+  not_refused : (e : Status) (choice : Choice) → FilesGive name files (Ok choice) → ComesTo words left (Err e) → ⊥
+  not_refused e choice give comes =
+      let other : Ok choice ≡ err e = same_given (Ok choice) (Err e) give comes in
       cc
 
-  runs_by_words : (e : Status) (program : Program) → IsOfWords e → IsCauseOf words left start [] e → FilesGive name files (Ok program)
-      → HasNoCause e ⊎ IsOfRun e
-  runs_by_words status.Ok program of cause is = absurd of
-  runs_by_words (status.Uncaught thread class) program of cause is = absurd of
-  runs_by_words status.ImageFault program of cause is = absurd of
-  runs_by_words status.SinkFault program of cause is = absurd of
-  runs_by_words status.Usage program of cause is = absurd (let e : None ≡ Some name = sym cause ∙ asked in cc)
-  runs_by_words status.SourceFault program of cause is = inl tt
-  runs_by_words status.OutOfMemory program of cause is = inl tt
-  runs_by_words (status.BadClass file refusal) program of cause is = absurd (not_refused (status.BadClass file refusal) program is cause)
-  runs_by_words (status.LinkRefused refusal) program of cause is = absurd (not_refused (status.LinkRefused refusal) program is cause)
-  runs_by_words (status.Full full) program of cause is = inr tt
-  runs_by_words status.NotBuilt program of cause is = inr tt
+  runs_at : (stage : Stage) (e : Status) (choice : Choice) → IsEarlyStage stage → IsCauseAt stage words left start [] e → FilesGive name files (Ok choice)
+      → IsFreeStage stage ⊎ IsRunStage stage
+  runs_at OfWords e choice of cause is = absurd (let e : None ≡ Some name = sym cause ∙ asked in cc)
+  runs_at OfSource e choice of cause is = inl tt
+  runs_at OfMemory e choice of cause is = inl tt
+  runs_at OfFile e choice of cause is = absurd (not_refused e choice is cause)
+  runs_at OfLinking e choice of cause is = absurd (not_refused e choice is cause)
+  runs_at OfForm e choice of cause is = inr tt
+  runs_at OfRoom e choice of cause is = inr tt
+  runs_at OfNames e choice of cause is = absurd of
+  runs_at OfImage e choice of cause is = absurd of
+  runs_at OfTurns e choice of cause is = absurd of
 
 -- the answer before an image is opened is that of the words and files
 pub answers_by_words : (words : List (List ℕ)) (left : Option (List NamedBytes)) (start : Told) (e : Status) → IsOfWords e
     → IsCauseOf words left start [] e → AnswersFor words left e
 answers_by_words words left start e of cause = record {
-  refused = λ name files s asked told is. refused_by_words words left start name files asked told e s of cause is;
-  runs = λ name files program asked told is. runs_by_words words left start name files asked told e program of cause is;
+  refused = λ name files s asked told is. refused_at words left start name files asked told (stage_of e) e s of cause is;
+  runs = λ name files choice asked told is. runs_at words left start name files asked told (stage_of e) e choice of cause is;
 }
 
--- so is one of a run of the program for which they ask
-pub answers_by_run : (words : List (List ℕ)) (left : Option (List NamedBytes)) (start : Told) (program : Program) (s : Status)
-    → IsAsked words left program → IsOfRun s → AnswersFor words left s
-answers_by_run words left start program s asked of = record {
-  refused = λ name files e named told is. absurd (not_asked words left start name files named told e (λ p. p ≡ program) is
-      (record { program = program; is_asked = asked; holds = refl }));
+-- so is one of a run of what they ask for
+pub answers_by_run : (words : List (List ℕ)) (left : Option (List NamedBytes)) (start : Told) (choice : Choice) (s : Status)
+    → IsAsked words left choice → IsOfRun s → AnswersFor words left s
+answers_by_run words left start choice s asked of = record {
+  refused = λ name files e named told is. absurd (not_asked words left start name files named told e (λ c. c ≡ choice) is
+      (record { choice = choice; is_asked = asked; holds = refl }));
   runs = λ name files other named told is. inr of;
 }

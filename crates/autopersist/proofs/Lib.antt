@@ -1,6 +1,8 @@
 pub mod SourceFiles
 pub mod Causes
 pub mod Kept
-pub mod Ran
+pub mod OverImage
 pub mod Chosen
 pub mod Rooms
+pub mod SetStops
+pub mod SetRan

@@ -1,5 +1,5 @@
 -- The files of a source, one by one.
-use Rattle.std.proofs.Common.{◌≡◌, ◌⊎◌, inl, inr, ℕ, zero, suc, ◌+◌, ◌<◌, ◌≤◌, List, [], ◌∷◌, ◌++◌, length, take, drop, nat_lt, true, false, Option, Some, None, Result, Ok, Err, refl, sym, ap, ◌∙◌, append_assoc, arith}
+use Rattle.std.proofs.Common.{◌≡◌, ◌⊎◌, inl, inr, ℕ, zero, suc, ◌+◌, ◌<◌, ◌≤◌, List, [], ◌∷◌, ◌++◌, length, take, drop, nat_lt, true, false, Option, Some, None, Result, Ok, Err, refl, sym, ap, ◌∙◌, append_assoc, arith, subst}
 use Rattle.std.specs.Prelude.{◌≢◌, IsOk}
 use Rattle.std.proofs.Math.Seq.{take-append-add}
 use Rattle.std.proofs.lemmas.Bool.{le-ltb, lt-ltb}
@@ -8,11 +8,12 @@ use Rattle.ap_base.specs.declared.source.NamedBytes.{NamedBytes}
 use Rattle.run_types.specs.declared.fault.Which.TheVariants.{Files}
 use Rattle.ap_base.specs.Sources as source
 use Rattle.class_file.specs.declared.class.ClassFile.{ClassFile}
-use Rattle.autopersist.specs.declared.status.Status.{Status}
-use Rattle.autopersist.specs.declared.status.Status.TheVariants as status
+use Rattle.statuses.specs.declared.status.Status.{Status}
+use Rattle.statuses.specs.declared.status.Status.TheVariants as status
 use Rattle.parsing.specs.Results.{◌>>=◌}
 use Rattle.autopersist.specs.Files.{most_files, class_of, classes_in, classes_among}
-use Rattle.autopersist.specs.Reading.{HadLeft, FilesComeTo, HasNoCause, IsOfFiles, FailsUnrefused, StopsAtRefused, StopsAnywhere, IsLeft}
+use Rattle.autopersist.specs.Reading.{HadLeft, FilesComeTo, HasNoCause, IsOfFiles, FailsUnrefused, StopsAtRefused, StopsAnywhere, IsLeft, LeavesAt}
+use Rattle.autopersist.specs.Stages.{Stage, OfWords, OfSource, OfMemory, OfFile, OfLinking, OfForm, OfRoom, OfNames, OfImage, OfTurns, stage_of, IsFreeStage, IsFilesStage}
 
 -- these files were read of a source, and this is left
 abbrev pub behind : List NamedBytes → Option (List NamedBytes) → Option (List NamedBytes)
@@ -258,46 +259,83 @@ all_read files after unrefused none = record {
 }
 
 -- where the source failed, or memory ran out, before the next file
+failed_at : (first left : Option (List NamedBytes)) (room : ℕ) (before : List ClassFile) (s : Status) (stage : Stage) → HasRead first left room before
+    → IsFreeStage stage → (files : List NamedBytes) → first ≡ Some files → LeavesAt stage files s left
+failed_at first left room before s OfSource has free files some = fails_unrefused first left room before has files some
+failed_at first left room before s OfMemory has free files some =
+    before_file files left (fails_unrefused first left room before has files some)
+failed_at first left room before s OfWords has free files some = absurd free
+failed_at first left room before s OfFile has free files some = absurd free
+failed_at first left room before s OfLinking has free files some = absurd free
+failed_at first left room before s OfForm has free files some = absurd free
+failed_at first left room before s OfRoom has free files some = absurd free
+failed_at first left room before s OfNames has free files some = absurd free
+failed_at first left room before s OfImage has free files some = absurd free
+failed_at first left room before s OfTurns has free files some = absurd free
+
 pub left_failed : (first left : Option (List NamedBytes)) (room : ℕ) (before : List ClassFile) (s : Status) → HasRead first left room before → HasNoCause s
     → (files : List NamedBytes) → first ≡ Some files → IsLeft files s left
-left_failed first left room before status.SourceFault has free files some = fails_unrefused first left room before has files some
-left_failed first left room before status.OutOfMemory has free files some =
-    before_file files left (fails_unrefused first left room before has files some)
-left_failed first left room before status.Ok has free files some = absurd free
-left_failed first left room before (status.Uncaught thread class) has free files some = absurd free
-left_failed first left room before status.Usage has free files some = absurd free
-left_failed first left room before (status.BadClass file refusal) has free files some = absurd free
-left_failed first left room before (status.LinkRefused refusal) has free files some = absurd free
-left_failed first left room before (status.Full full) has free files some = absurd free
-left_failed first left room before status.ImageFault has free files some = absurd free
-left_failed first left room before status.SinkFault has free files some = absurd free
-left_failed first left room before status.NotBuilt has free files some = absurd free
+left_failed first left room before s has free files some = failed_at first left room before s (stage_of s) has free files some
 
--- where the next file is refused, or memory ran out
-by_refusal : (files : List NamedBytes) (s : Status) (after : Option (List NamedBytes)) → IsOfFiles s → s ≢ status.SourceFault
-    → (s ≡ status.OutOfMemory) ⊎ StopsAtRefused files s after → StopsAnywhere files after → IsLeft files s after
-by_refusal files (status.BadClass file refusal) after of other (inr stops) anywhere = stops
-by_refusal files (status.Full full) after of other (inr stops) anywhere = stops
-by_refusal files (status.BadClass file refusal) after of other (inl memory) anywhere = absurd cc
-by_refusal files (status.Full full) after of other (inl memory) anywhere = absurd cc
-by_refusal files status.OutOfMemory after of other stops anywhere = anywhere
-by_refusal files status.SourceFault after of other stops anywhere = absurd (other refl)
-by_refusal files status.Ok after of other stops anywhere = absurd of
-by_refusal files (status.Uncaught thread class) after of other stops anywhere = absurd of
-by_refusal files status.Usage after of other stops anywhere = absurd of
-by_refusal files (status.LinkRefused refusal) after of other stops anywhere = absurd of
-by_refusal files status.ImageFault after of other stops anywhere = absurd of
-by_refusal files status.SinkFault after of other stops anywhere = absurd of
-by_refusal files status.NotBuilt after of other stops anywhere = absurd of
+-- the files come to a refusal
+known_files : (first : Option (List NamedBytes)) (s : Status) (files : List NamedBytes) → FilesComeTo first (Err s) → first ≡ Some files
+    → classes_among files ≡ Err s
+known_files first s files comes some =
+    let same : files ≡ comes.files = subst (λ (l : Option (List NamedBytes)). HadLeft l comes.files) some comes.told in
+    ap classes_among same ∙ comes.is
+
+refused_apart : (r : Result (List ClassFile) Status) (s : Status) → r ≡ Err s → IsOk r → ⊥
+refused_apart (Ok cs) s is good = cc
+refused_apart (Err e) s is good = cc
+
+-- where the next file is refused, which all files come to, or memory ran out
+refused_at : (stage : Stage) (files : List NamedBytes) (s : Status) (after : Option (List NamedBytes)) → IsFilesStage stage → stage ≢ OfSource
+    → (stage ≡ OfMemory) ⊎ ((classes_among files ≡ Err s) × StopsAtRefused files s after) → StopsAnywhere files after → LeavesAt stage files s after
+refused_at OfFile files s after of other (inr refused) anywhere = refused.1
+refused_at OfRoom files s after of other (inr refused) anywhere =
+    (λ is. refused.1, λ good. absurd (refused_apart (classes_among files) s refused.0 good))
+refused_at OfFile files s after of other (inl memory) anywhere = absurd cc
+refused_at OfRoom files s after of other (inl memory) anywhere = absurd cc
+refused_at OfMemory files s after of other refused anywhere = anywhere
+refused_at OfSource files s after of other refused anywhere = absurd (other refl)
+refused_at OfWords files s after of other refused anywhere = absurd of
+refused_at OfLinking files s after of other refused anywhere = absurd of
+refused_at OfForm files s after of other refused anywhere = absurd of
+refused_at OfNames files s after of other refused anywhere = absurd of
+refused_at OfImage files s after of other refused anywhere = absurd of
+refused_at OfTurns files s after of other refused anywhere = absurd of
+
+-- only a fault of the source comes at its stage
+source_only : (s : Status) → stage_of s ≡ OfSource → s ≡ status.SourceFault
+source_only status.SourceFault is = refl
+source_only status.Ok is = absurd cc
+source_only (status.Uncaught thread class) is = absurd cc
+source_only status.Usage is = absurd cc
+source_only (status.BadClass file refusal) is = absurd cc
+source_only (status.LinkRefused refusal) is = absurd cc
+source_only (status.BadCode method pc) is = absurd cc
+source_only (status.RegionRace thread other place) is = absurd cc
+source_only (status.Full full) is = absurd cc
+source_only status.ImageFault is = absurd cc
+source_only status.SinkFault is = absurd cc
+source_only status.OutOfMemory is = absurd cc
+source_only (status.Stuck waits) is = absurd cc
+source_only (status.LinkFault kind name) is = absurd cc
+source_only status.NotBuilt is = absurd cc
 
 pub left_refused : (first left after : Option (List NamedBytes)) (room : ℕ) (before : List ClassFile) (file : NamedBytes) (s : Status)
     → HasRead first left (suc room) before → source.Gives left (Some file) after → IsOfFiles s → s ≢ status.SourceFault
     → (s ≡ status.OutOfMemory) ⊎ (class_of file ≡ Err s) → (files : List NamedBytes) → first ≡ Some files → IsLeft files s after
 left_refused first left after room before file s has gives of other (inl memory) files some =
-    by_refusal files s after of other (inl memory) (after_file first left after (suc room) before file has gives files some)
+    refused_at (stage_of s) files s after of (λ is. other (source_only s is)) (inl (ap stage_of memory))
+    (after_file first left after (suc room) before file has gives files some)
 left_refused first left after room before file s has gives of other (inr refused) files some =
     let is = one_refused (has.read ++ file ∷ []) s (first_behind has.read room before file s [] has.room_left has.good refused) in
-    by_refusal files s after of other (inr (stops_at first left after (suc room) before file s has gives is files some))
+    refused_at (stage_of s) files s after of (λ at. other (source_only s at))
+    (inr (
+      known_files first s files (refuses first left after room before file s has gives refused) some,
+      stops_at first left after (suc room) before file s has gives is files some,
+    ))
     (after_file first left after (suc room) before file has gives files some)
 
 -- where there is no memory for the next file's class
@@ -310,8 +348,10 @@ left_no_memory first left after room before file has gives files some = after_fi
 pub left_full : (first left after : Option (List NamedBytes)) (before : List ClassFile) (file : NamedBytes) → HasRead first left zero before
     → source.Gives left (Some file) after → (files : List NamedBytes) → first ≡ Some files → IsLeft files one_more after
 left_full first left after before file has gives files some =
-    stops_at first left after zero before file one_more has gives
+    let stops = stops_at first left after zero before file one_more has gives
     (one_too_many (has.read ++ file ∷ []) before
     (ap classes_in (take_at has.read (file ∷ []) most_files (omega (arith, has.room_left))) ∙ has.good)
     (omega (arith, has.room_left, length-append has.read (file ∷ []))))
-    files some
+    files some in
+    let known = known_files first one_more files (passes first left after before file has gives) some in
+    (λ is. stops, λ good. absurd (refused_apart (classes_among files) one_more known good))

@@ -1,8 +1,10 @@
--- What the files of a source are, and the program that they give.
+-- What the files of a source are, and what is to run of them.
 use Rattle.std.specs.Prelude.{◌≡◌, ◌≢◌, ◌⊎◌, ℕ, nat_lt, Bool, List, [], ◌∷◌, length, take, Option, Some, None, Result, Ok, Err, option_and_then, if◌then◌else◌}
+use Rattle.std.specs.List.{list_any}
 use Rattle.std.specs.Str.{bytes_eq}
 use Rattle.ap_base.specs.declared.source.NamedBytes.{NamedBytes}
 use Rattle.run_types.specs.declared.fault.Which.TheVariants.{Files, FileBytes}
+use Rattle.plain_model.specs.Facts.{StaticFacts}
 use Rattle.class_file.specs.declared.class.ClassFile.{ClassFile}
 use Rattle.class_file.specs.declared.refusal.ClassRefusal.{ClassRefusal}
 use Rattle.class_file.specs.Classes.{class_in}
@@ -10,9 +12,13 @@ use Rattle.class_links.specs.declared.refusal.LinkRefusal.{LinkRefusal}
 use Rattle.class_links.specs.declared.refusal.LinkRefusal.TheVariants.{OutOfMemory as NoMemory}
 use Rattle.class_links.specs.Kept.{kept_files}
 use Rattle.class_links.specs.Links.{Links, IsBroken}
+use Rattle.class_set.specs.Linked.{Linked}
+use Rattle.class_set.specs.ArrayTypes.{linked_from}
+use Rattle.class_set.specs.Facts.{facts_of}
+use Rattle.set_demands.specs.Demands.{asks}
 use Rattle.parsing.specs.Results.{◌>>=◌}
-use Rattle.autopersist.specs.declared.status.Status.{Status}
-use Rattle.autopersist.specs.declared.status.Status.TheVariants as status
+use Rattle.statuses.specs.declared.status.Status.{Status}
+use Rattle.statuses.specs.declared.status.Status.TheVariants as status
 use Rattle.array_program.specs.declared.program.Program.{Program}
 use Rattle.array_program.specs.Form.{program_of}
 use Rattle.autopersist.specs.Words.{slashed}
@@ -54,7 +60,12 @@ unless_more files classes =
 unfoldable pub classes_among : List NamedBytes → Result (List ClassFile) Status
 classes_among files = classes_in (take most_files files) >>= unless_more files
 
--- ---- the program
+-- ---- what is to run
+
+-- what is to run: a program with one durable array, or a class set without durable roots, with the name of its main class
+pub data Choice : Type 0 where
+  OneArray : Program → Choice
+  Classes : Linked → (main : List ℕ) → Choice
 
 -- the class, where there is just one
 abbrev pub only_class : List ClassFile → Option ClassFile
@@ -69,25 +80,39 @@ abbrev pub chosen : List ℕ → Option Program → Result Program Status
 chosen name None = Err status.NotBuilt
 chosen name (Some program) = if is_choice name program then Ok program else Err status.NotBuilt
 
--- the program of this class, where there is one, it is of the form that is built, and it has this name
-abbrev pub built : List ℕ → Option ClassFile → Result Program Status
-built name class = chosen (slashed name) (option_and_then program_of class)
+abbrev pub or_refused : Result Program Status → Result Choice Status
+or_refused (Ok program) = Ok (OneArray program)
+or_refused (Err s) = Err s
+
+-- the program of the one class of this name, where it is of the form with one durable array
+abbrev pub one_array : List ℕ → List ClassFile → Result Choice Status
+one_array name classes = or_refused (chosen name (option_and_then program_of (only_class classes)))
+
+abbrev pub is_rooted : Linked → Bool
+is_rooted set = list_any (λ (s : StaticFacts). s.is_root) (facts_of set).statics
+
+-- What is built of a class set: with a durable root, a class with one durable array alone; without one, each set whose code asks for no
+-- threads and no regions.
+abbrev pub built : List ℕ → Linked → Result Choice Status
+built name set =
+    if is_rooted set then one_array name set.files
+    else (if asks set then Err status.NotBuilt else Ok (Classes set name))
 
 -- the classes break a condition of linking, the first as the refusal says
 abbrev pub IsRefused : List ClassFile → LinkRefusal → Type 0
 IsRefused classes refusal = (refusal ≢ NoMemory) × IsBroken classes refusal
 
--- What these classes give: the program of this name, or that none is built, where they link; otherwise why they
--- don't.
-abbrev pub ClassesGive : List ℕ → List ClassFile → Result Program Status → Type 0
+-- What these classes give: what is to run where the main class has this name, or that it isn't built, where they link; otherwise why
+-- they don't.
+abbrev pub ClassesGive : List ℕ → List ClassFile → Result Choice Status → Type 0
 ClassesGive name classes answer =
-    (Links classes × (built name (only_class classes) ≡ answer))
+    (Links classes × (built (slashed name) (linked_from classes) ≡ answer))
     ⊎ ((refusal : LinkRefusal) × IsRefused classes refusal × (Err (status.LinkRefused refusal) ≡ answer))
 
-abbrev pub GivenBy : List ℕ → Result (List ClassFile) Status → Result Program Status → Type 0
+abbrev pub GivenBy : List ℕ → Result (List ClassFile) Status → Result Choice Status → Type 0
 GivenBy name (Ok classes) answer = ClassesGive name (kept_files classes) answer
 GivenBy name (Err s) answer = Err s ≡ answer
 
 -- What these files give: why they are refused, or what their classes give, but for those that are left aside.
-abbrev pub FilesGive : List ℕ → List NamedBytes → Result Program Status → Type 0
+abbrev pub FilesGive : List ℕ → List NamedBytes → Result Choice Status → Type 0
 FilesGive name files answer = GivenBy name (classes_among files) answer

@@ -19,30 +19,29 @@ use Rattle.array_program.specs.declared.program.Program.{Program}
 use Rattle.array_program.specs.Facts.{program_facts}
 use Rattle.array_program.specs.Running.{program_code}
 use Rattle.array_history.specs.Standing.{root_name, graph_with, IsRunOf}
-use Rattle.array_history.specs.Left.{IsOneOf}
 use Rattle.array_run.specs.declared.run.RunEnd.{RunEnd}
 use Rattle.array_run.specs.declared.run.RunEnd.TheVariants as end
 use Rattle.array_run.specs.Opening.{EndsBy, default_limits}
-use Rattle.autopersist.specs.declared.status.Status.{Status}
-use Rattle.autopersist.specs.declared.status.Status.TheVariants as status
+use Rattle.statuses.specs.Statuses.{class_name}
+use Rattle.statuses.specs.declared.status.Status.{Status}
+use Rattle.statuses.specs.declared.status.Status.TheVariants as status
 
 -- reads give these words
 abbrev pub AreRead : Told → Words → Type 0
 AreRead start words = (l w : ℕ) → l < start.size → ReadsWord start.trace l w (words l w)
 
--- The image has too few lines or too many, or its words aren't of the form that the program's root needs.
-abbrev pub IsNotOfForm : Program → Told → Type 0
-IsNotOfForm program start =
+-- The image has too few lines or too many, or its words aren't of the form that a durable root of this name needs, or
+-- a class set without one.
+abbrev pub IsNotOfForm : Option (List ℕ) → Told → Type 0
+IsNotOfForm root start =
     (start.size < min_lines) ⊎ (max_lines < start.size)
-    ⊎ ((words : Words) × AreRead start words × (IsOfForm start.size words (root_name program) → ⊥))
+    ⊎ ((words : Words) × AreRead start words × (IsOfForm start.size words root → ⊥))
 
--- The image was of a right size and had words of the form that the program's root needs, or nothing was
--- written to it.
-pub record IsOfFormOrUntouched (program : Program) (start : Told) (after : Told) : Type 0 where
+-- The image was of a right size and had words of the form that is needed, or nothing was written to it.
+pub record IsOfFormOrUntouched (root : Option (List ℕ)) (start : Told) (after : Told) : Type 0 where
   pub words : Words
   pub read : AreRead start words
-  pub is : ((min_lines ≤ start.size) × (start.size ≤ max_lines)
-      × IsOfForm start.size words (root_name program))
+  pub is : ((min_lines ≤ start.size) × (start.size ≤ max_lines) × IsOfForm start.size words root)
       ⊎ (after.trace ≡ start.trace)
 
 -- ---- the run
@@ -50,7 +49,7 @@ pub record IsOfFormOrUntouched (program : Program) (start : Told) (after : Told)
 -- the status of a run that ended so
 abbrev pub status_of : Result (Unit {0}) RunEnd → Status
 status_of (Ok done) = status.Ok
-status_of (Err (end.Uncaught class)) = status.Uncaught 0 class
+status_of (Err (end.Uncaught class)) = status.Uncaught 0 (class_name class)
 status_of (Err (end.Full full)) = status.Full full
 status_of (Err end.SinkFailed) = status.SinkFault
 status_of (Err end.ImageFailed) = status.ImageFault
@@ -83,28 +82,32 @@ pub record HasRun (program : Program) (start : Told) (opening : Graph) (acts : L
 
 -- ---- stops
 
--- An image with these words stands for the graph of the image before, or, where that has no roots and nodes,
--- for the one with the program's root as null; and it can be opened again, if the image before can.
-pub record StandsAsBefore (program : Program) (size : ℕ) (before : Words) (words : Outcome) : Type 0 where
-  pub graph : (g : Graph) → StandsFor size before g → IsKeptOrFilled size (root_name program) g words
-  pub form : IsOfForm size before (root_name program) → IsOfForm size words (root_name program)
+-- what an image of so many lines with these words is to be for some acts
+abbrev pub Leaving : Type 1
+Leaving = List Recorded → (size : ℕ) → Outcome → Type 0
 
--- It stands for a graph that these acts of all allow; or, where there are none yet, as before. Where the run
+-- An image with these words stands for the graph of the image before, or, where that has no roots and nodes,
+-- for the one with the root as null, where there is one; and it can be opened again, if the image before can.
+pub record StandsAsBefore (root : Option (List ℕ)) (size : ℕ) (before : Words) (words : Outcome) : Type 0 where
+  pub graph : (g : Graph) → StandsFor size before g → IsKeptOrFilled size root g words
+  pub form : IsOfForm size before root → IsOfForm size words root
+
+-- It is one that these acts of all may leave; or, where there are none yet, it stands as before. Where the run
 -- never began, it stands as before.
-abbrev pub StandsRightly : Program → (opening : Graph) → (all acts : List Recorded) → (size : ℕ)
+abbrev pub StandsRightly : Option (List ℕ) → Leaving → (all acts : List Recorded) → (size : ℕ)
     → (before : Words) → Outcome → Type 0
-StandsRightly program opening all acts size before words =
-    ((all ≢ []) × IsOneOf program opening acts size words)
-    ⊎ ((acts ≡ []) × StandsAsBefore program size before words)
+StandsRightly root MayLeave all acts size before words =
+    ((all ≢ []) × MayLeave acts size words)
+    ⊎ ((acts ≡ []) × StandsAsBefore root size before words)
 
 -- A stop within call n of the top call leaves only images that stand rightly for the acts before that call,
 -- and a stop after the last call those that do for all acts.
-pub record StandsAtStops (program : Program) (start : Told) (opening : Graph) (acts : List Recorded)
+pub record StandsAtStops (root : Option (List ℕ)) (MayLeave : Leaving) (start : Told) (acts : List Recorded)
     (after : Told) : Type 0 where
   pub words : Words
   pub read : AreRead start words
   pub within : (n : ℕ) → 0 < n → start.calls + n ≤ after.calls → start.calls + n < 2 ^ 64 - 1
       → (c : Outcome) → LeftWithin after.trace (start.calls + n) c
-      → StandsRightly program opening acts (acts_before n acts) start.size words c
+      → StandsRightly root MayLeave acts (acts_before n acts) start.size words c
   pub now : (c : Outcome) → LeavesNow after.trace c
-      → StandsRightly program opening acts acts start.size words c
+      → StandsRightly root MayLeave acts acts start.size words c

@@ -1,6 +1,9 @@
+pub mod Stages
 pub mod Files
+pub mod Choices
 pub mod Reading
-pub mod Statuses
+pub mod Sets
+pub mod Began
 pub mod TopCall
 pub mod Words
 pub mod Images

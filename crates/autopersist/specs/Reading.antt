@@ -3,9 +3,10 @@ use Rattle.std.specs.Prelude.{◌≡◌, ◌≤◌, List, [], ◌∷◌, ◌++�
 use Rattle.ap_base.specs.declared.source.NamedBytes.{NamedBytes}
 use Rattle.class_file.specs.declared.class.ClassFile.{ClassFile}
 use Rattle.parsing.specs.Results as parsing
-use Rattle.autopersist.specs.declared.status.Status.{Status}
-use Rattle.autopersist.specs.declared.status.Status.TheVariants as status
+use Rattle.statuses.specs.declared.status.Status.{Status}
+use Rattle.statuses.specs.declared.status.Status.TheVariants as status
 use Rattle.autopersist.specs.Files.{IsRefused, classes_among}
+use Rattle.autopersist.specs.Stages.{Stage, OfWords, OfSource, OfMemory, OfFile, OfRoom, stage_of, IsFreeStage, IsFilesStage, IsClassesStage}
 
 -- what a call gave is what the definition gives, unless memory ran out
 abbrev pub IsReadAs : {A B : Type 0} → (A → B) → Result A Status → Result B Status → Type 0
@@ -25,17 +26,11 @@ pub record FilesComeTo (first : Option (List NamedBytes)) (answer : Result (List
 
 -- the answers that have no cause among the files: want of memory, and the source's own fault
 abbrev pub HasNoCause : Status → Type 0
-HasNoCause status.OutOfMemory = Unit {0}
-HasNoCause status.SourceFault = Unit {0}
-HasNoCause other = ⊥
+HasNoCause s = IsFreeStage (stage_of s)
 
 -- the answers that reading a source can give
 abbrev pub IsOfFiles : Status → Type 0
-IsOfFiles (status.BadClass file refusal) = Unit {0}
-IsOfFiles (status.Full full) = Unit {0}
-IsOfFiles status.OutOfMemory = Unit {0}
-IsOfFiles status.SourceFault = Unit {0}
-IsOfFiles other = ⊥
+IsOfFiles s = IsFilesStage (stage_of s)
 
 -- the answers of classes that can't be linked, want of memory among them
 abbrev pub IsOfLinking : List ClassFile → Status → Type 0
@@ -43,12 +38,9 @@ IsOfLinking classes (status.LinkRefused refusal) = IsRefused classes refusal
 IsOfLinking classes status.OutOfMemory = Unit {0}
 IsOfLinking classes other = ⊥
 
--- the answers of classes that give no program
+-- the answers of classes of which nothing is to run
 abbrev pub IsOfClasses : Status → Type 0
-IsOfClasses (status.LinkRefused refusal) = Unit {0}
-IsOfClasses status.OutOfMemory = Unit {0}
-IsOfClasses status.NotBuilt = Unit {0}
-IsOfClasses other = ⊥
+IsOfClasses s = IsClassesStage (stage_of s)
 
 -- ---- what is left of a source that had these files
 
@@ -81,13 +73,18 @@ pub record StopsAnywhere (files : List NamedBytes) (after : Option (List NamedBy
   pub few : length last ≤ 1
   pub left : after ≡ Some others
 
--- What is left, by an answer that comes before a run begins: all files, where the words are no command;
--- those behind the first one that is refused; where the source failed, those behind some that aren't
--- refused; where memory ran out, those behind any; otherwise none.
+-- What is left, where a call without acts ended at this stage by this answer: all files, where the words are no
+-- command; those behind the first one that is refused, also for the room that it needs; where the source
+-- failed, those behind some that aren't refused; where memory ran out, those behind any; otherwise none.
+abbrev pub LeavesAt : Stage → List NamedBytes → Status → Option (List NamedBytes) → Type 0
+LeavesAt OfWords files how after = after ≡ Some files
+LeavesAt OfSource files how after = FailsUnrefused files after
+LeavesAt OfFile files how after = StopsAtRefused files how after
+LeavesAt OfRoom files how after =
+    (classes_among files ≡ Err how → StopsAtRefused files how after)
+    × (IsOk (classes_among files) → after ≡ Some [])
+LeavesAt OfMemory files how after = StopsAnywhere files after
+LeavesAt other files how after = after ≡ Some []
+
 abbrev pub IsLeft : List NamedBytes → Status → Option (List NamedBytes) → Type 0
-IsLeft files status.Usage after = after ≡ Some files
-IsLeft files status.SourceFault after = FailsUnrefused files after
-IsLeft files (status.BadClass file refusal) after = StopsAtRefused files (status.BadClass file refusal) after
-IsLeft files (status.Full full) after = StopsAtRefused files (status.Full full) after
-IsLeft files status.OutOfMemory after = StopsAnywhere files after
-IsLeft files other after = after ≡ Some []
+IsLeft files how after = LeavesAt (stage_of how) files how after

@@ -1,15 +1,16 @@
 // The files of a source, read and checked one by one.
-ghost use Rattle.std.specs.Prelude.{◌≡◌, ◌≢◌, ◌⊎◌, ◌≤◌, List, [], length, Some, OnOk, OnErr, IfOk, IfErr, IsErrOf, Ok, Err};
+ghost use Rattle.std.specs.Prelude.{◌≡◌, ◌≢◌, ◌⊎◌, ◌≤◌, All, List, [], length, Some, OnOk, OnErr, IfOk, IfErr, IsErrOf, Ok, Err};
 ghost use Rattle.ap_base.specs.Causes.{Rose};
 ghost use Rattle.ap_base.specs.Sources as given;
 ghost use Rattle.ap_base.specs.declared.source.NamedBytes.{NamedBytes as File};
+ghost use Rattle.class_file.specs.Classes.{CanBeRead};
 ghost use Rattle.autopersist.specs.Files.{class_of};
 ghost use Rattle.autopersist.specs.Reading.{IsReadAs, HasNoCause, IsOfFiles, FilesComeTo, IsLeft};
 
-use crate::Status;
 use ap_base::{Bytes, ClassSource, MOST_BYTES, NamedBytes, SourceError};
 use class_file::{ClassFile, ClassRefusal, read_class};
 use run_types::{Full, Which};
+use statuses::Status;
 use std::alloc::Global;
 
 // A source has at most so many files.
@@ -19,6 +20,7 @@ const MOST_FILES: u32 = 4_096;
 #[tactic(auto, unfolding(crate::specs::Files::class_of))]
 fn class_of(alloc: Global, file: NamedBytes) -> Result<ClassFile, Status>
     ensures class { IsReadAs (λ class. class) result (class_of file) }
+    ensures readable { IfOk result CanBeRead }
     ensures files { IfErr result IsOfFiles }
     ensures no_source { IfErr result (λ s. s ≢ Status.SourceFault) }
 {
@@ -74,6 +76,7 @@ pub(crate) fn read_files<C: ClassSource>(
     ensures classes { IfOk result (λ classes.
         FilesComeTo (C.left source.old) (Ok classes.items)) }
     ensures few { IfOk result (λ classes. length classes.items ≤ 4096) }
+    ensures readable { IfOk result (λ classes. All CanBeRead classes.items) }
     ensures refused { IfErr result (λ s. HasNoCause s ⊎ FilesComeTo (C.left source.old) (Err s)) }
     ensures whole { OnOk result ((files : List File) → C.left source.old ≡ Some files
         → C.left source.new ≡ Some []) }

@@ -2,14 +2,17 @@
 #![tactic(auto)]
 
 mod choice;
+mod classes;
 mod files;
-mod image_run;
-mod status;
-mod texts;
+mod laws;
+mod one_array;
+mod opening;
+mod ran;
+mod runs;
 mod top_call;
 mod words;
 
-pub use status::Status;
-pub use texts::status_text;
+pub use laws::statuses_stand_at_their_stages;
+pub use statuses::{Status, status_text};
 pub use top_call::{Ended, autopersist};
 pub use words::{Command, read_words};

@@ -7,16 +7,17 @@ ghost use Rattle.image_meaning.specs.Meaning.{empty_graph};
 ghost use Rattle.plain_model.specs.Runs.{output_of};
 ghost use Rattle.array_run.specs.Telling.{with_all};
 ghost use Rattle.autopersist.specs.Reading.{IsLeft};
-ghost use Rattle.autopersist.specs.TopCall.{IsCauseOf, AnswersFor, OfProgram, RunsOver, IsOfRun};
+ghost use Rattle.autopersist.specs.TopCall.{IsCauseOf, AnswersFor, OfChoice, RunsAs, IsOfRun};
 ghost use Rattle.autopersist.specs.Words.{main_class, texts};
 
-use crate::Status;
-use crate::choice::find_program;
-use crate::image_run::{no_graph, run_over_image};
+use crate::choice::{Found, find_choice};
+use crate::ran::no_graph;
+use crate::runs::run_choice;
 use ap_base::{ClassSource, Gate, Sink};
 use graph_model::Graph;
 use line_image::Image;
 use run_history::{Acts, Watcher};
+use statuses::Status;
 use std::alloc::Global;
 use std::sync::Wait;
 use std::thread::Threads;
@@ -78,10 +79,10 @@ where
     ensures opening { result.acts.acts ≡ [] → result.opening ≡ empty_graph }
 
     // What ran, and what a stop leaves of the image, within any of its calls or after the last one: by the words and
-    // files there is a program for which all of this holds; or there are no acts, and the image is as it was.
+    // files there is something to run for which all of this holds; or there are no acts, and the image is as it was.
     ensures theorem { ((result.image ≡ image) × (result.acts.acts ≡ []))
-        ⊎ OfProgram (texts words.now.items) (C.left source) (λ program.
-        RunsOver program (I.told image) result.opening result.acts.acts
+        ⊎ OfChoice (texts words.now.items) (C.left source) (λ choice.
+        RunsAs choice (I.told image) result.opening result.acts.acts
         (I.told result.image) result.status) }
     ensures early { IsOfRun result.status ⊎ ((result.image ≡ image) × (result.acts.acts ≡ [])) }
     ensures size { (I.told result.image).size ≡ (I.told image).size }
@@ -90,9 +91,9 @@ where
     ensures printed { S.taken result.sink ≡ with_bytes (S.taken sink) (output_of result.acts.acts) }
     ensures watched { W.seen result.watcher ≡ with_all (W.seen watcher) result.acts.acts }
 {
-    match find_program(alloc, words.as_slice(), &mut source) {
-        Ok(chosen) => {
-            let ran = run_over_image(alloc, &chosen, image, sink, gate, watcher);
+    match find_choice(alloc, words.as_slice(), &mut source) {
+        Ok(Found { choice, room }) => {
+            let ran = run_choice(alloc, &choice, room, image, sink, gate, watcher);
             Ended {
                 status: ran.status,
                 opening: ran.opening,

@@ -184,6 +184,8 @@ const IN_PACKAGE: &str = ".class p/Main\n.super java/lang/Object\n\
 
 const NOT_BUILT: &str = "autopersist: not built\n";
 
+const NO_CLASS: &str = "autopersist: link MissingClass Main\n";
+
 const USAGE: &str = "autopersist: usage\n";
 
 const FAULT: &str = "autopersist: source fault\n";
@@ -194,7 +196,7 @@ const TOO_LONG: &str = "autopersist: full FileBytes 1048577 1048576\n";
 
 const TOO_MANY: &str = "autopersist: full Files 1 0\n";
 
-static COMMANDS: [Row; 29] = [
+static COMMANDS: [Row; 31] = [
     (&RUN, &[Given::Seven], 9, "7\n", 8, 0),
     // the source isn't asked past its end
     (&RUN, &[Given::Seven], 3, "7\n", 8, 0),
@@ -209,16 +211,26 @@ static COMMANDS: [Row; 29] = [
     // a dot in a name counts as a slash
     (DOTTED, &[Given::Listed(IN_PACKAGE)], 9, "7\n", 8, 0),
     (SLASHED, &[Given::Listed(IN_PACKAGE)], 9, "7\n", 8, 0),
-    (&RUN, &[Given::Listed(IN_PACKAGE)], 9, NOT_BUILT, 0, 0),
+    (&RUN, &[Given::Listed(IN_PACKAGE)], 9, NO_CLASS, 0, 0),
     (NO_MAIN, &[Given::Seven], 9, USAGE, 0, 1),
     (MISSPELLED, &[Given::Seven], 9, USAGE, 0, 1),
     (NO_COMMAND, &[Given::Seven], 9, USAGE, 0, 1),
     (&RUN, &[Given::Seven], 1, FAULT, 0, 1),
     (&RUN, &[Given::Seven], 2, FAULT, 0, 0),
-    (OTHER, &[Given::Seven], 9, NOT_BUILT, 0, 0),
-    (&RUN, &[], 9, NOT_BUILT, 0, 0),
-    (&RUN, &[Given::Seven, Given::ClassA], 9, NOT_BUILT, 0, 0),
-    (&RUN, &[Given::ClassA], 9, NOT_BUILT, 0, 0),
+    (
+        OTHER,
+        &[Given::Seven],
+        9,
+        "autopersist: link MissingClass Other\n",
+        0,
+        0,
+    ),
+    (&RUN, &[], 9, NO_CLASS, 0, 0),
+    (&RUN, &[Given::Seven, Given::ClassA], 9, "7\n", 8, 0),
+    (&RUN, &[Given::ClassA], 9, NO_CLASS, 0, 0),
+    // a class with a durable root runs alone, and by its own name
+    (&RUN, &[Given::Main(&[]), Given::ClassA], 9, NOT_BUILT, 0, 0),
+    (OTHER, &[Given::Main(&[])], 9, NOT_BUILT, 0, 0),
     (
         &RUN,
         &[Given::Seven, Given::Seven],
@@ -438,20 +450,20 @@ static LINKS: [Row; 17] = [
         8,
         0,
     ),
-    (&RUN, &[Given::Listed(ROOT)], 9, NOT_BUILT, 0, 0),
+    (&RUN, &[Given::Listed(ROOT)], 9, NO_CLASS, 0, 0),
     (
         &RUN,
         &[Given::Seven, Given::Listed(REGIONS)],
         9,
-        NOT_BUILT,
-        0,
+        "7\n",
+        8,
         0,
     ),
     (
         &RUN,
         &[Given::Listed(REGIONS), Given::Listed(REGION)],
         9,
-        NOT_BUILT,
+        NO_CLASS,
         0,
         0,
     ),

@@ -17,6 +17,10 @@ mod host_rows;
 #[cfg(test)]
 mod program_rows;
 #[cfg(test)]
+mod set_rows;
+#[cfg(test)]
+mod status_rows;
+#[cfg(test)]
 mod stop_rows;
 #[cfg(test)]
 mod turn_rows;

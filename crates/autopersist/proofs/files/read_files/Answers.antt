@@ -1,11 +1,14 @@
 use Rattle.std.proofs.Common.{◌≡◌, ◌⊎◌, suc, ◌+◌, ◌-◌, List, [], ◌∷◌, ◌++◌, Result, Ok, Err, false, inl, inr, subst, sym, ◌∙◌, arith, if◌then◌else◌}
+use Rattle.std.specs.Prelude.{All}
 use Rattle.std.specs.Result.{is_ok, is_err}
+use Rattle.class_file.specs.Classes.{CanBeRead}
 use Rattle.class_file.specs.declared.class.ClassFile.{ClassFile}
+use Rattle.std.proofs.lemmas.List.Elements.{All-push}
 use Rattle.std.proofs.lemmas.Result.{err_from_is_err_and}
 use Rattle.ap_base.specs.declared.source.NamedBytes.{NamedBytes}
 use Rattle.ap_base.specs.Sources as given
-use Rattle.autopersist.specs.declared.status.Status.{Status}
-use Rattle.autopersist.specs.declared.status.Status.TheVariants as status
+use Rattle.statuses.specs.declared.status.Status.{Status}
+use Rattle.statuses.specs.declared.status.Status.TheVariants as status
 use Rattle.autopersist.specs.Files.{class_of}
 use Rattle.autopersist.specs.Reading.{FilesComeTo, HasNoCause, IsLeft}
 use Rattle.autopersist.proofs.SourceFiles.{HasRead, goes_on, few, ends, refuses, passes, whole, left_failed, left_refused, left_no_memory, left_full}
@@ -57,6 +60,9 @@ loop-preserved g c =
           (subst (λ n. HasRead (g.C.ClassSource.left c.args.source.now) (g.C.ClassSource.left c.loop.source) n c.loop.classes.items) more c.loop.invariant.read)
           (subst (λ f. given.Gives (g.C.ClassSource.left c.loop.source) f (g.C.ClassSource.left c.next_file.new.source)) c.in-Some.is c.in_ok-file.ensures.file) c.in_ok-class.ensures.class
           (pushed c.loop.classes.items c.push.new.self.items c.in_ok-class.class c.push.result c.push.ensures.items (sym c.is_err.ensures.value ∙ c.if-is_err.false));
+      readable = subst (λ cs. All CanBeRead cs)
+          (sym (pushed c.loop.classes.items c.push.new.self.items c.in_ok-class.class c.push.result c.push.ensures.items (sym c.is_err.ensures.value ∙ c.if-is_err.false)))
+          (All-push CanBeRead c.loop.classes.items c.in_ok-class.class c.loop.invariant.readable c.in_ok-class.ensures.readable);
       later = omega (arith, c.loop.invariant.later, c.next_file.ensures.later);
     }
 

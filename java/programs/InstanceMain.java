@@ -1,0 +1,6 @@
+// main isn't static.
+class InstanceMain {
+    public void main(String[] args) {
+        System.out.println("not reached");
+    }
+}
