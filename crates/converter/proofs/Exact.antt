@@ -21,11 +21,11 @@ rank_most Repair = omega arith
 rank_most Flush = omega arith
 
 -- a flush goes on as one
-flush_stays : (p p' : Phase) (at at' : ℕ × ℕ) → p ≡ Flush → IsOn p at p' at' → p' ≡ Flush
+pub flush_stays : (p p' : Phase) (at at' : ℕ × ℕ) → p ≡ Flush → IsOn p at p' at' → p' ≡ Flush
 flush_stays p p' at at' flush (inl x) = absurd (let e : rank p ≡ 2 = ap rank flush in let m = rank_most p' in omega (arith, x, e, m))
 flush_stays p p' at at' flush (inr x) = x.0 ∙ flush
 
-clash : (p : Phase) (a b : Phase) → p ≡ a → p ≡ b → rank a ≢ rank b → ⊥
+pub clash : (p : Phase) (a b : Phase) → p ≡ a → p ≡ b → rank a ≢ rank b → ⊥
 clash p a b x y ne = ne (ap rank (sym x ∙ y))
 
 only_sealed : (answer : ConvertStep) (t : ℕ) (s s' : Scene) (es es' : List Entry) → phase_of s.queue t ≡ Flush → IsClean s.queue.marks t → ((u : ℕ) → IsLeastUnsettled s.queue t u → ⊥) →
@@ -51,17 +51,17 @@ only_sealed (step.Wait u) t s s' es es' flush clean all says = absurd (elim says
 only_sealed (step.Sealed x) t s s' es es' flush clean all says = (x, refl, says.group)
 
 -- a group's members are in each closed set that has its thread
-in_closed : (needs needs' : ℕ → ℕ → Bool) (t : ℕ) (set : ℕ → Bool) → ((a b : ℕ) → needs a b ≡ true → needs' a b ≡ true) → IsClosed needs' set → set t ≡ true → (u : ℕ) → InGroup needs t u → set u ≡ true
+pub in_closed : (needs needs' : ℕ → ℕ → Bool) (t : ℕ) (set : ℕ → Bool) → ((a b : ℕ) → needs a b ≡ true → needs' a b ≡ true) → IsClosed needs' set → set t ≡ true → (u : ℕ) → InGroup needs t u → set u ≡ true
 in_closed needs needs' t set on closed first _ itself = first
 in_closed needs needs' t set on closed first _ (needed u w p e) = closed u w (in_closed needs needs' t set on closed first u p) (on u w e)
 
 -- A group by needs that were there before is one by the earlier needs.
-in_group_back : (needs needs' : ℕ → ℕ → Bool) (t : ℕ) → ((a b : ℕ) → needs' a b ≡ true → needs a b ≡ true) → (u : ℕ) → InGroup needs' t u → InGroup needs t u
+pub in_group_back : (needs needs' : ℕ → ℕ → Bool) (t : ℕ) → ((a b : ℕ) → needs' a b ≡ true → needs a b ≡ true) → (u : ℕ) → InGroup needs' t u → InGroup needs t u
 in_group_back needs needs' t on _ itself = itself
 in_group_back needs needs' t on _ (needed u w p e) = needed u w (in_group_back needs needs' t on u p) (on u w e)
 
 -- In phase Flush a thread meets nobody new.
-needs_back : (s at : Scene) (es : List Entry) (t : ℕ) → AgreesAt s es → phase_of s.queue t ≡ Flush → GoesOn t s at es → (a b : ℕ) → needs_of at.queue.needs a b ≡ true → needs_of s.queue.needs a b ≡ true
+pub needs_back : (s at : Scene) (es : List Entry) (t : ℕ) → AgreesAt s es → phase_of s.queue t ≡ Flush → GoesOn t s at es → (a b : ℕ) → needs_of at.queue.needs a b ≡ true → needs_of s.queue.needs a b ≡ true
 needs_back s at es t a flush goes x y need = elim (goes.met x y need) [
   | inl old ↦ old
   | inr z ↦ (

@@ -9,3 +9,7 @@ pub mod Exact
 pub mod Worked
 pub mod Repaired
 pub mod Sealed
+pub mod Waiting
+pub mod Named
+pub mod Unwritten
+pub mod Left

@@ -81,7 +81,7 @@ thread_at lines q q' t n x y p queues phase place eq =
     ∙ ap (λ z. thread_work lines (queue_of q t) p n z) eq
 
 pub forwards_take_work : ForwardsTakeWork
-forwards_take_work lines done done' t s s' es es' few whole begun others c marks =
+forwards_take_work lines done done' t s s' es es' few whole begun others c =
     let w = c.says.0 in
     let q = s.queue in
     let q' = s'.queue in
@@ -95,7 +95,7 @@ forwards_take_work lines done done' t s s' es es' few whole begun others c marks
     let before : g t ≡ thread_work lines (queue_of q t) Copy i (lines (get_or (queue_of q t) i (0, 0)).0) =
     thread_at lines q q t i (done t) (lines (get_or (queue_of q t) i (0, 0)).0) Copy refl w.phase refl (whole w.n w.is ∙ ap lines (sym item)) in
     let one = work_forwarded lines (queue_of q t) i (0, 0) w.is.within in
-    let same : line_work q'.marks ≡ line_work q.marks = ap line_work marks in
+    let same : line_work q'.marks ≡ line_work q.marks = ap line_work goes.marks in
     let x : line_work q'.marks + sum_below f 64 + 1 ≡ line_work q.marks + sum_below g 64 = omega (arith, sums, after, before, one, same) in x
 
 pub repairs_take_work : RepairsTakeWork

@@ -17,4 +17,7 @@ mod work;
 
 pub use begin::{Begun, begin_conversion};
 pub use convert::convert_next;
-pub use laws::{events_are_exact, steps_take_work};
+pub use laws::{
+    events_are_exact, events_take_work, lines_stay_unwritten_until_the_flush,
+    seals_name_what_was_queued, steps_take_work, threads_wait_for_what_they_lack,
+};

@@ -1,300 +1,364 @@
 -- What following an act says and leaves.
-use Rattle.std.proofs.Common.{◌≡◌, ◌≢◌, ◌↔◌, ℕ, Bool, true, false, IsTrue, List, [], ◌∷◌, ◌++◌, Option, Some, None, refl, ap, sym, subst, ◌∙◌, inl, inr}
+use Rattle.std.proofs.Common.{◌≡◌, ◌⊎◌, ◌↔◌, ◌≢◌, ℕ, ◌<◌, true, false, IsTrue, List, [], ◌∷◌, ◌++◌, length, get_or, set, Option, Some, None, refl, ap, sym, subst, ◌∙◌, inl, inr, arith, if◌then◌else◌}
+use Rattle.std.specs.Prelude.{slice_get, slice_set}
 use Rattle.ap_base.specs.declared.reference.Ref.{Ref}
 use Rattle.ap_base.specs.declared.reference.Ref.TheVariants.{Null}
 use Rattle.ap_base.specs.declared.reference.Item.{Item}
+use Rattle.run_types.specs.declared.fault.Full.{Full}
+use Rattle.graph_model.specs.declared.types.Root.{Root}
 use Rattle.natives.specs.declared.methods.Native.{Native}
 use Rattle.natives.specs.declared.requests.Request.{Request}
 use Rattle.natives.specs.declared.requests.Request.TheVariants as ask
 use Rattle.natives.specs.declared.requests.Reply.{Reply}
-use Rattle.natives.specs.declared.requests.Reply.TheVariants as reply
 use Rattle.natives.specs.declared.states.NativeState.{NativeState}
 use Rattle.run_history.specs.declared.act.Act.{Act}
 use Rattle.run_history.specs.declared.act.Op.{Op}
+use Rattle.run_history.specs.Knowing.{Knowledge}
 use Rattle.run_history.specs.Recorded.{Recorded}
+use Rattle.run_history.specs.Wanted.{NoWish}
+use Rattle.run_history.specs.Worlds.{World, held}
+use Rattle.plain_model.specs.Codes.{answered_at, begun_by, frames_after_op, is_persistent, taken_by}
 use Rattle.plain_model.specs.Facts.{SetFacts}
-use Rattle.plain_model.specs.Codes.{is_persistent, taken_by}
-use Rattle.plain_model.specs.Runs.{op_given, request_after}
-use Rattle.plain_model.specs.Steps.{op_of, step}
+use Rattle.plain_model.specs.First.{first_known}
+use Rattle.plain_model.specs.Limits.{monitors_left}
+use Rattle.plain_model.specs.Requests.{PlainReply}
+use Rattle.plain_model.specs.Runs.{MayAct, first_frames, op_given, request_after, wants_of}
+use Rattle.plain_model.specs.Steps.{Does, IsOver, Step, op_of, step}
+use Rattle.plain_model.proofs.Appended.{GoesOn-pushed, frames_after-push, known_after-append}
+use Rattle.plain_model.proofs.RunSound.{world_next, world_of_next}
 use Rattle.frames.specs.Settings.{Setting}
 use Rattle.frames.specs.Turns.{answer, turn}
 use Rattle.frame_steps.specs.Sized.{AreOf}
+use Rattle.private_steps.specs.Waits.{Waits, WaitsAfter}
 use Rattle.shared_objects.specs.declared.rest.Rest.{Rest}
 use Rattle.shared_objects.specs.Shown.{Shown}
 use Rattle.shared_objects.specs.Plain.{plain_reply, plain_request}
 use Rattle.shared_objects.specs.Worlds.{world_of}
 use Rattle.step_forms.specs.declared.stepped.Stepped.TheVariants as stepped
-use Rattle.step_forms.specs.Follows.{IsStep}
-use Rattle.run_forms.specs.Views.{ThreadFrames}
-use Rattle.run_forms.specs.Standing.{Launch, IsAsking, IsLaunch, IsRun, StandsFor, known_at, plain_code, setting_of}
-use Rattle.run_forms.specs.Laws.{ActsGoOn, ThreadsAskAlike}
-use Rattle.run_forms.proofs.Visible.{step-silent}
-use Rattle.plain_machine.specs.declared.ahead.Ahead.{Ahead}
-use Rattle.plain_machine.specs.declared.ahead.Ahead.TheVariants.{Nothing, Turned, Stepped}
-use Rattle.plain_machine.specs.Ahead.{IsWaiting, TakesTo}
-use Rattle.plain_machine.specs.Ops.{IsPrinting, asks_print, is_live, is_start}
-use Rattle.plain_machine.specs.Standing.{IsAhead, IsIdle, IsLooked, IsNext, IsTurned, Stands}
-use Rattle.plain_machine.proofs.Looking.{asking-live, dead-idle, no-true, no-false}
-use Rattle.plain_machine.proofs.Prints.{given-at, not-printed, other-asks, persists, plain-prints, print-is, step-of, steps-on, waits-did}
+use Rattle.step_forms.specs.Follows.{IsOutOfMonitors, IsStep}
+use Rattle.step_forms.specs.Needs.{IsAskable}
+use Rattle.run_forms.specs.Views.{PlainFrames, ThreadFrames}
+use Rattle.run_forms.specs.Standing.{Launch, IsAsked, IsAsking, IsRun, StandsFor, frames_at, known_at, plain_code, setting_of}
+use Rattle.run_forms.specs.Laws.{ActsGoOn, MovesStandForTheRun, ThreadsAskAlike, answered_threads}
+use Rattle.plain_machine.specs.declared.lanes.Lane.{Lane}
+use Rattle.plain_machine.specs.Starts.{begun_of, has_frames}
+use Rattle.plain_machine.specs.Foreseeing.{step_in}
+use Rattle.plain_machine.specs.Ops.{is_live, is_start}
+use Rattle.plain_machine.specs.Standing.{AreAhead, AreOfProgram, IsAhead, IsNext, IsTurned, MayLack, NoMonitors, NoObject, NoSteps, Stands}
+use Rattle.plain_machine.specs.Trying.{DoesOr, IsKept, IsReady, IsShort, MakesObject, with_left}
+use Rattle.plain_machine.specs.Turns.{TurnsFrom}
+use Rattle.plain_machine.proofs.Ahead.{ahead-at, ahead-more, ahead-same, ahead-set, of-more, of-set}
+use Rattle.plain_machine.proofs.Keeping.{here-all}
+use Rattle.plain_machine.proofs.Lives.{live-state}
+use Rattle.plain_machine.proofs.Possible.{no-false}
+use Rattle.plain_machine.proofs.Starting.{begun-ahead, begun-plain, begun-program, frames_of}
 
-some-none : {X P : Type 0} (v : X) → ◌≡◌ {A = Option X} None (Some v) → P
-some-none v e = absurd (let no = e in cc)
+some-same : {X : Type 0} (v w : X) → ◌≡◌ {A = Option X} (Some v) (Some w) → v ≡ w
+some-same v w e = cc
 
-some-same : (o p : Op) → ◌≡◌ {A = Option Op} (Some o) (Some p) → o ≡ p
-some-same o p e = cc
+-- ---- acts of persistence
 
--- the act isn't one of persistence, and thread 0 does it: it is the one that the step does
-module _ (launch : Launch) (acts : List Recorded) (act : Act) (first : act.thread ≡ 0)
-    (visible : is_persistent act.op ≡ false) where
-  abbrev given : Option Op
-  given = op_given launch.set (known_at launch acts).world 0 (taken_by act.op)
-      (request_after launch.set launch.main launch.opening (plain_code launch) acts 0)
+kept-frames : (launch : Launch) (world : World) (gs : List PlainFrames) (t : ℕ) (o : Op)
+    → is_persistent o ≡ true
+    → frames_after_op launch.set launch.main launch.opening (plain_code launch) world gs t o ≡ gs
+unfolding frames_after_op
+kept-frames launch world gs t o e = ap (λ b. if b then gs
+    else answered_at launch.set launch.main launch.opening (plain_code launch) world t (taken_by o) gs t
+    ++ begun_by launch.set launch.main launch.opening (plain_code launch) o) e
 
-  next-given : given ≡ Some act.op → IsNext launch acts act
-  next-given e = inr (subst (λ t. op_given launch.set (known_at launch acts).world t (taken_by act.op)
-      (request_after launch.set launch.main launch.opening (plain_code launch) acts t) ≡ Some act.op)
-      (sym first) e)
+persists : (launch : Launch) (acts : List Recorded) (shown : Shown) (rest : Rest)
+    (threads : List ThreadFrames) (a : Recorded) → StandsFor launch acts shown rest threads
+    → is_persistent a.act.op ≡ true → IsRun launch (acts ++ a ∷ [])
+    → StandsFor launch (acts ++ a ∷ []) shown rest threads
+persists launch acts shown rest threads a stands e run = record {
+  run = run;
+  roots = stands.roots;
+  world = ap (λ (known : Knowledge). known.world)
+      (known_after-append (first_known launch.set launch.opening) acts (a ∷ []))
+      ∙ world_of_next (known_at launch acts) a
+      ∙ ap (world_next (known_at launch acts).world a) e
+      ∙ stands.world;
+  frames = frames_after-push launch.set launch.main launch.opening (plain_code launch)
+      (first_known launch.set launch.opening)
+      (first_frames launch.set launch.main launch.opening (plain_code launch)) acts a
+      ∙ kept-frames launch (known_at launch acts).world (frames_at launch acts) a.act.thread a.act.op e
+      ∙ stands.frames;
+  monitors = stands.monitors;
+  literals = stands.literals;
+  null = stands.null;
+}
 
-  given-next : IsNext launch acts act → given ≡ Some act.op
-  given-next (inl persists) = no-false (sym visible ∙ persists)
-  given-next (inr about) = subst (λ t. op_given launch.set (known_at launch acts).world t (taken_by act.op)
+-- an act of persistence leaves the machine
+pub persisted : (launch : Launch) (acts : List Recorded) (set : SetFacts)
+    (x : Setting Native Ref (NativeState Ref) Item) (shown : Shown) (rest : Rest) (steps : ℕ) (lanes : List
+    Lane)
+    (a : Recorded) → is_persistent a.act.op ≡ true → IsRun launch (acts ++ a ∷ [])
+    → Stands launch acts set x shown rest steps lanes
+    → Stands launch (acts ++ a ∷ []) set x shown rest steps lanes
+persisted launch acts set x shown rest steps lanes a e run h = record {
+  launched = h.launched;
+  facts = h.facts;
+  setting = h.setting;
+  threads = h.threads;
+  stands = persists launch acts shown rest h.threads a h.stands e run;
+  ahead = h.ahead;
+  of = h.of;
+  ready = h.ready;
+}
+
+-- ---- the words that are left make no difference
+
+with-left-stands : (launch : Launch) (acts : List Recorded) (shown : Shown) (rest : Rest)
+    (threads : List ThreadFrames) (left : ℕ) → StandsFor launch acts shown rest threads
+    → StandsFor launch acts (with_left shown left) rest threads
+with-left-stands launch acts shown rest threads left h = record {
+  run = h.run;
+  roots = h.roots;
+  world = h.world;
+  frames = h.frames;
+  monitors = h.monitors;
+  literals = h.literals;
+  null = h.null;
+}
+
+-- what asked so waits for the reply to what was done
+waits-did : (set : SetFacts) (world : World) (t taken : ℕ) (number : Ref → Option ℕ)
+    (q : Request Ref Item)
+    (fs : ThreadFrames) (o : Op) (r : PlainReply)
+    → step set world t taken (plain_request number q) ≡ Does o r → WaitsAfter q fs → Waits fs
+unfolding step
+waits-did set world t taken number (ask.Broken f) fs o r e waits =
+    absurd (let no : ◌≡◌ {A = Step} (IsOver f) (Does o r) = e in cc)
+waits-did set world t taken number q fs o r e waits = waits
+
+-- the turn that was made before, or now
+turned-is : (launch : Launch) (x : Setting Native Ref (NativeState Ref) Item) (fs : ThreadFrames)
+    (asked : Option (Request Ref Item)) (frames : ThreadFrames) (q : Request Ref Item) (now : ThreadFrames)
+    → x ≡ setting_of launch → IsAhead launch fs asked frames → TurnsFrom x asked frames q now
+    → IsTurned launch fs q now
+turned-is launch x fs None frames q now is same turns = record {
+  asks = ap (λ (y : Setting Native Ref (NativeState Ref) Item). (turn y fs).asks) (sym is)
+      ∙ ap (λ (gs : ThreadFrames). (turn x gs).asks) (sym same) ∙ sym turns.1;
+  frames = turns.0 ∙ ap (λ (gs : ThreadFrames). (turn x gs).frames) same
+      ∙ ap (λ (y : Setting Native Ref (NativeState Ref) Item). (turn y fs).frames) is;
+  waits = turns.2;
+}
+turned-is launch x fs (Some u) frames q now is it turns =
+    subst (λ v. IsTurned launch fs v now) (sym turns.0) (subst (λ gs. IsTurned launch fs u gs) (sym
+    turns.1) it)
+
+-- ---- a thread that lives
+
+module _ (alike : ThreadsAskAlike) (launch : Launch) (acts : List Recorded) (set_now : SetFacts)
+    (x : Setting Native Ref (NativeState Ref) Item) (shown : Shown) (rest : Rest) (steps : ℕ)
+    (lanes : List Lane) (h : Stands launch acts set_now x shown rest steps lanes) (t : ℕ) (lane : Lane)
+    (below : t < length lanes) (is : lane ≡ get_or lanes t lane) (live : is_live rest.threads t ≡ true)
+    (q : Request Ref Item) (now : ThreadFrames) (turns : TurnsFrom x lane.asked lane.frames q now)
+    (of_now : AreOf x.program now.frames) where
+  abbrev own : (fs : ThreadFrames) × (slice_get h.threads t ≡ Some fs)
+      × IsAhead launch fs lane.asked lane.frames
+  own = ahead-at launch h.threads lanes t lane h.ahead below is
+
+  abbrev fs : ThreadFrames
+  fs = own.0
+
+  it : IsTurned launch fs q now
+  it = turned-is launch x fs lane.asked lane.frames q now h.setting own.2 turns
+
+  asking : IsAsking launch rest h.threads t fs q
+  asking = let state = live-state rest.threads t live in record {
+    state = state.0;
+    thread = state.1;
+    lives = state.2;
+    frames = own.1;
+    asks = it.asks;
+  }
+
+  asked : IsAsked launch acts shown rest t q
+  asked = alike launch acts shown rest h.threads h.launched h.stands t fs q asking
+
+  of-launch : AreOf launch.program now.frames
+  of-launch = subst (λ (y : Setting Native Ref (NativeState Ref) Item). AreOf y.program now.frames)
+      h.setting of_now
+
+  pub live-ready : IsReady set_now shown rest steps
+  live-ready = subst (λ s. IsReady s shown rest steps) (sym h.facts) h.ready
+
+  pub live-askable : IsAskable set_now (λ n i. Unit {0}) (λ n. Unit {0}) shown rest t q
+  live-askable = subst (λ s. IsAskable s (λ n i. Unit {0}) (λ n. Unit {0}) shown rest t q) (sym h.facts)
+      (record {
+        thread = asked.thread;
+        fit = asked.fit;
+        known = asked.known;
+        here = here-all (λ n i. Unit {0}) (λ n. Unit {0}) (λ n i. tt) (λ n. tt) shown q;
+      })
+
+  -- the plain step of what is asked, as the acts have it
+  given : (taken : ℕ) → op_given launch.set (known_at launch acts).world t taken
       (request_after launch.set launch.main launch.opening (plain_code launch) acts t)
-      ≡ Some act.op) first about
+      ≡ op_of (step_in set_now h.stands.roots shown rest t taken q)
+  given taken =
+      ap (op_given launch.set (known_at launch acts).world t taken) asked.plain
+      ∙ ap (λ w. op_given launch.set w t taken (Some (plain_request shown.number q))) h.stands.world
+      ∙ ap (λ s. op_of (step_in s h.stands.roots shown rest t taken q)) (sym h.facts)
 
-  idle-refuses : IsIdle launch acts → IsTrue false ↔ IsNext launch acts act
-  idle-refuses idle = (
-    λ so. no-false so,
-    λ next. some-none act.op (sym (idle (taken_by act.op)) ∙ given-next next),
-  )
+  module _ (act : Act) (same : act.thread ≡ t) (visible : is_persistent act.op ≡ false) where
+    given-act : (taken : ℕ) → op_given launch.set (known_at launch acts).world act.thread taken
+        (request_after launch.set launch.main launch.opening (plain_code launch) acts act.thread)
+        ≡ op_of (step_in set_now h.stands.roots shown rest t taken q)
+    given-act taken = ap (λ u. op_given launch.set (known_at launch acts).world u taken
+        (request_after launch.set launch.main launch.opening (plain_code launch) acts u)) same ∙ given taken
 
-  module _ (asks : ThreadsAskAlike) (is : IsLaunch launch) (x : Setting Native Ref
-      (NativeState Ref) Item) where
-    -- what a step did is what may come
-    did-takes : (before : Shown) (rest : Rest) (fs : ThreadFrames) (q : Request Ref Item) (o : Op)
-        (r : Reply Ref Item) (now : Shown) (rest_now : Rest)
-        → (stands : StandsFor launch acts before rest (fs ∷ [])) → IsAsking launch rest (fs ∷ []) 0 fs q
-        → IsStep launch.set 0 q before rest (stepped.Did o r) now rest_now → o ≡ act.op
+    -- ---- the answer
+
+    pub exact-none : ((roots : List Root)
+        → op_of (step_in set_now roots shown rest t (taken_by act.op) q) ≢ Some act.op)
+        → IsTrue false ↔ IsNext launch acts act
+    exact-none none = (λ so. no-false so, λ next. no-next next)
+      where
+        no-next : IsNext launch acts act → false ≡ true
+        no-next (inl persists) = sym visible ∙ persists
+        no-next (inr about) = absurd (none h.stands.roots (sym (given-act (taken_by act.op)) ∙ about))
+
+    pub exact-some : (r : Reply Ref Item) (later : Shown) (rest_later : Rest)
+        → DoesOr set_now t q act.op shown rest (Some r) later rest_later
         → IsTrue true ↔ IsNext launch acts act
-    did-takes before rest fs q o r now rest_now stands asking did same = (
-      λ so. next-given (given-at asks launch acts before rest fs q is stands asking (taken_by act.op)
-          ∙ ap (λ p. op_of (step launch.set (world_of stands.roots before rest) 0 (taken_by p)
-          (plain_request before.number q))) (sym same)
-          ∙ ap op_of (did.follows stands.roots).0 ∙ ap Some same),
+    exact-some r later rest_later (left, did) = (
+      λ so. inr (given-act (taken_by act.op) ∙ ap op_of (did.follows h.stands.roots).0),
       λ next. refl,
     )
 
-    did-refuses : (before : Shown) (rest : Rest) (fs : ThreadFrames) (q : Request Ref Item) (o : Op)
-        (r : Reply Ref Item) (now : Shown) (rest_now : Rest)
-        → (stands : StandsFor launch acts before rest (fs ∷ [])) → IsAsking launch rest (fs ∷ []) 0 fs q
-        → IsStep launch.set 0 q before rest (stepped.Did o r) now rest_now → asks_print q ≡ false → o ≢ act.op
-        → IsTrue false ↔ IsNext launch acts act
-    did-refuses before rest fs q o r now rest_now stands asking did silent other = (
-      λ so. no-false so,
-      λ next. absurd (other (some-same o act.op (
-          sym (ap op_of (did.follows stands.roots).0)
-          ∙ ap op_of (step-of launch.set (world_of stands.roots before rest) 0 (taken_by o) (taken_by act.op)
-          before.number q silent)
-          ∙ sym (given-at asks launch acts before rest fs q is stands asking (taken_by act.op))
-          ∙ given-next next))),
-    )
+    -- ---- why it can't be told
 
-    print-refuses : (shown : Shown) (rest : Rest) (fs : ThreadFrames) (q : Request Ref Item)
-        → (stands : StandsFor launch acts shown rest (fs ∷ [])) → IsAsking launch rest (fs ∷ []) 0 fs q
-        → (asks_print q ≡ false → IsIdle launch acts) → IsPrinting q act.op None
-        → IsTrue false ↔ IsNext launch acts act
-    print-refuses shown rest fs (ask.Print from piece) stands asking idle isnt = (
-      λ so. no-false so,
-      λ next. absurd (not-printed launch.set (world_of stands.roots shown rest) 0 shown.number from piece
-          act.op isnt
-          (sym (given-at asks launch acts shown rest fs (ask.Print from piece) is stands asking
-          (taken_by act.op))
-          ∙ given-next next)),
-    )
-    print-refuses shown rest fs q stands asking idle isnt = idle-refuses (idle refl)
+    short-lacks : ((o : Op) × (op_of (step_in set_now h.stands.roots shown rest t 1 q) ≡ Some o)
+        × MakesObject o)
+        ⊎ ((full : Full) × IsOutOfMonitors (world_of h.stands.roots shown rest)
+        (step_in set_now h.stands.roots shown rest t 1 q) full)
+        → MayLack launch acts act steps
+    short-lacks (inl (o, e, makes)) = NoObject o (given-act 1 ∙ e) makes
+    short-lacks (inr (full, out)) =
+        let left : monitors_left (world_of h.stands.roots shown rest).monitors ≡ 0 =
+        omega (arith, out.need, out.left, out.short) in
+        NoMonitors (record {
+          takes = (
+            out.takes.0,
+            given-act 1 ∙ ap op_of out.takes.1,
+            ap (λ (w : World). held w.monitors out.takes.0) h.stands.world ∙ out.takes.2,
+          );
+          none_left = ap (λ (w : World). monitors_left w.monitors) h.stands.world ∙ left;
+        })
 
-    print-refuses-if : (shown : Shown) (rest : Rest) (own : ThreadFrames) (q : Request Ref Item)
-        → (stands : StandsFor launch acts shown rest (own ∷ []))
-        → (turn (setting_of launch) own).asks ≡ Some q → (live b : Bool) → live ≡ b → live
-        ≡ is_live rest.threads
-        → (asks_print q ≡ false → IsIdle launch acts) → IsPrinting q act.op None
-        → IsTrue false ↔ IsNext launch acts act
-    print-refuses-if shown rest own q stands asking live true e lives looked isnt =
-        print-refuses shown rest own q stands (asking-live launch rest own q (sym lives
-        ∙ e) asking) looked isnt
-    print-refuses-if shown rest own q stands asking live false e lives looked isnt =
-        idle-refuses (dead-idle launch acts shown rest (own ∷ []) stands (sym lives ∙ e))
+    pub lacks : (steps ≡ 18446744073709551613) ⊎ IsShort set_now t q shown rest
+        → MayLack launch acts act steps
+    lacks (inl full) = NoSteps full
+    lacks (inr short) = short-lacks (short h.stands.roots)
 
-    -- the answer is the one that the acts give
-    pub exact : (shown : Shown) (rest : Rest) (fs : ThreadFrames) (live said : Bool) (ahead now : Ahead)
-        (now_fs : ThreadFrames) → live ≡ is_live rest.threads → IsAhead launch acts ahead shown rest fs
-        → IsLooked launch acts ahead → TakesTo x live act.op ahead fs said now now_fs
-        → IsTrue said ↔ IsNext launch acts act
-    exact shown rest fs live said Nothing now now_fs lives stands looked takes =
-        subst (λ b. IsTrue b ↔ IsNext launch acts act) (sym takes.0) (idle-refuses looked)
-    exact shown rest fs live true (Turned q) now now_fs lives (own, stands, it) looked takes =
-        let (alive, nothing, (n, prints, answered)) = takes in
-        did-takes shown rest own q act.op (reply.Printed n) shown rest stands
-        (asking-live launch rest own q (sym lives ∙ alive) it.asks)
-        (print-is launch.set shown rest q act.op n prints stands.monitors) refl
-    exact shown rest fs live false (Turned q) now now_fs lives (own, stands, it) looked takes = elim takes.0 [
-      | inl dead ↦ idle-refuses (dead-idle launch acts shown rest (own ∷ []) stands (sym lives ∙ dead))
-      | inr isnt ↦ print-refuses-if shown rest own q stands it.asks live live refl lives looked isnt
-    ]
-    exact shown rest fs live true (Stepped q did) now now_fs lives (own, s, it) looked takes =
-        did-takes s.before s.rest own q did.op did.reply shown rest s.stands s.asking s.did takes.0
-    exact shown rest fs live false (Stepped q did) now now_fs lives (own, s, it) looked takes =
-        did-refuses s.before s.rest own q did.op did.reply shown rest s.stands s.asking s.did s.silent takes.0
+  -- ---- what is left
 
--- ---- what is left
+  module _ (later : Shown) (rest_later : Rest) (lane_now : Lane) (lanes_now : List Lane)
+      (write : lanes_now ≡ set lanes t lane_now) where
+    -- all is as before, but that the turn was made
+    pub left-kept : MovesStandForTheRun → lane_now.frames ≡ now → lane_now.asked ≡ Some q
+        → IsKept shown rest later rest_later → (steps_later : ℕ)
+        → IsReady set_now later rest_later steps_later
+        → Stands launch acts set_now x later rest_later steps_later lanes_now
+    left-kept moved frames noted kept steps_later ready = record {
+      launched = h.launched;
+      facts = h.facts;
+      setting = h.setting;
+      threads = h.threads;
+      stands = moved launch acts shown rest h.threads h.launched h.stands later rest_later (record {
+        keeps = λ r n e. subst (λ (s : Shown). s.number r ≡ Some n) (sym kept.shown) e;
+        world = kept.world;
+        monitors = kept.monitors;
+        null = subst (λ (s : Shown). s.number Null ≡ None) (sym kept.shown) h.stands.null;
+      });
+      ahead = subst (AreAhead launch h.threads) (sym write) (ahead-same launch h.threads lanes t fs lane_now
+          h.ahead own.1 (subst (λ o. IsAhead launch fs o lane_now.frames) (sym noted)
+          (subst (λ gs. IsTurned launch fs q gs) (sym frames) it)));
+      of = subst (AreOfProgram launch) (sym write) (of-set launch lanes t lane_now h.of
+          (subst (λ (gs : ThreadFrames). AreOf launch.program gs.frames) (sym frames) of-launch));
+      ready = subst (λ s. IsReady s later rest_later steps_later) h.facts ready;
+    }
 
--- frames that were asked wait for the reply
-pub waiting : (asks : ThreadsAskAlike) (launch : Launch) (acts : List Recorded) (shown : Shown) (rest : Rest)
-    (fs : ThreadFrames) (ahead : Ahead) → IsLaunch launch → IsAhead launch acts ahead shown rest fs
-    → IsWaiting ahead fs
-waiting asks launch acts shown rest fs Nothing is stands = tt
-waiting asks launch acts shown rest fs (Turned q) is (own, stands, it) = it.waits
-waiting asks launch acts shown rest fs (Stepped q did) is (own, s, it) = (
-  waits-did launch.set (world_of [] s.before s.rest) 0 (taken_by did.op) s.before.number q fs did.op
-      (plain_reply shown.number did.reply) (s.did.follows []).0 it.waits,
-  (step-silent launch.set (world_of [] s.before s.rest) 0 (taken_by did.op)
-      (plain_request s.before.number q) did.op
-      (plain_reply shown.number did.reply)
-      (asks launch acts s.before s.rest (own ∷ []) is s.stands 0 own q s.asking).fit
-      (plain-prints s.before.number q s.silent) (s.did.follows []).0).1,
-)
+  -- the reply's frames wait
+  pub did-waits : (o : Op) (r : Reply Ref Item) (later : Shown) (rest_later : Rest)
+      → DoesOr set_now t q o shown rest (Some r) later rest_later → Waits now
+  did-waits o r later rest_later (left, did) =
+      waits-did set_now (world_of [] shown rest) t (taken_by o) shown.number q now o (plain_reply
+      later.number r)
+      (did.follows []).0 it.waits
 
--- with these parts in place of the heap's, the rest's, and the frames that are ahead
-with-parts : (launch : Launch) (acts : List Recorded) (set : SetFacts)
-    (x : Setting Native Ref (NativeState Ref) Item) (shown : Shown) (rest : Rest) (fs now_fs : ThreadFrames)
-    (ahead now : Ahead) (steps : ℕ) (acts_now : List Recorded)
-    → Stands launch acts set x shown rest fs ahead steps → AreOf launch.program now_fs.frames
-    → IsAhead launch acts_now now shown rest now_fs
-    → Stands launch acts_now set x shown rest now_fs now steps
-with-parts launch acts set x shown rest fs now_fs ahead now steps acts_now stands of is = record {
-  launched = stands.launched;
-  facts = stands.facts;
-  setting = stands.setting;
-  is_ahead = is;
-  of = of;
-  agrees = stands.agrees;
-  most = stands.most;
-  few = stands.few;
-}
+  module _ (on : ActsGoOn) (a : Recorded) (same : a.act.thread ≡ t) (r : Reply Ref Item) (later : Shown)
+      (rest_later : Rest) (steps_later : ℕ) (null : later.number Null ≡ None)
+      (did : DoesOr set_now t q a.act.op shown rest (Some r) later rest_later)
+      (run : IsRun launch (acts ++ a ∷ [])) (begun : Option ThreadFrames)
+      (starts : has_frames begun ≡ is_start a.act.op) where
+    abbrev begin : Shown
+    begin = with_left shown did.0
 
--- what isn't taken leaves all as it was
-pub left : (launch : Launch) (acts : List Recorded) (set : SetFacts)
-    (x : Setting Native Ref (NativeState Ref) Item) (shown : Shown) (rest : Rest) (fs now_fs : ThreadFrames)
-    (o : Op) (live : Bool) (ahead now : Ahead) (steps : ℕ) → TakesTo x live o ahead fs false now now_fs
-    → Stands launch acts set x shown rest fs ahead steps → Stands launch acts set x shown rest now_fs now
-    steps
-left launch acts set x shown rest fs now_fs o live Nothing now steps takes stands =
-    subst (λ a. Stands launch acts set x shown rest now_fs a steps) (sym takes.1)
-    (subst (λ gs. Stands launch acts set x shown rest gs Nothing steps) (sym takes.2) stands)
-left launch acts set x shown rest fs now_fs o live (Turned q) now steps takes stands =
-    subst (λ a. Stands launch acts set x shown rest now_fs a steps) (sym takes.1)
-    (subst (λ gs. Stands launch acts set x shown rest gs (Turned q) steps) (sym takes.2) stands)
-left launch acts set x shown rest fs now_fs o live (Stepped q did) now steps takes stands =
-    subst (λ a. Stands launch acts set x shown rest now_fs a steps) (sym takes.1)
-    (subst (λ gs. Stands launch acts set x shown rest gs (Stepped q did) steps) (sym takes.2) stands)
+    there : IsStep launch.set t q begin rest (stepped.Did a.act.op r) later rest_later
+    there = subst (λ s. IsStep s t q begin rest (stepped.Did a.act.op r) later rest_later) h.facts did.1
 
--- an act of persistence leaves what is ahead
-persists-ahead : (launch : Launch) (acts : List Recorded) (shown : Shown) (rest : Rest) (fs : ThreadFrames)
-    (ahead : Ahead) (a : Recorded) → is_persistent a.act.op ≡ true → IsRun launch (acts ++ a ∷ [])
-    → IsAhead launch acts ahead shown rest fs → IsAhead launch (acts ++ a ∷ []) ahead shown rest fs
-persists-ahead launch acts shown rest fs Nothing a e run stands =
-    persists launch acts shown rest (fs ∷ []) a stands e run
-persists-ahead launch acts shown rest fs (Turned q) a e run (own, stands, it) =
-    (own, persists launch acts shown rest (own ∷ []) a stands e run, it)
-persists-ahead launch acts shown rest fs (Stepped q did) a e run (own, s, it) = (
-  own,
-  record {
-    before = s.before;
-    rest = s.rest;
-    stands = persists launch acts s.before s.rest (own ∷ []) a s.stands e run;
-    asking = s.asking;
-    silent = s.silent;
-    did = s.did;
-  },
-  it,
-)
+    began : StandsFor launch acts begin rest h.threads
+    began = with-left-stands launch acts shown rest h.threads did.0 h.stands
 
-pub persisted : (launch : Launch) (acts : List Recorded) (set : SetFacts)
-    (x : Setting Native Ref (NativeState Ref) Item) (shown : Shown) (rest : Rest) (fs : ThreadFrames)
-    (ahead : Ahead) (steps : ℕ) (a : Recorded) → is_persistent a.act.op ≡ true → IsRun launch (acts ++ a ∷ [])
-    → Stands launch acts set x shown rest fs ahead steps
-    → Stands launch (acts ++ a ∷ []) set x shown rest fs ahead steps
-persisted launch acts set x shown rest fs ahead steps a e run stands =
-    with-parts launch acts set x shown rest fs fs ahead ahead steps (acts ++ a ∷ []) stands stands.of
-    (persists-ahead launch acts shown rest fs ahead a e run stands.is_ahead)
+    at-act : IsAsking launch rest h.threads a.act.thread fs q
+    at-act = subst (λ u. IsAsking launch rest h.threads u fs q) (sym same) asking
 
--- what is taken leads to the acts with this one
-module _ (asks : ThreadsAskAlike) (on : ActsGoOn) (launch : Launch) (acts : List Recorded) (set : SetFacts)
-    (x : Setting Native Ref (NativeState Ref) Item) (shown : Shown) (rest : Rest) (fs now_fs : ThreadFrames)
-    (live : Bool) (now : Ahead) (steps : ℕ) (a : Recorded) (first : a.act.thread ≡ 0)
-    (no_start : is_start a.act.op ≡ false) (run : IsRun launch (acts ++ a ∷ []))
-    (lives : live ≡ is_live rest.threads) (null : shown.number Null ≡ None)
-    (of : AreOf x.program now_fs.frames) where
-  done : (ahead : Ahead) → Stands launch acts set x shown rest fs ahead steps → now ≡ Nothing
-      → StandsFor launch (acts ++ a ∷ []) shown rest (now_fs ∷ [])
-      → Stands launch (acts ++ a ∷ []) set x shown rest now_fs now steps
-  done ahead stands nothing is =
-      subst (λ n. Stands launch (acts ++ a ∷ []) set x shown rest now_fs n steps) (sym nothing)
-      (with-parts launch acts set x shown rest fs now_fs ahead Nothing steps (acts ++ a ∷ []) stands
-      (subst (λ (y : Setting Native Ref (NativeState Ref) Item). AreOf y.program now_fs.frames)
-      stands.setting of) is)
+    may : MayAct launch.set (known_at launch acts)
+        (wants_of launch.set launch.main launch.opening (plain_code launch) acts)
+        (Some (plain_request begin.number q)) a
+    may = subst (λ o. MayAct launch.set (known_at launch acts)
+        (wants_of launch.set launch.main launch.opening (plain_code launch) acts) o a)
+        (ap (request_after launch.set launch.main launch.opening (plain_code launch) acts) same ∙ asked.plain)
+        (GoesOn-pushed launch.set launch.main launch.opening (plain_code launch)
+        (first_known launch.set launch.opening)
+        (first_frames launch.set launch.main launch.opening (plain_code launch)) NoWish acts a run).1
 
-  answered : (own : ThreadFrames) (q : Request Ref Item) (r : Reply Ref Item) → x ≡ setting_of launch
-      → IsTurned launch own q fs → now_fs ≡ answer x fs r
-      → answer (setting_of launch) (turn (setting_of launch) own).frames r ≡ now_fs
-  answered own q r is it e = ap (λ gs. answer (setting_of launch) gs r) (sym it.frames)
-      ∙ ap (λ (y : Setting Native Ref (NativeState Ref) Item). answer y fs r) (sym is) ∙ sym e
+    threads_begun : List ThreadFrames
+    threads_begun = frames_of (begun_of begun q)
 
-  pub led : (ahead : Ahead) → TakesTo x live a.act.op ahead fs true now now_fs
-      → Stands launch acts set x shown rest fs ahead steps
-      → Stands launch (acts ++ a ∷ []) set x shown rest now_fs now steps
-  led Nothing takes stands = no-true takes.0
-  led (Turned q) (alive, nothing, (n, prints, e)) stands =
-      let (own, is, it) = stands.is_ahead in
-      done (Turned q) stands nothing (subst (λ gs. StandsFor launch (acts ++ a ∷ []) shown rest (gs ∷ []))
-      (answered own q (reply.Printed n) stands.setting it e)
-      (steps-on asks on launch acts shown rest own q a (reply.Printed n) shown rest stands.launched is first
-      (asking-live launch rest own q (sym lives ∙ alive) it.asks)
-      (print-is launch.set shown rest q a.act.op n prints is.monitors) null no_start run))
-  led (Stepped q did) (same, nothing, e) stands =
-      let (own, s, it) = stands.is_ahead in
-      done (Stepped q did) stands nothing (subst (λ gs. StandsFor launch (acts ++ a ∷ []) shown rest
-      (gs ∷ []))
-      (answered own q did.reply stands.setting it e)
-      (steps-on asks on launch acts s.before s.rest own q a did.reply shown rest stands.launched s.stands
-      first
-      s.asking (subst (λ o. IsStep launch.set 0 q s.before s.rest
-      (stepped.Did o did.reply) shown rest) same s.did)
-      null no_start run))
+    answered : StandsFor launch (acts ++ a ∷ []) later rest_later
+        (answered_threads launch h.threads a.act.thread fs r (frames_of (begun_of begun q)))
+    answered = on launch acts begin rest h.threads h.launched began a fs q r later rest_later
+        (frames_of (begun_of begun q)) at-act (record {
+          steps = subst (λ u. IsStep launch.set u q begin rest (stepped.Did a.act.op r) later rest_later)
+              (sym same) there;
+          may = may;
+          null = null;
+        }) (begun-plain launch later null begin rest t h.stands.roots there.goes_on.keeps q asked.fit begun
+        a.act.op (taken_by a.act.op) starts (ap op_of (there.follows h.stands.roots).0))
 
--- ---- acts of other threads
+    replied : (frames : ThreadFrames) → frames ≡ answer x now r
+        → answer (setting_of launch) (turn (setting_of launch) fs).frames r ≡ frames
+    replied frames e = ap (λ gs. answer (setting_of launch) gs r) (sym it.frames)
+        ∙ ap (λ (y : Setting Native Ref (NativeState Ref) Item). answer y now r) (sym h.setting) ∙ sym e
 
--- any machine that stands for acts has a heap and a rest that they lead to
-pub others-refuse : (launch : Launch) (acts : List Recorded) (act : Act) (shown : Shown) (rest : Rest)
-    (fs : ThreadFrames) (ahead : Ahead) → is_persistent act.op ≡ false → (act.thread ≡ 0 → ⊥)
-    → IsAhead launch acts ahead shown rest fs → IsTrue false ↔ IsNext launch acts act
-others-refuse launch acts act shown rest fs ahead visible other is = (λ so. no-false so, λ next. no-next next)
-  where
-    none : (ahead : Ahead) → IsAhead launch acts ahead shown rest fs
-        → request_after launch.set launch.main launch.opening (plain_code launch) acts act.thread ≡ None
-    none Nothing stands = other-asks launch acts shown rest fs act.thread stands other
-    none (Turned q) (own, stands, it) = other-asks launch acts shown rest own act.thread stands other
-    none (Stepped q did) (own, s, it) = other-asks launch acts s.before s.rest own act.thread s.stands other
-
-    no-next : IsNext launch acts act → false ≡ true
-    no-next (inl persists) = sym visible ∙ persists
-    no-next (inr about) = some-none act.op (sym (ap (op_given launch.set
-        (known_at launch acts).world act.thread
-        (taken_by act.op)) (none ahead is)) ∙ about)
-
-pub persist-next : (launch : Launch) (acts : List Recorded) (act : Act) → is_persistent act.op ≡ true
-    → IsTrue true ↔ IsNext launch acts act
-persist-next launch acts act e = (λ so. inl e, λ next. refl)
-
-pub not-taken : (said : Bool) → (said ≡ true → ⊥) → said ≡ false
-not-taken true isnt = absurd (isnt refl)
-not-taken false isnt = refl
+    pub left-done : (lane_now : Lane) (lanes_now : List Lane)
+        → lanes_now ≡ set lanes t lane_now ++ begun_of begun q → lane_now.frames ≡ answer x now r
+        → lane_now.asked ≡ None → AreOf x.program lane_now.frames.frames
+        → IsReady set_now later rest_later steps_later
+        → Stands launch (acts ++ a ∷ []) set_now x later rest_later steps_later lanes_now
+    left-done lane_now lanes_now write frames noted of ready = record {
+      launched = h.launched;
+      facts = h.facts;
+      setting = h.setting;
+      threads = slice_set h.threads t lane_now.frames ++ frames_of (begun_of begun q);
+      stands = subst (λ gs. StandsFor launch (acts ++ a ∷ []) later rest_later
+          (slice_set h.threads t gs ++ frames_of (begun_of begun q))) (replied lane_now.frames frames)
+          (subst (λ u. StandsFor launch (acts ++ a ∷ []) later rest_later
+          (answered_threads launch h.threads u fs r (frames_of (begun_of begun q)))) same answered);
+      ahead = subst (AreAhead launch (slice_set h.threads t lane_now.frames ++ frames_of (begun_of begun q)))
+          (sym write) (ahead-more launch (slice_set h.threads t lane_now.frames) (frames_of (begun_of begun
+          q))
+          (set lanes t lane_now) (begun_of begun q)
+          (ahead-set launch h.threads lanes t lane_now.frames lane_now h.ahead
+          (subst (λ o. IsAhead launch lane_now.frames o lane_now.frames) (sym noted) refl))
+          (begun-ahead launch begun q));
+      of = subst (AreOfProgram launch) (sym write) (of-more launch (set lanes t lane_now) (begun_of begun q)
+          (of-set launch lanes t lane_now h.of
+          (subst (λ (y : Setting Native Ref (NativeState Ref) Item). AreOf y.program lane_now.frames.frames)
+          h.setting of)) (begun-program launch begun q));
+      ready = subst (λ s. IsReady s later rest_later steps_later) h.facts ready;
+    }

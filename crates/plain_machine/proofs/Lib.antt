@@ -1,4 +1,14 @@
+mod Possible
+mod Foreseen
+mod Entered
+mod Keeping
+mod Trials
 mod Making
-mod Looking
+mod Undoing
 mod Prints
+mod Acting
+mod Ahead
+mod Lives
+mod Starting
 mod Following
+mod Begun

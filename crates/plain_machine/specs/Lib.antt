@@ -1,4 +1,9 @@
 pub mod Ops
-pub mod Ahead
+pub mod Foreseeing
+pub mod Exits
+pub mod Trying
+pub mod Tries
+pub mod Turns
+pub mod Starts
 pub mod Standing
 pub mod Beginnings

@@ -1,16 +1,14 @@
 -- Kinds of operations, requests and faults.
-use Rattle.std.specs.Prelude.{◌≡◌, ℕ, ◌<◌, ◌≤◌, Bool, true, false, not, List, [], ◌∷◌, length, take, Option, Some, None}
+use Rattle.std.specs.Prelude.{◌≡◌, ℕ, ◌<◌, ◌≤◌, Bool, true, false, not, List, length, take, Option, Some, None, slice_get}
 use Rattle.ap_base.specs.declared.reference.Ref.{Ref}
 use Rattle.ap_base.specs.declared.reference.Item.{Item}
-use Rattle.run_types.specs.declared.fault.RunFault.{RunFault}
-use Rattle.run_types.specs.declared.fault.RunFault.TheVariants as fault
-use Rattle.run_types.specs.declared.fault.Which.{Which}
-use Rattle.run_types.specs.declared.fault.Which.TheVariants as which
 use Rattle.natives.specs.declared.requests.Request.{Request}
 use Rattle.natives.specs.declared.requests.Request.TheVariants as ask
 use Rattle.shared_objects.specs.declared.threads.ThreadState.{ThreadState}
 use Rattle.run_history.specs.declared.act.Op.{Op}
 use Rattle.run_history.specs.declared.act.Op.TheVariants as op
+use Rattle.run_history.specs.declared.act.Stage.{Stage}
+use Rattle.run_history.specs.declared.act.Stage.TheVariants as stage
 
 abbrev pub is_print : Op → Bool
 is_print (op.Print bytes) = true
@@ -20,26 +18,40 @@ abbrev pub is_start : Op → Bool
 is_start (op.Start n child) = true
 is_start o = false
 
+-- whether an operation changes the heap
+abbrev pub changes_heap : Op → Bool
+changes_heap (op.Alloc n shape count) = true
+changes_heap (op.Throw n class) = true
+changes_heap (op.Stored place value) = true
+changes_heap o = false
+
+abbrev pub is_passing : Stage → Bool
+is_passing stage.Ready = true
+is_passing other = false
+
+-- whether an operation changes monitors, classes or threads
+abbrev pub changes_rest : Op → Bool
+changes_rest (op.Enter key) = true
+changes_rest (op.Exit key) = true
+changes_rest (op.Start n child) = true
+changes_rest (op.Init class is) = not (is_passing is)
+changes_rest op.Begin = true
+changes_rest op.End = true
+changes_rest (op.Ended uncaught) = true
+changes_rest o = false
+
 -- whether a request prints
 abbrev pub asks_print : Request Ref Item → Bool
 asks_print (ask.Print from piece) = true
 asks_print q = false
 
-abbrev pub is_lack : Which → Bool
-is_lack which.VolatileWords = true
-is_lack which.Monitors = true
-is_lack w = false
+abbrev pub is_living : Option ThreadState → Bool
+is_living None = false
+is_living (Some s) = not s.ended
 
--- whether a step is over by a limit that the plain step doesn't know, or by the sink
-abbrev pub is_limit : RunFault → Bool
-is_limit (fault.Full full) = is_lack full.which
-is_limit fault.SinkFault = true
-is_limit f = false
-
--- whether thread 0 was started and hasn't ended
-abbrev pub is_live : List ThreadState → Bool
-is_live [] = false
-is_live (s ∷ ss) = not s.ended
+-- whether a thread was started and hasn't ended
+abbrev pub is_live : List ThreadState → ℕ → Bool
+is_live ss t = is_living (slice_get ss t)
 
 -- The operation prints so many first bytes of the piece that is asked, at least one.
 abbrev pub IsPrinting : Request Ref Item → Op → Option ℕ → Type 0

@@ -1,10 +1,11 @@
 // Laws of plain machines.
-ghost use Rattle.plain_machine.specs.Beginnings.{VolatileMachinesAreFollowed};
+ghost use Rattle.plain_machine.specs.Beginnings.{MachinesBegin};
 
-/// A machine of one thread that stands for a plain run, in which nothing is durable, is followed
-/// from there on: with nothing made ahead, and as many steps as there are acts.
-pub fn volatile_machines_are_followed()
-    ensures { VolatileMachinesAreFollowed }
+/// A machine whose heap is the first one of a class set and an opening graph, and beside it all is
+/// as it begins, stands for the
+/// empty run.
+pub fn machines_begin()
+    ensures { MachinesBegin }
 {
-    run_forms::volatile_machines_go_on();
+    run_forms::machines_go_on_as_plain_runs();
 }

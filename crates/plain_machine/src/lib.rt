@@ -1,14 +1,21 @@
 //! The plain run in code: acts are followed, each that of the plain step for its thread.
 #![tactic(auto)]
 
-mod ahead;
+mod beginning;
+mod foreseeing;
+mod kinds;
+mod lanes;
 mod laws;
+mod monitored;
 mod nowhere;
 mod plain;
+mod printing;
 mod same;
-mod steps;
-mod taking;
+mod trying;
+mod world;
 
-pub use ahead::{Ahead, Did};
-pub use laws::volatile_machines_are_followed;
+pub use beginning::Beginning;
+pub use lanes::Lane;
+pub use laws::machines_begin;
 pub use plain::Plain;
+pub use world::PlainWorld;

@@ -1,162 +1,149 @@
 // The plain run in code.
-ghost use Rattle.std.specs.Prelude.{◌≡◌, ◌≢◌, ◌↔◌, ◌∷◌, ◌++◌, [], ℕ, List, IfOk, IsTrue, OnOk, Ok, true, false};
-ghost use Rattle.ap_base.specs.declared.place.Place.{Place as KeptPlace};
-ghost use Rattle.ap_base.specs.declared.reference.Item.{Item as KeptItem};
-ghost use Rattle.plain_model.specs.Codes.{is_persistent};
+ghost use Rattle.std.specs.Prelude.{◌≡◌, ◌≢◌, ◌<◌, ◌↔◌, ◌∷◌, ◌++◌, [], ℕ, List, length, IfOk, IsTrue, Ok, OnErr, true, vec_capacity};
+ghost use Rattle.plain_heap.specs.Heaps.{shown_of};
 ghost use Rattle.run_history.specs.Recorded.{Recorded};
 ghost use Rattle.run_forms.specs.Standing.{IsRun, Launch};
-ghost use Rattle.plain_machine.specs.Ops.{is_start};
-ghost use Rattle.plain_machine.specs.Standing.{IsLooked, IsNext, Stands, recorded};
+ghost use Rattle.plain_machine.specs.Starts.{begun_of, has_frames};
+ghost use Rattle.plain_machine.specs.Ops.{is_live, is_start};
+ghost use Rattle.plain_machine.specs.Standing.{IsNext, MayLack, Stands, recorded};
 
-use crate::ahead::{Ahead, asks_print, is_stepped, turned};
-use crate::steps::made;
-use crate::taking::{is_live, taken};
+use crate::kinds::{is_persistent, is_start};
+use crate::lanes::{Lane, turned};
+use crate::world::PlainWorld;
 use ap_base::{Item, Ref, ThreadNo};
 use frame_thread::Host;
-use natives::{Native, NativeState};
+use natives::{Native, NativeState, Request};
 use private_steps::Frames;
 use run_history::{Act, Op};
-use shared_objects::{Objects, Rest, Types};
-use std::alloc::AllocError;
-use std::mem::replace;
+use shared_objects::{Threads, Types};
+use std::alloc::{AllocError, Global};
 
-/// How many steps a machine makes at most, so that no count of its monitors and regions is at its
-/// end.
-const MOST_STEPS: u64 = 18_446_744_073_709_551_613;
-
-/// A plain run in code, of which thread 0 alone was started: the frames of that thread, the heap,
-/// the rest of the world, what was made ahead of the acts followed so far, and how many steps were
-/// made.
+/// A plain run in code: its world, and the threads that were started, by their numbers.
 #[derive(Drop)]
-pub struct Plain<O: Objects + Drop> {
-    pub frames: Frames<Ref, NativeState>,
-    pub objects: O,
-    pub rest: Rest,
-    pub ahead: Ahead,
-    pub steps: u64,
+pub struct Plain {
+    pub world: PlainWorld,
+    pub lanes: Vec<Lane>,
 }
 
-/// Makes the next turn of the thread, and its step, as far as there is one.
-fn look_ahead<C: Types, O: Objects + Drop, H: Host<Native, Ref, NativeState, Item>>(
-    plain: &mut Plain<O>,
-    set: &C,
-    host: &H,
-) -> Result<(), AllocError>
-    requires stands { (launch : Launch) × (acts : List Recorded) × Stands launch acts
-        (C.facts set.now) (H.setting host.now) (O.shown plain.old.objects) plain.old.rest
-        plain.old.frames plain.old.ahead plain.old.steps }
-    requires here { (objects : _) (n i : ℕ) → O.is_here objects n i }
-    requires statics { (objects : _) (n : ℕ) → O.is_static_here objects n }
-    requires may_store { (objects : _) (place : KeptPlace) (item : KeptItem)
-        → O.may_store objects place item }
-    requires may_make { (objects : _) → O.may_make objects }
-    ensures stands { (launch : Launch) (acts : List Recorded) → Stands launch acts
-        (C.facts set.now) (H.setting host.now) (O.shown plain.old.objects) plain.old.rest
-        plain.old.frames plain.old.ahead plain.old.steps → Stands launch acts
-        (C.facts set.now) (H.setting host.now) (O.shown plain.new.objects) plain.new.rest
-        plain.new.frames plain.new.ahead plain.new.steps }
-    ensures looked { OnOk result ((launch : Launch) (acts : List Recorded) → Stands launch acts
-        (C.facts set.now) (H.setting host.now) (O.shown plain.old.objects) plain.old.rest
-        plain.old.frames plain.old.ahead plain.old.steps → IsLooked launch acts plain.new.ahead) }
+/// Whether a thread was started and hasn't ended.
+fn is_live(threads: &Threads, t: ThreadNo) -> bool
+    ensures { result ≡ is_live threads.now t }
 {
-    run_forms::machines_go_on_as_plain_runs();
-    shared_steps::a_step_leaves_what_agrees();
-    if is_stepped(&plain.ahead) {
-        return Ok(());
-    }
-    if !is_live(&plain.rest.threads) {
-        return Ok(());
-    }
-    let ahead = replace(&mut plain.ahead, Ahead::Nothing);
-    let request = turned(&mut plain.frames, ahead, host);
-    if asks_print(&request) {
-        plain.ahead = Ahead::Turned(request);
-        return Ok(());
-    }
-    if plain.steps >= MOST_STEPS {
-        plain.ahead = Ahead::Turned(request);
-        return Err(AllocError);
-    }
-    plain.steps += 1;
-    let main = ThreadNo::main();
-    match made(set, &mut plain.objects, &mut plain.rest, main, &request) {
-        Ok(Some(did)) => {
-            plain.ahead = Ahead::Stepped(request, did);
-            Ok(())
-        }
-        Ok(None) => {
-            plain.ahead = Ahead::Turned(request);
-            Ok(())
-        }
-        Err(error) => {
-            plain.ahead = Ahead::Turned(request);
-            Err(error)
-        }
+    match threads.get(t) {
+        Some(state) => !state.ended,
+        None => false,
     }
 }
 
-/// Whether an operation is one of persistence, which leaves the plain world and the frames as they
-/// are.
-fn is_persistent(op: &Op) -> bool
-    ensures { result ≡ is_persistent op.now }
+/// Frames for the thread that an operation starts, if it starts one, and room for them.
+fn new_frames(
+    alloc: Global,
+    lanes: &mut Vec<Lane>,
+    op: &Op,
+) -> Result<Option<Frames<Ref, NativeState>>, AllocError>
+    ensures begun { IfOk result (λ frames. has_frames frames ≡ is_start op.now) }
+    ensures room { IfOk result (λ frames. has_frames frames ≡ true
+        → length lanes.new.items < vec_capacity lanes.new) }
+    ensures start { OnErr result (is_start op.now ≡ true) }
+    ensures same { lanes.new.items ≡ lanes.old.items }
 {
-    matches!(
-        op,
-        Op::Asked { .. } | Op::Joined | Op::Guarded { .. } | Op::Closing | Op::Fenced
-    )
+    if !is_start(op) {
+        return Ok(None);
+    }
+    lanes.reserve(1)?;
+    Ok(Some(Frames::new(alloc)?))
 }
 
-impl<O: Objects + Drop> Plain<O> {
+/// The thread that a request starts begins, if frames were made for it.
+fn begin(lanes: &mut Vec<Lane>, frames: Option<Frames<Ref, NativeState>>, request: &Request)
+    requires room { has_frames frames ≡ true → length lanes.old.items < vec_capacity lanes.old }
+    ensures { lanes.new.items ≡ lanes.old.items ++ begun_of frames request.now }
+{
+    if let Some(mut own) = frames {
+        if let Request::Start { thread, .. } = request {
+            own.begin_thread(*thread);
+            lanes.push_reserved(Lane {
+                frames: own,
+                asked: None,
+            });
+        }
+    }
+}
+
+impl Plain {
     /// Follows an act: answers true exactly where it is one of persistence, or that of the plain
-    /// step for its thread with the request that the thread's turn gives. Where the acts with it
-    /// are a plain run, the machine stands for them then, unless it starts a thread, which isn't
-    /// run here. Otherwise it stands for the acts that it stood for.
+    /// step for its thread with the
+    /// request that the thread's turn gives. Where the acts with it are a plain run, the machine
+    /// stands for them then.
+    /// Otherwise it stands for the acts that it stood for.
     ///
     /// # Errors
     ///
-    /// Where the heap lacks words, or no more monitors may be held.
+    /// Where there is no memory for the object that the thread's step makes or for the frames of
+    /// the thread that it starts, no
+    /// more monitors may be held, or 2^64 - 3 acts were followed.
     pub fn follow<C: Types, H: Host<Native, Ref, NativeState, Item>>(
         &mut self,
+        alloc: Global,
         set: &C,
         host: &H,
         act: &Act,
     ) -> Result<bool, AllocError>
         requires stands { (launch : Launch) × (acts : List Recorded) × Stands launch acts
-            (C.facts set.now) (H.setting host.now) (O.shown self.old.objects) self.old.rest
-            self.old.frames self.old.ahead self.old.steps }
-        requires here { (objects : _) (n i : ℕ) → O.is_here objects n i }
-        requires statics { (objects : _) (n : ℕ) → O.is_static_here objects n }
-        requires may_store { (objects : _) (place : KeptPlace) (item : KeptItem)
-            → O.may_store objects place item }
-        requires may_make { (objects : _) → O.may_make objects }
+            (C.facts set.now) (H.setting host.now) (shown_of self.old.world.heap)
+            self.old.world.rest self.old.world.steps self.old.lanes.items }
         ensures exact { (launch : Launch) (acts : List Recorded) → Stands launch acts
-            (C.facts set.now) (H.setting host.now) (O.shown self.old.objects) self.old.rest
-            self.old.frames self.old.ahead self.old.steps
+            (C.facts set.now) (H.setting host.now) (shown_of self.old.world.heap)
+            self.old.world.rest self.old.world.steps self.old.lanes.items
             → IfOk result (λ yes. IsTrue yes ↔ IsNext launch acts act.now) }
-        ensures goes { (launch : Launch) (acts : List Recorded) (named : List ℕ) → Stands launch acts
-            (C.facts set.now) (H.setting host.now) (O.shown self.old.objects) self.old.rest
-            self.old.frames self.old.ahead self.old.steps
-            → result ≡ Ok true → is_start act.now.op ≡ false
-            → IsRun launch (acts ++ recorded act.now named ∷ [])
+        ensures goes { (launch : Launch) (acts : List Recorded) (named : List ℕ)
+            → Stands launch acts
+            (C.facts set.now) (H.setting host.now) (shown_of self.old.world.heap)
+            self.old.world.rest self.old.world.steps self.old.lanes.items
+            → result ≡ Ok true → IsRun launch (acts ++ recorded act.now named ∷ [])
             → Stands launch (acts ++ recorded act.now named ∷ [])
-            (C.facts set.now) (H.setting host.now) (O.shown self.new.objects) self.new.rest
-            self.new.frames self.new.ahead self.new.steps }
+            (C.facts set.now) (H.setting host.now) (shown_of self.new.world.heap)
+            self.new.world.rest self.new.world.steps self.new.lanes.items }
         ensures same { (launch : Launch) (acts : List Recorded) → Stands launch acts
-            (C.facts set.now) (H.setting host.now) (O.shown self.old.objects) self.old.rest
-            self.old.frames self.old.ahead self.old.steps
+            (C.facts set.now) (H.setting host.now) (shown_of self.old.world.heap)
+            self.old.world.rest self.old.world.steps self.old.lanes.items
             → result ≢ Ok true → Stands launch acts
-            (C.facts set.now) (H.setting host.now) (O.shown self.new.objects) self.new.rest
-            self.new.frames self.new.ahead self.new.steps }
+            (C.facts set.now) (H.setting host.now) (shown_of self.new.world.heap)
+            self.new.world.rest self.new.world.steps self.new.lanes.items }
+        ensures cause { (launch : Launch) (acts : List Recorded) → Stands launch acts
+            (C.facts set.now) (H.setting host.now) (shown_of self.old.world.heap)
+            self.old.world.rest self.old.world.steps self.old.lanes.items
+            → OnErr result (MayLack launch acts act.now self.old.world.steps) }
     {
         run_forms::machines_go_on_as_plain_runs();
+        run_forms::moved_heaps_stand_for_the_same_run();
         if is_persistent(&act.op) {
             return Ok(true);
         }
-        if act.thread.number() != 0 {
+        let t = act.thread;
+        let at = t.number() as usize;
+        if at >= self.lanes.len() {
             return Ok(false);
         }
-        look_ahead(self, set, host)?;
-        let live = is_live(&self.rest.threads);
-        Ok(taken(&mut self.frames, &mut self.ahead, live, host, &act.op))
+        if !is_live(&self.world.rest.threads, t) {
+            return Ok(false);
+        }
+        let begun = new_frames(alloc, &mut self.lanes, &act.op)?;
+        let request = turned(&mut self.lanes[at], host);
+        match self.world.act(alloc, set, t, &request, &act.op) {
+            Err(error) => {
+                self.lanes[at].asked = Some(request);
+                Err(error)
+            }
+            Ok(None) => {
+                self.lanes[at].asked = Some(request);
+                Ok(false)
+            }
+            Ok(Some(reply)) => {
+                self.lanes[at].frames.answer(host, &reply);
+                begin(&mut self.lanes, begun, &request);
+                Ok(true)
+            }
+        }
     }
 }

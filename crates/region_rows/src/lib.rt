@@ -3,6 +3,8 @@
 #![tactic(auto)]
 
 #[cfg(test)]
+mod directory_rows;
+#[cfg(test)]
 mod images;
 #[cfg(test)]
 mod recovery;

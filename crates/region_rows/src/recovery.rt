@@ -186,7 +186,7 @@ const ROWS: [Row; 69] = [
 ];
 
 /// A memory over an image.
-fn attach(alloc: Global, image: MemoryImage) -> Result<LineMemory<MemoryImage>, Fail> {
+pub(crate) fn attach(alloc: Global, image: MemoryImage) -> Result<LineMemory<MemoryImage>, Fail> {
     match LineMemory::attach(alloc, image) {
         Ok(memory) => Ok(memory),
         Err(_) => Err(Fail::from("attached")),

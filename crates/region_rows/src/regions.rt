@@ -94,7 +94,7 @@ fn log_word<I: Image>(log: &mut RegionLog, memory: &mut LineMemory<I>, spot: Spo
     let old = memory.load(spot);
     for _call in 0..4 {
         match log.log_next(memory, spot, old) {
-            Ok(LogStep::Logged) => return true,
+            Ok(LogStep::Logged) => return log.logged(spot),
             Ok(LogStep::More) => {}
             _ => return false,
         }

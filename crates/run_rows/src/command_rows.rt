@@ -1,10 +1,12 @@
 // What the top call prints, and how it ends, by its words, its files and its sink.
 use crate::class_files::SEVEN;
-use crate::fixture::{PRINTS, RUN, Run, STORES, blank, file, listed_classes, main_class, words};
-use ap_base::{Bytes, ClassSource, MemorySink, MemorySource, NamedBytes, NoGate};
-use autopersist::{Status, autopersist, read_words, status_text};
+use crate::fixture::{
+    PRINTS, RUN, STORES, blank, file, has_output, listed_classes, main_class, run_words, sink,
+    words,
+};
+use ap_base::{Bytes, ClassSource, MemorySource, NamedBytes};
+use autopersist::{Status, read_words, status_text};
 use class_rows::{CLASS_A, SEVERAL};
-use run_history::NoWatch;
 use std::alloc::{AllocError, Global};
 use std::sync::Wait;
 use std::test::Fail;
@@ -509,24 +511,6 @@ const REGION: &str = ".final autopersist/Region\n.super java/lang/Object\n";
 
 const REGIONS: &str = ".class autopersist/Regions\n.super java/lang/Object\n";
 
-/// Runs a command on a blank image, with a sink that takes five bytes at once.
-fn run<R>(rt: &R, alloc: Global, all: &[&str], source: MemorySource) -> Result<Run, AllocError>
-where
-    R: Threads + Wait + Clone + Send + Sync + Drop,
-{
-    let words = words(alloc, all)?;
-    let sink = MemorySink::new(alloc, 100, 5, Vec::new(alloc))?;
-    let image = blank(alloc)?;
-    Ok(autopersist(rt, alloc, &words, source, image, sink, &NoGate, NoWatch))
-}
-
-/// What was printed, with the status line behind it.
-fn told(alloc: Global, run: &Run) -> Result<Vec<u8>, AllocError> {
-    let mut text = run.sink.as_slice().to_vec(alloc)?;
-    text.extend_from_slice(status_text(alloc, &run.status)?.as_slice())?;
-    Ok(text)
-}
-
 /// How many files are left of a source, twelve at most.
 fn left(alloc: Global, source: &mut MemorySource) -> u32 {
     let mut left: u32 = 0;
@@ -545,13 +529,10 @@ where
 {
     let (words, files, fails, text, acts, others) = *row;
     let source = source(alloc, files, fails)?;
-    let mut run = run(rt, alloc, words, source)?;
-    let found = told(alloc, &run)?;
-    Ok(
-        found.as_slice() == text.as_bytes()
-            && run.acts.len() == acts
-            && left(alloc, &mut run.source) == others,
-    )
+    let sink = sink(alloc, 5, u64::MAX)?;
+    let mut run = run_words(rt, alloc, words, source, blank(alloc)?, sink)?;
+    let is_left = left(alloc, &mut run.source) == others && run.acts.len() == acts;
+    Ok(is_left && has_output(alloc, &run, text)?)
 }
 
 #[test]
@@ -564,27 +545,14 @@ fn commands_are_run(rt: HostRuntime) -> Result<(), Fail> {
     Ok(())
 }
 
-/// A sink that takes so many bytes a call and fails at one call.
-fn sink(alloc: Global, most: u64, fails: u64) -> Result<MemorySink, AllocError> {
-    MemorySink::new(alloc, 100, most.max(1), [fails].to_vec(alloc)?)
-}
-
 /// How the program that prints 7 ends, and how many acts it made, on a sink that takes so many bytes a call and fails at one call.
 fn on_sink<R>(rt: &R, alloc: Global, most: u64, fails: u64) -> Result<(u8, u32), Fail>
 where
     R: Threads + Wait + Clone + Send + Sync + Drop,
 {
     let source = source(alloc, &[Given::Seven], 9)?;
-    let ended = autopersist(
-        rt,
-        alloc,
-        &words(alloc, &RUN)?,
-        source,
-        blank(alloc)?,
-        sink(alloc, most, fails)?,
-        &NoGate,
-        NoWatch,
-    );
+    let sink = sink(alloc, most, fails)?;
+    let ended = run_words(rt, alloc, &RUN, source, blank(alloc)?, sink)?;
     Ok((ended.status.number(), ended.acts.len()))
 }
 
@@ -610,21 +578,35 @@ fn the_words_are_read(rt: HostRuntime) -> Result<(), Fail> {
     Ok(())
 }
 
-/// Whether a status has this number and this line.
-fn is_told(alloc: Global, status: &Status, number: u8, text: &str) -> Result<bool, AllocError> {
-    let line = status_text(alloc, status)?;
-    Ok(line.as_slice() == text.as_bytes() && status.number() == number)
+/// The numbers of the statuses without names, and their lines.
+static STATUSES: [(u8, &str); 6] = [
+    (0, ""),
+    (2, USAGE),
+    (10, FAULT),
+    (12, "autopersist: sink fault\n"),
+    (13, "autopersist: no memory\n"),
+    (17, NOT_BUILT),
+];
+
+/// The status of a number in the table.
+fn status_of(number: u8) -> Status {
+    match number {
+        0 => Status::Ok,
+        2 => Status::Usage,
+        10 => Status::SourceFault,
+        12 => Status::SinkFault,
+        13 => Status::OutOfMemory,
+        _ => Status::NotBuilt,
+    }
 }
 
 #[test]
 fn statuses_are_told(rt: HostRuntime) -> Result<(), Fail> {
-    let alloc = rt.alloc();
-    let are_told = is_told(alloc, &Status::Ok, 0, "")?
-        && is_told(alloc, &Status::Usage, 2, USAGE)?
-        && is_told(alloc, &Status::SourceFault, 10, FAULT)?
-        && is_told(alloc, &Status::SinkFault, 12, "autopersist: sink fault\n")?
-        && is_told(alloc, &Status::OutOfMemory, 13, "autopersist: no memory\n")?
-        && is_told(alloc, &Status::NotBuilt, 17, NOT_BUILT)?;
-    assert!(rt; are_told, "numbers and lines");
+    for (number, text) in &STATUSES {
+        let status = status_of(*number);
+        let line = status_text(rt.alloc(), &status)?;
+        let is_told = line.as_slice() == text.as_bytes() && status.number() == *number;
+        assert!(rt; is_told, "{number}");
+    }
     Ok(())
 }

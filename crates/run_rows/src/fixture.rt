@@ -1,7 +1,7 @@
 // What the rows share: words, class files, images in memory, and runs on them.
 use crate::class_bytes;
 use ap_base::{Bytes, MemorySink, MemorySource, NamedBytes, NoGate};
-use autopersist::{Ended, autopersist};
+use autopersist::{Ended, autopersist, status_text};
 use class_file::write_class;
 use line_image::{Fails, MemoryImage};
 use listing::assemble;
@@ -97,14 +97,40 @@ pub(crate) fn source(alloc: Global, bytes: &[u8]) -> Result<MemorySource, AllocE
 
 pub(crate) type Run = Ended<MemorySource, MemoryImage, MemorySink, NoWatch>;
 
+/// A sink that takes so many bytes a call, and fails at one call.
+pub(crate) fn sink(alloc: Global, most: u64, fails: u64) -> Result<MemorySink, AllocError> {
+    MemorySink::new(alloc, 1_000, most.max(1), [fails].to_vec(alloc)?)
+}
+
+/// Runs the words on a source, an image and a sink.
+pub(crate) fn run_words<R>(
+    rt: &R,
+    alloc: Global,
+    all: &[&str],
+    source: MemorySource,
+    image: MemoryImage,
+    sink: MemorySink,
+) -> Result<Run, AllocError>
+where
+    R: Threads + Wait + Clone + Send + Sync + Drop,
+{
+    let words = words(alloc, all)?;
+    Ok(autopersist(rt, alloc, &words, source, image, sink, &NoGate, NoWatch))
+}
+
+/// Whether this is what a run printed, with the status line behind it.
+pub(crate) fn has_output(alloc: Global, run: &Run, text: &str) -> Result<bool, AllocError> {
+    let line = status_text(alloc, &run.status)?;
+    Ok(text.as_bytes().strip_prefix(run.sink.as_slice()) == Some(line.as_slice()))
+}
+
 /// Runs a class Main with this body on an image.
 pub(crate) fn run<R>(rt: &R, alloc: Global, body: &[&str], image: MemoryImage) -> Result<Run, Fail>
 where
     R: Threads + Wait + Clone + Send + Sync + Drop,
 {
-    let words = words(alloc, &RUN)?;
-    let sink = MemorySink::new(alloc, 100, 24, Vec::new(alloc))?;
     let class = main_class(alloc, body)?;
     let source = source(alloc, &class)?;
-    Ok(autopersist(rt, alloc, &words, source, image, sink, &NoGate, NoWatch))
+    let sink = sink(alloc, 24, u64::MAX)?;
+    Ok(run_words(rt, alloc, &RUN, source, image, sink)?)
 }

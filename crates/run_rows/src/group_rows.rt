@@ -322,9 +322,14 @@ fn has_ended(ran: &Ran, answer: RunEnd, acts: u32, printed: &str) -> bool {
         && ran.run.sink.as_slice() == printed.as_bytes()
 }
 
+/// How many calls of the image come before a run.
+fn calls_before(alloc: Global) -> Result<u64, Fail> {
+    Ok(run_groups(alloc, &[], no_fails(alloc), 100)?.before)
+}
+
 #[test]
 fn the_image_and_the_sink_fail(rt: HostRuntime) -> Result<(), Fail> {
-    let before = run_groups(rt.alloc(), &[], no_fails(rt.alloc()), 100)?.before;
+    let before = calls_before(rt.alloc())?;
     for (call, room, answer, acts, printed) in &FAILURES {
         let fails = fails_from(rt.alloc(), before.saturating_add(*call));
         let ran = run_groups(rt.alloc(), &STORES_AND_PRINTS, fails, *room)?;

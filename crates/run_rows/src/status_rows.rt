@@ -1,5 +1,6 @@
-// Faults of a linked set of five classes, and the lines and numbers of their statuses. Numbers 0 to 4 are those of Main, Runs, Bare,
-// Base and Alone, 5 to 32 those of the built-in classes, and from 33 on those of the array types: [C, [I and [Ljava/lang/String;.
+// How runs end, and the lines and numbers of their statuses. Faults are of a linked set of five classes: numbers 0 to 4 are those of Main,
+// Runs, Bare, Base and Alone, 5 to 32 those of the built-in classes, and from 33 on those of the array types: [C, [I and
+// [Ljava/lang/String;.
 use ap_base::{Bytes, Place, ThreadNo};
 use class_file::ClassRefusal;
 use class_set::{ClassSet, link};
@@ -103,406 +104,413 @@ fn index_of(set: &ClassSet, entry: Entry) -> u32 {
     u32::MAX
 }
 
-/// Why, the class's number, the entry, and the line behind `link`.
-static LINKS: [(LinkKind, u32, Entry, &str); 14] = [
+/// A fault, as numbers.
+#[derive(Clone, Copy)]
+enum Fault {
+    /// Why, the class's number, and the entry.
+    Link(LinkKind, u32, Entry),
+    /// A class, a method and a pc.
+    Code(u32, u32, u32),
+    /// The thread that stores, the one whose region guards, and the place.
+    Race(u8, u8, Place),
+    /// Threads that wait: for each other's monitors, or for an initialiser and a conversion.
+    Stuck(bool),
+    /// What is full, and how much was needed and left.
+    Full(Which, u64, u64),
+}
+
+/// Faults, the numbers of their statuses, and the lines behind the program's name.
+static FAULTS: [(Fault, u8, &str); 35] = [
     (
-        LinkKind::MissingClass,
-        0,
-        Entry::Class(b"Gone"),
-        "MissingClass Gone",
+        Fault::Link(LinkKind::MissingClass, 0, Entry::Class(b"Gone")),
+        15,
+        "link MissingClass Gone",
     ),
     (
-        LinkKind::MissingClass,
-        0,
-        Entry::Member(b"f"),
-        "MissingClass Lost",
+        Fault::Link(LinkKind::MissingClass, 0, Entry::Member(b"f")),
+        15,
+        "link MissingClass Lost",
     ),
     (
-        LinkKind::MissingMethod,
-        0,
-        Entry::Member(b"lost"),
-        "MissingMethod Main.lost()V",
+        Fault::Link(LinkKind::MissingMethod, 0, Entry::Member(b"lost")),
+        15,
+        "link MissingMethod Main.lost()V",
     ),
     (
-        LinkKind::MissingField,
-        0,
-        Entry::Member(b"x"),
-        "MissingField Main.xJ",
-    ),
-    (LinkKind::InitFailed, 0, Entry::Nothing, "InitFailed Main"),
-    (
-        LinkKind::MissingMethod,
-        0,
-        Entry::Nothing,
-        "MissingMethod Main.toString()Ljava/lang/String;",
+        Fault::Link(LinkKind::MissingField, 0, Entry::Member(b"x")),
+        15,
+        "link MissingField Main.xJ",
     ),
     (
-        LinkKind::MissingMethod,
-        1,
-        Entry::Nothing,
-        "MissingMethod Runs.run()V",
+        Fault::Link(LinkKind::InitFailed, 0, Entry::Nothing),
+        15,
+        "link InitFailed Main",
     ),
     (
-        LinkKind::StaticMismatch,
-        2,
-        Entry::Nothing,
-        "StaticMismatch Bare.run()V",
+        Fault::Link(LinkKind::MissingMethod, 0, Entry::Nothing),
+        15,
+        "link MissingMethod Main.toString()Ljava/lang/String;",
     ),
     (
-        LinkKind::NoCode,
-        3,
-        Entry::Nothing,
-        "NoCode Base.toString()Ljava/lang/String;",
+        Fault::Link(LinkKind::MissingMethod, 1, Entry::Nothing),
+        15,
+        "link MissingMethod Runs.run()V",
     ),
     (
-        LinkKind::NoCode,
-        2,
-        Entry::Nothing,
-        "NoCode Bare.toString()Ljava/lang/String;",
+        Fault::Link(LinkKind::StaticMismatch, 2, Entry::Nothing),
+        15,
+        "link StaticMismatch Bare.run()V",
     ),
     (
-        LinkKind::NoCode,
-        4,
-        Entry::Nothing,
-        "NoCode Alone.main([Ljava/lang/String;)V",
+        Fault::Link(LinkKind::NoCode, 3, Entry::Nothing),
+        15,
+        "link NoCode Base.toString()Ljava/lang/String;",
     ),
     (
-        LinkKind::MissingMethod,
-        34,
-        Entry::Nothing,
-        "MissingMethod [I.toString()Ljava/lang/String;",
+        Fault::Link(LinkKind::NoCode, 2, Entry::Nothing),
+        15,
+        "link NoCode Bare.toString()Ljava/lang/String;",
     ),
     (
-        LinkKind::MissingMethod,
-        40,
-        Entry::Member(b"lost"),
-        "MissingMethod ",
+        Fault::Link(LinkKind::NoCode, 4, Entry::Nothing),
+        15,
+        "link NoCode Alone.main([Ljava/lang/String;)V",
     ),
-    (LinkKind::NoCode, 0, Entry::Class(b"Gone"), "NoCode "),
+    (
+        Fault::Link(LinkKind::MissingMethod, 34, Entry::Nothing),
+        15,
+        "link MissingMethod [I.toString()Ljava/lang/String;",
+    ),
+    (
+        Fault::Link(LinkKind::MissingMethod, 40, Entry::Member(b"lost")),
+        15,
+        "link MissingMethod ",
+    ),
+    (
+        Fault::Link(LinkKind::NoCode, 0, Entry::Class(b"Gone")),
+        15,
+        "link NoCode ",
+    ),
+    (
+        Fault::Code(0, 1, 1),
+        7,
+        "code Main.main([Ljava/lang/String;)V 1",
+    ),
+    (Fault::Code(0, 0, 0), 7, "code Main.<clinit>()V 0"),
+    (
+        Fault::Code(6, 4, 0),
+        7,
+        "code java/io/PrintStream.print(Ljava/lang/String;)V 0",
+    ),
+    (Fault::Code(0, 2, 7), 7, "code  7"),
+    (Fault::Code(34, 0, 0), 7, "code  0"),
+    (
+        Fault::Race(
+            2,
+            1,
+            Place::Slot {
+                object: 5,
+                index: 0,
+            },
+        ),
+        8,
+        "race 2 1 slot 5 0",
+    ),
+    (Fault::Race(1, 2, Place::Static(3)), 8, "race 1 2 static 3"),
+    (
+        Fault::Stuck(true),
+        14,
+        "stuck 0 join 1 1 monitor 2 2 monitor 1",
+    ),
+    (Fault::Stuck(false), 14, "stuck 0 init 1 1 conversion 0"),
+    (
+        Fault::Full(Which::ImageLines, 12192, 12191),
+        9,
+        "full ImageLines 12192 12191",
+    ),
+    (
+        Fault::Full(Which::VolatileWords, 2, 1),
+        9,
+        "full VolatileWords 2 1",
+    ),
+    (
+        Fault::Full(Which::ImageLines, 2, 1),
+        9,
+        "full ImageLines 2 1",
+    ),
+    (
+        Fault::Full(Which::LogEntries, 2, 1),
+        9,
+        "full LogEntries 2 1",
+    ),
+    (Fault::Full(Which::Threads, 2, 1), 9, "full Threads 2 1"),
+    (
+        Fault::Full(Which::FrameSlots, 2, 1),
+        9,
+        "full FrameSlots 2 1",
+    ),
+    (Fault::Full(Which::Acts, 2, 1), 9, "full Acts 2 1"),
+    (Fault::Full(Which::Monitors, 2, 1), 9, "full Monitors 2 1"),
+    (
+        Fault::Full(Which::DirectoryWords, 2, 1),
+        9,
+        "full DirectoryWords 2 1",
+    ),
+    (Fault::Full(Which::Roots, 2, 1), 9, "full Roots 2 1"),
+    (Fault::Full(Which::Files, 2, 1), 9, "full Files 2 1"),
+    (Fault::Full(Which::FileBytes, 2, 1), 9, "full FileBytes 2 1"),
 ];
 
-/// A class, a method and a pc, and the line behind `code`.
-static CODES: [(u32, u32, u32, &str); 5] = [
-    (0, 1, 1, "Main.main([Ljava/lang/String;)V 1"),
-    (0, 0, 0, "Main.<clinit>()V 0"),
-    (6, 4, 0, "java/io/PrintStream.print(Ljava/lang/String;)V 0"),
-    (0, 2, 7, " 7"),
-    (34, 0, 0, " 0"),
-];
-
-/// Whether a status has this number, and this line but for the program's name.
-fn is_told(
-    alloc: Global,
-    status: &Status,
-    number: u8,
-    what: &str,
-    more: &str,
-) -> Result<bool, AllocError> {
-    let line = status_text(alloc, status)?;
-    let mut wanted = Vec::new(alloc);
-    wanted.extend_from_slice(b"autopersist: ")?;
-    wanted.extend_from_slice(what.as_bytes())?;
-    wanted.extend_from_slice(more.as_bytes())?;
-    wanted.push(b'\n')?;
-    Ok(line.as_slice() == wanted.as_slice() && status.number() == number)
+fn thread(number: u8) -> ThreadNo {
+    ThreadNo::new(number).unwrap_or(ThreadNo::main())
 }
 
-fn fault_is_told(
-    alloc: Global,
-    set: &ClassSet,
-    fault: &RunFault,
-    number: u8,
-    what: &str,
-    more: &str,
-) -> Result<bool, AllocError> {
-    let room = NameRoom::reserve(alloc)?;
-    is_told(
-        alloc,
-        &status_of_fault(set, fault, room),
-        number,
-        what,
-        more,
-    )
-}
-
-#[test]
-fn names_are_told(rt: HostRuntime) -> Result<(), Fail> {
-    let alloc = rt.alloc();
-    let set = linked(alloc)?;
-    for (kind, class, entry, text) in &LINKS {
-        let fault = RunFault::LinkFault {
-            kind: *kind,
-            class: *class,
-            index: index_of(&set, *entry),
-        };
-        assert!(rt;
-            fault_is_told(alloc, &set, &fault, 15, "link ", text)?,
-            "{text}"
-        );
-    }
-    for (class, method, pc, text) in &CODES {
-        let fault = RunFault::BadCode(At {
-            class: *class,
-            method: *method,
-            pc: *pc,
-        });
-        assert!(rt;
-            fault_is_told(alloc, &set, &fault, 7, "code ", text)?,
-            "{text}"
-        );
-    }
-    Ok(())
-}
-
-/// The waits of three threads: 0 joins 1, and 1 and 2 have each other's monitors.
-fn crosswise(one: ThreadNo, two: ThreadNo) -> Waits {
+/// Thread 0 joins 1, and 1 and 2 have each other's monitors; or 0 waits for an initialiser of 1, and 1 for a conversion of 0.
+fn waits(of_monitors: bool) -> Waits {
     let mut waits = Waits::none();
-    waits.set(ThreadNo::main(), On::Join(one));
-    waits.set(one, On::Monitor(two));
-    waits.set(two, On::Monitor(one));
+    if of_monitors {
+        waits.set(thread(0), On::Join(thread(1)));
+        waits.set(thread(1), On::Monitor(thread(2)));
+        waits.set(thread(2), On::Monitor(thread(1)));
+    } else {
+        waits.set(thread(0), On::Init(thread(1)));
+        waits.set(thread(1), On::Conversion(thread(0)));
+    }
     waits
 }
 
-#[test]
-fn threads_and_places_are_told(rt: HostRuntime) -> Result<(), Fail> {
-    let alloc = rt.alloc();
-    let set = linked(alloc)?;
-    let one = ThreadNo::new(1).ok_or("a thread")?;
-    let two = ThreadNo::new(2).ok_or("a thread")?;
-    let slot = RunFault::RegionRace {
-        thread: two,
-        other: one,
-        place: Place::Slot {
-            object: 5,
-            index: 0,
+fn fault_of(set: &ClassSet, fault: Fault) -> RunFault {
+    match fault {
+        Fault::Link(kind, class, entry) => RunFault::LinkFault {
+            kind,
+            class,
+            index: index_of(set, entry),
         },
+        Fault::Code(class, method, pc) => RunFault::BadCode(At { class, method, pc }),
+        Fault::Race(storing, guarding, place) => RunFault::RegionRace {
+            thread: thread(storing),
+            other: thread(guarding),
+            place,
+        },
+        Fault::Stuck(of_monitors) => RunFault::Stuck(waits(of_monitors)),
+        Fault::Full(which, need, left) => RunFault::Full(Full { which, need, left }),
+    }
+}
+
+/// Whether a status has this number, and this line but for the program's name.
+fn is_told(alloc: Global, status: &Status, number: u8, text: &str) -> Result<bool, AllocError> {
+    let line = status_text(alloc, status)?;
+    let is_line = match line.as_slice().strip_prefix(b"autopersist: ") {
+        Some(rest) => rest.strip_suffix(b"\n") == Some(text.as_bytes()),
+        None => false,
     };
-    assert!(rt;
-        fault_is_told(alloc, &set, &slot, 8, "race ", "2 1 slot 5 0")?,
-        "a slot"
-    );
-    let field = RunFault::RegionRace {
-        thread: one,
-        other: two,
-        place: Place::Static(3),
-    };
-    assert!(rt;
-        fault_is_told(alloc, &set, &field, 8, "race ", "1 2 static 3")?,
-        "a static field"
-    );
-    let stuck = RunFault::Stuck(crosswise(one, two));
-    assert!(rt;
-        fault_is_told(
-            alloc,
-            &set,
-            &stuck,
-            14,
-            "stuck ",
-            "0 join 1 1 monitor 2 2 monitor 1"
-        )?,
-        "stuck"
-    );
-    let full = RunFault::Full(Full {
-        which: Which::ImageLines,
-        need: 12192,
-        left: 12191,
-    });
-    assert!(rt;
-        fault_is_told(alloc, &set, &full, 9, "full ", "ImageLines 12192 12191")?,
-        "full"
-    );
-    Ok(())
+    Ok(is_line && status.number() == number)
+}
+
+/// The status of a fault of a set.
+fn status_of(alloc: Global, set: &ClassSet, fault: Fault) -> Result<Status, AllocError> {
+    let room = NameRoom::reserve(alloc)?;
+    let fault = fault_of(set, fault);
+    Ok(status_of_fault(set, &fault, room))
 }
 
 #[test]
-fn throwables_and_main_are_told(rt: HostRuntime) -> Result<(), Fail> {
-    let alloc = rt.alloc();
-    let set = linked(alloc)?;
-    let thrown = uncaught_status(&set, ThreadNo::main(), 5 + 3, NameRoom::reserve(alloc)?);
-    assert!(rt;
-        is_told(
-            alloc,
-            &thrown,
-            1,
-            "uncaught ",
-            "0 java/lang/ArithmeticException"
-        )?,
-        "built in"
-    );
-    let own = uncaught_status(&set, ThreadNo::main(), 1, NameRoom::reserve(alloc)?);
-    assert!(rt; is_told(alloc, &own, 1, "uncaught ", "0 Runs")?, "its own");
-    let same = thrown_status(
-        ThreadNo::main(),
-        Throws::StringIndexOutOfBounds,
-        NameRoom::reserve(alloc)?,
-    );
-    assert!(rt;
-        is_told(
-            alloc,
-            &same,
-            1,
-            "uncaught ",
-            "0 java/lang/StringIndexOutOfBoundsException"
-        )?,
-        "by a request"
-    );
-    let none = main_status(LinkKind::MissingMethod, b"A", NameRoom::reserve(alloc)?);
-    assert!(rt;
-        is_told(
-            alloc,
-            &none,
-            15,
-            "link ",
-            "MissingMethod A.main([Ljava/lang/String;)V"
-        )?,
-        "no main"
-    );
-    let gone = main_status(LinkKind::MissingClass, b"A", NameRoom::reserve(alloc)?);
-    assert!(rt;
-        is_told(alloc, &gone, 15, "link ", "MissingClass A")?,
-        "no class"
-    );
+fn faults_are_told(rt: HostRuntime) -> Result<(), Fail> {
+    let set = linked(rt.alloc())?;
+    for (fault, number, text) in &FAULTS {
+        let status = status_of(rt.alloc(), &set, *fault)?;
+        assert!(rt; is_told(rt.alloc(), &status, *number, text)?, "{text}");
+    }
     Ok(())
 }
 
-/// What is full, and its word.
-static FULLS: [(Which, &str); 11] = [
-    (Which::VolatileWords, "VolatileWords 2 1"),
-    (Which::ImageLines, "ImageLines 2 1"),
-    (Which::LogEntries, "LogEntries 2 1"),
-    (Which::Threads, "Threads 2 1"),
-    (Which::FrameSlots, "FrameSlots 2 1"),
-    (Which::Acts, "Acts 2 1"),
-    (Which::Monitors, "Monitors 2 1"),
-    (Which::DirectoryWords, "DirectoryWords 2 1"),
-    (Which::Roots, "Roots 2 1"),
-    (Which::Files, "Files 2 1"),
-    (Which::FileBytes, "FileBytes 2 1"),
-];
+/// What else ends a run, or keeps it from beginning.
+#[derive(Clone, Copy)]
+enum End {
+    /// A throwable of the class with this number.
+    Uncaught(u32),
+    /// A throwable of the runtime's own.
+    Thrown(Throws),
+    /// Class A is missing, or has no `main`.
+    NoMain(LinkKind),
+    /// The file A.class is refused.
+    Refused(ClassRefusal),
+}
 
-/// Why a class file is refused, and the line behind its name.
-static REFUSALS: [(ClassRefusal, &str); 15] = [
+/// Ends, the numbers of their statuses, and the lines behind the program's name.
+static ENDS: [(End, u8, &str); 29] = [
     (
-        ClassRefusal::Pool(PoolRefusal::Truncated(9)),
-        "Pool Truncated 9",
+        End::Uncaught(5 + 3),
+        1,
+        "uncaught 0 java/lang/ArithmeticException",
+    ),
+    (End::Uncaught(1), 1, "uncaught 0 Runs"),
+    (
+        End::NoMain(LinkKind::MissingMethod),
+        15,
+        "link MissingMethod A.main([Ljava/lang/String;)V",
     ),
     (
-        ClassRefusal::Pool(PoolRefusal::BadTag(10)),
-        "Pool BadTag 10",
+        End::NoMain(LinkKind::MissingClass),
+        15,
+        "link MissingClass A",
     ),
     (
-        ClassRefusal::Pool(PoolRefusal::BadIndex { entry: 3, index: 7 }),
-        "Pool BadIndex 3 7",
+        End::Thrown(Throws::NegativeArraySize),
+        1,
+        "uncaught 0 java/lang/NegativeArraySizeException",
     ),
     (
-        ClassRefusal::Pool(PoolRefusal::BadUtf8(12)),
-        "Pool BadUtf8 12",
+        End::Thrown(Throws::NullPointer),
+        1,
+        "uncaught 0 java/lang/NullPointerException",
     ),
-    (ClassRefusal::Truncated(8), "Truncated 8"),
-    (ClassRefusal::BadMagic, "BadMagic"),
     (
-        ClassRefusal::BadVersion {
+        End::Thrown(Throws::ArrayIndexOutOfBounds),
+        1,
+        "uncaught 0 java/lang/ArrayIndexOutOfBoundsException",
+    ),
+    (
+        End::Thrown(Throws::StringIndexOutOfBounds),
+        1,
+        "uncaught 0 java/lang/StringIndexOutOfBoundsException",
+    ),
+    (
+        End::Thrown(Throws::ArrayStore),
+        1,
+        "uncaught 0 java/lang/ArrayStoreException",
+    ),
+    (
+        End::Thrown(Throws::ClassCast),
+        1,
+        "uncaught 0 java/lang/ClassCastException",
+    ),
+    (
+        End::Thrown(Throws::IllegalMonitorState),
+        1,
+        "uncaught 0 java/lang/IllegalMonitorStateException",
+    ),
+    (
+        End::Thrown(Throws::IllegalThreadState),
+        1,
+        "uncaught 0 java/lang/IllegalThreadStateException",
+    ),
+    (
+        End::Thrown(Throws::IllegalState),
+        1,
+        "uncaught 0 java/lang/IllegalStateException",
+    ),
+    (
+        End::Thrown(Throws::Arithmetic),
+        1,
+        "uncaught 0 java/lang/ArithmeticException",
+    ),
+    (
+        End::Refused(ClassRefusal::Pool(PoolRefusal::Truncated(9))),
+        3,
+        "class A.class Pool Truncated 9",
+    ),
+    (
+        End::Refused(ClassRefusal::Pool(PoolRefusal::BadTag(10))),
+        3,
+        "class A.class Pool BadTag 10",
+    ),
+    (
+        End::Refused(ClassRefusal::Pool(PoolRefusal::BadIndex { entry: 3, index: 7 })),
+        3,
+        "class A.class Pool BadIndex 3 7",
+    ),
+    (
+        End::Refused(ClassRefusal::Pool(PoolRefusal::BadUtf8(12))),
+        3,
+        "class A.class Pool BadUtf8 12",
+    ),
+    (
+        End::Refused(ClassRefusal::Truncated(8)),
+        3,
+        "class A.class Truncated 8",
+    ),
+    (
+        End::Refused(ClassRefusal::BadMagic),
+        3,
+        "class A.class BadMagic",
+    ),
+    (
+        End::Refused(ClassRefusal::BadVersion {
             major: 53,
             minor: 1,
-        },
-        "BadVersion 53 1",
+        }),
+        3,
+        "class A.class BadVersion 53 1",
     ),
     (
-        ClassRefusal::BadIndex {
+        End::Refused(ClassRefusal::BadIndex {
             offset: 43,
             index: 5,
-        },
-        "BadIndex 43 5",
+        }),
+        3,
+        "class A.class BadIndex 43 5",
     ),
-    (ClassRefusal::BadDescriptor(6), "BadDescriptor 6"),
-    (ClassRefusal::BadAttribute(77), "BadAttribute 77"),
     (
-        ClassRefusal::Code {
+        End::Refused(ClassRefusal::BadDescriptor(6)),
+        3,
+        "class A.class BadDescriptor 6",
+    ),
+    (
+        End::Refused(ClassRefusal::BadAttribute(77)),
+        3,
+        "class A.class BadAttribute 77",
+    ),
+    (
+        End::Refused(ClassRefusal::Code {
             method: 1,
             refusal: CodeRefusal::NotInProfile(4, 6),
-        },
-        "Code 1 NotInProfile 4 6",
+        }),
+        3,
+        "class A.class Code 1 NotInProfile 4 6",
     ),
     (
-        ClassRefusal::Code {
+        End::Refused(ClassRefusal::Code {
             method: 2,
             refusal: CodeRefusal::BadTarget(5),
-        },
-        "Code 2 BadTarget 5",
+        }),
+        3,
+        "class A.class Code 2 BadTarget 5",
     ),
     (
-        ClassRefusal::BadOperand { method: 3, pc: 8 },
-        "BadOperand 3 8",
+        End::Refused(ClassRefusal::BadOperand { method: 3, pc: 8 }),
+        3,
+        "class A.class BadOperand 3 8",
     ),
-    (ClassRefusal::RootNotReference(1), "RootNotReference 1"),
-    (ClassRefusal::TrailingBytes(53), "TrailingBytes 53"),
+    (
+        End::Refused(ClassRefusal::RootNotReference(1)),
+        3,
+        "class A.class RootNotReference 1",
+    ),
+    (
+        End::Refused(ClassRefusal::TrailingBytes(53)),
+        3,
+        "class A.class TrailingBytes 53",
+    ),
 ];
 
-/// What is thrown, and the class behind `uncaught 0`.
-static THROWN: [(Throws, &str); 10] = [
-    (
-        Throws::NegativeArraySize,
-        "0 java/lang/NegativeArraySizeException",
-    ),
-    (Throws::NullPointer, "0 java/lang/NullPointerException"),
-    (
-        Throws::ArrayIndexOutOfBounds,
-        "0 java/lang/ArrayIndexOutOfBoundsException",
-    ),
-    (
-        Throws::StringIndexOutOfBounds,
-        "0 java/lang/StringIndexOutOfBoundsException",
-    ),
-    (Throws::ArrayStore, "0 java/lang/ArrayStoreException"),
-    (Throws::ClassCast, "0 java/lang/ClassCastException"),
-    (
-        Throws::IllegalMonitorState,
-        "0 java/lang/IllegalMonitorStateException",
-    ),
-    (
-        Throws::IllegalThreadState,
-        "0 java/lang/IllegalThreadStateException",
-    ),
-    (Throws::IllegalState, "0 java/lang/IllegalStateException"),
-    (Throws::Arithmetic, "0 java/lang/ArithmeticException"),
-];
-
-#[test]
-fn each_word_is_told(rt: HostRuntime) -> Result<(), Fail> {
-    let alloc = rt.alloc();
-    for (which, text) in &FULLS {
-        let full = Status::Full(Full {
-            which: *which,
-            need: 2,
-            left: 1,
-        });
-        assert!(rt; is_told(alloc, &full, 9, "full ", text)?, "{text}");
-    }
-    for (refusal, text) in &REFUSALS {
-        let bad = Status::BadClass {
-            file: Bytes::copy(alloc, b"A.class")?,
-            refusal: *refusal,
-        };
-        assert!(rt; is_told(alloc, &bad, 3, "class A.class ", text)?, "{text}");
-    }
-    for (throws, text) in &THROWN {
-        let room = NameRoom::reserve(alloc)?;
-        let status = thrown_status(ThreadNo::main(), *throws, room);
-        assert!(rt; is_told(alloc, &status, 1, "uncaught ", text)?, "{text}");
-    }
-    Ok(())
+fn status_of_end(alloc: Global, set: &ClassSet, end: End) -> Result<Status, AllocError> {
+    let room = NameRoom::reserve(alloc)?;
+    let file = Bytes::copy(alloc, b"A.class")?;
+    Ok(match end {
+        End::Uncaught(class) => uncaught_status(set, ThreadNo::main(), class, room),
+        End::Thrown(throws) => thrown_status(ThreadNo::main(), throws, room),
+        End::NoMain(kind) => main_status(kind, b"A", room),
+        End::Refused(refusal) => Status::BadClass { file, refusal },
+    })
 }
 
 #[test]
-fn each_wait_is_told(rt: HostRuntime) -> Result<(), Fail> {
-    let one = ThreadNo::new(1).ok_or("a thread")?;
-    let mut waits = Waits::none();
-    waits.set(ThreadNo::main(), On::Init(one));
-    waits.set(one, On::Conversion(ThreadNo::main()));
-    let stuck = Status::Stuck(waits);
-    assert!(rt;
-        is_told(rt.alloc(), &stuck, 14, "stuck ", "0 init 1 1 conversion 0")?,
-        "waits"
-    );
+fn ends_are_told(rt: HostRuntime) -> Result<(), Fail> {
+    let set = linked(rt.alloc())?;
+    for (end, number, text) in &ENDS {
+        let status = status_of_end(rt.alloc(), &set, *end)?;
+        assert!(rt; is_told(rt.alloc(), &status, *number, text)?, "{text}");
+    }
     Ok(())
 }

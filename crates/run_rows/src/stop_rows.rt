@@ -21,28 +21,21 @@ where
     Ok((ended.status.number(), ended.image))
 }
 
-/// How a run of this body ends on an image, and what it prints.
-fn printed<R>(
+/// How a run of this body ends on an image, and whether it prints 7.
+fn prints_seven<R>(
     rt: &R,
     alloc: Global,
     body: &[&str],
     image: MemoryImage,
-) -> Result<(u8, Vec<u8>), Fail>
+) -> Result<(u8, bool), Fail>
 where
     R: Threads + Wait + Clone + Send + Sync + Drop,
 {
     let ended = run(rt, alloc, body, image)?;
-    let text = ended.sink.as_slice().to_vec(alloc)?;
-    Ok((ended.status.number(), text))
-}
-
-/// How a run of an empty body ends on an image, and the graph that it found there.
-fn opened<R>(rt: &R, alloc: Global, image: MemoryImage) -> Result<(u8, Graph), Fail>
-where
-    R: Threads + Wait + Clone + Send + Sync + Drop,
-{
-    let ended = run(rt, alloc, &[], image)?;
-    Ok((ended.status.number(), ended.opening))
+    Ok((
+        ended.status.number(),
+        ended.sink.as_slice() == b"7\n".as_slice(),
+    ))
 }
 
 /// The root's slot, the directory's words in use, and element 1 of the array.
@@ -55,15 +48,10 @@ fn stored_words(image: &MemoryImage) -> (u64, u64, u64) {
 
 #[test]
 fn a_second_run_reads_what_the_first_stored(rt: HostRuntime) -> Result<(), Fail> {
-    let alloc = rt.alloc();
-    let (status, image) = left_by(&rt, alloc, &[STORES], blank(alloc)?)?;
-    let found = stored_words(&image);
-    assert!(rt; status == 0 && found == (41_154, 7, 7), "the first run");
-    let (status, text) = printed(&rt, alloc, &[PRINTS], image)?;
-    assert!(rt;
-        status == 0 && text.as_slice() == b"7\n".as_slice(),
-        "the second run"
-    );
+    let (status, image) = left_by(&rt, rt.alloc(), &[STORES], blank(rt.alloc())?)?;
+    let is_stored = status == 0 && stored_words(&image) == (41_154, 7, 7);
+    let read = prints_seven(&rt, rt.alloc(), &[PRINTS], image)?;
+    assert!(rt; is_stored && read == (0, true), "both runs");
     Ok(())
 }
 
@@ -116,34 +104,40 @@ where
     Ok((found, reopened.sink.as_slice() == says))
 }
 
+/// Within which call of the run a stop falls, what of it is left that was fenced, and the latest of all. The calls: the array's line
+/// and a fence, the root's line and a fence, the element's line and a fence.
+static STOPS: [(u64, Option<Value>, Option<Value>); 7] = [
+    (1, Some(Value::Null), Some(Value::Null)),
+    (2, Some(Value::Null), Some(Value::Null)),
+    (3, Some(Value::Null), Some(Value::Int(0))),
+    (4, Some(Value::Null), Some(Value::Int(0))),
+    (5, Some(Value::Int(0)), Some(Value::Int(7))),
+    (6, Some(Value::Int(0)), Some(Value::Int(7))),
+    (7, Some(Value::Int(7)), Some(Value::Int(7))),
+];
+
+/// Whether a pick may leave this: what was fenced is left by pick 0, and the latest of all by pick 1.
+fn may_leave(
+    pick: u64,
+    found: Option<Value>,
+    fenced: Option<Value>,
+    latest: Option<Value>,
+) -> bool {
+    match pick {
+        0 => found == fenced,
+        1 => found == latest,
+        _ => found == fenced || found == latest,
+    }
+}
+
 #[test]
 fn stops_leave_what_the_acts_allow(rt: HostRuntime) -> Result<(), Fail> {
-    let alloc = rt.alloc();
-    let null = Some(Value::Null);
-    let zero = Some(Value::Int(0));
-    let seven = Some(Value::Int(7));
-    // The calls of the run: the array's line and a fence, the root's line and a fence, the element's line and a fence.
-    let rows = [
-        (1, null, null),
-        (2, null, null),
-        (3, null, zero),
-        (4, null, zero),
-        (5, zero, seven),
-        (6, zero, seven),
-        (7, seven, seven),
-    ];
-    let (_, prepared) = left_by(&rt, alloc, &[], blank(alloc)?)?;
-    for (call, one, other) in rows {
+    let (_, prepared) = left_by(&rt, rt.alloc(), &[], blank(rt.alloc())?)?;
+    for (call, fenced, latest) in &STOPS {
         for pick in 0..8 {
-            let (found, is_printed) = left(&rt, alloc, &prepared, call, pick)?;
-            // What was fenced is left by pick 0, and the latest of all by pick 1.
-            let wanted = match pick {
-                0 => one,
-                1 => other,
-                _ if found == one => one,
-                _ => other,
-            };
-            assert!(rt; found == wanted && is_printed, "call {call}, pick {pick}");
+            let (found, is_printed) = left(&rt, rt.alloc(), &prepared, *call, pick)?;
+            let is_right = is_printed && may_leave(pick, found, *fenced, *latest);
+            assert!(rt; is_right, "call {call}, pick {pick}");
         }
     }
     Ok(())
@@ -158,22 +152,34 @@ fn fails_at(alloc: Global, call: u64, later: bool) -> Result<Fails, AllocError> 
     })
 }
 
-/// How a run ends whose call of this number fails, or that one and all later ones, and to which graph what a stop then leaves opens; none
-/// where it isn't opened.
+/// What the graph to which an image opens has of the root; none where it isn't opened.
+fn opened<R>(rt: &R, alloc: Global, image: MemoryImage) -> Result<Option<Value>, Fail>
+where
+    R: Threads + Wait + Clone + Send + Sync + Drop,
+{
+    let ended = run(rt, alloc, &[], image)?;
+    if ended.status.number() != 0 {
+        return Ok(None);
+    }
+    Ok(element_of(&ended.opening))
+}
+
+/// How a run ends whose call of this number fails, or that one and all later ones, and what the graph to which what a stop then leaves
+/// opens has of the root; none where it isn't opened.
 fn failing<R>(
     rt: &R,
     alloc: Global,
     call: u64,
     later: bool,
     pick: u64,
-) -> Result<(u8, Option<Graph>), Fail>
+) -> Result<(u8, Option<Value>), Fail>
 where
     R: Threads + Wait + Clone + Send + Sync + Drop,
 {
     let image = MemoryImage::new(alloc, LINES, fails_at(alloc, call, later)?)?;
     let (status, left) = left_by(rt, alloc, &[STORES, PRINTS], image)?;
-    let (again, graph) = opened(rt, alloc, left.crash(alloc, pick, no_fails(alloc))?)?;
-    Ok((status, if again == 0 { Some(graph) } else { None }))
+    let found = opened(rt, alloc, left.crash(alloc, pick, no_fails(alloc))?)?;
+    Ok((status, found))
 }
 
 /// Whether the run ends with an image fault, and what a stop leaves opens to a graph that is allowed, where these calls fail and the run's
@@ -188,38 +194,54 @@ fn fails_rightly<R>(
 where
     R: Threads + Wait + Clone + Send + Sync + Drop,
 {
-    let (status, graph) = failing(rt, alloc, call, later, call % 8)?;
-    let found = graph.and_then(|graph| element_of(&graph));
-    let allowed = if call <= before.saturating_add(4) {
-        [Some(Value::Null), Some(Value::Int(0))]
+    let (status, found) = failing(rt, alloc, call, later, call % 8)?;
+    let other = if call <= before.saturating_add(4) {
+        Value::Null
     } else {
-        [Some(Value::Int(0)), Some(Value::Int(7))]
+        Value::Int(7)
     };
-    Ok(status == 11 && (found == allowed[0] || found == allowed[1]))
+    Ok(status == 11 && (found == Some(other) || found == Some(Value::Int(0))))
+}
+
+/// How many calls of the image come before the first act of the run.
+fn calls_before<R>(rt: &R, alloc: Global) -> Result<u64, Fail>
+where
+    R: Threads + Wait + Clone + Send + Sync + Drop,
+{
+    let whole = run(rt, alloc, &[STORES, PRINTS], blank(alloc)?)?;
+    match whole.acts.get(0) {
+        Some(act) => Ok(act.at),
+        None => Err(Fail::from("an act")),
+    }
+}
+
+/// Whether all is right where a call fails alone, and from the first act on, and at every fourth call before it, with all later ones.
+fn is_named<R>(rt: &R, alloc: Global, call: u64, before: u64) -> Result<bool, Fail>
+where
+    R: Threads + Wait + Clone + Send + Sync + Drop,
+{
+    let is_alone = fails_rightly(rt, alloc, call, false, before)?;
+    if call <= before && call % 4 != 0 {
+        return Ok(is_alone);
+    }
+    Ok(is_alone && fails_rightly(rt, alloc, call, true, before)?)
 }
 
 #[test]
 fn a_failing_call_ends_the_run_by_name(rt: HostRuntime) -> Result<(), Fail> {
-    let alloc = rt.alloc();
-    let whole = run(&rt, alloc, &[STORES, PRINTS], blank(alloc)?)?;
-    let first = whole.acts.get(0).copied().ok_or("an act")?;
-    let last = first.at.saturating_add(6);
+    let before = calls_before(&rt, rt.alloc())?;
     // A blank image is laid out and gets its directory before the first act, and the run makes six calls.
-    for call in LINES + 1..=last {
-        let alone = fails_rightly(&rt, alloc, call, false, first.at)?;
-        let with_later = if call > first.at || call % 4 == 0 {
-            fails_rightly(&rt, alloc, call, true, first.at)?
-        } else {
-            true
-        };
-        assert!(rt; alone && with_later, "call {call}");
+    for call in LINES + 1..=before.saturating_add(6) {
+        assert!(rt; is_named(&rt, rt.alloc(), call, before)?, "call {call}");
     }
-    for (call, later, status) in [
-        (1, false, 11),
-        (LINES, true, 11),
-        (last.saturating_add(1), true, 0),
-    ] {
-        let (found, _) = failing(&rt, alloc, call, later, 0)?;
+    Ok(())
+}
+
+#[test]
+fn a_failing_read_is_a_fault_and_a_later_call_none(rt: HostRuntime) -> Result<(), Fail> {
+    let behind = calls_before(&rt, rt.alloc())?.saturating_add(7);
+    for (call, later, status) in [(1, false, 11), (LINES, true, 11), (behind, true, 0)] {
+        let (found, _) = failing(&rt, rt.alloc(), call, later, 0)?;
         assert!(rt; found == status, "call {call}");
     }
     Ok(())
@@ -259,28 +281,44 @@ fn with_word(
     MemoryImage::of_words(alloc, &words, no_fails(alloc))
 }
 
+/// The place of a word in the image that a run left, its value there, and how a run that prints ends on that: word 3 of the
+/// superblock, root slots 0 and 1, the count of log 0, and the array's head and element 1.
+static CHANGES: [(usize, u64, u8); 8] = [
+    (3, 6, 17),
+    (8, 80_000, 17),
+    (8, 41_155, 17),
+    (9, 41_154, 17),
+    (33_032, 1, 17),
+    (164_616, 12_884_901_889, 17),
+    (164_618, 4_294_967_296, 17),
+    (164_618, 4_294_967_295, 0),
+];
+
+/// How a run that prints ends on an image.
+fn status_on<R>(rt: &R, alloc: Global, image: MemoryImage) -> Result<u8, Fail>
+where
+    R: Threads + Wait + Clone + Send + Sync + Drop,
+{
+    let (status, _) = prints_seven(rt, alloc, &[PRINTS], image)?;
+    Ok(status)
+}
+
 #[test]
 fn images_of_another_form_are_refused(rt: HostRuntime) -> Result<(), Fail> {
-    let alloc = rt.alloc();
-    let small = MemoryImage::new(alloc, 40, no_fails(alloc))?;
-    let (_, stored) = left_by(&rt, alloc, &[STORES], blank(alloc)?)?;
-    // An image of 40 lines; word 3 of the superblock, root slots 0 and 1, the count of log 0, and the array's head and element 1.
-    let rows = [
-        (0, 0, 17),
-        (3, 6, 17),
-        (8, 80_000, 17),
-        (8, 41_155, 17),
-        (9, 41_154, 17),
-        (33_032, 1, 17),
-        (164_616, 12_884_901_889, 17),
-        (164_618, 4_294_967_296, 17),
-        (164_618, 4_294_967_295, 0),
-    ];
-    for (at, value, status) in rows {
-        let image = if at == 0 { &small } else { &stored };
-        let changed = with_word(alloc, image, at, value)?;
-        let (found, _) = left_by(&rt, alloc, &[PRINTS], changed)?;
-        assert!(rt; found == status, "word {at}");
+    let (_, stored) = left_by(&rt, rt.alloc(), &[STORES], blank(rt.alloc())?)?;
+    for (at, value, status) in &CHANGES {
+        let changed = with_word(rt.alloc(), &stored, *at, *value)?;
+        assert!(rt;
+            status_on(&rt, rt.alloc(), changed)? == *status,
+            "word {at}"
+        );
     }
+    Ok(())
+}
+
+#[test]
+fn an_image_of_40_lines_is_refused(rt: HostRuntime) -> Result<(), Fail> {
+    let small = MemoryImage::new(rt.alloc(), 40, no_fails(rt.alloc()))?;
+    assert!(rt; status_on(&rt, rt.alloc(), small)? == 17);
     Ok(())
 }

@@ -1,0 +1,9 @@
+pub mod Beginnings
+pub mod Filled
+pub mod Growing
+pub mod Items
+pub mod Laws
+pub mod Opened
+pub mod Parts
+pub mod Slots
+pub mod Spaces

@@ -1,0 +1,9 @@
+//! What a shared heap with its threads keeps of its plain run and of each stop, and what its events are.
+//! Definitions, and the laws that hold of all of them.
+#![tactic(auto)]
+
+mod doing;
+mod laws;
+
+pub use doing::Doing;
+pub use laws::durable_objects_lie_in_the_layout;

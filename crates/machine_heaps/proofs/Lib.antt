@@ -1,0 +1,14 @@
+pub mod Acting
+pub mod Beginning
+pub mod Called
+pub mod Converting
+pub mod Fields
+pub mod Making
+pub mod Moving
+pub mod NumberKinds
+pub mod Numbers
+pub mod Requests
+pub mod SlotKinds
+pub mod Storing
+pub mod Tables
+pub mod Worlds

@@ -1,0 +1,5 @@
+pub mod Acting
+pub mod Going
+pub mod Keeping
+pub mod Lagging
+pub mod Persisting

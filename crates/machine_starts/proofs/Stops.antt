@@ -1,0 +1,65 @@
+-- What was asked, and what a stop leaves, at the start.
+use Rattle.std.proofs.Common.{◌≡◌, ℕ, ◌<◌, List, ap, sym, ◌∙◌, subst, arith, ◌^◌, slice_index_or}
+use Rattle.line_memory.specs.Memory.{Memory}
+use Rattle.plain_model.specs.First.{first_world}
+use Rattle.twin_forms.specs.Table.{Entry}
+use Rattle.machine_forms.specs.declared.doing.Doing.{Doing}
+use Rattle.machine_forms.specs.declared.doing.Doing.TheVariants.{Nothing}
+use Rattle.machine_forms.specs.Machines.{Opening, Machine, is_fencing, doing_of}
+use Rattle.machine_forms.specs.Keeping.{KeepsAsked, KeepsStops}
+use Rattle.machine_stops.specs.Laws.{StartsKeepStops}
+use Rattle.machine_stops.specs.Opened.{OpenedImagesStart, ShowsFirstHeap}
+use Rattle.machine_asks.specs.Laws.{StartsKeepAsked, IsAtStart}
+use Rattle.machine_starts.specs.First.{IsFirstMachine, IsDurableImage}
+use Rattle.machine_starts.proofs.Queues.{all_alike, nothing_queued}
+use Rattle.machine_starts.proofs.Nodes.{corresponds, nobody_owns, table_of_lines}
+use Rattle.machine_starts.proofs.Worlds.{slots_of_roots}
+
+module _ (o : Opening) (lines : List ℕ) (m : Machine) (es : List Entry)
+    (first : IsFirstMachine o lines m es) where
+  pub all_idle : (t : ℕ) → doing_of m t ≡ Nothing
+  all_idle t = ap (λ (ds : List Doing). slice_index_or ds t Nothing) first.doing ∙ all_alike Nothing 64 t
+
+  at_start : IsAtStart o m es
+  at_start = record {
+    opening = first.launched.opening;
+    acts = first.acts;
+    doing = first.doing;
+    queue = nothing_queued m.queue o.start.size first.queue;
+    claimed = λ t n claimed.
+        let nobody = nobody_owns o lines m es first n claimed.0 in
+        let somebody = claimed.1 in
+        omega (arith, nobody, somebody);
+    durable = λ n.
+        let table = (table_of_lines o lines m es first).durable n in
+        let many = first.image.opened.nodes in (
+          (λ p. let below = table.0 p in omega (arith, below, many)),
+          (λ below. table.1 (omega (arith, below, many))),
+        );
+    few = subst (λ (x : Memory). x.calls < 2 ^ 64) (sym first.memory) first.image.few;
+  }
+
+  pub asked_kept : StartsKeepAsked → KeepsAsked o m es
+  asked_kept law = law o m es at_start
+
+  shows_first : IsDurableImage o.start → ShowsFirstHeap o lines
+  unfolding first_world
+  shows_first durable = record {
+    opens = first.image.opens;
+    nodes = first.image.opened.nodes;
+    shows = corresponds o lines m es first;
+    roots = (slots_of_roots o lines m es first).sized;
+    unlogged = first.image.unlogged;
+    size = first.image.size;
+    super = durable.super;
+    entries = durable.entries;
+    slots = durable.slots;
+    objects = durable.objects;
+    counts = durable.counts;
+  }
+
+  pub stops_kept : StartsKeepStops → OpenedImagesStart → KeepsStops o m es
+  stops_kept kept starts told =
+      kept o m es first.acts first.memory (λ t. ap is_fencing (all_idle t))
+      (starts o m es lines first.memory first.table.stands (shows_first (first.image.durable told))
+      (table_of_lines o lines m es first)) first.image.counts told

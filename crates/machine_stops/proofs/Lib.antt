@@ -1,0 +1,14 @@
+pub mod Acting
+pub mod Calling
+pub mod Converting
+pub mod Free
+pub mod Holding
+pub mod Moving
+pub mod Objects
+pub mod Opened
+pub mod Sealing
+pub mod Starting
+pub mod Stepping
+pub mod Storing
+pub mod Tables
+pub mod Waiting

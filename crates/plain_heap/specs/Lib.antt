@@ -1,0 +1,5 @@
+pub mod Shows
+pub mod Backs
+pub mod Sound
+pub mod Heaps
+pub mod Laws

@@ -1,0 +1,69 @@
+// The heap.
+ghost use Rattle.std.specs.Prelude.{◌≡◌, ◌↔◌, ◌≤◌, length, IsTrue};
+
+use convert_queue::Conversions;
+use line_image::Image;
+use machine_forms::Doing;
+use persist_space::PersistSpace;
+use run_history::Acts;
+use shared_objects::Rest;
+use std::marker::Model;
+use two_spaces::TwoSpaces;
+
+/// A heap of two spaces with what threads share beside it: the conversions that go on, the lines of
+/// the image that are left, monitors, classes and threads, what each thread is about, and the history.
+#[derive(Drop)]
+pub struct SharedHeap<I: Image> {
+    pub(crate) spaces: TwoSpaces<I>,
+    pub(crate) queue: Conversions,
+    pub(crate) lines: PersistSpace,
+    pub(crate) rest: Rest,
+    pub(crate) doing: Vec<Doing>,
+    pub(crate) acts: Acts,
+    /// how many objects are named for the next act that makes objects durable
+    pub(crate) named: u32,
+    /// how many acts the history may have
+    pub(crate) limit: u32,
+}
+
+impl<I: Image> Model for SharedHeap<I> {
+    ghost use Rattle.std.specs.Prelude.{◌≡◌, length};
+    ghost use Rattle.shared_heap.specs.Shared.{Shared};
+
+    ghost Value = { Shared };
+
+    ghost view = { λ h. record {
+      machine = record {
+        acts = h.acts.acts;
+        spaces = record {
+          twin = record {
+            space = h.spaces.heap.space;
+            memory = h.spaces.heap.memory;
+            marks = h.spaces.heap.marks;
+          };
+          shapes = h.spaces.shapes;
+          classes = h.spaces.classes.items;
+          numbers = h.spaces.numbers.items;
+          statics = h.spaces.statics.items;
+        };
+        queue = h.queue;
+        free = h.lines.free;
+        rest = h.rest;
+        doing = h.doing.items;
+      };
+      history = h.acts;
+      lines = h.lines.lines;
+      named = h.named;
+    } };
+
+    ghost invariant = { λ h. (length h.doing.items ≡ 64) × (h.limit ≡ h.acts.limit) };
+}
+
+impl<I: Image> SharedHeap<I> {
+    /// Whether the history has all the acts that it may have.
+    pub fn is_full(&self) -> bool
+        ensures full { IsTrue result ↔ (self.now.history.limit ≤ length self.now.history.acts) }
+    {
+        self.acts.len() >= self.limit
+    }
+}

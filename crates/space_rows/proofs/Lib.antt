@@ -1,0 +1,6 @@
+mod Asking
+mod Beginning
+mod Here
+mod Made
+mod Moving
+mod Stepping

@@ -1,0 +1,3 @@
+mod Holders
+mod Lines
+mod Machines
