@@ -1,0 +1,362 @@
+-- The fault of a step is that by which the event ends the plain run, and a step that does an operation met
+-- none; of a thread that owes no fence, where no region is open.
+use Rattle.std.proofs.Common.{◌≡◌, ℕ, ◌<◌, ◌≤◌, ◌&&◌, ◌||◌, Bool, true, false, not, List, [], ◌∷◌, length, map, replicate, nat_eq, nat_le, is_some, Option, Some, None, inl, inr, refl, ap, sym, subst, ◌∙◌, arith, if◌then◌else◌}
+use Rattle.std.specs.Prelude.{slice_get, slice_set}
+use Rattle.std.proofs.lemmas.Bool.Decides.{nat_tests}
+use Rattle.std.proofs.lemmas.List.{length-map}
+use Rattle.std.proofs.lemmas.Option.{slice_get_past}
+use Rattle.ap_base.specs.declared.place.Place.{Place}
+use Rattle.ap_base.specs.declared.reference.Ref.{Ref}
+use Rattle.ap_base.specs.declared.reference.Item.{Item}
+use Rattle.run_types.specs.declared.fault.RunFault.{RunFault}
+use Rattle.run_types.specs.declared.fault.RunFault.TheVariants as fault
+use Rattle.run_types.specs.declared.fault.Which.{Which}
+use Rattle.run_types.specs.declared.fault.Which.TheVariants as which
+use Rattle.run_types.specs.declared.wait.On.{On}
+use Rattle.graph_model.specs.declared.types.Root.{Root}
+use Rattle.graph_model.specs.declared.types.Value.{Value}
+use Rattle.natives.specs.declared.requests.Request.{Request}
+use Rattle.natives.specs.declared.requests.Reply.{Reply}
+use Rattle.natives.specs.declared.requests.Reply.TheVariants as reply
+use Rattle.run_history.specs.declared.act.PlainKey.{PlainKey}
+use Rattle.run_history.specs.declared.act.Op.{Op}
+use Rattle.run_history.specs.declared.act.Op.TheVariants as op
+use Rattle.run_history.specs.declared.plain.Monitor.{Monitor}
+use Rattle.run_history.specs.Recorded.{Recorded}
+use Rattle.run_history.specs.Worlds.{World, depth_of, entered, held, monitors_after_op}
+use Rattle.run_history.specs.Knowing.{Knowledge, durable_at, guard_of, owes_fence}
+use Rattle.plain_model.specs.Requests.{PlainRequest}
+use Rattle.plain_model.specs.Limits.{words_made, words_left, log_entries_left, monitors_left}
+use Rattle.plain_model.specs.Steps.{Step, Does, Waits, WrongOperand, IsOver, step}
+use Rattle.plain_model.specs.Codes.{asks_live, taken_by}
+use Rattle.plain_model.specs.Runs.{is_volatile}
+use Rattle.plain_model.specs.Duties.{IsFit}
+use Rattle.plain_model.specs.Ends.{full, full_unless, bad_code, all_wait, waits_from, waits_of, wait_at, wait_of, fault_of_op, fault_of_words, fault_of_enter, fault_of_store, fault_of_durable_store, Prints}
+use Rattle.shared_objects.specs.declared.rest.Rest.{Rest}
+use Rattle.shared_objects.specs.Shown.{Shown}
+use Rattle.shared_objects.specs.Plain.{plain_request, plain_reply}
+use Rattle.shared_objects.specs.Worlds.{plain_monitor, plain_thread, world_of}
+use Rattle.step_forms.specs.declared.stepped.Stepped.{Stepped}
+use Rattle.step_forms.specs.declared.stepped.Stepped.TheVariants as stepped
+use Rattle.step_forms.specs.Follows.{IsStep, IsFullOf, IsLimit, DoesPrint, TakesWords, words_of_step}
+use Rattle.run_forms.specs.Standing.{Launch, IsAsked, plain_code, known_at, frames_at}
+use Rattle.run_forms.specs.Ends.{IsEndedBy, IsNoFault, Ends, MeetsNoFault}
+use Rattle.run_forms.proofs.Visible.{is_outside, prints, step-silent, step-inside}
+use Rattle.machine_ends.proofs.Rooms.{requests as asked_after, fault_here, fault_so, has-room, paid-steps}
+use Rattle.machine_ends.proofs.Steps.{no-false, none-some, wrong-asks, printing, print-does, taken-one, none-from, none-left, entered-free}
+
+-- What the faults of thread t's steps depend on: no region is open and no place guarded, the thread owes no
+-- fence, heap and rest show the plain run's world, and what is left of the words is what the limits leave.
+pub record IsOutsideRegions (launch : Launch) (acts : List Recorded) (shown : Shown) (rest : Rest) (t : ℕ)
+    : Type 0 where
+  pub roots : List Root
+  pub world : (known_at launch acts).world ≡ world_of roots shown rest
+  pub words : words_left launch.limits launch.opening (known_at launch acts).world.heap ≡ shown.left
+  pub guards : (known_at launch acts).guards ≡ []
+  pub depth : depth_of (known_at launch acts).world t ≡ 0
+  pub paid : owes_fence (known_at launch acts).unfenced t ≡ false
+
+or-true : (b : Bool) → (b || true) ≡ true
+or-true true = refl
+or-true false = refl
+
+and-true : (b : Bool) → ((b || true) && true) ≡ true
+and-true true = refl
+and-true false = refl
+
+if-none : {X : Type 0} (b : Bool) (x : Option X) → x ≡ None → (if b then None else x) ≡ None
+if-none true x e = refl
+if-none false x e = e
+
+only-if : {X : Type 0} (b : Bool) (x : Option X) → x ≡ None → (if b then x else None) ≡ None
+only-if true x e = e
+only-if false x e = refl
+
+module _ (launch : Launch) (acts : List Recorded) (shown : Shown) (rest : Rest) (lines t : ℕ)
+    (q : Request Ref Item) (asked : IsAsked launch acts shown rest t q)
+    (here : IsOutsideRegions launch acts shown rest t) (room : length acts < launch.limits.acts) where
+  abbrev known : Knowledge
+  known = known_at launch acts
+
+  abbrev requests : ℕ → Option PlainRequest
+  requests = asked_after launch acts lines t
+
+  abbrev pq : PlainRequest
+  pq = plain_request shown.number q
+
+  abbrev fault_now : Option RunFault
+  fault_now = fault_here launch acts lines t
+
+  abbrev fault_by : Step → Option RunFault
+  fault_by s = fault_so launch acts lines t pq s
+
+  abbrev world : World
+  world = world_of here.roots shown rest
+
+  -- what is fit doesn't depend on the durable roots
+  fit-shown : IsFit launch.set world t pq
+  fit-shown = asked.fit
+
+  step-here : step launch.set known.world t 1 pq ≡ step launch.set world t 1 pq
+  step-here = ap (λ w. step launch.set w t 1 pq) here.world
+
+  tells-of : (s : Step) → step launch.set world t 1 pq ≡ s → fault_now ≡ fault_by s
+  tells-of s e = paid-steps launch acts lines t room pq asked.plain here.paid ∙ ap fault_by (step-here ∙ e)
+
+  comes : (f : RunFault) → is_outside f ≡ false → fault_now ≡ Some f → IsEndedBy launch lines acts t f
+  comes (fault.BadCode from) inside e = inl e
+  comes (fault.RegionRace u v place) inside e = inl e
+  comes (fault.Full it) inside e = inl e
+  comes fault.SinkFault inside e = no-false inside
+  comes fault.ImageFault inside e = no-false inside
+  comes (fault.Stuck waits) inside e = inl e
+  comes (fault.LinkFault kind class index) inside e = inl e
+
+  -- ---- limits
+
+  unless-fewer : (w : Which) (need there : ℕ) → there < need
+      → full_unless w need there ≡ Some (full w need there)
+  unless-fewer w need there short =
+      let so : nat_le need there ≡ false = grind (arith, nat_tests) in
+      ap (λ b. if b then None else Some (full w need there)) so
+
+  words-fault : (o : Op) (need : ℕ) → words_made known.world.heap o ≡ Some need
+      → fault_of_op launch.set launch.opening launch.limits known t o
+      ≡ fault_of_words launch.set launch.opening launch.limits known (Some need)
+  words-fault (op.Stored place v) need e = none-some need e
+  words-fault (op.Enter key) need e = none-some need e
+  words-fault o need e = ap (fault_of_words launch.set launch.opening launch.limits known) e
+
+  full-words : (s : Step) → step launch.set world t 1 pq ≡ s → (need there : ℕ)
+      → words_of_step world.heap s ≡ Some need → there ≡ shown.left → shown.left < need
+      → fault_now ≡ Some (full which.VolatileWords need there)
+  full-words (Does o r) e need there made is_left short =
+      tells-of (Does o r) e
+      ∙ words-fault o need (ap (λ (w : World). words_made w.heap o) here.world ∙ made)
+      ∙ ap (full_unless which.VolatileWords need) here.words
+      ∙ unless-fewer which.VolatileWords need shown.left short
+      ∙ ap (λ n. Some (full which.VolatileWords need n)) (sym is_left)
+  full-words (Waits on) e need there made is_left short = none-some need made
+  full-words WrongOperand e need there made is_left short = none-some need made
+  full-words (IsOver f) e need there made is_left short = none-some need made
+
+  full-of : (w : Which) (need there : ℕ)
+      → IsFullOf world shown.left (step launch.set world t 1 pq)
+      (record { which = w; need = need; left = there }) w
+      → fault_now ≡ Some (full w need there)
+  full-of which.VolatileWords need there h =
+      full-words (step launch.set world t 1 pq) refl need there h.need h.left h.short
+  full-of which.Monitors need there h =
+      let (k, does, free) = h.takes in
+      tells-of (Does (op.Enter k) _) does
+      ∙ ap (λ (w : World). fault_of_enter launch.set launch.opening launch.limits known
+      (held w.monitors k)) here.world
+      ∙ ap (fault_of_enter launch.set launch.opening launch.limits known) free
+      ∙ ap (λ (w : World). full_unless which.Monitors 1 (monitors_left w.monitors)) here.world
+      ∙ unless-fewer which.Monitors 1 (monitors_left world.monitors)
+      (omega (arith, h.short, h.need, h.left))
+      ∙ (λ i. Some (full which.Monitors (sym h.need i) (sym h.left i)))
+  full-of which.ImageLines need there h = absurd h
+  full-of which.LogEntries need there h = absurd h
+  full-of which.Threads need there h = absurd h
+  full-of which.FrameSlots need there h = absurd h
+  full-of which.Acts need there h = absurd h
+  full-of which.DirectoryWords need there h = absurd h
+  full-of which.Roots need there h = absurd h
+  full-of which.Files need there h = absurd h
+  full-of which.FileBytes need there h = absurd h
+
+  -- only a print prints
+  prints-it : (s : Step) → step launch.set world t 1 pq ≡ s → DoesPrint s → prints pq ≡ true
+  prints-it (Does (op.Print bytes) r) e is_print_step = by-test (prints pq) refl
+    where
+      by-test : (b : Bool) → prints pq ≡ b → b ≡ true
+      by-test true p = refl
+      by-test false p =
+          absurd (let no : true ≡ false =
+          (step-silent launch.set world t 1 pq (op.Print bytes) r fit-shown p e).1 in cc)
+  prints-it (Waits on) e h = absurd h
+  prints-it WrongOperand e h = absurd h
+  prints-it (IsOver f) e h = absurd h
+  prints-it (Does o r) e h = absurd h
+
+  print-faultless : (s : Step) → DoesPrint s → fault_by s ≡ None
+  print-faultless (Does (op.Print bytes) r) h = refl
+  print-faultless (Waits on) h = absurd h
+  print-faultless WrongOperand h = absurd h
+  print-faultless (IsOver f) h = absurd h
+  print-faultless (Does o r) h = absurd h
+
+  limit-comes : (f : RunFault) → IsLimit world shown.left (step launch.set world t 1 pq) f
+      → IsEndedBy launch lines acts t f
+  limit-comes (fault.Full it) h = inl (full-of it.which it.need it.left h)
+  limit-comes fault.SinkFault h = (
+    subst Prints (sym asked.plain) (printing pq (prints-it (step launch.set world t 1 pq) refl h)),
+    tells-of (step launch.set world t 1 pq) refl ∙ print-faultless (step launch.set world t 1 pq) h,
+    here.paid,
+  )
+  limit-comes (fault.BadCode from) h = absurd h
+  limit-comes (fault.RegionRace u v place) h = absurd h
+  limit-comes fault.ImageFault h = absurd h
+  limit-comes (fault.Stuck waits) h = absurd h
+  limit-comes (fault.LinkFault kind class index) h = absurd h
+
+  -- ---- waiting
+
+  abbrev waits : ℕ → Option On
+  waits = waits_of launch.set known requests
+
+  waits-none : length rest.threads ≡ 1 → (u : ℕ) → 1 ≤ u → waits u ≡ None
+  waits-none one u more =
+      let past : slice_get known.world.threads u ≡ None =
+      ap (λ (w : World). slice_get w.threads u) here.world
+      ∙ slice_get_past (map plain_thread rest.threads) u
+      (omega (arith, one, more, length-map rest.threads plain_thread)) in
+      let silent : requests u ≡ None =
+      ap (λ thread. asks_live launch.set launch.main launch.opening (plain_code launch) thread
+      (slice_get (frames_at launch acts) u)) past in
+      if-none (owes_fence known.unfenced u) _
+      (ap (wait_at launch.set known.world u) silent)
+
+  waits-here : (on : On) → step launch.set world t 1 pq ≡ Waits on → waits t ≡ Some on
+  waits-here on e =
+      ap (λ b. if b then None
+      else wait_at launch.set known.world t (requests t)) here.paid
+      ∙ ap (wait_at launch.set known.world t) asked.plain
+      ∙ ap wait_of (step-here ∙ e)
+
+  stuck-so : (on : On) → step launch.set world t 1 pq ≡ Waits on → length rest.threads ≡ 1 → t ≡ 0
+      → fault_by (Waits on) ≡ Some (fault.Stuck (slice_set (replicate 64 None) 0 (Some on)))
+  stuck-so on e one first =
+      let count : length known.world.threads ≡ 1 =
+      ap (λ (w : World). length w.threads) here.world
+      ∙ length-map rest.threads plain_thread ∙ one in
+      let own : waits 0 ≡ Some on = subst (λ u. waits u ≡ Some on) first (waits-here on e) in
+      let others : waits_from waits 1 63 ≡ replicate 63 None = none-from waits 63 1 (waits-none one) in
+      ap (λ n. if all_wait requests waits n then Some (fault.Stuck (waits_from waits 0 64))
+      else None) count
+      ∙ ap (λ (w : Option On). if (not (is_some (requests 0)) || is_some w) && true
+      then Some (fault.Stuck (waits_from waits 0 64)) else None) own
+      ∙ ap (λ b. if b then Some (fault.Stuck (waits_from waits 0 64)) else None)
+      (and-true (not (is_some (requests 0))))
+      ∙ (λ i. Some (fault.Stuck (own i ∷ others i)))
+
+  -- ---- steps
+
+  pub step-ends : (result : Stepped) (now : Shown) (rest_now : Rest)
+      → IsStep launch.set t q shown rest result now rest_now
+      → Ends launch lines acts rest t q result
+  step-ends (stepped.Did o r) now rest_now steps = tt
+  step-ends stepped.Wrong now rest_now steps =
+      let wrong = (steps.follows here.roots).0 1 in
+      let (from, own, seen) = wrong-asks launch.set world t _ _ q wrong in
+      (from, own, comes (fault.BadCode from) refl (tells-of WrongOperand wrong ∙ ap bad_code seen))
+  step-ends (stepped.Over f) now rest_now steps =
+      elim (steps.follows here.roots).0 [
+        | inl limit ↦ limit-comes f limit
+        | inr over ↦
+            comes f (step-inside launch.set world t 1 pq f fit-shown (over 1)) (tells-of (IsOver f) (over 1))
+      ]
+  step-ends (stepped.Waits on) now rest_now steps = λ one first.
+      inl (tells-of (Waits on) ((steps.follows here.roots).0 1)
+      ∙ stuck-so on ((steps.follows here.roots).0 1) one first)
+
+  -- ---- no fault
+
+  -- no place is guarded, and no region to be logged
+  store-met : (place : Place) (value : Value)
+      → fault_of_store launch.set launch.opening launch.limits known t place value ≡ None
+  store-met place value =
+      only-if (durable_at known place) _
+      (ap (λ gs. fault_of_durable_store launch.set launch.opening launch.limits known t place
+      value (guard_of gs place)) here.guards
+      ∙ ap (λ depth. if is_volatile known.durable value || nat_eq depth 0 then None
+      else full_unless which.LogEntries 1 (log_entries_left known.guards t)) here.depth
+      ∙ ap (λ b. if b then None else full_unless which.LogEntries 1 (log_entries_left known.guards t))
+      (or-true (is_volatile known.durable value)))
+
+  -- however many monitors are held
+  pub store-meets-none : (place : Place) (value : Value)
+      → step launch.set world t 1 pq ≡ Does (op.Stored place value) reply.Done → (monitors : ℕ)
+      → MeetsNoFault launch lines acts t monitors
+  store-meets-none place value does monitors = (
+    has-room launch acts lines t room,
+    inl (tells-of (Does (op.Stored place value) reply.Done) does ∙ store-met place value),
+  )
+
+  enough : (w : Which) (need there : ℕ) → need ≤ there → full_unless w need there ≡ None
+  enough w need there fit =
+      let so : nat_le need there ≡ true = grind (arith, nat_tests) in
+      ap (λ b. if b then None else Some (full w need there)) so
+
+  words-none : (made : Option ℕ) (left_now : ℕ) → TakesWords made shown.left left_now
+      → fault_of_words launch.set launch.opening launch.limits known made ≡ None
+  words-none None left_now takes = refl
+  words-none (Some need) left_now takes =
+      ap (full_unless which.VolatileWords need) here.words
+      ∙ enough which.VolatileWords need shown.left takes.0
+
+  enter-free : (key : PlainKey) → held world.monitors key ≡ None → (b : Bool)
+      → nat_le 1 (monitors_left world.monitors) ≡ b
+      → IsNoFault (full_unless which.Monitors 1 (monitors_left world.monitors))
+      (length (entered world.monitors key t))
+  enter-free key e true is =
+      inl (ap (λ b. if b then None else Some (full which.Monitors 1 (monitors_left world.monitors))) is)
+  enter-free key e false is =
+      let none : monitors_left world.monitors ≡ 0 = none-left (monitors_left world.monitors) is in
+      inr (
+        ap (λ b. if b then None else Some (full which.Monitors 1 (monitors_left world.monitors))) is
+            ∙ ap (λ n. Some (full which.Monitors 1 n)) none,
+        omega (arith, none, entered-free world.monitors key t e),
+      )
+
+  enter-met : (key : PlainKey) (m : Option Monitor) → held world.monitors key ≡ m
+      → IsNoFault (fault_of_enter launch.set launch.opening launch.limits known m)
+      (length (entered world.monitors key t))
+  enter-met key (Some m) e = inl refl
+  enter-met key None e =
+      subst (λ (w : World). IsNoFault (full_unless which.Monitors 1 (monitors_left w.monitors))
+      (length (entered world.monitors key t))) (sym here.world)
+      (enter-free key e (nat_le 1 (monitors_left world.monitors)) refl)
+
+  op-met : (o : Op) (left_now : ℕ) → TakesWords (words_made world.heap o) shown.left left_now
+      → IsNoFault (fault_of_op launch.set launch.opening launch.limits known t o)
+      (length (monitors_after_op world.monitors t o))
+  op-met (op.Stored place value) left_now takes = inl (store-met place value)
+  op-met (op.Enter key) left_now takes =
+      subst (λ (w : World). IsNoFault
+      (fault_of_enter launch.set launch.opening launch.limits known (held w.monitors key))
+      (length (entered world.monitors key t))) (sym here.world)
+      (enter-met key (held world.monitors key) refl)
+  op-met o left_now takes =
+      inl (ap (λ (w : World). fault_of_words launch.set launch.opening launch.limits known
+      (words_made w.heap o)) here.world
+      ∙ words-none (words_made world.heap o) left_now takes)
+
+  module _ (o : Op) (r : Reply Ref Item) (now : Shown) (rest_now : Rest)
+      (steps : IsStep launch.set t q shown rest (stepped.Did o r) now rest_now) where
+    does : step launch.set world t (taken_by o) pq ≡ Does o (plain_reply now.number r)
+    does = (steps.follows here.roots).0
+
+    count : length (monitors_after_op world.monitors t o) ≡ length rest_now.monitors
+    count =
+        let same = ap (λ (w : World). length w.monitors) (steps.follows here.roots).2 in
+        let own = length-map rest_now.monitors (plain_monitor now.number) in
+        omega (arith, same, own)
+
+    no-fault : (b : Bool) → prints pq ≡ b → IsNoFault fault_now (length rest_now.monitors)
+    no-fault true is =
+        inl (tells-of (step launch.set world t 1 pq) refl ∙ print-faultless (step launch.set world t 1 pq)
+        (print-does launch.set world t (taken_by o) pq o (plain_reply now.number r) is does))
+    no-fault false is =
+        let one : taken_by o ≡ 1 = taken-one o (step-silent launch.set world t (taken_by o) pq o
+        (plain_reply now.number r) fit-shown is does).1 in
+        let so : fault_now ≡ fault_of_op launch.set launch.opening launch.limits known t o =
+        tells-of (Does o (plain_reply now.number r)) (subst (λ n. step launch.set world t n pq
+        ≡ Does o (plain_reply now.number r)) one does) in
+        subst (λ met. IsNoFault met (length rest_now.monitors)) (sym so)
+        (subst (IsNoFault (fault_of_op launch.set launch.opening launch.limits known t o)) count
+        (op-met o now.left steps.words))
+
+    pub step-meets-none : MeetsNoFault launch lines acts t (length rest_now.monitors)
+    step-meets-none = (has-room launch acts lines t room, no-fault (prints pq) refl)

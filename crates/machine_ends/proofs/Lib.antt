@@ -1,0 +1,6 @@
+pub mod Ending
+pub mod Faults
+pub mod Finishing
+pub mod Living
+pub mod Rooms
+pub mod Steps

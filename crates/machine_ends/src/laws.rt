@@ -1,0 +1,27 @@
+// How events end a run, which acts met no fault, and how a run finishes.
+ghost use Rattle.machine_ends.specs.Laws.{FencesMeetNoFault, FullHistoriesEnd, ImageFaultsEnd, RunsFinish, SingleThreadsFinish, StepsEnd, StepsMeetNoFault, StoresMeetNoFault};
+
+/// What a step finds wrong, lacks or waits for is the fault by which the event ends the plain run; a full
+/// history ends it before all else, and the image may fail while it isn't full.
+pub fn machines_end_by_their_faults()
+    ensures full { FullHistoriesEnd }
+    ensures steps { StepsEnd }
+    ensures image { ImageFaultsEnd }
+{
+    machine_runs::machines_ask_as_plain_runs();
+}
+
+/// While there is room for an act, an event meets no fault whose act is of a step, of a store or a fence.
+pub fn acts_meet_no_fault()
+    ensures steps { StepsMeetNoFault }
+    ensures fences { FencesMeetNoFault }
+    ensures stores { StoresMeetNoFault }
+{
+    machine_runs::machines_ask_as_plain_runs();
+}
+
+/// Where all threads have ended, so has the run: by a throwable that ended one, or normally.
+pub fn machines_finish_with_their_threads()
+    ensures all { RunsFinish }
+    ensures single { SingleThreadsFinish }
+{}

@@ -1,0 +1,10 @@
+pub mod Alike
+pub mod Events
+pub mod Lists
+pub mod Measure
+pub mod Noted
+pub mod Refused
+pub mod Taken
+pub mod Telling
+pub mod Unwritten
+pub mod Working

@@ -1,0 +1,4 @@
+pub mod Laws
+pub mod Lines
+pub mod Unwritten
+pub mod Work

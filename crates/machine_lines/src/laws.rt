@@ -1,0 +1,65 @@
+// Which lines the objects of a run take, what a refusal comes to, and by how much events lower the work
+// that is left.
+ghost use Rattle.machine_lines.specs.Laws.{ActsKeepLines, AskedKeepLines, BeginningsKeepLines, CallsKeepLines, ConversionsKeepLines, DurableStoresKeepLines, FailuresKeepLines, FencesKeepLines, LinesAreThoseOfObjects, RefusalsEndTheRun, RefusedBeginningsFillTheImage, RefusedStepsFillTheImage, SealsKeepLines, StartsTakeNoLines, WritesKeepLines};
+ghost use Rattle.machine_lines.specs.Unwritten.{ActsLeaveUnwritten, AskedLeavesUnwritten, BeginningsLeaveUnwritten, CallsLeaveUnwritten, ConversionsLeaveUnwritten, DurableStoresLeaveUnwritten, FailuresLeaveUnwritten, FencesLeaveUnwritten, SealsLeaveUnwritten, StartsHaveUnwritten, WritesLeaveUnwritten};
+ghost use Rattle.machine_lines.specs.Work.{ActsAddTwo, ActsAddTwoToTheMeasure, AskedAddsNone, BeginningsAddLines, CallsLeaveWork, ConversionsTakeWork, DurableStoresAddTwo, FencesTakeOne, QuietEventsLowerTheMeasure, SealsAddNone, WritesTakeOne};
+
+/// At the start no object of the run has lines. Each event leaves that they took the lines from the first
+/// free one on; each has as many as the plain heap's object takes.
+pub fn events_keep_lines()
+    ensures objects { LinesAreThoseOfObjects }
+    ensures starts { StartsTakeNoLines }
+    ensures calls { CallsKeepLines }
+    ensures writes { WritesKeepLines }
+    ensures fences { FencesKeepLines }
+    ensures steps { ConversionsKeepLines }
+    ensures failed { FailuresKeepLines }
+    ensures begins { BeginningsKeepLines }
+    ensures seals { SealsKeepLines }
+    ensures asked { AskedKeepLines }
+    ensures beside { ActsKeepLines }
+    ensures durable { DurableStoresKeepLines }
+{}
+
+/// A claim that is refused for want of lines fills the image by the acts, and so ends the run where they
+/// tell of no fault.
+pub fn refusals_fill_the_image()
+    ensures steps { RefusedStepsFillTheImage }
+    ensures begins { RefusedBeginningsFillTheImage }
+    ensures ends { RefusalsEndTheRun }
+{}
+
+/// Until its flush a thread writes none of its lines back, whatever the machine does.
+pub fn lines_stay_unwritten()
+    ensures starts { StartsHaveUnwritten }
+    ensures calls { CallsLeaveUnwritten }
+    ensures writes { WritesLeaveUnwritten }
+    ensures fences { FencesLeaveUnwritten }
+    ensures steps { ConversionsLeaveUnwritten }
+    ensures failed { FailuresLeaveUnwritten }
+    ensures begins { BeginningsLeaveUnwritten }
+    ensures seals { SealsLeaveUnwritten }
+    ensures asked { AskedLeavesUnwritten }
+    ensures beside { ActsLeaveUnwritten }
+    ensures durable { DurableStoresLeaveUnwritten }
+{}
+
+/// Quiet events take one at least of the work that is left, a claim adds sixteen at most for each line
+/// that it takes, and an act two at most.
+pub fn events_take_work()
+    ensures calls { CallsLeaveWork }
+    ensures writes { WritesTakeOne }
+    ensures fences { FencesTakeOne }
+    ensures steps { ConversionsTakeWork }
+    ensures begins { BeginningsAddLines }
+    ensures seals { SealsAddNone }
+    ensures asked { AskedAddsNone }
+    ensures beside { ActsAddTwo }
+    ensures durable { DurableStoresAddTwo }
+{}
+
+/// With seventeen for each line that is left, each quiet event and each claim lowers the measure.
+pub fn quiet_events_lower_the_measure()
+    ensures quiet { QuietEventsLowerTheMeasure }
+    ensures acts { ActsAddTwoToTheMeasure }
+{}
