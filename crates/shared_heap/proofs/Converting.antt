@@ -35,7 +35,7 @@ use Rattle.machine_forms.specs.declared.doing.Doing.TheVariants.{Converting}
 use Rattle.machine_forms.specs.Machines.{Machine, memory_of, scene_of, doing_of}
 use Rattle.machine_forms.specs.Events.{Converted, ConvertsOn, IsNoSeal, NamesSet, StaysSound, with_joined}
 use Rattle.shared_heap.specs.Shared.{Shared}
-use Rattle.shared_heap.specs.Conversions.{NamesClaimed, ConvertsAlone, BeginsOnce, BeginsTo, NamesOne, IsLast, NamesNext, GoesOnce, GoesTo, JoinsOnce, FailsTo, with_name}
+use Rattle.shared_heap.specs.Conversions.{NamesClaimed, ConvertsAlone, BeginsOnce, BeginsTo, NamesOne, IsLast, NamesNext, GoesOnce, GoesTo, JoinsOnce, FailsTo, MovesOn, with_name}
 use Rattle.shared_heap.specs.declared.conversions.Conversion.{Conversion}
 use Rattle.shared_heap.proofs.Calling.{Told}
 use Rattle.shared_heap.proofs.Claimed.{SameObjects, names_still, claimed_own, names_more, stands_last}
@@ -173,6 +173,14 @@ leaves_queues step.Fenced no_claim no_set = tt
 leaves_queues step.Touched no_claim no_set = tt
 leaves_queues (step.Wait u) no_claim no_set = tt
 leaves_queues (step.Full need left) no_claim no_set = tt
+
+pub moves_on : (answer : ConvertStep) → ((set : ℕ) → answer ≡ step.Sealed set → ⊥)
+    → ((u : ℕ) → answer ≡ step.Wait u → ⊥)
+    → ((need left : ℕ) → answer ≡ step.Full need left → ⊥) → MovesOn answer
+moves_on (step.Sealed set) no_set no_wait no_full = no_set set refl
+moves_on (step.Wait u) no_set no_wait no_full = no_wait u refl
+moves_on (step.Full need left) no_set no_wait no_full = no_full need left refl
+moves_on answer no_set no_wait no_full = tt
 
 no_seal : (answer : ConvertStep) → LeavesQueues answer → IsNoSeal answer
 no_seal step.Claimed other = tt

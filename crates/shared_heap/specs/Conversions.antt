@@ -104,8 +104,15 @@ pub record JoinsOnce (t : ℕ) (old new : Shared) (es : List Entry) : Type 0 whe
   })
   pub alone : ConvertsAlone t new seals.converts.event.after
 
+-- neither a seal, nor a wait, nor a refusal
+abbrev pub MovesOn : ConvertStep → Type 0
+MovesOn (step.Sealed set) = ⊥
+MovesOn (step.Wait u) = ⊥
+MovesOn (step.Full need left) = ⊥
+MovesOn answer = Unit {0}
+
 abbrev pub GoesTo : ℕ → Conversion → Shared → Shared → List Entry → Type 0
-GoesTo t did.Went old new es = (answer : ConvertStep) × GoesOnce t answer old new es
+GoesTo t did.Went old new es = (answer : ConvertStep) × MovesOn answer × GoesOnce t answer old new es
 GoesTo t did.Joined old new es = JoinsOnce t old new es
 GoesTo t (did.Waits u) old new es = GoesOnce t (step.Wait u) old new es
 GoesTo t (did.Full need left) old new es = GoesOnce t (step.Full need left) old new es

@@ -1,2 +1,6 @@
 pub mod Conversions
+pub mod First
+pub mod Laws
+pub mod Plans
+pub mod Requests
 pub mod Shared

@@ -60,9 +60,10 @@ impl<I: Image> Model for SharedHeap<I> {
 }
 
 impl<I: Image> SharedHeap<I> {
-    /// Whether the history has all the acts that it may have.
+    /// Whether the history has all the acts that it may have. The acts of the machine are its acts.
     pub fn is_full(&self) -> bool
         ensures full { IsTrue result ↔ (self.now.history.limit ≤ length self.now.history.acts) }
+        ensures same { self.now.machine.acts ≡ self.now.history.acts }
     {
         self.acts.len() >= self.limit
     }

@@ -5,6 +5,13 @@
 mod calls;
 mod conversions;
 mod heap;
+mod laws;
+mod making;
+mod planning;
+mod requests;
+mod telling;
 
 pub use conversions::Conversion;
 pub use heap::SharedHeap;
+pub use laws::steps_add_acts_that_name_nothing;
+pub use requests::Plan;

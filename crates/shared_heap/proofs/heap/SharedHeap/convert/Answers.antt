@@ -4,7 +4,7 @@ use Rattle.convert_words.specs.declared.step.ConvertStep.TheVariants as step
 use Rattle.shared_heap.specs.declared.conversions.Conversion.TheVariants as did
 use Rattle.shared_heap.specs.Shared.{Shared}
 use Rattle.shared_heap.proofs.Calling.{on_err}
-use Rattle.shared_heap.proofs.Converting.{under_way, stepped_as, leaves_queues, goes_once, claims_once, last_of, named_machine, joins_next, fails_to, goes_all, fails_all, cause_of, cause_same}
+use Rattle.shared_heap.proofs.Converting.{under_way, stepped_as, leaves_queues, moves_on, goes_once, claims_once, last_of, named_machine, joins_next, fails_to, goes_all, fails_all, cause_of, cause_same}
 use Rattle.shared_heap.proofs.heap.SharedHeap.convert.Goals as goal
 
 pub returns-in_err-step-clause-failed : goal.returns-in_err-step-clause-failed
@@ -43,6 +43,7 @@ returns-in-Claimed-clause-converts g c = goes_all c.args.t did.Went _ c.args.sel
     c.self.view_is
     (λ es u. (
       step.Claimed,
+      tt,
       claims_once c.args.t c.in_ok-step.step _ _ c.name_claimed.new.self es c.in-Claimed.is
           c.name_claimed.ensures.names u record {
             event = c.in_ok-step.ensures.converts es u.alone.agrees;
@@ -141,6 +142,7 @@ returns-in_default g c = record {
   converts = goes_all c.args.t did.Went _ c.args.self.now _ c.self.view_is
       (λ es u. (
         c.in_ok-step.step,
+        moves_on c.in_ok-step.step c.in_default.not-Sealed c.in_default.not-Wait c.in_default.not-Full,
         goes_once c.args.t c.in_ok-step.step _ _ es
             (leaves_queues c.in_ok-step.step c.in_default.not-Claimed c.in_default.not-Sealed) u record {
               event = c.in_ok-step.ensures.converts es u.alone.agrees;
