@@ -1,0 +1,6 @@
+mod Going
+mod Raising
+mod Running
+mod Telling
+mod Throwing
+mod Thrown

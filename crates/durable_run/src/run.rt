@@ -1,0 +1,18 @@
+// What a run changes.
+use ap_base::{Ref, Sink};
+use line_image::Image;
+use natives::NativeState;
+use private_steps::Frames;
+use run_history::Watcher;
+use shared_heap::SharedHeap;
+
+/// What a run changes: the frames of its thread, the heap with its history, the outside, and how
+/// many turns the thread has had.
+#[derive(Drop)]
+pub struct Run<I: Image, S: Sink, W: Watcher> {
+    pub frames: Frames<Ref, NativeState>,
+    pub heap: SharedHeap<I>,
+    pub sink: S,
+    pub watcher: W,
+    pub turns: u64,
+}

@@ -1,0 +1,144 @@
+-- The plan of a request, and its step.
+use Rattle.std.proofs.Common.{◌≡◌, ℕ, ◌-◌, ◌<◌, ◌≤◌, ◌^◌, List, [], ◌∷◌, ◌++◌, length, Option, Some, None, refl, sym, ap, subst, arith}
+use Rattle.std.specs.Prelude.{IsSome}
+use Rattle.ap_base.specs.declared.reference.Ref.{Ref}
+use Rattle.ap_base.specs.declared.reference.Item.{Item}
+use Rattle.run_types.specs.declared.fault.Which.TheVariants as which
+use Rattle.natives.specs.declared.requests.Request.{Request}
+use Rattle.run_history.specs.Recorded.{Recorded}
+use Rattle.plain_model.specs.Facts.{SetFacts}
+use Rattle.plain_model.specs.Ends.{full}
+use Rattle.step_forms.specs.declared.stepped.Stepped.{Stepped}
+use Rattle.step_forms.specs.Becomes.{IsNoStore, given}
+use Rattle.step_forms.specs.Follows.{Agrees}
+use Rattle.shared_steps.specs.Output.{FaultsGo, OutputGoes, SharesGo}
+use Rattle.run_forms.specs.Views.{ThreadFrames}
+use Rattle.twin_forms.specs.Table.{Entry}
+use Rattle.machine_forms.specs.Machines.{Opening, doing_of, memory_of, shown_in}
+use Rattle.machine_runs.specs.Frames.{IsReady}
+use Rattle.object_steps.specs.declared.storing.Store.{Store}
+use Rattle.shared_heap.specs.Shared.{Shared}
+use Rattle.shared_heap.specs.Requests.{IsPlannedFor, MayAsk, StepsTo}
+use Rattle.machine.specs.declared.events.Event.{Event}
+use Rattle.machine.specs.Ended.{HasPlanned, HasSomePlanned, StoreComesTo, event_of}
+use Rattle.machine.specs.Events.{Comes, HasSinkCause, IsOver, IsShare, TakesOutput}
+use Rattle.machine.specs.Laws.{Laws}
+use Rattle.machine.specs.Running.{IsDue}
+use Rattle.machine.proofs.Given.{agrees-now, may-ask}
+use Rattle.machine.proofs.Leaving.{lives}
+use Rattle.machine.proofs.Printing.{spares-cause, spares-output, spares-share}
+use Rattle.machine.proofs.Stepping.{stepped-cause, stepped-comes, stepped-share, stepped-told}
+
+-- an event is due of some run of this set, for this request
+abbrev pub IsDueFor : SetFacts → Shared → Request Ref Item → Type 0
+IsDueFor set s request = (o : Opening) × (first : ℕ) × (es : List Entry) × (fs : ThreadFrames)
+    × IsDue o first set s es fs request
+
+pub some-of : {X : Type 0} (o : Option X) → (o ≡ None → ⊥) → IsSome o
+some-of None none = absurd (none refl)
+some-of (Some x) none = refl
+
+module _ (laws : Laws) (set : SetFacts) (s : Shared) (request : Request Ref Item)
+    (ready : IsReady (doing_of s.machine 0)) where
+  -- ---- what is given
+
+  pub agrees-at : (now : Shared) → now ≡ s → IsDueFor set s request → (count : ℕ) → count < 4294967296
+      → count ≡ length s.history.acts → Agrees set (shown_in now.machine) now.machine.rest
+  agrees-at now same (o, first, es, fs, due) count few is =
+      subst (λ (x : Shared). Agrees set (shown_in x.machine) x.machine.rest) (sym same)
+      (agrees-now laws o first set s es fs request due (subst (λ n. n < 2 ^ 32) is few))
+
+  pub may-at : (now : Shared) → now ≡ s → (t : ℕ) → t ≡ 0 → IsDueFor set s request
+      → MayAsk set now.machine t request
+  may-at now same t zero (o, first, es, fs, due) =
+      subst (λ (x : Shared). MayAsk set x.machine t request) (sym same)
+      (subst (λ u. MayAsk set s.machine u request) (sym zero)
+      (may-ask laws o first set s es fs request due ready))
+
+  -- ---- a store
+
+  module _ (now : Shared) (store : Store) (t : ℕ) (zero : t ≡ 0) (same : now ≡ s)
+      (planned : IsPlannedFor set t request store s) (gives : given request ≡ None → ⊥) where
+    has-planned : (o : Opening) (first : ℕ) (es : List Entry) (fs : ThreadFrames)
+        → IsDue o first set s es fs request → HasPlanned o first set now es fs request store
+    has-planned o first es fs due =
+        subst (λ (x : Shared). HasPlanned o first set x es fs request store) (sym same) (record {
+          due = due;
+          ready = ready;
+          planned = subst (λ u. IsPlannedFor set u request store s) zero planned;
+          gives = some-of (given request) gives;
+        })
+
+    pub some-planned : IsDueFor set s request → HasSomePlanned now store
+    some-planned (o, first, es, fs, due) = (o, first, set, es, fs, request, has-planned o first es fs due)
+
+    module _ (new : Shared) (result : Event) (x : StoreComesTo store result now new) where
+      from-start : StoreComesTo store result s new
+      from-start = subst (λ (y : Shared). StoreComesTo store result y new) same x
+
+      pub store-comes : (o : Opening) (first : ℕ) (es : List Entry) (fs : ThreadFrames)
+          → IsDue o first set s es fs request → Comes o first fs request result s new
+      store-comes o first es fs due = from-start.comes o first set es fs request
+          (subst (λ (y : Shared). HasPlanned o first set y es fs request store) same
+          (has-planned o first es fs due))
+
+      pub store-told : (takes : Option (List ℕ)) → TakesOutput s.history.acts new.history.acts takes takes
+      store-told takes = spares-output result s.history.acts new.history.acts takes from-start.sink
+
+      pub store-share : (takes : ℕ → Option ℕ) (act : Recorded)
+          → new.history.acts ≡ s.history.acts ++ act ∷ [] → IsShare request takes act.act.op
+      store-share takes = spares-share result s.history.acts new.history.acts request takes from-start.sink
+
+      pub store-cause : (faults : ℕ) → HasSinkCause result faults faults
+      store-cause faults = spares-cause result faults from-start.sink.fault
+
+  -- ---- a step
+
+  module _ (room : length s.history.acts < s.history.limit) (now new : Shared) (result : Stepped) (t : ℕ)
+      (zero : t ≡ 0) (same : now ≡ s) (x : StepsTo set t request result now new) (none : IsNoStore result)
+      (event : Event) (is_event : event ≡ event_of request result) where
+    steps : StepsTo set 0 request result s new
+    steps = subst (λ (y : Shared). StepsTo set 0 request result y new) same
+        (subst (λ u. StepsTo set u request result now new) zero x)
+
+    pub step-comes : (o : Opening) (first : ℕ) (es : List Entry) (fs : ThreadFrames)
+        → IsDue o first set s es fs request → Comes o first fs request event s new
+    step-comes o first es fs due = subst (λ e. Comes o first fs request e s new) (sym is_event)
+        (stepped-comes laws o first set s es fs request due room ready new result steps none)
+
+    pub step-told : IsDueFor set s request → (takes takes' : Option (List ℕ))
+        → OutputGoes request takes result takes' → TakesOutput s.history.acts new.history.acts takes takes'
+    step-told (o, first, es, fs, due) takes takes' put =
+        stepped-told laws o first set s es fs request due room ready new result steps none takes takes' put
+
+    pub step-share : IsDueFor set s request → (takes : ℕ → Option ℕ) → SharesGo request takes result
+        → (act : Recorded) → new.history.acts ≡ s.history.acts ++ act ∷ [] → IsShare request takes act.act.op
+    step-share (o, first, es, fs, due) takes share act is =
+        stepped-share laws o first set s es fs request due room ready new result steps none takes share act is
+
+    pub step-cause : IsDueFor set s request → (before after : ℕ) → FaultsGo request before result after
+        → HasSinkCause event before after
+    step-cause (o, first, es, fs, due) before after go = subst (λ e. HasSinkCause e before after) (sym
+        is_event)
+        (stepped-cause laws o first set s es fs request due room ready new result steps none before after go)
+
+-- ---- a full history
+
+pub full-over : (laws : Laws) (o : Opening) (first : ℕ) (set : SetFacts) (s : Shared) (es : List Entry)
+    (fs : ThreadFrames) (request : Request Ref Item) → IsDue o first set s es fs request
+    → s.history.limit ≤ length s.history.acts → IsOver o first (full which.Acts 1 0) s s fs
+full-over laws o first set s es fs request due enough = record {
+  es = es;
+  keeps = due.running.keeps;
+  plain = due.running.plain;
+  history = refl;
+  acts = refl;
+  ends = laws.ends.full o s.machine es (fs ∷ []) due.running.keeps due.running.plain
+      ((memory_of s.machine).size - first) 0 fs (lives laws o first set s es fs request due)
+      (let same = ap length due.running.acts in let limit = due.running.limit in omega (
+        arith,
+        enough,
+        same,
+        limit,
+      ));
+}

@@ -1,0 +1,117 @@
+-- A store whose tests are passed: it is what the thread has asked, if it has asked something.
+use Rattle.std.proofs.Common.{◌≡◌, inl, inr, ℕ, Bool, true, false, not, List, Some, refl, sym, ◌∙◌, ap, subst}
+use Rattle.ap_base.specs.declared.place.Place.{Place}
+use Rattle.ap_base.specs.declared.place.Place.TheVariants as place
+use Rattle.ap_base.specs.declared.reference.Ref.{Ref}
+use Rattle.ap_base.specs.declared.reference.Item.{Item}
+use Rattle.graph_model.specs.declared.types.Value.{Value}
+use Rattle.graph_model.specs.declared.types.Value.TheVariants.{Obj as Object}
+use Rattle.natives.specs.declared.requests.Request.{Request}
+use Rattle.run_history.specs.Knowing.{Pending, pending_of, durable_at}
+use Rattle.plain_model.specs.Facts.{SetFacts}
+use Rattle.plain_model.specs.Requests.{PlainRequest}
+use Rattle.plain_model.specs.Runs.{is_volatile, request_after}
+use Rattle.plain_model.specs.Steps.{step}
+use Rattle.shared_objects.specs.Plain.{plain_request}
+use Rattle.step_forms.specs.Becomes.{AsksStore}
+use Rattle.step_forms.specs.Follows.{stored_as}
+use Rattle.run_forms.specs.Views.{ThreadFrames}
+use Rattle.run_forms.specs.Standing.{plain_code}
+use Rattle.twin_forms.specs.Table.{Entry}
+use Rattle.machine_forms.specs.declared.doing.Doing.{Doing}
+use Rattle.machine_forms.specs.declared.doing.Doing.TheVariants.{Nothing, Converting, Writing, Fencing}
+use Rattle.machine_forms.specs.Machines.{Opening, doing_of, known_in, roots_in, shown_in}
+use Rattle.machine_forms.specs.Events.{IsFree, IsStoreOf, value_in}
+use Rattle.machine_runs.specs.Frames.{IsReady}
+use Rattle.machine_asks.proofs.Asking.{stores-anyhow}
+use Rattle.object_steps.specs.declared.storing.Store.{Store}
+use Rattle.object_steps.specs.Stores.{place_of}
+use Rattle.store_barrier.specs.Barriers.{HoldsDurable, IsDurablePlace, MayFollow}
+use Rattle.shared_heap.specs.Shared.{Shared}
+use Rattle.machine.specs.Ended.{HasPlanned}
+use Rattle.machine.specs.Laws.{Laws}
+use Rattle.machine.proofs.Leaving.{asked, fits}
+
+-- an object that isn't volatile is durable
+durable-from : (b : Bool) → not b ≡ false → b ≡ true
+durable-from true e = refl
+durable-from false e = absurd (let no = e in cc)
+
+module _ (laws : Laws) (o : Opening) (first : ℕ) (set : SetFacts) (s : Shared) (es : List Entry)
+    (fs : ThreadFrames) (request : Request Ref Item) (store : Store)
+    (h : HasPlanned o first set s es fs request store) where
+  abbrev pub goal : Place
+  goal = place_of store.target
+
+  abbrev pub value : Value
+  value = value_in s.machine store.kept
+
+  abbrev plain : PlainRequest
+  plain = plain_request (shown_in s.machine).number request
+
+  pub asks-store : AsksStore o.launch.set (shown_in s.machine) s.machine.rest 0 request goal store.kept
+  asks-store = subst (λ (x : SetFacts). AsksStore x (shown_in s.machine) s.machine.rest 0 request goal
+      store.kept)
+      h.due.facts h.planned.asks
+
+  pub is-store : IsStoreOf o s.machine 0 request goal store.kept
+  is-store = record { fit = fits laws o first set s es fs request h.due h.ready; asks = asks-store }
+
+  -- the plain machine asks this
+  pub plain-asks : request_after o.launch.set o.launch.main o.launch.opening (plain_code o.launch)
+      s.machine.acts 0
+      ≡ Some plain
+  plain-asks = (asked laws o first set s es fs request h.due h.ready).plain
+
+  -- and stores so
+  pub plain-stores : step o.launch.set (known_in o s.machine).world 0 0 plain ≡ stored_as goal value
+  plain-stores = ap (λ w. step o.launch.set w 0 0 plain) h.due.running.keeps.world.world
+      ∙ stores-anyhow o.launch.set (shown_in s.machine) s.machine.rest 0 (roots_in o s.machine) 0 plain
+      goal value
+      asks-store
+
+  -- ---- what is pending
+
+  module _ (p : Pending) (is : pending_of (known_in o s.machine).asked 0 ≡ Some p) where
+    same-step : stored_as p.place p.value ≡ stored_as goal value
+    same-step = sym (h.due.running.about.stores p plain is plain-asks) ∙ plain-stores
+
+    pub same-place : p.place ≡ goal
+    same-place = let e = same-step in cc
+
+    pub same-value : p.value ≡ value
+    same-value = let e = same-step in cc
+
+    pub place-durable : durable_at (known_in o s.machine) goal ≡ true
+    place-durable = subst (λ (x : Place). durable_at (known_in o s.machine) x ≡ true) same-place
+        (h.due.running.about.durable p is)
+
+  -- ---- where nothing is to be converted first
+
+  -- a durable place holds what is durable alone
+  holds : (place : Place) → IsDurablePlace s.machine.spaces es place → HoldsDurable s.machine.spaces es place
+  holds (place.Static f) durable = durable
+  holds (place.Slot n i) durable = inl durable
+
+  module _ (follows : MayFollow s.machine.spaces store) where
+    pub kept-durable : durable_at (known_in o s.machine) goal ≡ true
+        → is_volatile (known_in o s.machine).durable value ≡ false
+    kept-durable durable = laws.barriers.durable o s.machine es h.due.running.keeps store follows
+        (holds goal ((laws.barriers.places o s.machine es h.due.running.keeps goal).0 durable))
+
+    -- so what was asked is durable
+    free-in : (d : Doing) → IsReady d → IsFree o s.machine es 0 d
+    free-in Nothing ready = tt
+    free-in Converting ready = λ p n is named.
+        let value-is : value ≡ Object n = sym (same-value p is) ∙ named in
+        let kept : is_volatile (known_in o s.machine).durable (Object n) ≡ false =
+        subst (λ (v : Value). is_volatile (known_in o s.machine).durable v ≡ false) value-is
+        (kept-durable (place-durable p is)) in
+        (h.due.running.keeps.asked.durable n).0 (durable-from _ kept)
+    free-in (Writing line) (inl e) = absurd (let no = e in cc)
+    free-in (Writing line) (inr e) = absurd (let no = e in cc)
+    free-in Fencing (inl e) = absurd (let no = e in cc)
+    free-in Fencing (inr e) = absurd (let no = e in cc)
+
+    pub is-free : IsFree o s.machine es 0 (doing_of s.machine 0)
+    is-free = free-in (doing_of s.machine 0) h.ready

@@ -1,0 +1,79 @@
+-- What the step of a request comes to as an event; and what an event is given further.
+use Rattle.std.specs.Prelude.{ℕ, ◌<◌, List, replicate, slice_set, unwrap_or, Some, None, IsSome}
+use Rattle.ap_base.specs.declared.reference.Ref.{Ref}
+use Rattle.ap_base.specs.declared.reference.Item.{Item}
+use Rattle.run_types.specs.declared.fault.RunFault.TheVariants as fault
+use Rattle.run_types.specs.declared.resolved.At.{At}
+use Rattle.natives.specs.declared.requests.Request.{Request}
+use Rattle.plain_model.specs.Facts.{SetFacts}
+use Rattle.step_forms.specs.declared.stepped.Stepped.{Stepped}
+use Rattle.step_forms.specs.declared.stepped.Stepped.TheVariants as stepped
+use Rattle.step_forms.specs.Becomes.{given}
+use Rattle.run_forms.specs.Views.{ThreadFrames}
+use Rattle.run_forms.specs.Ends.{from_in}
+use Rattle.twin_forms.specs.Table.{Entry}
+use Rattle.machine_forms.specs.Machines.{Opening, doing_of}
+use Rattle.machine_runs.specs.Frames.{IsReady}
+use Rattle.object_steps.specs.declared.storing.Store.{Store}
+use Rattle.machine_lines.specs.Lines.{lines_fault}
+use Rattle.shared_heap.specs.declared.conversions.Conversion.{Conversion}
+use Rattle.shared_heap.specs.declared.conversions.Conversion.TheVariants as did
+use Rattle.shared_heap.specs.Shared.{Shared}
+use Rattle.shared_heap.specs.Requests.{IsPlannedFor}
+use Rattle.machine.specs.declared.events.Event.{Event}
+use Rattle.machine.specs.declared.events.Event.TheVariants.{Did, Micro, Over}
+use Rattle.machine.specs.Events.{Comes, SparesSink}
+use Rattle.machine.specs.Running.{IsDue}
+
+abbrev pub nowhere : At
+nowhere = record { class = 0; method = 0; pc = 0 }
+
+-- A reply answers; a wrong operand names the instruction that asks; a thread alone that waits is stuck.
+abbrev pub event_of : Request Ref Item → Stepped → Event
+event_of request (stepped.Did operation r) = Did r
+event_of request (stepped.Waits on) = Over (fault.Stuck (slice_set (replicate 64 None) 0 (Some on)))
+event_of request stepped.Wrong = Over (fault.BadCode (unwrap_or (from_in request) nowhere))
+event_of request (stepped.Over f) = Over f
+
+-- A conversion that needs more lines than are left ends the run; any other event of it goes on.
+abbrev pub went_event : Conversion → Event
+went_event (did.Full need left) = Over (lines_fault need left)
+went_event other = Micro
+
+-- the thread that is waited for is one of the 64
+abbrev pub IsThread : Conversion → Type 0
+IsThread (did.Waits u) = u < 64
+IsThread other = Unit {0}
+
+-- The tests of the request's store are passed.
+pub record HasPlanned (o : Opening) (first : ℕ) (set : SetFacts) (s : Shared) (es : List Entry)
+    (fs : ThreadFrames) (request : Request Ref Item) (store : Store) : Type 0 where
+  pub due : IsDue o first set s es fs request
+  pub ready : IsReady (doing_of s.machine 0)
+  pub planned : IsPlannedFor set 0 request store s
+  pub gives : IsSome (given request)
+
+-- ---- of whatever run
+
+-- an event is due, of some run
+abbrev pub IsSomeDue : Shared → Type 0
+IsSomeDue s = (o : Opening) × (first : ℕ) × (set : SetFacts) × (es : List Entry) × (fs : ThreadFrames)
+    × (request : Request Ref Item) × IsDue o first set s es fs request
+
+-- Of each run of which one is due, the event comes to this. It has no part in the sink.
+pub record ComesTo (result : Event) (old new : Shared) : Type 0 where
+  pub comes : (o : Opening) (first : ℕ) (set : SetFacts) (es : List Entry) (fs : ThreadFrames)
+      (request : Request Ref Item) → IsDue o first set old es fs request
+      → Comes o first fs request result old new
+  pub sink : SparesSink result old.history.acts new.history.acts
+
+-- the same where the tests of a store are passed
+abbrev pub HasSomePlanned : Shared → Store → Type 0
+HasSomePlanned s store = (o : Opening) × (first : ℕ) × (set : SetFacts) × (es : List Entry)
+    × (fs : ThreadFrames) × (request : Request Ref Item) × HasPlanned o first set s es fs request store
+
+pub record StoreComesTo (store : Store) (result : Event) (old new : Shared) : Type 0 where
+  pub comes : (o : Opening) (first : ℕ) (set : SetFacts) (es : List Entry) (fs : ThreadFrames)
+      (request : Request Ref Item) → HasPlanned o first set old es fs request store
+      → Comes o first fs request result old new
+  pub sink : SparesSink result old.history.acts new.history.acts

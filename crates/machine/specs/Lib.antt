@@ -1,0 +1,4 @@
+pub mod Ended
+pub mod Events
+pub mod Laws
+pub mod Running

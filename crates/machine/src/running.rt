@@ -1,0 +1,138 @@
+// Events.
+ghost use Rattle.std.specs.Prelude.{◌≡◌, ◌<◌, ◌≤◌, ◌++◌, [], ◌∷◌, ℕ, List, length};
+ghost use Rattle.run_history.specs.Recorded.{Recorded};
+ghost use Rattle.run_forms.specs.Views.{ThreadFrames};
+ghost use Rattle.run_types.specs.declared.fault.Which.TheVariants as which;
+ghost use Rattle.plain_model.specs.Ends.{full};
+ghost use Rattle.twin_forms.specs.Table.{Entry};
+ghost use Rattle.machine_forms.specs.declared.doing.Doing.TheVariants.{Fencing, Writing};
+ghost use Rattle.machine_forms.specs.Machines.{Opening, doing_of, memory_of};
+ghost use Rattle.machine_runs.specs.Frames.{IsReady};
+ghost use Rattle.machine_lines.specs.Work.{measure};
+ghost use Rattle.machine.specs.Ended.{ComesTo, IsSomeDue};
+ghost use Rattle.machine.specs.Events.{AddsActs, CallsAtMostOnce, Comes, GoesTo, HasImageCause, HasSinkCause, IsAnswerTo, IsShare, TakesOutput};
+ghost use Rattle.machine.specs.Running.{IsDue};
+
+use crate::Event;
+use crate::laws::laws;
+use crate::parts::ended;
+use crate::storing::store;
+use ap_base::{Sink, ThreadNo};
+use line_image::Image;
+use machine_forms::Doing;
+use natives::{Reply, Request};
+use run_types::{Full, RunFault, Which};
+use shared_heap::{Plan, SharedHeap};
+use shared_objects::Types;
+
+/// One event of the thread, which runs alone, for the request that it asks: at most one call of
+/// the image or of the sink, and at most one act. A durable store is asked where its value isn't
+/// durable, converted, made, written back and fenced, each in events of its own (Shull, Huang and
+/// Torrellas, "AutoPersist", PLDI 2019).
+pub fn event<C: Types, I: Image, S: Sink>(
+    heap: &mut SharedHeap<I>,
+    set: &C,
+    sink: &mut S,
+    request: &Request,
+) -> Event
+    requires due { (o : Opening) × (first : ℕ) × (es : List Entry) × (fs : ThreadFrames)
+        × IsDue o first (C.facts set.now) heap.old es fs request.now }
+    ensures goes { (o : Opening) (first : ℕ) (es : List Entry) (fs : ThreadFrames)
+        → IsDue o first (C.facts set.now) heap.old es fs request.now
+        → GoesTo o first result heap.old heap.new fs }
+    ensures acts { AddsActs result heap.old.history.acts heap.new.history.acts }
+    ensures told { TakesOutput heap.old.history.acts heap.new.history.acts (S.taken sink.old)
+        (S.taken sink.new) }
+    ensures share { (act : Recorded) → heap.new.history.acts ≡ heap.old.history.acts ++ act ∷ []
+        → IsShare request.now (S.takes sink.old) act.act.op }
+    // Only an event that answers or ends may call the sink.
+    ensures sink { result ≡ Event.Micro → sink.new ≡ sink.old }
+    ensures sink_cause { HasSinkCause result (S.faults sink.old) (S.faults sink.new) }
+    ensures image_cause { HasImageCause result (memory_of heap.old.machine).faults
+        (memory_of heap.new.machine).faults }
+    ensures calls { CallsAtMostOnce heap.old heap.new }
+    // A history without room for an act ends the run before all else.
+    ensures full { heap.old.history.limit ≤ length heap.old.history.acts
+        → result ≡ Event.Over (full which.Acts 1 0) }
+    ensures answers { IsAnswerTo result request.now }
+    ensures numbers { heap.new.machine.spaces.numbers ≡ heap.old.machine.spaces.numbers }
+    // So a loop over events of one request ends.
+    ensures quiet { result ≡ Event.Micro → heap.new.history.acts ≡ heap.old.history.acts
+        → measure heap.new.machine < measure heap.old.machine }
+{
+    laws();
+    if heap.is_full() {
+        return Event::Over(RunFault::Full(Full {
+            which: Which::Acts,
+            need: 1,
+            left: 0,
+        }));
+    }
+    match heap.doing(ThreadNo::main()) {
+        Doing::Writing(line) => write_back(heap, line),
+        Doing::Fencing => fence(heap),
+        Doing::Nothing | Doing::Converting => answer(heap, set, sink, request),
+    }
+}
+
+// The line of the thread's durable store is written back.
+fn write_back<I: Image>(heap: &mut SharedHeap<I>, line: u32) -> Event
+    requires due { IsSomeDue heap.old }
+    requires room { length heap.old.history.acts < heap.old.history.limit }
+    requires doing { doing_of heap.old.machine 0 ≡ Writing line }
+    ensures { ComesTo result heap.old heap.new }
+{
+    laws();
+    match heap.write_back(ThreadNo::main(), line) {
+        Ok(()) => Event::Micro,
+        Err(_) => Event::Over(RunFault::ImageFault),
+    }
+}
+
+// The thread's durable store is fenced, and with that done.
+fn fence<I: Image>(heap: &mut SharedHeap<I>) -> Event
+    requires due { IsSomeDue heap.old }
+    requires room { length heap.old.history.acts < heap.old.history.limit }
+    requires doing { doing_of heap.old.machine 0 ≡ Fencing }
+    ensures { ComesTo result heap.old heap.new }
+{
+    laws();
+    match heap.fence(ThreadNo::main()) {
+        Ok(()) => Event::Did(Reply::Done),
+        Err(_) => Event::Over(RunFault::ImageFault),
+    }
+}
+
+// The request's step, or what is to be done for its store.
+fn answer<C: Types, I: Image, S: Sink>(
+    heap: &mut SharedHeap<I>,
+    set: &C,
+    sink: &mut S,
+    request: &Request,
+) -> Event
+    requires due { (o : Opening) × (first : ℕ) × (es : List Entry) × (fs : ThreadFrames)
+        × IsDue o first (C.facts set.now) heap.old es fs request.now }
+    requires room { length heap.old.history.acts < heap.old.history.limit }
+    requires ready { IsReady (doing_of heap.old.machine 0) }
+    ensures comes { (o : Opening) (first : ℕ) (es : List Entry) (fs : ThreadFrames)
+        → IsDue o first (C.facts set.now) heap.old es fs request.now
+        → Comes o first fs request.now result heap.old heap.new }
+    ensures told { TakesOutput heap.old.history.acts heap.new.history.acts (S.taken sink.old)
+        (S.taken sink.new) }
+    ensures share { (act : Recorded) → heap.new.history.acts ≡ heap.old.history.acts ++ act ∷ []
+        → IsShare request.now (S.takes sink.old) act.act.op }
+    ensures sink { result ≡ Event.Micro → sink.new ≡ sink.old }
+    ensures sink_cause { HasSinkCause result (S.faults sink.old) (S.faults sink.new) }
+{
+    laws();
+    // that so many acts can be counted
+    let _count = heap.acts().len();
+    match heap.plan(set, ThreadNo::main(), request) {
+        Plan::NoStore => {
+            let step = heap.take(set, sink, ThreadNo::main(), request);
+            ended(request, step)
+        }
+        Plan::Ends(step) => ended(request, step),
+        Plan::Stores(planned) => store(heap, planned),
+    }
+}
