@@ -35,7 +35,7 @@ for closed in '0<&-' '1>&-' '2>&-' '0<&- 1>&-' '1>&- 2>&-' '0<&- 2>&-' '0<&- 1>&
     same $status $? "the status of a run with $closed"
     same whole "$(left)" "the image of a run with $closed"
     eval '"$program" run --image "$work/image" --main Another "$data/stores" >"$work/out" 2>"$work/told"' "$closed"
-    same 17 $? "the status of a refused run with $closed"
+    same 15 $? "the status of a refused run with $closed"
     same whole "$(left)" "the image of a refused run with $closed"
 done
 [ $failed = 0 ] && echo "each run left its image whole"

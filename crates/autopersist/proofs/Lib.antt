@@ -1,8 +1,5 @@
 pub mod SourceFiles
 pub mod Causes
-pub mod Kept
-pub mod OverImage
-pub mod Chosen
-pub mod Rooms
+pub mod Outside
 pub mod SetStops
 pub mod SetRan

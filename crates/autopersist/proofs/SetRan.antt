@@ -1,255 +1,237 @@
--- What a run of a class set without durable roots over an image comes to.
-use Rattle.std.proofs.Common.{◌≡◌, ⊎_elim, inl, inr, ℕ, ◌+◌, ◌-◌, ◌≤◌, ◌^◌, arith, List, [], ◌∷◌, ◌++◌, Some, None, Ok, refl, sym, ap, ◌∙◌, subst}
-use Rattle.std.specs.Prelude.{All, min}
-use Rattle.std.proofs.lemmas.List.Elements.{All-map, All-weaker}
-use Rattle.ap_base.specs.Causes.{Rose}
+-- What a run of a class set over an image comes to, by what opening the image and running on it gave.
+use Rattle.std.proofs.Common.{◌≡◌, ◌⊎◌, inl, inr, ℕ, ◌-◌, true, List, [], ◌∷◌, Some, None, Ok, refl, sym, ap, ◌∙◌, subst}
+use Rattle.std.specs.Prelude.{◌≢◌, AllPairs}
 use Rattle.graph_model.specs.declared.types.Graph.{Graph}
+use Rattle.graph_model.specs.declared.types.Shape.{Shape}
 use Rattle.line_image.specs.Told.{Told}
-use Rattle.line_memory.specs.Memory.{Memory, shown}
-use Rattle.image_layout.specs.Places.{max_lines}
-use Rattle.image_meaning.specs.Meaning.{StandsFor, empty_graph}
-use Rattle.image_opening.specs.Opened.{IsOfForm}
-use Rattle.image_opening.specs.declared.opening.Opened.{Opened}
-use Rattle.run_types.specs.declared.fault.RunFault.{RunFault}
-use Rattle.run_types.specs.declared.fault.RunFault.TheVariants as fault
+use Rattle.line_image.specs.Trace.{Outcome}
+use Rattle.line_memory.specs.Memory.{Memory, IsTelling, CanLeaveAll}
+use Rattle.image_meaning.specs.Meaning.{empty_graph}
 use Rattle.run_history.specs.Recorded.{Recorded}
-use Rattle.run_forms.specs.Standing.{Launch}
-use Rattle.run_forms.specs.Volatile.{act_of}
-use Rattle.plain_model.specs.Ends.{Fault, Uncaught, Finished}
-use Rattle.volatile_run.specs.declared.turns.Turned.{Turned}
-use Rattle.volatile_run.specs.declared.turns.Turned.TheVariants.{Acted, Started, Ended, Over}
-use Rattle.first_machines.specs.Launches.{HasNoRoots}
-use Rattle.volatile_run.specs.Turning.{EndsBy, HadNoFault, HasActed, IsCaused}
+use Rattle.plain_model.specs.Ends.{Ending, EndsAs, Fault, Uncaught, Finished}
+use Rattle.plain_model.specs.First.{first_known, first_objects}
+use Rattle.plain_model.specs.Facts.{StaticFacts}
+use Rattle.class_file.specs.declared.class.ClassFile.{ClassFile}
 use Rattle.class_set.specs.Linked.{Linked}
-use Rattle.class_set.specs.Facts.{facts_of}
+use Rattle.class_set.specs.Facts.{facts_of, statics_from}
+use Rattle.stop_invariant.specs.Stops.{IsAllowedImage}
+use Rattle.stop_theorem.specs.Laws.{IsSafeRun}
+use Rattle.machine_forms.specs.Machines.{Opening, memory_of, shown_in}
+use Rattle.machine_runs.specs.Keeping.{EachStopIsAllowed}
+use Rattle.machine.specs.Running.{HadNoFault}
+use Rattle.run_forms.specs.Standing.{Launch, IsRun, StandsFor as FramesStandFor, plain_code}
+use Rattle.image_recovery.specs.Recovered.{entries_in}
+use Rattle.durable_run.specs.Turning.{EndsBy, HasRun}
+use Rattle.durable_run.specs.declared.turns.Turned.{Turned}
+use Rattle.durable_run.specs.declared.turns.Turned.TheVariants.{Acted, Ended, Over, Unbuilt}
+use Rattle.durable_launch.specs.declared.heaps.OpenedHeap.{OpenedHeap}
+use Rattle.durable_launch.specs.declared.launches.Launched.{Launched}
+use Rattle.durable_launch.specs.Launching.{CanLaunch, IsLaunched, launch_over, opening_over}
 use Rattle.program_launch.specs.declared.mains.Main.{Main}
-use Rattle.program_launch.specs.declared.refusals.NoLaunch.TheVariants as no_launch
-use Rattle.program_launch.specs.Launches.{launch_from}
 use Rattle.program_launch.specs.Mains.{main_of}
-use Rattle.array_run.specs.Opening.{default_limits}
-use Rattle.statuses.specs.Names.{fault_status}
+use Rattle.program_launch.specs.Refusals.{IfFull}
+use Rattle.program_launch.specs.declared.refusals.NoLaunch.{NoLaunch}
+use Rattle.program_launch.specs.declared.refusals.NoLaunch.TheVariants as no_launch
+use Rattle.one_space.specs.First.{LacksWords}
+use Rattle.set_opening.specs.declared.unopened.Unopened.{Unopened}
+use Rattle.directories.specs.Kept.{Kept}
+use Rattle.first_spaces.specs.Parts.{RootsDiffer}
+use Rattle.set_opening.specs.Arrays.{with_arrays_of}
+use Rattle.set_opening.proofs.Arrays.{arrays_files}
+use Rattle.set_opening.specs.Attached.{IsSettled}
+use Rattle.set_opening.specs.Opened.{IsOpenedFor}
+use Rattle.set_opening.specs.Unopened.{IsLeft, IsUnopened}
 use Rattle.statuses.specs.declared.status.Status.{Status}
 use Rattle.statuses.specs.declared.status.Status.TheVariants as status
-use Rattle.autopersist.specs.declared.classes.Unbegun.{Unbegun}
-use Rattle.autopersist.specs.declared.classes.Unbegun.TheVariants as unbegun
-use Rattle.autopersist.specs.declared.opening.Unopened.{Unopened}
-use Rattle.autopersist.specs.declared.opening.Unopened.TheVariants.{NotOfForm, ImageFailed, OutOfMemory}
-use Rattle.autopersist.specs.Attached.{IsOpenedOn, IsUnopened, status_of_unopened}
-use Rattle.autopersist.specs.Began.{CannotBegin, status_of_turned, status_of_unbegun}
-use Rattle.autopersist.specs.Images.{StandsAtStops}
-use Rattle.autopersist.specs.Sets.{HasEndedSo, IsEmptyFor, SetEndsAt, SetRunsOver, WasBlankOrKept, WasEmpty}
-use Rattle.autopersist.specs.Stages.{stage_of}
-use Rattle.autopersist.proofs.OverImage.{left_unopened, of_form, stops_opened}
-use Rattle.autopersist.proofs.Kept.{are_read, words_read}
-use Rattle.autopersist.proofs.SetStops.{stood_empty, stops_run}
+use Rattle.autopersist.specs.Began.{RanBy, status_of_turned, status_of_unlaunched}
+use Rattle.autopersist.specs.Sets.{AsksMore, Ends, HasEndedSo, HasNoMain, IsOpenedSo, LacksFirstWords, SetRunsOver, StandsAtStops, default_limits, status_of_unopened}
+use Rattle.autopersist.proofs.SetStops.{stops_opened, stops_run, stops_unattached, stops_without}
 
--- ---- how the run ended
+-- ---- an image that couldn't be opened
 
-module _ (set : Linked) (name : List ℕ) (main : Main) (found : main_of set name ≡ Ok main) (calls : ℕ) (acts : List Recorded)
-    (within : HadNoFault (launch_from set main default_limits) acts) where
-  ended_so : (turned : Turned) → EndsBy (launch_from set main default_limits) calls [] turned acts
-      → HasEndedSo set name acts (status_of_turned set turned)
-  ended_so Acted ends = absurd ends
-  ended_so Started ends = record {
-    main = main;
-    found = found;
-    run = ends.0;
-    within = within;
-    ends = inr (record { calls = calls; further = ends.1.0; starts = ends.1.1; is = refl });
-  }
-  ended_so (Ended None) ends = record {
-    main = main;
-    found = found;
-    run = ends.0;
-    within = within;
-    ends = inl (record { ending = Finished; ended = ends.1; is = refl });
-  }
-  ended_so (Ended (Some class)) ends = record {
-    main = main;
-    found = found;
-    run = ends.0;
-    within = within;
-    ends = inl (record { ending = Uncaught 0 class; ended = ends.1; is = refl });
-  }
-  ended_so (Over f) ends = record {
-    main = main;
-    found = found;
-    run = ends.0;
-    within = within;
-    ends = inl (record { ending = Fault f; ended = ends.1; is = refl });
+module _ (set numbered : Linked) (start after : Told) (why : Unopened) where
+  left_stops : (before m : Memory) (added : _) → IsLeft start after before m added → (opening : Graph) → IsSettled start
+      → StandsAtStops set start opening [] after
+  left_stops before m added left opening settled =
+      subst (λ (t : Told). StandsAtStops set start opening [] t) (sym left.told)
+      (stops_without start settled before left.attached set opening m added (left.stops settled.0))
+
+  unopened_size : IsUnopened start after set numbered why → after.size ≡ start.size
+  unopened_size (inl (unattached, same)) = unattached.size
+  unopened_size (inr (inl (unrecovered, same))) = unrecovered.left.size
+  unopened_size (inr (inr (inl unprepared))) = unprepared.left.size
+  unopened_size (inr (inr (inr unappended))) = unappended.left.size
+
+  unopened_stops : IsUnopened start after set numbered why → (opening : Graph) → IsSettled start
+      → StandsAtStops set start opening [] after
+  unopened_stops (inl (unattached, same)) opening settled =
+      stops_unattached set start opening after settled.1 unattached.trace unattached.moments
+  unopened_stops (inr (inl (u, same))) opening settled = left_stops u.before u.memory [] u.left opening settled
+  unopened_stops (inr (inr (inl u))) opening settled = left_stops u.before u.memory [] u.left opening settled
+  unopened_stops (inr (inr (inr u))) opening settled = left_stops u.before u.memory u.added u.left opening settled
+
+  pub unopened_ran : (name : List ℕ) → IsUnopened start after set numbered why
+      → SetRunsOver set name start empty_graph [] after (status_of_unopened why)
+  unopened_ran name unopened = record {
+    size = unopened_size unopened;
+    ends = inl (refl, inl (record { numbered = numbered; why = why; unopened = unopened; is = refl }));
+    unbegun = λ none. refl;
+    stops = unopened_stops unopened empty_graph;
   }
 
-  module _ (start : Told) (empty : WasEmpty start) (before now : ℕ) where
-    abbrev EndsAt : Status → Type 0
-    EndsAt how = SetEndsAt (stage_of how) set name start acts how
+-- ---- the set with the array types of an image
 
-    by_fault : (f : RunFault) → HasEndedSo set name acts (fault_status set f) → IsCaused before now (Over f) → EndsAt (fault_status set f)
-    by_fault (fault.BadCode at) ended cause = (empty, ended)
-    by_fault (fault.RegionRace thread other place) ended cause = (empty, ended)
-    by_fault (fault.Full full) ended cause = (empty, inl ended)
-    by_fault fault.SinkFault ended cause = (empty, ended)
-    by_fault fault.ImageFault ended cause = absurd cause
-    by_fault (fault.Stuck waits) ended cause = (empty, ended)
-    by_fault (fault.LinkFault kind class index) ended cause = (empty, inl ended)
+abbrev AllApart : List StaticFacts → Type 0
+AllApart statics = AllPairs (λ (s t : StaticFacts). s.is_root ≡ true → t.is_root ≡ true → s.name ≢ t.name) statics
 
-    by_turn : (turned : Turned) → HasEndedSo set name acts (status_of_turned set turned) → IsCaused before now turned
-        → EndsAt (status_of_turned set turned)
-    by_turn Acted ended cause = inr (empty, ended)
-    by_turn Started ended cause = inr (empty, ended)
-    by_turn (Ended None) ended cause = (empty, ended)
-    by_turn (Ended (Some class)) ended cause = (empty, ended)
-    by_turn (Over f) ended cause = by_fault f ended cause
+-- they change no static field
+statics_same : (old : Linked) (shapes : List Shape)
+    → (facts_of old).statics ≡ (facts_of (with_arrays_of old shapes)).statics
+statics_same old shapes = ap (λ (files : List ClassFile). statics_from files 0 files) (sym (arrays_files old shapes))
 
--- a history without acts met no fault
-pub without_acts : (launch : Launch) → HadNoFault launch []
-without_acts launch lines front a rest is = absurd (no_more front a rest is)
-  where
-    no_more : (front : List Recorded) (a : Recorded) (rest : List Recorded) → [] ≡ front ++ a ∷ rest → ⊥
-    no_more [] a rest is = cc
-    no_more (b ∷ front) a rest is = cc
+pub still_apart : (old set : Linked) (start : Told) (m : Memory) (directory : Kept) (lines : List ℕ) (graph : Graph)
+    (free : ℕ) → IsOpenedFor start old set m directory lines graph free → RootsDiffer (facts_of old)
+    → RootsDiffer (facts_of set)
+still_apart old set start m directory lines graph free opened apart =
+    subst (λ (s : Linked). RootsDiffer (facts_of s)) (sym opened.set_is)
+    (subst AllApart (statics_same old opened.found.shapes) apart)
 
--- a run ends by the sink where its last turn says so
-pub by_sink : (set : Linked) (turned : Turned) (before now : ℕ) → IsCaused before now turned → status_of_turned set turned ≡ status.SinkFault → Rose before now
-by_sink set Acted before now cause is = absurd cc
-by_sink set Started before now cause is = absurd cc
-by_sink set (Ended None) before now cause is = absurd cc
-by_sink set (Ended (Some class)) before now cause is = absurd cc
-by_sink set (Over (fault.BadCode at)) before now cause is = absurd cc
-by_sink set (Over (fault.RegionRace thread other place)) before now cause is = absurd cc
-by_sink set (Over (fault.Full full)) before now cause is = absurd cc
-by_sink set (Over fault.SinkFault) before now cause is = cause
-by_sink set (Over fault.ImageFault) before now cause is = absurd cc
-by_sink set (Over (fault.Stuck waits)) before now cause is = absurd cc
-by_sink set (Over (fault.LinkFault kind class index)) before now cause is = absurd cc
+-- ---- a run that didn't begin
 
--- and never by the image
-pub never_by_image : (set : Linked) (turned : Turned) (before now : ℕ) → IsCaused before now turned → status_of_turned set turned ≡ status.ImageFault → ⊥
-never_by_image set Acted before now cause is = cc
-never_by_image set Started before now cause is = cc
-never_by_image set (Ended None) before now cause is = cc
-never_by_image set (Ended (Some class)) before now cause is = cc
-never_by_image set (Over (fault.BadCode at)) before now cause is = cc
-never_by_image set (Over (fault.RegionRace thread other place)) before now cause is = cc
-never_by_image set (Over (fault.Full full)) before now cause is = cc
-never_by_image set (Over fault.SinkFault) before now cause is = cc
-never_by_image set (Over fault.ImageFault) before now cause is = cause
-never_by_image set (Over (fault.Stuck waits)) before now cause is = cc
-never_by_image set (Over (fault.LinkFault kind class index)) before now cause is = cc
+module _ (set numbered : Linked) (start : Told) (m : Memory) (directory : _) (lines : List ℕ) (graph : Graph) (free : ℕ)
+    (opened : IsOpenedFor start set numbered m directory lines graph free) where
+  abbrev pub opened_so : IsOpenedSo set start graph
+  opened_so = record { numbered = numbered; memory = m; directory = directory; lines = lines; free = free; opened = opened }
 
--- ---- an image that was opened
-
-module _ (set : Linked) (no_roots : HasNoRoots (facts_of set)) (name : List ℕ) (start : Told) (m : Memory) (opened : Opened)
-    (on : IsOpenedOn start None m opened) (after : Told) (same : after ≡ m.image) (size : after.size ≡ m.size) where
-  size_kept : after.size ≡ start.size
-  size_kept = size ∙ on.size ∙ on.attached.size
-
-  was_empty : WasEmpty start
-  was_empty = record {
-    words = shown on.before;
-    read = on.attached.shows;
-    enough = omega (arith, on.attached.size, on.attached.enough);
-    most = omega (arith, on.attached.size, on.attached.most);
-    form = subst (λ (n : ℕ). IsOfForm n (shown on.before) None) on.attached.size on.form;
-    stands = subst (λ (n : ℕ). StandsFor n (shown on.before) empty_graph) on.attached.size
-        (subst (λ (g : Graph). StandsFor on.before.size (shown on.before) g) (stood_empty start m opened on) on.stands);
+  pub unbegun_ran : (name : List ℕ) (after : Told) (how : Status) → after ≡ m.image → after.size ≡ m.size
+      → LacksFirstWords numbered how ⊎ HasNoMain numbered name graph how ⊎ (how ≡ status.OutOfMemory)
+      → SetRunsOver set name start empty_graph [] after how
+  unbegun_ran name after how same size cause = record {
+    size = size ∙ opened.ready.same_size;
+    ends = inl (refl, inr (record { graph = graph; of = opened_so; cause = cause }));
+    unbegun = λ none. refl;
+    stops = λ settled. subst (λ (t : Told). StandsAtStops set start empty_graph [] t) (sym same)
+        (stops_opened start settled set numbered m directory lines graph free opened empty_graph);
   }
 
-  blank_or_kept : WasBlankOrKept start after
-  blank_or_kept = record {
-    words = shown on.before;
-    read = on.attached.shows;
-    is = ⊎_elim
-        (λ (blank : shown on.before 0 0 ≡ 0). inl blank)
-        (λ (kept : m ≡ on.before). inr (ap (λ (t : Told). t.trace) same ∙ ap (λ (n : Memory). n.image.trace) kept ∙ on.attached.trace))
-        (on.bare refl);
-  }
+  -- the first heap finds no room, or there is no memory
+  pub unlaunched_ran : (name : List ℕ) (after : Told) (why : NoLaunch) → after ≡ m.image → after.size ≡ m.size
+      → IfFull why (LacksWords default_limits.heap_words (first_objects (facts_of numbered) empty_graph))
+      → SetRunsOver set name start empty_graph [] after (status_of_unlaunched why)
+  unlaunched_ran name after (no_launch.Full full) same size lacks =
+      unbegun_ran name after (status.Full full) same size (inl (record { full = full; is = refl; lacks = lacks }))
+  unlaunched_ran name after no_launch.OutOfMemory same size lacks =
+      unbegun_ran name after status.OutOfMemory same size (inr (inr refl))
 
-  -- the run didn't begin
-  unbegun_at : (why : Unbegun) → CannotBegin set name why → SetEndsAt (stage_of (status_of_unbegun name why)) set name start [] (status_of_unbegun name why)
-  unbegun_at (unbegun.Launch (no_launch.Full full)) is = (was_empty, inr (refl, record { full = full; is = refl; lacks = is }))
-  unbegun_at (unbegun.Launch no_launch.OutOfMemory) is = refl
-  unbegun_at (unbegun.Main none) is =
-      (was_empty, inr (refl, record { fits = is.0; none = none; missing = is.1; is = refl }))
+-- ---- a run
 
-  pub never_begun : (why : Unbegun) → CannotBegin set name why → SetRunsOver set name start empty_graph [] after (status_of_unbegun name why)
-  never_begun why is = record {
-    no_roots = no_roots;
-    size = size_kept;
-    from_nothing = refl;
-    cause = unbegun_at why is;
-    run = λ some. absurd (some refl);
-    made = λ k d below. absurd (omega (arith, below));
-    untouched = of_form None start on.before after on.attached on.form;
-    kept = blank_or_kept;
-    stops = λ settled. subst (λ (t : Told). StandsAtStops None (IsEmptyFor set) start [] t) (sym same)
-        (stops_opened None start m opened on (IsEmptyFor set) settled);
-  }
+module _ {I : Type 0} (set numbered : Linked) (name : List ℕ) (start : Told) (heap : OpenedHeap I)
+    (can : CanLaunch start set numbered default_limits.heap_words heap) (main : Main)
+    (found : main_of numbered name ≡ Ok main) (launched : Launched I)
+    (l : IsLaunched start (entries_in can.directory) numbered main default_limits heap launched)
+    (opening : Graph) (acts : List Recorded) (after : Told) (how : Status) where
+  abbrev launch : Launch
+  launch = launch_over numbered main default_limits heap.graph l.literals
 
-  module _ (acts : List Recorded) (acted : HasActed m.calls [] acts) where
-    at_calls : All (λ (a : Recorded). a.act.at ≡ m.calls) acts
-    at_calls = subst (λ (xs : List Recorded). All (λ (a : Recorded). a.act.at ≡ m.calls) xs) (sym acted.acts)
-        (All-map (λ (a : Recorded). a.act.at ≡ m.calls) (act_of 0 m.calls) acted.ops (λ k d below. refl))
+  abbrev o : Opening
+  o = opening_over start heap.spaces.heap.memory (entries_in can.directory) launch
 
-    made_then : All (λ (a : Recorded). (start.size ≤ a.act.at) × (min (start.calls + a.act.at) (2 ^ 64 - 1) ≡ after.calls)) acts
-    made_then =
-        let most : on.before.size ≤ max_lines = on.attached.most in
-        let on_from : on.before.calls ≤ m.calls = (on.further (omega (arith, on.attached.calls, on.attached.size, most))).0 in
-        let told : after.calls ≡ m.image.calls = ap (λ (t : Told). t.calls) same in
-        All-weaker (λ (a : Recorded). a.act.at ≡ m.calls)
-        (λ (a : Recorded). (start.size ≤ a.act.at) × (min (start.calls + a.act.at) (2 ^ 64 - 1) ≡ after.calls))
-        (λ a is. (omega (arith, is, on_from, on.attached.calls), omega (arith, is, on.counts, told))) acts at_calls
+  abbrev Opened : Type 0
+  Opened = IsOpenedFor start set numbered heap.spaces.heap.memory can.directory can.lines heap.graph heap.free
 
-    pub set_ran : (main : Main) → main_of set name ≡ Ok main → (turned : Turned) → EndsBy (launch_from set main default_limits) m.calls [] turned acts
-        → HadNoFault (launch_from set main default_limits) acts → (faults now : ℕ) → IsCaused faults now turned
-        → SetRunsOver set name start empty_graph acts after (status_of_turned set turned)
-    set_ran main found turned ends within faults now cause =
-        let ended = ended_so set name main found m.calls acts within turned ends in
-        record {
-          no_roots = no_roots;
-          size = size_kept;
-          from_nothing = refl;
-          cause = by_turn set name main found m.calls acts within start was_empty faults now turned ended cause;
-          run = λ some. (was_empty, ended);
-          made = made_then;
-          untouched = of_form None start on.before after on.attached on.form;
-          kept = blank_or_kept;
-          stops = λ settled. subst (λ (t : Told). StandsAtStops None (IsEmptyFor set) start acts t) (sym same)
-              (stops_run start m opened on set acts at_calls settled);
-        }
+  size_now : heap.spaces.heap.memory.size ≡ start.size
+  size_now = can.opened.ready.same_size
 
--- ---- an image that wasn't opened
+  module _ (ran : RanBy o heap.free numbered heap.graph opening acts after how) where
+    has_run : (turned : Turned) → EndsBy o heap.free turned ran.shared → HasRun o ran.shared
+    has_run Acted ends = absurd ends
+    has_run (Ended uncaught) ends = ends.0
+    has_run (Over f) ends = ends.0
+    has_run Unbuilt ends = ends.0
 
-unopened_at : (set : Linked) (name : List ℕ) (start after : Told) (why : Unopened) → IsUnopened start None after why
-    → SetEndsAt (stage_of (status_of_unopened why)) set name start [] (status_of_unopened why)
-unopened_at set name start after NotOfForm un = inl ((left_unopened None start after NotOfForm un).form refl)
-unopened_at set name start after ImageFailed un = refl
-unopened_at set name start after OutOfMemory un = refl
+    run : HasRun o ran.shared
+    run = has_run ran.turned ran.ends
 
-unopened_kept : (start after : Told) (why : Unopened) → IsUnopened start None after why → WasBlankOrKept start after
-unopened_kept start after why (inl un) = record { words = words_read start.trace; read = are_read start; is = inr un.trace }
-unopened_kept start after why (inr back) =
-    let un = back.unopened in
-    record {
-      words = shown un.before;
-      read = un.attached.shows;
-      is = ⊎_elim
-          (λ (blank : shown un.before 0 0 ≡ 0). inl blank)
-          (λ (kept : back.memory ≡ un.before). inr (ap (λ (t : Told). t.trace) back.told ∙ ap (λ (n : Memory). n.image.trace) kept ∙ un.attached.trace))
-          (un.bare refl);
+    machine_acts : ran.shared.machine.acts ≡ acts
+    machine_acts = sym (ran.acts_are ∙ run.history)
+
+    machine_size : (memory_of ran.shared.machine).size ≡ start.size
+    machine_size = run.keeps.heap.size ∙ size_now
+
+    abbrev EndedBy : Ending → Type 0
+    EndedBy ending = EndsAs launch.set launch.main launch.opening (plain_code launch) launch.limits
+        (start.size - heap.free) acts ending
+
+    ended_by : (ending : Ending) → EndsAs launch.set launch.main launch.opening (plain_code launch) launch.limits
+        ((memory_of ran.shared.machine).size - heap.free) ran.shared.machine.acts ending → EndedBy ending
+    ended_by ending ended =
+        subst (λ (made : List Recorded). EndsAs launch.set launch.main launch.opening (plain_code launch) launch.limits
+        (start.size - heap.free) made ending) machine_acts
+        (subst (λ (n : ℕ). EndsAs launch.set launch.main launch.opening (plain_code launch) launch.limits
+        (n - heap.free) ran.shared.machine.acts ending) machine_size ended)
+
+    turned_ended : (turned : Turned) → how ≡ status_of_turned numbered turned → EndsBy o heap.free turned ran.shared
+        → Ends numbered launch (start.size - heap.free) acts how ⊎ AsksMore launch acts how
+    turned_ended Acted is ends = absurd ends
+    turned_ended (Ended None) is ends =
+        inl (record { ending = Finished; ended = ended_by Finished ends.1; is = is })
+    turned_ended (Ended (Some class)) is ends =
+        inl (record { ending = Uncaught 0 class; ended = ended_by (Uncaught 0 class) ends.1; is = is })
+    turned_ended (Over f) is ends =
+        inl (record { ending = Fault f; ended = ended_by (Fault f) (0, ends.1); is = is })
+    turned_ended Unbuilt is ends = inr (record {
+      shown = shown_in ran.shared.machine;
+      rest = ran.shared.machine.rest;
+      frames = ends.1.frames;
+      stands = subst (λ (made : List Recorded). FramesStandFor launch made (shown_in ran.shared.machine)
+          ran.shared.machine.rest (ends.1.frames ∷ [])) machine_acts ends.1.stands;
+      request = ends.1.request;
+      asks = ends.1.asks;
+      unbuilt = ends.1.unbuilt;
+      is = is;
+    })
+
+    pub has_ended : HasEndedSo set name start opening acts how
+    has_ended = record {
+      graph = heap.graph;
+      of = opened_so set numbered start heap.spaces.heap.memory can.directory can.lines heap.graph heap.free can.opened;
+      main = main;
+      found = found;
+      literals = l.literals;
+      run = subst (λ (made : List Recorded). IsRun launch made) machine_acts run.run;
+      within = subst (λ (made : List Recorded). HadNoFault launch made) machine_acts run.unfaulted;
+      ends = turned_ended ran.turned ran.is ran.ends;
+      from = ran.some;
     }
 
-pub set_never_ran : (set : Linked) → HasNoRoots (facts_of set) → (name : List ℕ) (start after : Told) (why : Unopened) → IsUnopened start None after why
-    → SetRunsOver set name start empty_graph [] after (status_of_unopened why)
-set_never_ran set no_roots name start after why un =
-    let left = left_unopened None start after why un in
-    record {
-      no_roots = no_roots;
-      size = left.size;
-      from_nothing = refl;
-      cause = unopened_at set name start after why un;
-      run = λ some. absurd (some refl);
-      made = λ k d below. absurd (omega (arith, below));
-      untouched = left.untouched;
-      kept = unopened_kept start after why un;
-      stops = left.stops (IsEmptyFor set);
+    size_after : after.size ≡ start.size
+    size_after = ran.size ∙ machine_size
+
+    telling : IsSettled start → IsTelling heap.spaces.heap.memory.image.trace
+    telling settled = can.opened.goes_on.telling (can.opened.attached.telling settled.0)
+
+    -- what a stop leaves, where nothing was unfenced at first
+    stops : EachStopIsAllowed → IsSettled start → StandsAtStops set start opening acts after
+    stops law settled =
+        let m = heap.spaces.heap.memory in
+        let s = ran.shared.machine in
+        let known = first_known (facts_of numbered) heap.graph in
+        let tells = telling settled in
+        let runs = run.keeps.stops tells in
+        let now = (law o s run.table run.keeps tells).now in
+        subst (λ (t : Told). StandsAtStops set start opening acts t) (sym ran.image)
+        (stops_run start settled set numbered m can.directory can.lines heap.graph heap.free can.opened opening acts
+        (memory_of s)
+        (subst (λ (made : List Recorded). IsSafeRun known m.size start.calls m made (memory_of s)) machine_acts runs.safe)
+        can.opened.ready.counts
+        (subst (λ (made : List Recorded). (c : Outcome) → CanLeaveAll (memory_of s) c → IsAllowedImage known m.size made c)
+        machine_acts now)
+        ran.some size_now)
+
+    pub has_run_over : EachStopIsAllowed → SetRunsOver set name start opening acts after how
+    has_run_over law = record {
+      size = size_after;
+      ends = inr has_ended;
+      unbegun = ran.none;
+      stops = stops law;
     }

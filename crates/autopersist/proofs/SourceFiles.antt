@@ -13,7 +13,7 @@ use Rattle.statuses.specs.declared.status.Status.TheVariants as status
 use Rattle.parsing.specs.Results.{◌>>=◌}
 use Rattle.autopersist.specs.Files.{most_files, class_of, classes_in, classes_among}
 use Rattle.autopersist.specs.Reading.{HadLeft, FilesComeTo, HasNoCause, IsOfFiles, FailsUnrefused, StopsAtRefused, StopsAnywhere, IsLeft, LeavesAt}
-use Rattle.autopersist.specs.Stages.{Stage, OfWords, OfSource, OfMemory, OfFile, OfLinking, OfForm, OfRoom, OfNames, OfImage, OfTurns, stage_of, IsFreeStage, IsFilesStage}
+use Rattle.autopersist.specs.Stages.{Stage, OfWords, OfSource, OfMemory, OfFile, OfLinking, OfForm, OfOpening, OfRoom, OfNames, OfImage, OfTurns, stage_of, IsFreeStage, IsFilesStage}
 
 -- these files were read of a source, and this is left
 abbrev pub behind : List NamedBytes → Option (List NamedBytes) → Option (List NamedBytes)
@@ -268,6 +268,7 @@ failed_at first left room before s OfWords has free files some = absurd free
 failed_at first left room before s OfFile has free files some = absurd free
 failed_at first left room before s OfLinking has free files some = absurd free
 failed_at first left room before s OfForm has free files some = absurd free
+failed_at first left room before s OfOpening has free files some = absurd free
 failed_at first left room before s OfRoom has free files some = absurd free
 failed_at first left room before s OfNames has free files some = absurd free
 failed_at first left room before s OfImage has free files some = absurd free
@@ -301,6 +302,7 @@ refused_at OfSource files s after of other refused anywhere = absurd (other refl
 refused_at OfWords files s after of other refused anywhere = absurd of
 refused_at OfLinking files s after of other refused anywhere = absurd of
 refused_at OfForm files s after of other refused anywhere = absurd of
+refused_at OfOpening files s after of other refused anywhere = absurd of
 refused_at OfNames files s after of other refused anywhere = absurd of
 refused_at OfImage files s after of other refused anywhere = absurd of
 refused_at OfTurns files s after of other refused anywhere = absurd of
@@ -322,6 +324,8 @@ source_only status.OutOfMemory is = absurd cc
 source_only (status.Stuck waits) is = absurd cc
 source_only (status.LinkFault kind name) is = absurd cc
 source_only status.NotBuilt is = absurd cc
+source_only (status.BadImage line reason) is = absurd cc
+source_only (status.ShapeChanged shape) is = absurd cc
 
 pub left_refused : (first left after : Option (List NamedBytes)) (room : ℕ) (before : List ClassFile) (file : NamedBytes) (s : Status)
     → HasRead first left (suc room) before → source.Gives left (Some file) after → IsOfFiles s → s ≢ status.SourceFault

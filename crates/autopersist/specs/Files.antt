@@ -1,10 +1,7 @@
 -- What the files of a source are, and what is to run of them.
-use Rattle.std.specs.Prelude.{◌≡◌, ◌≢◌, ◌⊎◌, ℕ, nat_lt, Bool, List, [], ◌∷◌, length, take, Option, Some, None, Result, Ok, Err, option_and_then, if◌then◌else◌}
-use Rattle.std.specs.List.{list_any}
-use Rattle.std.specs.Str.{bytes_eq}
+use Rattle.std.specs.Prelude.{◌≡◌, ◌≢◌, ◌⊎◌, ℕ, nat_lt, true, false, List, [], ◌∷◌, length, take, Result, Ok, Err, if◌then◌else◌}
 use Rattle.ap_base.specs.declared.source.NamedBytes.{NamedBytes}
 use Rattle.run_types.specs.declared.fault.Which.TheVariants.{Files, FileBytes}
-use Rattle.plain_model.specs.Facts.{StaticFacts}
 use Rattle.class_file.specs.declared.class.ClassFile.{ClassFile}
 use Rattle.class_file.specs.declared.refusal.ClassRefusal.{ClassRefusal}
 use Rattle.class_file.specs.Classes.{class_in}
@@ -19,8 +16,7 @@ use Rattle.set_demands.specs.Demands.{asks}
 use Rattle.parsing.specs.Results.{◌>>=◌}
 use Rattle.statuses.specs.declared.status.Status.{Status}
 use Rattle.statuses.specs.declared.status.Status.TheVariants as status
-use Rattle.array_program.specs.declared.program.Program.{Program}
-use Rattle.array_program.specs.Form.{program_of}
+use Rattle.first_spaces.specs.Parts.{RootsDiffer}
 use Rattle.autopersist.specs.Words.{slashed}
 
 -- a source has at most so many files, and a file at most so many bytes
@@ -62,41 +58,16 @@ classes_among files = classes_in (take most_files files) >>= unless_more files
 
 -- ---- what is to run
 
--- what is to run: a program with one durable array, or a class set without durable roots, with the name of its main class
-pub data Choice : Type 0 where
-  OneArray : Program → Choice
-  Classes : Linked → (main : List ℕ) → Choice
+-- what is to run: a class set, and the name of its main class
+pub record Choice : Type 0 where
+  pub set : Linked
+  pub main : List ℕ
 
--- the class, where there is just one
-abbrev pub only_class : List ClassFile → Option ClassFile
-only_class (class ∷ []) = Some class
-only_class classes = None
-
--- the program has this name
-abbrev pub is_choice : List ℕ → Program → Bool
-is_choice name program = bytes_eq program.name name
-
-abbrev pub chosen : List ℕ → Option Program → Result Program Status
-chosen name None = Err status.NotBuilt
-chosen name (Some program) = if is_choice name program then Ok program else Err status.NotBuilt
-
-abbrev pub or_refused : Result Program Status → Result Choice Status
-or_refused (Ok program) = Ok (OneArray program)
-or_refused (Err s) = Err s
-
--- the program of the one class of this name, where it is of the form with one durable array
-abbrev pub one_array : List ℕ → List ClassFile → Result Choice Status
-one_array name classes = or_refused (chosen name (option_and_then program_of (only_class classes)))
-
-abbrev pub is_rooted : Linked → Bool
-is_rooted set = list_any (λ (s : StaticFacts). s.is_root) (facts_of set).statics
-
--- What is built of a class set: with a durable root, a class with one durable array alone; without one, each set whose code asks for no
--- threads and no regions.
-abbrev pub built : List ℕ → Linked → Result Choice Status
-built name set =
-    if is_rooted set then one_array name set.files
-    else (if asks set then Err status.NotBuilt else Ok (Classes set name))
+-- What is built of a class set: each whose code asks for no threads and no regions, and no two of whose durable roots have one name.
+abbrev pub Builds : List ℕ → Linked → Result Choice Status → Type 0
+Builds name set (Ok choice) =
+    (asks set ≡ false) × RootsDiffer (facts_of set) × (choice ≡ record { set = set; main = name })
+Builds name set (Err s) = (s ≡ status.NotBuilt) × ((asks set ≡ true) ⊎ (RootsDiffer (facts_of set) → ⊥))
 
 -- the classes break a condition of linking, the first as the refusal says
 abbrev pub IsRefused : List ClassFile → LinkRefusal → Type 0
@@ -106,7 +77,7 @@ IsRefused classes refusal = (refusal ≢ NoMemory) × IsBroken classes refusal
 -- they don't.
 abbrev pub ClassesGive : List ℕ → List ClassFile → Result Choice Status → Type 0
 ClassesGive name classes answer =
-    (Links classes × (built (slashed name) (linked_from classes) ≡ answer))
+    (Links classes × Builds (slashed name) (linked_from classes) answer)
     ⊎ ((refusal : LinkRefusal) × IsRefused classes refusal × (Err (status.LinkRefused refusal) ≡ answer))
 
 abbrev pub GivenBy : List ℕ → Result (List ClassFile) Status → Result Choice Status → Type 0

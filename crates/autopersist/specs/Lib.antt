@@ -1,10 +1,7 @@
 pub mod Stages
 pub mod Files
-pub mod Choices
 pub mod Reading
 pub mod Sets
 pub mod Began
 pub mod TopCall
 pub mod Words
-pub mod Images
-pub mod Attached

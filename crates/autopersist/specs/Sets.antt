@@ -1,69 +1,82 @@
--- The run of a class set without durable roots over an image, which told `start` at the call's begin and tells `after` at its end.
-use Rattle.std.specs.Prelude.{◌≡◌, ◌≢◌, ◌⊎◌, ℕ, ◌+◌, ◌-◌, ◌^◌, ◌≤◌, min, All, List, [], None, Ok, Err}
+-- The run of a class set over an image, which told `start` at the call's begin and tells `after` at its end.
+use Rattle.std.specs.Prelude.{◌≡◌, ◌≢◌, ◌⊎◌, ℕ, ◌+◌, ◌-◌, ◌^◌, ◌<◌, ◌≤◌, false, List, [], ◌∷◌, Ok, Err}
+use Rattle.ap_base.specs.declared.reference.Ref.{Ref}
+use Rattle.ap_base.specs.declared.reference.Item.{Item}
 use Rattle.graph_model.specs.declared.types.Graph.{Graph}
 use Rattle.line_image.specs.Told.{Told}
-use Rattle.line_image.specs.Trace.{Outcome, IsAllFenced}
+use Rattle.line_image.specs.Trace.{Outcome, LeavesNow, LeftWithin}
+use Rattle.line_memory.specs.Memory.{Memory}
+use Rattle.image_meaning.specs.Appending.{with_all_too}
+use Rattle.image_meaning.specs.Checks.{Words}
+use Rattle.image_meaning.specs.Entries.{DirectoryEntry}
 use Rattle.image_meaning.specs.Meaning.{StandsFor, empty_graph}
-use Rattle.image_opening.specs.Opened.{IsOfForm}
 use Rattle.run_types.specs.declared.fault.Full.{Full}
 use Rattle.run_types.specs.declared.fault.LinkKind.{LinkKind}
 use Rattle.run_types.specs.declared.fault.LinkKind.TheVariants.{MissingClass, MissingMethod}
+use Rattle.run_types.specs.declared.limits.Limits.{Limits}
+use Rattle.natives.specs.declared.requests.Request.{Request}
+use Rattle.run_history.specs.Kept.{acts_before}
 use Rattle.run_history.specs.Recorded.{Recorded}
-use Rattle.plain_model.specs.Ends.{Ending, Fault, Uncaught, Finished}
-use Rattle.plain_model.specs.First.{first_heap, first_objects}
+use Rattle.plain_model.specs.Ends.{Ending, EndsAs, Fault, Uncaught, Finished}
+use Rattle.plain_model.specs.First.{first_heap, first_known, first_objects}
 use Rattle.plain_model.specs.Limits.{words_taken}
-use Rattle.plain_model.specs.Runs.{IsAllowed}
 use Rattle.class_set.specs.Linked.{Linked}
 use Rattle.class_set.specs.Facts.{facts_of}
+use Rattle.directories.specs.Kept.{Kept}
 use Rattle.one_space.specs.First.{LacksWords}
-use Rattle.run_forms.specs.Standing.{IsRun}
-use Rattle.first_machines.specs.Launches.{HasNoRoots}
-use Rattle.volatile_run.specs.Turning.{HadNoFault, HasEnded, StartsAfter}
+use Rattle.shared_objects.specs.declared.rest.Rest.{Rest}
+use Rattle.shared_objects.specs.Shown.{Shown}
+use Rattle.run_forms.specs.Views.{ThreadFrames}
+use Rattle.run_forms.specs.Standing.{Launch, IsAsking, IsRun, StandsFor as FramesStandFor, plain_code}
+use Rattle.stop_invariant.specs.Stops.{IsAllowedImage}
+use Rattle.machine.specs.Running.{HadNoFault}
+use Rattle.durable_run.specs.Turning.{is_built}
+use Rattle.durable_launch.specs.Launching.{launch_over}
 use Rattle.program_launch.specs.declared.mains.Main.{Main}
 use Rattle.program_launch.specs.declared.mains.NoMain.{NoMain}
 use Rattle.program_launch.specs.declared.mains.NoMain.TheVariants.{Class, Method}
 use Rattle.program_launch.specs.Mains.{main_of}
-use Rattle.program_launch.specs.Launches.{launch_from}
+use Rattle.set_opening.specs.declared.unopened.Unopened.{Unopened}
+use Rattle.set_opening.specs.declared.unopened.Unopened.TheVariants as unopened
+use Rattle.set_opening.specs.Attached.{AreRead, IsSettled}
+use Rattle.set_opening.specs.Opened.{IsOpenedFor}
+use Rattle.set_opening.specs.Unopened.{IsUnopened}
 use Rattle.statuses.specs.Names.{fault_status, main_text, told, uncaught_in}
 use Rattle.statuses.specs.declared.status.Status.{Status}
 use Rattle.statuses.specs.declared.status.Status.TheVariants as status
-use Rattle.array_run.specs.Opening.{default_limits}
-use Rattle.image_layout.specs.Places.{min_lines, max_lines}
-use Rattle.image_meaning.specs.Checks.{Words}
-use Rattle.autopersist.specs.Images.{AreRead, IsNotOfForm, IsOfFormOrUntouched, StandsAtStops}
-use Rattle.autopersist.specs.Stages.{Stage, OfMemory, OfForm, OfRoom, OfNames, OfImage, OfTurns, stage_of}
 
--- ---- how it ends
+-- the limits of a run for which the words ask no others
+abbrev pub default_limits : Limits
+default_limits = record { heap_words = 8388608; acts = 1048576 }
 
--- the status of a run that ended so
-abbrev pub status_of_ending : Linked → Ending → Status
-status_of_ending set (Fault fault) = fault_status set fault
-status_of_ending set (Uncaught t class) = uncaught_in set t class
-status_of_ending set Finished = status.Ok
+-- ---- the image is opened
 
--- The run of these acts has ended, and the status says how.
-pub record Ends (set : Linked) (main : Main) (acts : List Recorded) (how : Status) : Type 0 where
-  pub ending : Ending
-  pub ended : HasEnded (launch_from set main default_limits) acts ending
-  pub is : how ≡ status_of_ending set ending
+-- The image was opened for the set, whose array types got the numbers that the image's directory asks for: it stood
+-- for a graph that is this one, but for new null roots.
+pub record IsOpenedSo (set : Linked) (start : Told) (graph : Graph) : Type 0 where
+  pub numbered : Linked
+  pub memory : Memory
+  pub directory : Kept
+  pub lines : List ℕ
+  -- the first line behind all objects
+  pub free : ℕ
+  pub opened : IsOpenedFor start set numbered memory directory lines graph free
 
--- Its last act started another thread, and with two threads nothing is built yet.
-pub record StartsThread (acts : List Recorded) (how : Status) : Type 0 where
-  pub calls : ℕ
-  pub further : List Recorded
-  pub starts : StartsAfter calls [] further acts
-  pub is : how ≡ status.NotBuilt
+abbrev pub status_of_unopened : Unopened → Status
+status_of_unopened (unopened.BadImage line reason) = status.BadImage line reason
+status_of_unopened (unopened.ShapeChanged name) = status.ShapeChanged name
+status_of_unopened (unopened.Full full) = status.Full full
+status_of_unopened unopened.ImageFailed = status.ImageFault
+status_of_unopened unopened.OutOfMemory = status.OutOfMemory
 
--- `main` of the class of this name is there, the acts are a plain run of the set from there, with the code of its files, which kept its
--- limits, and it ended as the status says, or with the start of another thread.
-pub record HasEndedSo (set : Linked) (name : List ℕ) (acts : List Recorded) (how : Status) : Type 0 where
-  pub main : Main
-  pub found : main_of set name ≡ Ok main
-  pub run : IsRun (launch_from set main default_limits) acts
-  pub within : HadNoFault (launch_from set main default_limits) acts
-  pub ends : Ends set main acts how ⊎ StartsThread acts how
+-- It couldn't be opened.
+pub record CannotOpen (set : Linked) (start after : Told) (how : Status) : Type 0 where
+  pub numbered : Linked
+  pub why : Unopened
+  pub unopened : IsUnopened start after set numbered why
+  pub is : how ≡ status_of_unopened why
 
--- ---- why it doesn't begin
+-- ---- the run doesn't begin
 
 -- the first objects of the set take more words than there are, and the status tells it of the first that finds too few
 pub record LacksFirstWords (set : Linked) (how : Status) : Type 0 where
@@ -71,83 +84,115 @@ pub record LacksFirstWords (set : Linked) (how : Status) : Type 0 where
   pub is : how ≡ status.Full full
   pub lacks : LacksWords default_limits.heap_words (first_objects (facts_of set) empty_graph) full
 
-abbrev pub HasFirstWords : Linked → Type 0
-HasFirstWords set =
-    words_taken empty_graph (first_heap (facts_of set) empty_graph) ≤ default_limits.heap_words
-
 abbrev pub kind_of : NoMain → LinkKind
 kind_of Class = MissingClass
 kind_of Method = MissingMethod
 
 -- The first objects find room, and the set has no class of this name, or it finds no static `main` from it on.
-pub record HasNoMain (set : Linked) (name : List ℕ) (how : Status) : Type 0 where
-  pub fits : HasFirstWords set
+pub record HasNoMain (set : Linked) (name : List ℕ) (graph : Graph) (how : Status) : Type 0 where
+  pub fits : words_taken graph (first_heap (facts_of set) graph) ≤ default_limits.heap_words
   pub none : NoMain
   pub missing : main_of set name ≡ Err none
   pub is : how ≡ status.LinkFault (kind_of none) (told (main_text (kind_of none) name))
 
--- ---- the image
+-- Once the image was opened, the first words were looked for, and then `main`; memory may run out before the first turn.
+pub record CannotBegin (set : Linked) (name : List ℕ) (start : Told) (how : Status) : Type 0 where
+  pub graph : Graph
+  pub of : IsOpenedSo set start graph
+  pub cause : LacksFirstWords of.numbered how ⊎ HasNoMain of.numbered name graph how ⊎ (how ≡ status.OutOfMemory)
 
--- The image was of a right size, and its words of the form that a set without a durable root needs: it stood for the graph without
--- roots and nodes.
-pub record WasEmpty (start : Told) : Type 0 where
+-- ---- how the run ends
+
+-- the status of a run that ended so
+abbrev pub status_of_ending : Linked → Ending → Status
+status_of_ending set (Fault fault) = fault_status set fault
+status_of_ending set (Uncaught t class) = uncaught_in set t class
+status_of_ending set Finished = status.Ok
+
+-- The run of these acts has ended, and the status says how, where the image has so many lines for objects.
+pub record Ends (set : Linked) (launch : Launch) (lines : ℕ) (acts : List Recorded) (how : Status) : Type 0 where
+  pub ending : Ending
+  pub ended : EndsAs launch.set launch.main launch.opening (plain_code launch) launch.limits lines acts ending
+  pub is : how ≡ status_of_ending set ending
+
+-- After these acts its thread asks to start another one, or to begin or end a region: that isn't built yet.
+pub record AsksMore (launch : Launch) (acts : List Recorded) (how : Status) : Type 0 where
+  pub shown : Shown
+  pub rest : Rest
+  pub frames : ThreadFrames
+  pub stands : FramesStandFor launch acts shown rest (frames ∷ [])
+  pub request : Request Ref Item
+  pub asks : IsAsking launch rest (frames ∷ []) 0 frames request
+  pub unbuilt : is_built request ≡ false
+  pub is : how ≡ status.NotBuilt
+
+-- The image was opened, `main` of the class of this name is there, and the acts are a plain run of the set from
+-- there, with the code of its files, which kept its limits and ended as the status says.
+pub record HasEndedSo (set : Linked) (name : List ℕ) (start : Told) (opening : Graph) (acts : List Recorded)
+    (how : Status) : Type 0 where
+  pub graph : Graph
+  pub of : IsOpenedSo set start graph
+  pub main : Main
+  pub found : main_of of.numbered name ≡ Ok main
+  pub literals : List Ref
+  pub run : IsRun (launch_over of.numbered main default_limits graph literals) acts
+  pub within : HadNoFault (launch_over of.numbered main default_limits graph literals) acts
+  pub ends : Ends of.numbered (launch_over of.numbered main default_limits graph literals)
+      (start.size - of.free) acts how
+      ⊎ AsksMore (launch_over of.numbered main default_limits graph literals) acts how
+  -- the opening graph, where there is an act
+  pub from : acts ≢ [] → opening ≡ graph
+
+-- What the call came to.
+abbrev pub SetEnds : Linked → (name : List ℕ) → Told → Graph → List Recorded → Told → Status → Type 0
+SetEnds set name start opening acts after how =
+    ((acts ≡ []) × (CannotOpen set start after how ⊎ CannotBegin set name start how))
+    ⊎ HasEndedSo set name start opening acts how
+
+-- ---- stops
+
+-- The words stand for the graph for which those before stood, with some further roots, which are null.
+abbrev pub StandsAsBefore : (size : ℕ) → (before : Words) → Outcome → Type 0
+StandsAsBefore size before words = (graph : Graph) → StandsFor size before graph
+    → (entries : List DirectoryEntry) × StandsFor size words (with_all_too graph entries)
+
+-- They stand for a graph that these acts of all allow, from the graph with which the image was opened.
+pub record StandsAllowed (set : Linked) (start : Told) (opening : Graph) (all acts : List Recorded) (words : Outcome)
+    : Type 0 where
+  pub graph : Graph
+  pub of : IsOpenedSo set start graph
+  pub from : all ≢ [] → opening ≡ graph
+  pub allowed : IsAllowedImage (first_known (facts_of of.numbered) graph) start.size acts words
+
+-- So they do; or, where there are no acts yet, they stand as before.
+abbrev pub StandsRightly : Linked → Told → Graph → (all acts : List Recorded) → (before : Words) → Outcome → Type 0
+StandsRightly set start opening all acts before words = StandsAllowed set start opening all acts words
+    ⊎ ((acts ≡ []) × StandsAsBefore start.size before words)
+
+-- A stop within call n of the top call leaves only images that stand rightly for the acts before that call,
+-- and a stop after the last call those that do for all acts.
+pub record StandsAtStops (set : Linked) (start : Told) (opening : Graph) (acts : List Recorded) (after : Told)
+    : Type 0 where
   pub words : Words
   pub read : AreRead start words
-  pub enough : min_lines ≤ start.size
-  pub most : start.size ≤ max_lines
-  pub form : IsOfForm start.size words None
-  pub stands : StandsFor start.size words empty_graph
-
--- The image was blank, or nothing was written to it: nothing is added to a directory.
-pub record WasBlankOrKept (start after : Told) : Type 0 where
-  pub words : Words
-  pub read : AreRead start words
-  pub is : (words 0 0 ≡ 0) ⊎ (after.trace ≡ start.trace)
-
--- An image that is laid out, can be opened again and stands for the graph without roots and nodes, which these acts of the set allow:
--- it has no durable root.
-pub record IsEmptyFor (set : Linked) (acts : List Recorded) (size : ℕ) (words : Outcome) : Type 0 where
-  pub in_use : words 0 0 ≢ 0
-  pub form : IsOfForm size words None
-  pub stands : StandsFor size words empty_graph
-  pub allowed : IsAllowed (facts_of set) empty_graph acts empty_graph
+  pub within : (n : ℕ) → 0 < n → start.calls + n ≤ after.calls → start.calls + n < 2 ^ 64 - 1
+      → (c : Outcome) → LeftWithin after.trace (start.calls + n) c
+      → StandsRightly set start opening acts (acts_before n acts) words c
+  pub now : (c : Outcome) → LeavesNow after.trace c → StandsRightly set start opening acts acts words c
 
 -- ---- the whole
-
--- Why a call that had this to run ended so, by the stage. The image is looked at first, then the words of the first objects, and then
--- `main`.
-abbrev pub SetEndsAt : Stage → Linked → (name : List ℕ) → Told → List Recorded → Status → Type 0
-SetEndsAt OfForm set name start acts how =
-    IsNotOfForm None start ⊎ (WasEmpty start × HasEndedSo set name acts how)
-SetEndsAt OfRoom set name start acts how =
-    WasEmpty start × (HasEndedSo set name acts how ⊎ ((acts ≡ []) × LacksFirstWords set how))
-SetEndsAt OfNames set name start acts how =
-    WasEmpty start × (HasEndedSo set name acts how ⊎ ((acts ≡ []) × HasNoMain set name how))
-SetEndsAt OfImage set name start acts how = acts ≡ []
-SetEndsAt OfMemory set name start acts how = acts ≡ []
-SetEndsAt OfTurns set name start acts how = WasEmpty start × HasEndedSo set name acts how
-SetEndsAt other set name start acts how = ⊥
 
 -- What a run of the set over an image comes to, whose main class has this name.
 pub record SetRunsOver (set : Linked) (name : List ℕ) (start : Told) (opening : Graph) (acts : List Recorded)
     (after : Told) (how : Status) : Type 0 where
-  -- the set has no durable root
-  pub no_roots : HasNoRoots (facts_of set)
   -- the image keeps its size
   pub size : after.size ≡ start.size
-  -- the graph from which it runs has no roots and nodes
-  pub from_nothing : opening ≡ empty_graph
-  -- the status has its cause
-  pub cause : SetEndsAt (stage_of how) set name start acts how
-  -- the acts are a plain run of the set, from no objects that were there before, and end as the status says
-  pub run : acts ≢ [] → WasEmpty start × HasEndedSo set name acts how
-  -- each was made after the image was opened: no image call comes after the first
-  pub made : All (λ (a : Recorded).
-      (start.size ≤ a.act.at) × (min (start.calls + a.act.at) (2 ^ 64 - 1) ≡ after.calls)) acts
-  -- an image that isn't of the form that is opened is left alone
-  pub untouched : IsOfFormOrUntouched None start after
-  -- and so is one that is in use
-  pub kept : WasBlankOrKept start after
-  -- a stop within any image call, or after the last one, leaves only images that stand for the graph without roots and
-  -- nodes and open again; before the first act, for the graph that the image stood for
-  pub stops : IsAllFenced start.trace → StandsAtStops None (IsEmptyFor set) start acts after
+  -- how it ended, and why
+  pub ends : SetEnds set name start opening acts after how
+  -- where there are no acts, the opening graph has no roots and nodes
+  pub unbegun : acts ≡ [] → opening ≡ empty_graph
+  -- The persistence theorem: a stop within any image call, or after the last one, leaves only images that
+  -- stand for a graph which the acts before that call allow; before the first act, for the graph that the
+  -- image stood for, new null roots aside. The image tells what is done to it, keeps what was fenced and tears no
+  -- word, and had nothing unfenced at the start.
+  pub stops : IsSettled start → StandsAtStops set start opening acts after

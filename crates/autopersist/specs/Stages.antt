@@ -2,6 +2,7 @@
 use Rattle.std.specs.Prelude.{◌≡◌, ◌⊎◌, ℕ, List}
 use Rattle.run_types.specs.declared.fault.Full.{Full}
 use Rattle.run_types.specs.declared.fault.LinkKind.{LinkKind}
+use Rattle.image_layout.specs.declared.superblock.BadReason.{BadReason}
 use Rattle.class_file.specs.declared.refusal.ClassRefusal.{ClassRefusal}
 use Rattle.class_links.specs.declared.refusal.LinkRefusal.{LinkRefusal}
 use Rattle.statuses.specs.declared.status.Status.{Status}
@@ -18,9 +19,11 @@ pub data Stage : Type 0 where
   OfFile : Stage
   -- the classes don't link
   OfLinking : Stage
-  -- the classes or the image are of no form that is built
+  -- the classes are of no form that is built
   OfForm : Stage
-  -- more was needed than there is: of files, of words for the first objects, or in the run
+  -- the image is refused
+  OfOpening : Stage
+  -- more was needed than there is: of files, of the image's directory, of words for the first objects, or in the run
   OfRoom : Stage
   -- a name leads to nothing that can be used: that of the main class, or one in the run
   OfNames : Stage
@@ -36,6 +39,8 @@ stage_of status.OutOfMemory = OfMemory
 stage_of (status.BadClass file refusal) = OfFile
 stage_of (status.LinkRefused refusal) = OfLinking
 stage_of status.NotBuilt = OfForm
+stage_of (status.BadImage line reason) = OfOpening
+stage_of (status.ShapeChanged shape) = OfOpening
 stage_of (status.Full full) = OfRoom
 stage_of (status.LinkFault kind name) = OfNames
 stage_of status.ImageFault = OfImage
@@ -64,6 +69,7 @@ IsClassesStage other = ⊥
 
 -- those before the image is opened
 abbrev pub IsEarlyStage : Stage → Type 0
+IsEarlyStage OfOpening = ⊥
 IsEarlyStage OfNames = ⊥
 IsEarlyStage OfImage = ⊥
 IsEarlyStage OfTurns = ⊥
@@ -87,6 +93,8 @@ pub record StagesAre : Type 0 where
   pub file : (file : List ℕ) (refusal : ClassRefusal) → stage_of (status.BadClass file refusal) ≡ OfFile
   pub linking : (refusal : LinkRefusal) → stage_of (status.LinkRefused refusal) ≡ OfLinking
   pub form : stage_of status.NotBuilt ≡ OfForm
+  pub refused : (line : ℕ) (reason : BadReason) → stage_of (status.BadImage line reason) ≡ OfOpening
+  pub changed : (shape : List ℕ) → stage_of (status.ShapeChanged shape) ≡ OfOpening
   pub room : (full : Full) → stage_of (status.Full full) ≡ OfRoom
   pub names : (kind : LinkKind) (name : List ℕ) → stage_of (status.LinkFault kind name) ≡ OfNames
   pub image : stage_of status.ImageFault ≡ OfImage

@@ -2,13 +2,10 @@
 #![tactic(auto)]
 
 mod choice;
-mod classes;
 mod files;
 mod laws;
-mod one_array;
-mod opening;
 mod ran;
-mod runs;
+mod sets;
 mod top_call;
 mod words;
 

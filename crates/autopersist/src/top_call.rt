@@ -1,18 +1,15 @@
 // The top call.
 ghost use Rattle.std.specs.Prelude.{◌≡◌, ◌≢◌, ◌⊎◌, ◌↔◌, Some, None, [], List};
 ghost use Rattle.ap_base.specs.Causes.{Rose};
-ghost use Rattle.ap_base.specs.Sinks.{with_bytes};
 ghost use Rattle.ap_base.specs.declared.source.NamedBytes.{NamedBytes as File};
 ghost use Rattle.image_meaning.specs.Meaning.{empty_graph};
-ghost use Rattle.plain_model.specs.Runs.{output_of};
-ghost use Rattle.array_run.specs.Telling.{with_all};
 ghost use Rattle.autopersist.specs.Reading.{IsLeft};
-ghost use Rattle.autopersist.specs.TopCall.{IsCauseOf, AnswersFor, OfChoice, RunsAs, IsOfRun};
+ghost use Rattle.autopersist.specs.TopCall.{IsCauseOf, AnswersFor, OfChoice, RunsAs, IsOfRun, Tells, over};
 ghost use Rattle.autopersist.specs.Words.{main_class, texts};
 
 use crate::choice::{Found, find_choice};
 use crate::ran::no_graph;
-use crate::runs::run_choice;
+use crate::sets::run_set;
 use ap_base::{ClassSource, Gate, Sink};
 use graph_model::Graph;
 use line_image::Image;
@@ -35,8 +32,10 @@ pub struct Ended<C, I, S, W> {
 }
 
 /// Runs the class of the source's files for which the words ask, on the image, and prints to the sink.
+/// What the durable roots reach is kept in the image.
 ///
-/// The words begin with the program's name. The gate is called in each turn before its first event, and the watcher is told each act.
+/// The words begin with the program's name. The gate is called in each turn before its first event, and
+/// the watcher is told each act.
 pub fn autopersist<R, C, I, S, G, W>(
     _rt: &R,
     alloc: Global,
@@ -56,8 +55,8 @@ where
     W: Watcher + Send,
     // How it ends: each status but want of memory with its cause.
     ensures usage { (result.status ≡ Status.Usage) ↔ (main_class (texts words.now.items) ≡ None) }
-    ensures cause { IsCauseOf (texts words.now.items) (C.left source) (I.told image)
-        result.acts.acts result.status }
+    ensures cause { IsCauseOf (texts words.now.items) (C.left source)
+        (over (I.told image) result.opening result.acts.acts (I.told result.image)) result.status }
     ensures answers { AnswersFor (texts words.now.items) (C.left source) result.status }
     ensures source_fault { result.status ≡ Status.SourceFault
         → Rose (C.faults source) (C.faults result.source) }
@@ -81,19 +80,27 @@ where
     // What ran, and what a stop leaves of the image, within any of its calls or after the last one: by the words and
     // files there is something to run for which all of this holds; or there are no acts, and the image is as it was.
     ensures theorem { ((result.image ≡ image) × (result.acts.acts ≡ []))
-        ⊎ OfChoice (texts words.now.items) (C.left source) (λ choice.
-        RunsAs choice (I.told image) result.opening result.acts.acts
-        (I.told result.image) result.status) }
+        ⊎ OfChoice (texts words.now.items) (C.left source) (RunsAs
+        (over (I.told image) result.opening result.acts.acts (I.told result.image)) result.status) }
     ensures early { IsOfRun result.status ⊎ ((result.image ≡ image) × (result.acts.acts ≡ [])) }
     ensures size { (I.told result.image).size ≡ (I.told image).size }
 
     // What the outside was told, whatever the status.
-    ensures printed { S.taken result.sink ≡ with_bytes (S.taken sink) (output_of result.acts.acts) }
-    ensures watched { W.seen result.watcher ≡ with_all (W.seen watcher) result.acts.acts }
+    ensures told { Tells result.acts.acts (W.seen watcher) (W.seen result.watcher)
+        (S.taken sink) (S.taken result.sink) }
 {
     match find_choice(alloc, words.as_slice(), &mut source) {
-        Ok(Found { choice, room }) => {
-            let ran = run_choice(alloc, &choice, room, image, sink, gate, watcher);
+        Ok(Found { set, main, room }) => {
+            let ran = run_set(
+                alloc,
+                set,
+                main.as_slice(),
+                room,
+                image,
+                sink,
+                gate,
+                watcher,
+            );
             Ended {
                 status: ran.status,
                 opening: ran.opening,

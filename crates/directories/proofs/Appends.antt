@@ -63,7 +63,7 @@ module _ (had : List DirectoryEntry) (kept : Kept) (entry : DirectoryEntry) (lat
   pub comes_stands : (progress : Progress) → HasCome progress kept.used (spelled entry) new
       → Stands had (record kept { progress = progress }) new
   comes_stands progress next = record {
-    tells = changes.telling stands.tells;
+    known = changes.known stands.known;
     used = stands.used;
     words = words_stay;
     next = subst (λ (all : List DirectoryEntry). NextStands all progress kept.used new) (sym left) next;
@@ -86,7 +86,7 @@ module _ (had : List DirectoryEntry) (kept : Kept) (entry : DirectoryEntry) (lat
       subst (λ (n : ℕ). (i : ℕ) → i < length (spelled entry) → IsFixed new (directory_line (n + i)) (directory_word (n + i)) (slice_index_or (spelled entry) i 0))
       stands.used here.1 in
       record {
-        tells = changes.telling stands.tells;
+        known = changes.known stands.known;
         used = many ∙ ap (λ (n : ℕ). n + length (spelled entry)) stands.used ∙ sym count ∙ ap length (sym more);
         words = subst AllFixed (sym more)
             (each_of_both (spelled_all had) (spelled entry) (λ i v. IsFixed new (directory_line i) (directory_word i) v) words_stay behind);

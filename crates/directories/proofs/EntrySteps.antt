@@ -1,14 +1,42 @@
 -- The steps of one entry.
-use Rattle.std.proofs.Common.{◌≡◌, ◌⊎◌, inl, inr, ⊎_elim, ◌<◌, ◌≤◌, ◌+◌, ℕ, List, Result, Ok, Err, OnErr, length, slice_index_or, sym, ◌∙◌, subst, arith}
+use Rattle.std.proofs.Common.{◌≡◌, ◌⊎◌, inl, inr, ⊎_elim, ◌<◌, ◌≤◌, ◌+◌, ℕ, List, Option, Some, None, Result, Ok, Err, OnErr, length, slice_index_or, sym, ◌∙◌, subst, arith}
 use Rattle.std.proofs.lemmas.Bool.{cases_lt}
-use Rattle.line_image.specs.Trace.{Outcome}
-use Rattle.line_memory.specs.Memory.{Memory, shown, IsWritten, IsDurable}
+use Rattle.line_image.specs.Trace.{Trace, Outcome}
+use Rattle.line_memory.specs.Memory.{Memory, shown, IsTelling, ReadsWord, IsWritten, IsDurable}
 use Rattle.image_layout.specs.Places.{min_lines, directory_words, directory_line, directory_word}
-use Rattle.word_changes.specs.Changes.{Tells, Nothing, IsGiven, IsLeft, OldOrGiven, ChangesTo, StopsLeave}
-use Rattle.word_changes.proofs.Changing.{telling_knows, stays_fixed, stays_written, left_fixed, fence_fixes, changes_stops, changes_nowhere, changes_more, changes_weaker}
+use Rattle.word_changes.specs.Changes.{AllKnown, IsFixed, IsWrittenAs, Nothing, IsGiven, IsLeft, OldOrGiven, ChangesTo, StopsLeave}
+use Rattle.word_changes.proofs.Changing.{stays_fixed, left_fixed, changes_stops, changes_nowhere, changes_more, changes_weaker}
+use Rattle.word_changes.proofs.Going.{changes_silent}
 use Rattle.directories.specs.declared.stepping.Progress.{Progress}
 use Rattle.directories.specs.declared.stepping.Progress.TheVariants.{Words, Fenced, Raised}
 use Rattle.directories.specs.Appending.{OfWords, OfEntry, AreWritten, AreFixed, IsRaising, HasCome, IsIn, OldOrWhole}
+
+-- ---- what is known
+
+reads_any : (o : Option Trace) (l w v : ℕ) → ¬ IsTelling o → ReadsWord o l w v
+reads_any None l w v silent = tt
+reads_any (Some h) l w v silent = absurd (silent tt)
+
+tells_or_not : (o : Option Trace) → IsTelling o ⊎ (¬ IsTelling o)
+tells_or_not None = inr (λ tells. tells)
+tells_or_not (Some h) = inl tt
+
+-- a word outside the changes that is written back is so still, whether the image tells or not
+still_written : (Gives : ℕ → ℕ → ℕ → Type 0) (old new : Memory) (l w v : ℕ) → ChangesTo Gives old new → AllKnown old → l < old.size
+    → IsLeft Gives l w → IsWrittenAs old l w v → IsWrittenAs new l w v
+still_written Gives old new l w v changes known below out was = record {
+  shows = changes.shows known l w below out ∙ was.shows;
+  written = ⊎_elim
+      (λ tells. changes.written tells l w below out was.written)
+      (λ silent. reads_any new.image.trace l w (shown new l w) (λ tells. silent (changes_silent Gives old new changes tells)))
+      (tells_or_not old.image.trace);
+}
+
+-- a fence makes what is written back fixed
+fence_fixed : (old new : Memory) (l w v : ℕ) → ChangesTo Nothing old new → AllKnown old → l < old.size
+    → ((line word : ℕ) → IsWritten old line word → IsDurable new line word) → IsWrittenAs old l w v → IsFixed new l w v
+fence_fixed old new l w v changes known below durable was x left =
+    durable l w was.written x left ∙ changes.shows known l w below (λ v none. none) ∙ was.shows
 
 -- what holds at the exit of a failed call
 pub at_failure : {T E : Type 0} (r : Result T E) (P : Type 0) → P → OnErr r P
@@ -41,23 +69,23 @@ module _ (used : ℕ) (words : List ℕ) (room : used + length words ≤ directo
         → AreFixed used words old → AreFixed used words new
     fixed_on left fixed i below = stays_fixed Gives old new _ _ _ changes (left i below) (fixed i below)
 
-    written_on : (n : ℕ) → n ≤ length words → min_lines ≤ old.size → Tells old
+    written_on : (n : ℕ) → n ≤ length words → min_lines ≤ old.size → AllKnown old
         → ((i : ℕ) → i < n → IsLeft Gives (directory_line (used + i)) (directory_word (used + i)))
         → AreWritten used words n old → AreWritten used words n new
-    written_on n few enough tells left written i below =
-        stays_written Gives old new _ _ _ changes tells (omega (arith, room, enough, below, few)) (left i below) (written i below)
+    written_on n few enough known left written i below =
+        still_written Gives old new _ _ _ changes known (omega (arith, room, enough, below, few)) (left i below) (written i below)
 
   raising_on : (old new : Memory) → ChangesTo (IsGiven 0 3 (used + length words)) old new → IsRaising used words old
       → IsRaising used words new
   raising_on old new changes raising x left = ⊎_elim (λ was. raising x was) (λ put. inr put.2) (changes.leaves 0 3 x left)
 
-  module _ (old new : Memory) (enough : min_lines ≤ old.size) (tells : Tells old) where
+  module _ (old new : Memory) (enough : min_lines ≤ old.size) (known : AllKnown old) where
     pub nothing_comes : (progress : Progress) → ChangesTo Nothing old new → HasCome progress used words old
         → HasCome progress used words new
     nothing_comes (Words n) changes come = (
       come.0,
       stays_fixed Nothing old new 0 3 used changes (nothing_left 0 3) come.1,
-      written_on Nothing old new changes n come.0 enough tells (λ i below. nothing_left (directory_line (used + i)) (directory_word (used + i))) come.2,
+      written_on Nothing old new changes n come.0 enough known (λ i below. nothing_left (directory_line (used + i)) (directory_word (used + i))) come.2,
     )
     nothing_comes Fenced changes come = (
       raising_on old new (changes_nowhere (IsGiven 0 3 (used + length words)) old new changes) come.0,
@@ -66,7 +94,7 @@ module _ (used : ℕ) (words : List ℕ) (room : used + length words ≤ directo
     nothing_comes Raised changes come = (
       raising_on old new (changes_nowhere (IsGiven 0 3 (used + length words)) old new changes) come.0,
       fixed_on Nothing old new changes (λ i below. nothing_left (directory_line (used + i)) (directory_word (used + i))) come.1,
-      stays_written Nothing old new 0 3 _ changes tells (omega (arith, enough)) (nothing_left 0 3) come.2,
+      still_written Nothing old new 0 3 _ changes known (omega (arith, enough)) (nothing_left 0 3) come.2,
     )
 
     -- words behind the first n are stored
@@ -75,7 +103,7 @@ module _ (used : ℕ) (words : List ℕ) (room : used + length words ≤ directo
     stores_come n to changes come = (
       come.0,
       stays_fixed (OfWords used words n to) old new 0 3 used changes (count_left used n to words) come.1,
-      written_on (OfWords used words n to) old new changes n come.0 enough tells (λ i below. word_left used n to i words below) come.2,
+      written_on (OfWords used words n to) old new changes n come.0 enough known (λ i below. word_left used n to i words below) come.2,
     )
 
     -- their line is written back
@@ -91,7 +119,7 @@ module _ (used : ℕ) (words : List ℕ) (room : used + length words ≤ directo
           λ i below. ⊎_elim
               (λ (low : i < n). before.2 i low)
               (λ (high : n ≤ i). record {
-                shows = changes.shows (telling_knows old tells) _ _ (omega (arith, room, enough, below, few)) (nothing_left (directory_line (used + i)) (directory_word (used + i)))
+                shows = changes.shows known _ _ (omega (arith, room, enough, below, few)) (nothing_left (directory_line (used + i)) (directory_word (used + i)))
                     ∙ shows i high below;
                 written = subst (λ (l : ℕ). IsWritten new l (directory_word (used + i))) (sym (one_line i high below))
                     (written (directory_word (used + i)));
@@ -104,7 +132,7 @@ module _ (used : ℕ) (words : List ℕ) (room : used + length words ≤ directo
         → ((l w : ℕ) → IsWritten old l w → IsDurable new l w) → HasCome (Words n) used words old → HasCome Fenced used words new
     fenced_come n all changes durable come = (
       λ x left. inl (stays_fixed Nothing old new 0 3 used changes (nothing_left 0 3) come.1 x left),
-      λ i below. fence_fixes old new _ _ _ changes tells (omega (arith, room, enough, below)) durable
+      λ i below. fence_fixed old new _ _ _ changes known (omega (arith, room, enough, below)) durable
           (come.2 i (omega (arith, below, all))),
     )
 
@@ -124,7 +152,7 @@ module _ (used : ℕ) (words : List ℕ) (room : used + length words ≤ directo
           after.0,
           after.1,
           record {
-            shows = changes.shows (telling_knows old tells) 0 3 (omega (arith, enough)) (nothing_left 0 3) ∙ shows;
+            shows = changes.shows known 0 3 (omega (arith, enough)) (nothing_left 0 3) ∙ shows;
             written = written 3;
           },
         )
@@ -133,7 +161,7 @@ module _ (used : ℕ) (words : List ℕ) (room : used + length words ≤ directo
     pub finished_comes : ChangesTo Nothing old new → ((l w : ℕ) → IsWritten old l w → IsDurable new l w)
         → HasCome Raised used words old → IsIn used words new
     finished_comes changes durable come = (
-      fence_fixes old new 0 3 _ changes tells (omega (arith, enough)) durable come.2,
+      fence_fixed old new 0 3 _ changes known (omega (arith, enough)) durable come.2,
       fixed_on Nothing old new changes (λ i below. nothing_left (directory_line (used + i)) (directory_word (used + i))) come.1,
     )
 
@@ -205,16 +233,16 @@ module _ (used : ℕ) (words : List ℕ) (room : used + length words ≤ directo
         (changes_more Gives old ready stored (changes_nowhere Gives old ready first) puts)
         (changes_nowhere Gives stored new last)
 
-    module _ (tells : Tells old) (come : HasCome Fenced used words old) where
+    module _ (known : AllKnown old) (come : HasCome Fenced used words old) where
       pub raise_stored : HasCome Fenced used words stored
-      raise_stored = raise_comes used words room ready stored enough_ready (first.telling tells) puts
-          (nothing_comes used words room old ready enough tells Fenced first come)
+      raise_stored = raise_comes used words room ready stored enough_ready (first.known known) puts
+          (nothing_comes used words room old ready enough known Fenced first come)
 
       pub raise_failed : HasCome Fenced used words new
-      raise_failed = nothing_comes used words room stored new enough_stored (puts.telling (first.telling tells)) Fenced last raise_stored
+      raise_failed = nothing_comes used words room stored new enough_stored (puts.known (first.known known)) Fenced last raise_stored
 
       pub raise_made : shown stored 0 3 ≡ used + length words → ((w : ℕ) → IsWritten new 0 w) → HasCome Raised used words new
-      raise_made shows written = raised_comes used words room stored new enough_stored (puts.telling (first.telling tells)) last shows written
+      raise_made shows written = raised_comes used words room stored new enough_stored (puts.known (first.known known)) last shows written
           raise_stored
 
   module _ (n to : ℕ) (few : to ≤ length words) (puts : ChangesTo (OfWords used words n to) ready stored) where
@@ -229,20 +257,20 @@ module _ (used : ℕ) (words : List ℕ) (room : used + length words ≤ directo
         (changes_more Gives old ready stored (changes_nowhere Gives old ready first) puts)
         (changes_nowhere Gives stored new last))
 
-    module _ (tells : Tells old) (come : HasCome (Words n) used words old) where
+    module _ (known : AllKnown old) (come : HasCome (Words n) used words old) where
       words_stored : HasCome (Words n) used words stored
-      words_stored = stores_come used words room ready stored enough_ready (first.telling tells) n to puts
-          (nothing_comes used words room old ready enough tells (Words n) first come)
+      words_stored = stores_come used words room ready stored enough_ready (first.known known) n to puts
+          (nothing_comes used words room old ready enough known (Words n) first come)
 
       pub words_failed : HasCome (Words n) used words new
-      words_failed = nothing_comes used words room stored new enough_put (puts.telling (first.telling tells)) (Words n) last words_stored
+      words_failed = nothing_comes used words room stored new enough_put (puts.known (first.known known)) (Words n) last words_stored
 
       pub words_made : ((i : ℕ) → n ≤ i → i < to → directory_line (used + i) ≡ directory_line (used + n))
           → ((i : ℕ) → n ≤ i → i < to → shown stored (directory_line (used + i)) (directory_word (used + i)) ≡ slice_index_or words i 0)
           → ((w : ℕ) → IsWritten new (directory_line (used + n)) w)
           → HasCome (Words to) used words new
       words_made one_line shows written =
-          written_come used words room stored new enough_put (puts.telling (first.telling tells)) n to few last one_line shows written
+          written_come used words room stored new enough_put (puts.known (first.known known)) n to few last one_line shows written
           words_stored
 
 -- ---- one word more is stored

@@ -37,7 +37,7 @@ words_fixed had start m has i below x left = has.words i (omega (arith, below, h
 
 pub durable_stands : (had : List DirectoryEntry) (start : Kept) (m : Memory) → HasDurable had start m → Stands had start m
 durable_stands had start m has = record {
-  tells = has.tells;
+  known = has.known;
   used = has.used;
   words = words_fixed had start m has;
   next = subst (λ (p : Progress). NextStands start.left p start.used m) (sym has.begins)
@@ -254,7 +254,7 @@ module _ (old new : Memory) (leave : LeavesDirectory old new) where
   pub others_leave : (had : List DirectoryEntry) (kept : Kept) → kept.used + length (next_words kept.left) ≤ directory_words
       → Stands had kept old → Stands had kept new
   others_leave had kept room stands = record {
-    tells = leave.tells stands.tells;
+    known = leave.known stands.known;
     used = stands.used;
     words = λ i below. fixed_left (directory_line i) (directory_word i) (slice_index_or (spelled_all had) i 0)
         (of_word i (slice_index_or (spelled_all had) i 0) (omega (arith, below, room, stands.used))) (stands.words i below);
@@ -272,7 +272,7 @@ planned_next (entry ∷ later) entries p used m come = come
 pub plans_leave : (had entries : List DirectoryEntry) (old new : Kept) (m : Memory) → IsPlanned entries old new
     → Stands had old m → Stands had new m
 plans_leave had entries old new m plan stands = record {
-  tells = stands.tells;
+  known = stands.known;
   used = plan.used ∙ stands.used;
   words = stands.words;
   next = subst (λ (l : List DirectoryEntry). NextStands l new.progress new.used m) (sym plan.left)

@@ -10,7 +10,7 @@ use Rattle.image_meaning.specs.Directories.{no_entries, with_all, spelled_all, S
 use Rattle.image_meaning.specs.Meaning.{empty_graph, StandsFor, IsWellFormed}
 use Rattle.image_meaning.specs.Laws.{Opens}
 use Rattle.image_meaning.specs.Appending.{with_all_too}
-use Rattle.word_changes.specs.Changes.{Tells, IsWrittenAs, ChangesTo, StopsLeave}
+use Rattle.word_changes.specs.Changes.{AllKnown, IsWrittenAs, ChangesTo, StopsLeave}
 use Rattle.directories.specs.declared.stepping.Progress.TheVariants as stage
 use Rattle.directories.specs.Appending.{OfEntry}
 use Rattle.directories.specs.Formatting.{IsFormatted, IsBlankOrFormatted}
@@ -37,7 +37,7 @@ OfDirectory l w v = ((l ≡ 0) × (w ≡ 3)) ⊎ ((directory_line 0 ≤ l) × (l
 -- The number of words in use and these words are durable, and they are those of the entries: the three conditions under which entries are
 -- appended.
 pub record HasDurable (had : List DirectoryEntry) (kept : Kept) (m : Memory) : Type 0 where
-  pub tells : Tells m
+  pub known : AllKnown m
   pub spells : Spells (shown m) had
   pub used : kept.used ≡ length (spelled_all had)
   pub begins : kept.progress ≡ stage.Words 0
@@ -93,7 +93,7 @@ pub record AppendedEntriesStand : Type 0 where
 
 -- Steps that store to no word of the directory: a stop leaves of these words only what it left before, and what was written back is so still.
 pub record LeavesDirectory (old new : Memory) : Type 0 where
-  pub tells : Tells old → Tells new
+  pub known : AllKnown old → AllKnown new
   pub leaves : (l w v : ℕ) → OfDirectory l w v → CanLeave new l w v → CanLeave old l w v
   pub written : (l w v : ℕ) → OfDirectory l w v → IsWrittenAs old l w v → IsWrittenAs new l w v
 

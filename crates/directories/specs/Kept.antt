@@ -7,7 +7,7 @@ use Rattle.line_memory.specs.Memory.{Memory, OneCall}
 use Rattle.image_layout.specs.Places.{directory_words, directory_line, directory_word}
 use Rattle.image_meaning.specs.Entries.{DirectoryEntry, spelled}
 use Rattle.image_meaning.specs.Directories.{no_entries, with_all, spelled_all, AreEntries, Spells}
-use Rattle.word_changes.specs.Changes.{Tells, IsFixed}
+use Rattle.word_changes.specs.Changes.{AllKnown, IsFixed}
 use Rattle.directories.specs.declared.stepping.Progress.{Progress}
 use Rattle.directories.specs.declared.stepping.Progress.TheVariants.{Words}
 use Rattle.directories.specs.Appending.{HasCome, calls_left, IsFetched}
@@ -46,10 +46,10 @@ abbrev pub NextStands : List DirectoryEntry → Progress → ℕ → Memory → 
 NextStands [] progress used m = (progress ≡ Words 0) × IsFixed m 0 3 used
 NextStands (entry ∷ later) progress used m = HasCome progress used (spelled entry) m
 
--- The image tells what was done to it. Whatever stops, its directory has these entries, of which nothing is lost, and of the entry that comes
+-- What each line shows is known. Whatever stops, the image's directory has these entries, of which nothing is lost, and of the entry that comes
 -- next it has as much as was made of it.
 pub record Stands (had : List DirectoryEntry) (kept : Kept) (m : Memory) : Type 0 where
-  pub tells : Tells m
+  pub known : AllKnown m
   pub used : kept.used ≡ length (spelled_all had)
   pub words : (i : ℕ) → i < length (spelled_all had)
       → IsFixed m (directory_line i) (directory_word i) (slice_index_or (spelled_all had) i 0)

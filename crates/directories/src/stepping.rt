@@ -3,7 +3,7 @@ ghost use Rattle.std.specs.Prelude.{◌≡◌, ◌⊎◌, ◌<◌, ◌≤◌, �
 ghost use Rattle.ap_base.specs.Causes.{HasCause};
 ghost use Rattle.line_memory.specs.Memory.{shown, IsResident, SameResident, SameImage, OneCall};
 ghost use Rattle.image_layout.specs.Places.{min_lines, directory_words, directory_line, directory_word};
-ghost use Rattle.word_changes.specs.Changes.{Tells, IsGiven, Nothing, ChangesTo, StopsLeave};
+ghost use Rattle.word_changes.specs.Changes.{AllKnown, IsGiven, Nothing, ChangesTo, StopsLeave};
 ghost use Rattle.directories.specs.Appending.{OfEntry, HasCome, HasComeBy, OldOrWhole, OfWords, lines_between, IsCalled, IsFetched};
 
 use ap_base::Spot;
@@ -43,12 +43,12 @@ pub(crate) fn append_step<I: Image>(
     requires enough { min_lines ≤ memory.old.size }
     requires some { 0 < length entry.now }
     requires room { used + length entry.now ≤ directory_words }
-    ensures comes { Tells memory.old → HasCome progress used entry.now memory.old
+    ensures comes { AllKnown memory.old → HasCome progress used entry.now memory.old
         → IfOk result (λ step. HasComeBy step progress used entry.now memory.new) }
-    ensures failed { Tells memory.old → HasCome progress used entry.now memory.old
+    ensures failed { AllKnown memory.old → HasCome progress used entry.now memory.old
         → OnErr result (HasCome progress used entry.now memory.new) }
     ensures changes { ChangesTo (OfEntry used entry.now) memory.old memory.new }
-    ensures stops { Tells memory.old → HasCome progress used entry.now memory.old
+    ensures stops { AllKnown memory.old → HasCome progress used entry.now memory.old
         → StopsLeave memory.old memory.new (OldOrWhole used entry.now) }
     // one call is made of those that are left, unless a line is touched for it
     ensures calls { IfOk result (λ step. IsCalled step progress used entry.now memory.old memory.new) }
@@ -72,9 +72,9 @@ fn words_step<I: Image>(
 ) -> Result<Step, ImageFailed>
     requires enough { min_lines ≤ memory.old.size }
     requires room { used + length entry.now ≤ directory_words }
-    ensures comes { Tells memory.old → HasCome (Progress.Words n) used entry.now memory.old
+    ensures comes { AllKnown memory.old → HasCome (Progress.Words n) used entry.now memory.old
         → IfOk result (λ step. HasComeBy step (Progress.Words n) used entry.now memory.new) }
-    ensures failed { Tells memory.old → HasCome (Progress.Words n) used entry.now memory.old
+    ensures failed { AllKnown memory.old → HasCome (Progress.Words n) used entry.now memory.old
         → OnErr result (HasCome (Progress.Words n) used entry.now memory.new) }
     ensures changes { ChangesTo (OfWords used entry.now n (length entry.now)) memory.old memory.new }
     ensures calls { IfOk result (λ step. IsCalled step (Progress.Words n) used entry.now memory.old memory.new) }
@@ -99,9 +99,9 @@ fn write_words<I: Image>(
     requires enough { min_lines ≤ memory.old.size }
     requires more { n < length entry.now }
     requires room { used + length entry.now ≤ directory_words }
-    ensures comes { Tells memory.old → HasCome (Progress.Words n) used entry.now memory.old
+    ensures comes { AllKnown memory.old → HasCome (Progress.Words n) used entry.now memory.old
         → IfOk result (λ step. HasComeBy step (Progress.Words n) used entry.now memory.new) }
-    ensures failed { Tells memory.old → HasCome (Progress.Words n) used entry.now memory.old
+    ensures failed { AllKnown memory.old → HasCome (Progress.Words n) used entry.now memory.old
         → OnErr result (HasCome (Progress.Words n) used entry.now memory.new) }
     ensures changes { ChangesTo (OfWords used entry.now n (length entry.now)) memory.old memory.new }
     ensures calls { IfOk result (λ step. IsCalled step (Progress.Words n) used entry.now memory.old memory.new) }
@@ -158,9 +158,9 @@ fn raise<I: Image>(
 ) -> Result<Step, ImageFailed>
     requires enough { min_lines ≤ memory.old.size }
     requires room { used + length entry.now ≤ directory_words }
-    ensures comes { Tells memory.old → HasCome Progress.Fenced used entry.now memory.old
+    ensures comes { AllKnown memory.old → HasCome Progress.Fenced used entry.now memory.old
         → IfOk result (λ step. HasComeBy step Progress.Fenced used entry.now memory.new) }
-    ensures failed { Tells memory.old → HasCome Progress.Fenced used entry.now memory.old
+    ensures failed { AllKnown memory.old → HasCome Progress.Fenced used entry.now memory.old
         → OnErr result (HasCome Progress.Fenced used entry.now memory.new) }
     ensures changes { ChangesTo (IsGiven 0 3 (used + length entry.now)) memory.old memory.new }
     ensures calls { IfOk result (λ step. IsCalled step Progress.Fenced used entry.now memory.old memory.new) }
@@ -185,9 +185,9 @@ fn finish<I: Image>(
 ) -> Result<Step, ImageFailed>
     requires enough { min_lines ≤ memory.old.size }
     requires room { used + length entry.now ≤ directory_words }
-    ensures comes { Tells memory.old → HasCome Progress.Raised used entry.now memory.old
+    ensures comes { AllKnown memory.old → HasCome Progress.Raised used entry.now memory.old
         → IfOk result (λ step. HasComeBy step Progress.Raised used entry.now memory.new) }
-    ensures failed { Tells memory.old → HasCome Progress.Raised used entry.now memory.old
+    ensures failed { AllKnown memory.old → HasCome Progress.Raised used entry.now memory.old
         → OnErr result (HasCome Progress.Raised used entry.now memory.new) }
     ensures changes { ChangesTo Nothing memory.old memory.new }
     ensures finished { IfOk result (λ step. step ≡ Step.Finished) }

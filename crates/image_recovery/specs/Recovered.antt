@@ -9,6 +9,7 @@ use Rattle.image_meaning.specs.Logs.{put_back}
 use Rattle.image_meaning.specs.Meaning.{empty_graph, graph_found}
 use Rattle.image_meaning.specs.Opening.{Finds, free_line}
 use Rattle.directories.specs.Kept.{Kept}
+use Rattle.directories.specs.declared.stepping.Progress.TheVariants as stage
 use Rattle.directories.specs.declared.reading.DirectoryFault.{DirectoryFault}
 use Rattle.directories.specs.declared.reading.DirectoryFault.TheVariants as faults
 use Rattle.image_layout.specs.declared.superblock.BadReason.TheVariants as reasons
@@ -31,6 +32,7 @@ pub record IsUsed (size : ℕ) (words : Words) (directory : ℕ) : Type 0 where
 pub record FindsImage (size : ℕ) (words : Words) (directory : Kept) (graph : Graph) (lines : List ℕ) (free undone : ℕ) : Type 0 where
   pub finds : Finds size words (entries_in directory) lines
   pub unplanned : directory.left ≡ []
+  pub begins : directory.progress ≡ stage.Words 0
   pub used : directory.used ≡ words 0 3
   pub graph_is : graph ≡ graph_found (entries_in directory) (put_back words) lines
   pub free_is : free ≡ free_line (put_back words) lines
@@ -41,6 +43,7 @@ pub record FindsNothing (directory : Kept) (graph : Graph) (lines : List ℕ) (f
   pub shapes : directory.shapes ≡ []
   pub roots : directory.roots ≡ []
   pub unplanned : directory.left ≡ []
+  pub begins : directory.progress ≡ stage.Words 0
   pub used : directory.used ≡ 0
   pub graph_is : graph ≡ empty_graph
   pub lines_are : lines ≡ []

@@ -7,6 +7,7 @@ ghost use Rattle.image_meaning.specs.Directories.{directory_of};
 ghost use Rattle.image_meaning.specs.Logs.{logs_fault};
 ghost use Rattle.image_meaning.specs.Meaning.{meaning};
 ghost use Rattle.word_changes.specs.Changes.{AllKnown};
+ghost use Rattle.directories.specs.declared.stepping.Progress.TheVariants.{Words as WordsIn};
 ghost use Rattle.image_walk.specs.Walking.{Looks, IsFaultOf};
 ghost use Rattle.image_recovery.specs.Checked.{undone_of};
 ghost use Rattle.image_recovery.specs.Recovered.{IsUsed, IsSameFault, entries_in};
@@ -40,6 +41,8 @@ pub(crate) fn read_front<I: Image>(
     ensures few { IfOk result (λ front. length front.directory.roots ≤ root_slots) }
     ensures unplanned { (first : Memory) → AllKnown first → Looks first memory.old
         → IfOk result (λ front. front.directory.left ≡ []) }
+    ensures begins { (first : Memory) → AllKnown first → Looks first memory.old
+        → IfOk result (λ front. front.directory.progress ≡ WordsIn 0) }
     ensures used { (first : Memory) → AllKnown first → Looks first memory.old
         → IfOk result (λ front. front.directory.used ≡ used) }
     ensures passes { (first : Memory) → AllKnown first → Looks first memory.old
@@ -69,6 +72,8 @@ pub(crate) fn read_entries<I: Image>(
     ensures few { IfOk result (λ directory. length directory.roots ≤ root_slots) }
     ensures unplanned { (first : Memory) → AllKnown first → Looks first memory.old
         → IfOk result (λ directory. directory.left ≡ []) }
+    ensures begins { (first : Memory) → AllKnown first → Looks first memory.old
+        → IfOk result (λ directory. directory.progress ≡ WordsIn 0) }
     ensures used { (first : Memory) → AllKnown first → Looks first memory.old
         → IfOk result (λ directory. directory.used ≡ used) }
     ensures bad { (first : Memory) → AllKnown first → Looks first memory.old → used ≡ shown first 0 3

@@ -3,9 +3,7 @@ ghost use Rattle.std.specs.Prelude.{◌≡◌, ◌<◌, IsTrue, IfOk};
 ghost use Rattle.line_image.specs.Memory.{size_of};
 ghost use Rattle.line_memory.specs.Memory.{IsResident};
 
-use ap_base::Spot;
-use durable_word::set_for_good;
-use line_image::{Fails, Image, ImageFailed, MemoryImage};
+use line_image::{Fails, Image, MemoryImage};
 use line_memory::LineMemory;
 use std::alloc::{AllocError, Global};
 use std::test::Fail;
@@ -44,20 +42,6 @@ pub(crate) fn is_ready<I: Image>(memory: &LineMemory<I>, line: u32) -> bool
     ensures resident { IsTrue result → IsResident memory.now line }
 {
     u64::from(line) < memory.lines() && memory.resident(line)
-}
-
-/// Sets a word for good, if its line is resident.
-pub(crate) fn put<I: Image>(
-    memory: &mut LineMemory<I>,
-    spot: Spot,
-    word: u64,
-) -> Result<(), ImageFailed>
-    ensures { memory.new.size ≡ memory.old.size }
-{
-    if !is_ready(memory, spot.line) {
-        return Err(ImageFailed);
-    }
-    set_for_good(memory, spot, word)
 }
 
 /// What a read gives in a word.

@@ -1,9 +1,7 @@
-//! Rows of the image side, by public calls alone, on images in memory: the device, the memory over it, words set for
-//! good, the layout, images that are opened, and arrays. The numbers are worked out by hand.
+//! Rows of the image side, by public calls alone, on images in memory: the device, the memory over it, and
+//! the layout. The numbers are worked out by hand.
 #![tactic(auto)]
 
-#[cfg(test)]
-mod arrays;
 #[cfg(test)]
 mod device;
 #[cfg(test)]
@@ -12,5 +10,3 @@ mod fixture;
 mod layout;
 #[cfg(test)]
 mod memory;
-#[cfg(test)]
-mod opening;

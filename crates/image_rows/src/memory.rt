@@ -1,11 +1,10 @@
-// The memory over an image, and words set for good: what calls answer, and what a stop leaves.
+// The memory over an image: what calls answer, and what a stop leaves.
 ghost use Rattle.std.specs.Prelude.{◌≡◌, ◌⊎◌, ◌<◌, OnOk, OnErr};
 ghost use Rattle.line_memory.specs.Memory.{IsResident};
 ghost use Rattle.line_memory.specs.Steps.{WroteBack, Fenced, Stored, Neither, Follows};
 
-use crate::fixture::{LINES, attach, attached, fails, is_ready, left, put, read};
+use crate::fixture::{LINES, attach, attached, fails, is_ready, left, read};
 use ap_base::Spot;
-use durable_word::{Change, set_all_for_good, write_lines_for_good};
 use line_image::{ClosedImage, Image, ImageFailed, MemoryImage};
 use line_memory::{
     AttachFault, LineMemory, Touch, a_fenced_word_stands_alone, a_stop_set_is_exact,
@@ -61,12 +60,6 @@ enum Call {
     Set(u32, u64),
     Fence,
     Evict(u32),
-    /// Sets the third word of a line for good.
-    SetForGood(u32, u64),
-    /// Sets three words of two lines for good, the first of them twice.
-    SetThree,
-    /// Stores a word in each of two lines, and writes the lines for good.
-    WriteTwo,
 }
 
 fn is_again<I: Image>(memory: &mut LineMemory<I>, line: u32) -> Result<u64, ImageFailed> {
@@ -90,38 +83,6 @@ fn set<I: Image>(memory: &mut LineMemory<I>, line: u32, word: u64) -> Result<(),
     }
 }
 
-fn set_three<I: Image>(memory: &mut LineMemory<I>) -> Result<(), ImageFailed> {
-    if !is_ready(memory, 10) || !is_ready(memory, 11) {
-        return Err(ImageFailed);
-    }
-    let changes = [
-        change(10, 2, 3),
-        change(10, 2, 4),
-        change(11, 2, 5),
-        change(11, 7, 6),
-    ];
-    set_all_for_good(memory, &changes)
-}
-
-fn change(line: u32, word: u8, value: u64) -> Change
-    requires { word < 8 }
-    ensures { result.spot.line ≡ line }
-{
-    Change {
-        spot: Spot { line, word },
-        word: value,
-    }
-}
-
-fn write_two<I: Image>(memory: &mut LineMemory<I>) -> Result<(), ImageFailed> {
-    if !is_ready(memory, 10) || !is_ready(memory, 11) {
-        return Err(ImageFailed);
-    }
-    memory.store(Spot { line: 10, word: 2 }, 8);
-    memory.store(Spot { line: 11, word: 2 }, 9);
-    write_lines_for_good(memory, 10, 12)
-}
-
 fn made<I: Image>(memory: &mut LineMemory<I>, call: Call) -> Result<u64, ImageFailed> {
     match call {
         Call::Touch(line) => return is_again(memory, line),
@@ -133,9 +94,6 @@ fn made<I: Image>(memory: &mut LineMemory<I>, call: Call) -> Result<u64, ImageFa
         Call::Fence => fence(memory)?,
         Call::Evict(line) if is_ready(memory, line) => memory.evict(line)?,
         Call::Evict(_) => return Err(ImageFailed),
-        Call::SetForGood(line, word) => put(memory, Spot { line, word: 2 }, word)?,
-        Call::SetThree => set_three(memory)?,
-        Call::WriteTwo => write_two(memory)?,
     }
     Ok(0)
 }
@@ -170,7 +128,7 @@ fn is_shown(alloc: Global, row: &Row) -> Result<bool, Fail> {
 #[test]
 fn what_calls_leave(rt: HostRuntime) -> Result<(), Fail> {
     let failed = Err(ImageFailed);
-    let rows: [Row; 5] = [
+    let rows: [Row; 2] = [
         (
             &[],
             &[
@@ -199,30 +157,6 @@ fn what_calls_leave(rt: HostRuntime) -> Result<(), Fail> {
             ],
             5,
             &[(7, 2, 0, 5), (8, 2, 0, 6)],
-        ),
-        // The fourth call is the second fence.
-        (
-            &[LINES + 4],
-            &[
-                (Call::SetForGood(7, 5), Ok(0)),
-                (Call::SetForGood(8, 6), failed),
-            ],
-            4,
-            &[(7, 2, 5, 5), (8, 2, 0, 6), (9, 2, 0, 0)],
-        ),
-        // Two lines and a fence.
-        (
-            &[],
-            &[(Call::SetThree, Ok(0))],
-            3,
-            &[(10, 2, 4, 4), (11, 2, 5, 5), (11, 7, 6, 6), (10, 3, 0, 0)],
-        ),
-        // The sixth call is the second fence.
-        (
-            &[LINES + 6],
-            &[(Call::WriteTwo, Ok(0)), (Call::SetThree, failed)],
-            6,
-            &[(10, 2, 8, 4), (11, 2, 9, 5), (11, 7, 0, 6)],
         ),
     ];
     for (number, row) in rows.iter().enumerate() {

@@ -1,4 +1,2 @@
-mod FirstParts
-mod Launching
-mod MainMethods
-mod RootFields
+pub mod MainMethods
+pub mod Progress

@@ -22,7 +22,7 @@ fn first_progress(alloc: Global, set: &ClassSet) -> Result<Vec<Progress>, AllocE
 }
 
 /// No monitor is held, no class of the program has begun, and thread 0 alone has.
-pub(crate) fn first_rest(alloc: Global, set: &ClassSet) -> Result<Rest, AllocError>
+pub fn first_rest(alloc: Global, set: &ClassSet) -> Result<Rest, AllocError>
     ensures { IfOk result (λ rest. IsFirstRest (facts_of set.now) rest) }
 {
     Ok(Rest {

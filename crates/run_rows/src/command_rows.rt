@@ -1,4 +1,5 @@
 // What the top call prints, and how it ends, by its words, its files and its sink.
+use crate::class_bytes;
 use crate::class_files::SEVEN;
 use crate::fixture::{
     PRINTS, RUN, STORES, blank, file, has_output, listed_classes, main_class, run_words, sink,
@@ -34,6 +35,8 @@ enum Given {
     Copies(u32),
     /// A class Main with this body and the durable root `data`.
     Main(&'static [&'static str]),
+    /// A class with two durable roots of one name and of different types.
+    OneName,
     /// The classes of a listing, a file each.
     Listed(&'static str),
 }
@@ -54,6 +57,20 @@ fn longer(alloc: Global) -> Result<Vec<u8>, AllocError> {
     Ok(bytes)
 }
 
+/// A class with two durable roots `r`, an `int[]` and a `char[]`. No listing has two of one name: the second is spelled `s` there, in
+/// the constant pool's entry of one byte.
+fn one_name(alloc: Global) -> Result<Vec<u8>, Fail> {
+    let listing =
+        b".class Twice\n.super java/lang/Object\n.field r [I static root\n.field s [C static root\n";
+    let mut bytes = class_bytes(alloc, listing)?.ok_or("a class")?;
+    for at in 3..bytes.len() {
+        if bytes[at - 3..=at] == [1, 0, 1, b's'] {
+            bytes[at] = b'r';
+        }
+    }
+    Ok(bytes)
+}
+
 /// The bytes of a file.
 fn bytes_of(alloc: Global, given: Given) -> Result<Vec<u8>, Fail> {
     match given {
@@ -63,6 +80,7 @@ fn bytes_of(alloc: Global, given: Given) -> Result<Vec<u8>, Fail> {
         Given::Superless => Ok(changed(alloc, 44, 5)?),
         Given::Newer => Ok(changed(alloc, 7, 53)?),
         Given::Zeros(count) => Ok(Vec::from_elem(alloc, 0, count)?),
+        Given::OneName => one_name(alloc),
         Given::Main(body) => main_class(alloc, body),
         _ => Ok(CLASS_A.to_vec(alloc)?),
     }
@@ -186,6 +204,8 @@ const IN_PACKAGE: &str = ".class p/Main\n.super java/lang/Object\n\
 
 const NOT_BUILT: &str = "autopersist: not built\n";
 
+const ONE_NAME: &str = "autopersist: class A.class RootNotReference 1\n";
+
 const NO_CLASS: &str = "autopersist: link MissingClass Main\n";
 
 const USAGE: &str = "autopersist: usage\n";
@@ -198,7 +218,7 @@ const TOO_LONG: &str = "autopersist: full FileBytes 1048577 1048576\n";
 
 const TOO_MANY: &str = "autopersist: full Files 1 0\n";
 
-static COMMANDS: [Row; 31] = [
+static COMMANDS: [Row; 33] = [
     (&RUN, &[Given::Seven], 9, "7\n", 8, 0),
     // the source isn't asked past its end
     (&RUN, &[Given::Seven], 3, "7\n", 8, 0),
@@ -230,9 +250,16 @@ static COMMANDS: [Row; 31] = [
     (&RUN, &[], 9, NO_CLASS, 0, 0),
     (&RUN, &[Given::Seven, Given::ClassA], 9, "7\n", 8, 0),
     (&RUN, &[Given::ClassA], 9, NO_CLASS, 0, 0),
-    // a class with a durable root runs alone, and by its own name
-    (&RUN, &[Given::Main(&[]), Given::ClassA], 9, NOT_BUILT, 0, 0),
-    (OTHER, &[Given::Main(&[])], 9, NOT_BUILT, 0, 0),
+    // a class with a durable root beside another class, and where another class is asked for
+    (&RUN, &[Given::Main(&[]), Given::ClassA], 9, "", 3, 0),
+    (
+        OTHER,
+        &[Given::Main(&[])],
+        9,
+        "autopersist: link MissingClass Other\n",
+        0,
+        0,
+    ),
     (
         &RUN,
         &[Given::Seven, Given::Seven],
@@ -241,6 +268,9 @@ static COMMANDS: [Row; 31] = [
         0,
         0,
     ),
+    // two durable roots of one name
+    (&RUN, &[Given::OneName], 9, ONE_NAME, 0, 0),
+    (&RUN, &[Given::Seven, Given::OneName], 9, ONE_NAME, 0, 0),
     (&RUN, &[Given::Longer], 9, TRAILING, 0, 0),
     (
         &RUN,

@@ -3,7 +3,9 @@ use crate::class_bytes;
 use ap_base::{Bytes, MemorySink, MemorySource, NamedBytes, NoGate};
 use autopersist::{Ended, autopersist, status_text};
 use class_file::write_class;
-use line_image::{Fails, MemoryImage};
+use image_recovery::{Recovered, recover};
+use line_image::{Fails, Image, MemoryImage};
+use line_memory::LineMemory;
 use listing::assemble;
 use run_history::NoWatch;
 use std::alloc::{AllocError, Global};
@@ -37,6 +39,10 @@ pub(crate) const STORES: &str = "iconst_3\nnewarray int\nputstatic Main data [I\
 pub(crate) const PRINTS: &str =
     "getstatic java/lang/System out Ljava/io/PrintStream;\ngetstatic Main data [I\niconst_1\niaload\n\
     invokevirtual java/io/PrintStream println (I)V\n";
+
+/// A class whose `main` does nothing.
+pub(crate) const EMPTY: &str = ".class Main\n.super java/lang/Object\n\
+    .method main ([Ljava/lang/String;)V 6 4 static\nreturn\n.end\n";
 
 /// An image's calls fail from this one on.
 pub(crate) fn fails_from(alloc: Global, since: u64) -> Fails {
@@ -118,10 +124,65 @@ where
     Ok(autopersist(rt, alloc, &words, source, image, sink, &NoGate, NoWatch))
 }
 
+/// A word of an image; none where it isn't there.
+pub(crate) fn word_of(image: &MemoryImage, line: u64, word: u8) -> Option<u64> {
+    if line < image.lines() && word < 8 {
+        Some(image.word(line, word))
+    } else {
+        None
+    }
+}
+
+/// The words of a line, zeros behind the last.
+pub(crate) fn line_of(image: &MemoryImage, line: u64) -> [u64; 8] {
+    let mut words = [0; 8];
+    for word in 0..8 {
+        words[word as usize] = word_of(image, line, word).unwrap_or(0);
+    }
+    words
+}
+
+/// What is found in an image.
+pub(crate) fn recovered(alloc: Global, image: MemoryImage) -> Result<Recovered<MemoryImage>, Fail> {
+    let Ok(memory) = LineMemory::attach(alloc, image) else {
+        return Err(Fail::from("an image that is attached"));
+    };
+    match recover(alloc, memory) {
+        Ok(found) => Ok(found),
+        Err(_) => Err(Fail::from("an image that is recovered")),
+    }
+}
+
 /// Whether this is what a run printed, with the status line behind it.
 pub(crate) fn has_output(alloc: Global, run: &Run, text: &str) -> Result<bool, AllocError> {
     let line = status_text(alloc, &run.status)?;
     Ok(text.as_bytes().strip_prefix(run.sink.as_slice()) == Some(line.as_slice()))
+}
+
+/// A source of the classes of a listing, a file each.
+pub(crate) fn listed(alloc: Global, listing: &str) -> Result<MemorySource, Fail> {
+    let mut files = Vec::new(alloc);
+    for bytes in &listed_classes(alloc, listing.as_bytes())? {
+        files.push(file(alloc, b"A.class", bytes.as_slice())?)?;
+    }
+    Ok(MemorySource::new(files, Vec::new(alloc)))
+}
+
+/// Runs a class of a listing on an image.
+pub(crate) fn run_class<R>(
+    rt: &R,
+    alloc: Global,
+    class: &str,
+    listing: &str,
+    image: MemoryImage,
+) -> Result<Run, Fail>
+where
+    R: Threads + Wait + Clone + Send + Sync + Drop,
+{
+    let source = listed(alloc, listing)?;
+    let words = ["autopersist", "run", "--image", "F", "--main", class, "DIR"];
+    let sink = sink(alloc, 24, u64::MAX)?;
+    Ok(run_words(rt, alloc, &words, source, image, sink)?)
 }
 
 /// Runs a class Main with this body on an image.

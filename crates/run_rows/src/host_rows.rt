@@ -1,7 +1,7 @@
 // Runs of the top call on an image file, and what the adapters do at the edges: a second opening, odd files.
 use crate::fixture::{PRINTS, RUN, STORES, main_class, source, words};
 use ap_base::{ClassSource, MemorySink, NoGate, SourceError};
-use autopersist::autopersist;
+use autopersist::{autopersist, status_text};
 use host_adapters::{Folder, ImageFile, class_names, hold_streams};
 use line_image::Image;
 use run_history::NoWatch;
@@ -46,6 +46,34 @@ fn two_runs_on_one_file(rt: HostRuntime) -> Result<(), Fail> {
         assert!(rt; prints_seven(&rt, rt.alloc(), body, image)?, "run {number}");
     }
     Ok(())
+}
+
+/// Lengths of files that are no images: none, a part of a line, and a line too few.
+static LENGTHS: [u64; 3] = [0, 40, 64 * 32_767];
+
+#[test]
+fn short_files_are_no_images(rt: HostRuntime) -> Result<(), Fail> {
+    for length in &LENGTHS {
+        fs::File::create(&rt, IMAGE)?.set_len(*length)?;
+        let image = ImageFile::open(&rt, IMAGE);
+        let text = b"autopersist: image 0 Size\n".as_slice();
+        assert!(rt; is_told(&rt, rt.alloc(), image, text)?, "{length} bytes");
+    }
+    Ok(())
+}
+
+/// Whether a run on an image file prints nothing, and ends by this status line.
+fn is_told<R>(rt: &R, alloc: Global, image: ImageFile, text: &[u8]) -> Result<bool, Fail>
+where
+    R: Threads + Wait + Clone + Send + Sync + Drop,
+{
+    let words = words(alloc, &RUN)?;
+    let class = main_class(alloc, &[])?;
+    let source = source(alloc, &class)?;
+    let sink = MemorySink::new(alloc, 100, 24, Vec::new(alloc))?;
+    let ended = autopersist(rt, alloc, &words, source, image, sink, &NoGate, NoWatch);
+    let line = status_text(alloc, &ended.status)?;
+    Ok(line.as_slice() == text && ended.sink.as_slice().is_empty())
 }
 
 /// A stream that was closed takes no byte, so that a print to it is a fault of the sink.

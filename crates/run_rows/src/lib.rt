@@ -7,17 +7,19 @@ mod class_files;
 #[cfg(test)]
 mod command_rows;
 #[cfg(test)]
-mod fixture;
+mod durable_rows;
 #[cfg(test)]
-mod group_rows;
+mod fixture;
 #[cfg(test)]
 mod history_rows;
 #[cfg(test)]
 mod host_rows;
 #[cfg(test)]
-mod program_rows;
+mod opening_rows;
 #[cfg(test)]
 mod set_rows;
+#[cfg(test)]
+mod shape_rows;
 #[cfg(test)]
 mod status_rows;
 #[cfg(test)]

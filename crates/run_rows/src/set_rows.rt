@@ -1,13 +1,6 @@
 // What runs of class sets without durable roots print, and how they end.
-use crate::fixture::{
-    PRINTS, Run, STORES, blank, file, has_output, listed_classes, run, run_words, sink,
-};
-use ap_base::MemorySource;
-use line_image::MemoryImage;
-use std::alloc::Global;
-use std::sync::Wait;
+use crate::fixture::{blank, has_output, run_class};
 use std::test::Fail;
-use std::thread::Threads;
 
 /// The main class, a listing of which each class is a file, and what is printed with the status line behind it.
 type Row = (&'static str, &'static str, &'static str);
@@ -238,52 +231,11 @@ static ROWS: [Row; 23] = [
     ),
 ];
 
-/// A class whose `main` does nothing.
-const EMPTY: &str = ".class Main\n.super java/lang/Object\n\
-    .method main ([Ljava/lang/String;)V 6 4 static\nreturn\n.end\n";
-
-/// A source of the classes of a listing.
-fn source(alloc: Global, listing: &str) -> Result<MemorySource, Fail> {
-    let mut files = Vec::new(alloc);
-    for bytes in &listed_classes(alloc, listing.as_bytes())? {
-        files.push(file(alloc, b"A.class", bytes.as_slice())?)?;
-    }
-    Ok(MemorySource::new(files, Vec::new(alloc)))
-}
-
-/// A run of a class on an image.
-fn run_on<R>(
-    rt: &R,
-    alloc: Global,
-    class: &str,
-    listing: &str,
-    image: MemoryImage,
-) -> Result<Run, Fail>
-where
-    R: Threads + Wait + Clone + Send + Sync + Drop,
-{
-    let source = source(alloc, listing)?;
-    let words = ["autopersist", "run", "--image", "F", "--main", class, "DIR"];
-    let sink = sink(alloc, 24, u64::MAX)?;
-    Ok(run_words(rt, alloc, &words, source, image, sink)?)
-}
-
 #[test]
 fn class_sets_are_run(rt: HostRuntime) -> Result<(), Fail> {
     for (i, (class, listing, text)) in ROWS.iter().enumerate() {
-        let ended = run_on(&rt, rt.alloc(), class, listing, blank(rt.alloc())?)?;
+        let ended = run_class(&rt, rt.alloc(), class, listing, blank(rt.alloc())?)?;
         assert!(rt; has_output(rt.alloc(), &ended, text)?, "row {i}: {text}");
     }
-    Ok(())
-}
-
-/// An image with a durable root isn't opened for a set without one, and stays as it is.
-#[test]
-fn an_image_with_a_root_is_left_alone(rt: HostRuntime) -> Result<(), Fail> {
-    let stored = run(&rt, rt.alloc(), &[STORES], blank(rt.alloc())?)?.image;
-    let ended = run_on(&rt, rt.alloc(), "Main", EMPTY, stored)?;
-    let is_refused = ended.status.number() == 17 && ended.sink.as_slice().is_empty();
-    let printed = run(&rt, rt.alloc(), &[PRINTS], ended.image)?.sink;
-    assert!(rt; is_refused && printed.as_slice() == b"7\n".as_slice());
     Ok(())
 }

@@ -1,128 +1,101 @@
-// What stops leave, which runs then read what was stored, and how runs end whose image fails or is of another form.
-use crate::fixture::{LINES, PRINTS, STORES, blank, fails_from, no_fails, run};
+// What stops leave of the image of a run that stores an array and one of its elements, and how runs end whose image fails.
+use crate::durable_rows::{RING, has_null_root, is_ring};
+use crate::fixture::{
+    LINES, PRINTS, Run, STORES, blank, fails_from, has_output, no_fails, recovered, run, run_class,
+};
 use graph_model::{Graph, Value};
-use line_image::{Fails, Image, MemoryImage};
+use line_image::{Fails, MemoryImage};
+use run_history::Op;
 use std::alloc::{AllocError, Global};
 use std::sync::Wait;
 use std::test::Fail;
 use std::thread::Threads;
 
-/// How a run of this body ends on an image, and what is left of the image.
-fn left_by<R>(
-    rt: &R,
-    alloc: Global,
-    body: &[&str],
-    image: MemoryImage,
-) -> Result<(u8, MemoryImage), Fail>
-where
-    R: Threads + Wait + Clone + Send + Sync + Drop,
-{
-    let ended = run(rt, alloc, body, image)?;
-    Ok((ended.status.number(), ended.image))
-}
-
-/// How a run of this body ends on an image, and whether it prints 7.
-fn prints_seven<R>(
-    rt: &R,
-    alloc: Global,
-    body: &[&str],
-    image: MemoryImage,
-) -> Result<(u8, bool), Fail>
-where
-    R: Threads + Wait + Clone + Send + Sync + Drop,
-{
-    let ended = run(rt, alloc, body, image)?;
-    Ok((
-        ended.status.number(),
-        ended.sink.as_slice() == b"7\n".as_slice(),
-    ))
-}
-
-/// The root's slot, the directory's words in use, and element 1 of the array.
-fn stored_words(image: &MemoryImage) -> (u64, u64, u64) {
-    if image.lines() != LINES {
-        return (0, 0, 0);
-    }
-    (image.word(1, 0), image.word(0, 3), image.word(20_577, 2))
-}
-
-#[test]
-fn a_second_run_reads_what_the_first_stored(rt: HostRuntime) -> Result<(), Fail> {
-    let (status, image) = left_by(&rt, rt.alloc(), &[STORES], blank(rt.alloc())?)?;
-    let is_stored = status == 0 && stored_words(&image) == (41_154, 7, 7);
-    let read = prints_seven(&rt, rt.alloc(), &[PRINTS], image)?;
-    assert!(rt; is_stored && read == (0, true), "both runs");
-    Ok(())
-}
-
-/// What a graph has of the root: null, or element 1 of its array; none where there is no root or no such element.
+/// What a graph has of its one root: null, or element 1 of an array of three with zeros beside it; none where it is another graph.
 fn element_of(graph: &Graph) -> Option<Value> {
-    let root = graph.roots.as_slice().first()?;
-    match root.value {
-        Value::Null => Some(Value::Null),
-        _ => graph
-            .nodes
-            .as_slice()
-            .first()?
-            .values
-            .as_slice()
-            .get(1)
-            .copied(),
+    let root = match graph.roots.as_slice() {
+        [root] => root.value,
+        _ => return None,
+    };
+    match graph.nodes.as_slice() {
+        [] if root == Value::Null => Some(Value::Null),
+        [node] if root == Value::Obj(0) => match node.values.as_slice() {
+            [Value::Int(0), middle, Value::Int(0)] => Some(*middle),
+            _ => None,
+        },
+        _ => None,
     }
 }
 
-/// What the graph has to which what a stop leaves opens, where on a prepared image the run's call of this number, counted from its
-/// first, and all later ones fail; and whether a program that prints element 1 prints it.
-fn left<R>(
-    rt: &R,
-    alloc: Global,
-    prepared: &MemoryImage,
-    call: u64,
-    pick: u64,
-) -> Result<(Option<Value>, bool), Fail>
+/// An image whose directory has the entries of class Main, and whose root is null.
+fn prepared<R>(rt: &R, alloc: Global) -> Result<MemoryImage, Fail>
 where
     R: Threads + Wait + Clone + Send + Sync + Drop,
 {
-    let fails = fails_from(alloc, LINES.saturating_add(call));
-    let image = prepared.crash(alloc, 1, fails)?;
-    let (_, stopped) = left_by(rt, alloc, &[STORES, PRINTS], image)?;
-    reopened(rt, alloc, stopped.crash(alloc, pick, no_fails(alloc))?)
+    Ok(run(rt, alloc, &[], blank(alloc)?)?.image)
 }
 
-/// What the graph of an image has of the root, and whether a program that prints element 1 prints it.
-fn reopened<R>(rt: &R, alloc: Global, image: MemoryImage) -> Result<(Option<Value>, bool), Fail>
+/// Image calls of a run: that before its first act, the last one before the array is durable, and the fences of the stores into the
+/// root and into the element.
+#[derive(Clone, Copy)]
+struct Calls {
+    before: u64,
+    joined: u64,
+    root: u64,
+    element: u64,
+}
+
+/// After how many calls an act was made.
+fn at(run: &Run, i: u32) -> u64 {
+    match run.acts.get(i) {
+        Some(act) => act.at,
+        None => u64::MAX,
+    }
+}
+
+/// After how many calls the first act from `from` on was made that did this; none where there is none.
+fn next_at(run: &Run, from: u32, op: Op) -> Option<u64> {
+    for i in from..run.acts.len() {
+        if let Some(act) = run.acts.get(i) {
+            if act.op == op {
+                return Some(act.at);
+            }
+        }
+    }
+    None
+}
+
+/// The calls of a whole run. Seven acts come up to the first fence: the class's, the array, the store that is asked, the array that
+/// joins, the store, and the fence.
+fn calls_of(run: &Run) -> Result<Calls, Fail> {
+    Ok(Calls {
+        before: at(run, 0),
+        joined: next_at(run, 0, Op::Joined).ok_or("objects that join")?,
+        root: next_at(run, 0, Op::Fenced).ok_or("a fence")?,
+        element: next_at(run, 7, Op::Fenced).ok_or("another fence")?,
+    })
+}
+
+/// The whole run on the prepared image.
+fn whole_calls<R>(rt: &R, alloc: Global, prepared: &MemoryImage) -> Result<Calls, Fail>
 where
     R: Threads + Wait + Clone + Send + Sync + Drop,
 {
-    let reopened = run(rt, alloc, &[PRINTS], image)?;
-    let found = element_of(&reopened.opening);
-    let says: &[u8] = match found {
-        Some(Value::Int(0)) => b"0\n",
-        Some(Value::Int(7)) => b"7\n",
-        _ => b"",
+    let image = prepared.crash(alloc, 1, no_fails(alloc))?;
+    calls_of(&run(rt, alloc, &[STORES, PRINTS], image)?)
+}
+
+/// Whether a stop by this pick within a call may leave this: pick 0 leaves what is fenced, 1 what was written last, and others either.
+fn may_leave(calls: &Calls, call: u64, pick: u64, found: Value) -> bool {
+    let (fenced, latest) = if call <= calls.joined {
+        (Value::Null, Value::Null)
+    } else if call <= calls.root {
+        (Value::Null, Value::Int(0))
+    } else if call <= calls.element {
+        (Value::Int(0), Value::Int(7))
+    } else {
+        (Value::Int(7), Value::Int(7))
     };
-    Ok((found, reopened.sink.as_slice() == says))
-}
-
-/// Within which call of the run a stop falls, what of it is left that was fenced, and the latest of all. The calls: the array's line
-/// and a fence, the root's line and a fence, the element's line and a fence.
-static STOPS: [(u64, Option<Value>, Option<Value>); 7] = [
-    (1, Some(Value::Null), Some(Value::Null)),
-    (2, Some(Value::Null), Some(Value::Null)),
-    (3, Some(Value::Null), Some(Value::Int(0))),
-    (4, Some(Value::Null), Some(Value::Int(0))),
-    (5, Some(Value::Int(0)), Some(Value::Int(7))),
-    (6, Some(Value::Int(0)), Some(Value::Int(7))),
-    (7, Some(Value::Int(7)), Some(Value::Int(7))),
-];
-
-/// Whether a pick may leave this: what was fenced is left by pick 0, and the latest of all by pick 1.
-fn may_leave(
-    pick: u64,
-    found: Option<Value>,
-    fenced: Option<Value>,
-    latest: Option<Value>,
-) -> bool {
     match pick {
         0 => found == fenced,
         1 => found == latest,
@@ -130,15 +103,109 @@ fn may_leave(
     }
 }
 
+/// The first pick of eight by which a stop leaves in an image what none within this call may leave.
+fn first_wrong(
+    alloc: Global,
+    image: &MemoryImage,
+    calls: &Calls,
+    call: u64,
+) -> Result<Option<u64>, Fail> {
+    for pick in 0..8 {
+        let found = recovered(alloc, image.crash(alloc, pick, no_fails(alloc))?)?;
+        let element = element_of(&found.graph).ok_or("null or an array")?;
+        if !may_leave(calls, call, pick, element) {
+            return Ok(Some(pick));
+        }
+    }
+    Ok(None)
+}
+
+/// How many acts a run makes of which a call fails. Before the array is durable: the class's two, the array, and the store that is
+/// asked. Then the array that joins, and the store; then the fence, the root that is read, and the store into the element; then
+/// all.
+fn acts_before(calls: &Calls, call: u64) -> u32 {
+    if call <= calls.joined {
+        4
+    } else if call <= calls.root {
+        6
+    } else if call <= calls.element {
+        9
+    } else {
+        18
+    }
+}
+
 #[test]
 fn stops_leave_what_the_acts_allow(rt: HostRuntime) -> Result<(), Fail> {
-    let (_, prepared) = left_by(&rt, rt.alloc(), &[], blank(rt.alloc())?)?;
-    for (call, fenced, latest) in &STOPS {
-        for pick in 0..8 {
-            let (found, is_printed) = left(&rt, rt.alloc(), &prepared, *call, pick)?;
-            let is_right = is_printed && may_leave(pick, found, *fenced, *latest);
-            assert!(rt; is_right, "call {call}, pick {pick}");
+    let prepared = prepared(&rt, rt.alloc())?;
+    let calls = whole_calls(&rt, rt.alloc(), &prepared)?;
+    // The array's line, the root's slot and the element's line are written, with a fence after each.
+    for step in 1..8 {
+        let call = calls.before.saturating_add(step);
+        let image = prepared.crash(rt.alloc(), 1, fails_from(rt.alloc(), call))?;
+        let stopped = run(&rt, rt.alloc(), &[STORES, PRINTS], image)?;
+        let wrong = first_wrong(rt.alloc(), &stopped.image, &calls, call)?;
+        let are_all = stopped.acts.len() == acts_before(&calls, call);
+        assert!(rt; are_all && wrong == None, "call {call}, pick {wrong:?}");
+    }
+    Ok(())
+}
+
+/// How a run that makes a ring ends, on an image whose calls fail from this one on, and what a stop then leaves by a pick.
+fn ring_stopped<R>(rt: &R, alloc: Global, call: u64, pick: u64) -> Result<(u8, MemoryImage), Fail>
+where
+    R: Threads + Wait + Clone + Send + Sync + Drop,
+{
+    let image = MemoryImage::new(alloc, LINES, fails_from(alloc, call))?;
+    let ended = run_class(rt, alloc, "Main", RING, image)?;
+    let left = ended.image.crash(alloc, pick, no_fails(alloc))?;
+    Ok((ended.status.number(), left))
+}
+
+/// Whether a ring of three nodes is whole in what a stop within a call leaves, or the root is null, for each pick up to eight.
+fn is_whole_or_null<R>(rt: &R, alloc: Global, call: u64) -> Result<bool, Fail>
+where
+    R: Threads + Wait + Clone + Send + Sync + Drop,
+{
+    for pick in 0..8 {
+        let (status, left) = ring_stopped(rt, alloc, call, pick)?;
+        let graph = recovered(alloc, left)?.graph;
+        if status != 11 || (!is_ring(&graph) && !has_null_root(&graph)) {
+            return Ok(false);
         }
+    }
+    Ok(true)
+}
+
+/// Three nodes' lines and the root's slot are written, with a fence after the nodes and one after the slot.
+#[test]
+fn a_ring_is_there_whole_or_not_at_all(rt: HostRuntime) -> Result<(), Fail> {
+    let whole = run_class(&rt, rt.alloc(), "Main", RING, blank(rt.alloc())?)?;
+    let before = at(&whole, 0);
+    let fence = next_at(&whole, 0, Op::Fenced).ok_or("a fence")?;
+    for call in before.saturating_add(1)..fence.saturating_add(1) {
+        assert!(rt; is_whole_or_null(&rt, rt.alloc(), call)?, "call {call}");
+    }
+    Ok(())
+}
+
+/// Whether two further runs on what a stop leaves within a call of the first one print the ring.
+fn goes_on<R>(rt: &R, alloc: Global, call: u64, pick: u64) -> Result<bool, Fail>
+where
+    R: Threads + Wait + Clone + Send + Sync + Drop,
+{
+    let (status, left) = ring_stopped(rt, alloc, call, pick)?;
+    let second = run_class(rt, alloc, "Main", RING, left)?;
+    let third = run_class(rt, alloc, "Main", RING, second.image)?;
+    Ok(status == 11 && has_output(alloc, &third, "1\n2\n3\n")?)
+}
+
+/// A blank image is laid out and gets 31 shapes and a root in about 250 calls.
+#[test]
+fn a_stopped_opening_goes_on(rt: HostRuntime) -> Result<(), Fail> {
+    for step in 0..15_u64 {
+        let call = LINES + 1 + 17 * step;
+        assert!(rt; goes_on(&rt, rt.alloc(), call, step % 4)?, "call {call}");
     }
     Ok(())
 }
@@ -148,177 +215,74 @@ fn fails_at(alloc: Global, call: u64, later: bool) -> Result<Fails, AllocError> 
     Ok(Fails {
         calls: [call].to_vec(alloc)?,
         since: if later { call } else { u64::MAX },
-        room: 300,
+        room: 1_000,
     })
 }
 
-/// What the graph to which an image opens has of the root; none where it isn't opened.
-fn opened<R>(rt: &R, alloc: Global, image: MemoryImage) -> Result<Option<Value>, Fail>
-where
-    R: Threads + Wait + Clone + Send + Sync + Drop,
-{
-    let ended = run(rt, alloc, &[], image)?;
-    if ended.status.number() != 0 {
-        return Ok(None);
-    }
-    Ok(element_of(&ended.opening))
-}
-
-/// How a run ends whose call of this number fails, or that one and all later ones, and what the graph to which what a stop then leaves
-/// opens has of the root; none where it isn't opened.
-fn failing<R>(
-    rt: &R,
-    alloc: Global,
-    call: u64,
-    later: bool,
-    pick: u64,
-) -> Result<(u8, Option<Value>), Fail>
+/// How a run on a blank image ends, a call of which fails so, and what the image stands for that a stop by this pick then leaves.
+fn failing<R>(rt: &R, alloc: Global, call: u64, later: bool, pick: u64) -> Result<(u8, Graph), Fail>
 where
     R: Threads + Wait + Clone + Send + Sync + Drop,
 {
     let image = MemoryImage::new(alloc, LINES, fails_at(alloc, call, later)?)?;
-    let (status, left) = left_by(rt, alloc, &[STORES, PRINTS], image)?;
-    let found = opened(rt, alloc, left.crash(alloc, pick, no_fails(alloc))?)?;
-    Ok((status, found))
+    let ended = run(rt, alloc, &[STORES, PRINTS], image)?;
+    let left = ended.image.crash(alloc, pick, no_fails(alloc))?;
+    Ok((ended.status.number(), recovered(alloc, left)?.graph))
 }
 
-/// Whether the run ends with an image fault, and what a stop leaves opens to a graph that is allowed, where these calls fail and the run's
-/// first act came after so many.
-fn fails_rightly<R>(
-    rt: &R,
-    alloc: Global,
-    call: u64,
-    later: bool,
-    before: u64,
-) -> Result<bool, Fail>
-where
-    R: Threads + Wait + Clone + Send + Sync + Drop,
-{
-    let (status, found) = failing(rt, alloc, call, later, call % 8)?;
-    let other = if call <= before.saturating_add(4) {
-        Value::Null
-    } else {
-        Value::Int(7)
-    };
-    Ok(status == 11 && (found == Some(other) || found == Some(Value::Int(0))))
+/// Whether a graph has no nodes, and at most one root, which is null.
+fn is_null(graph: &Graph) -> bool {
+    graph.roots.len() == 0 || element_of(graph) == Some(Value::Null)
 }
 
-/// How many calls of the image come before the first act of the run.
-fn calls_before<R>(rt: &R, alloc: Global) -> Result<u64, Fail>
-where
-    R: Threads + Wait + Clone + Send + Sync + Drop,
-{
-    let whole = run(rt, alloc, &[STORES, PRINTS], blank(alloc)?)?;
-    match whole.acts.get(0) {
-        Some(act) => Ok(act.at),
-        None => Err(Fail::from("an act")),
-    }
-}
-
-/// Whether all is right where a call fails alone, and from the first act on, and at every fourth call before it, with all later ones.
-fn is_named<R>(rt: &R, alloc: Global, call: u64, before: u64) -> Result<bool, Fail>
-where
-    R: Threads + Wait + Clone + Send + Sync + Drop,
-{
-    let is_alone = fails_rightly(rt, alloc, call, false, before)?;
-    if call <= before && call % 4 != 0 {
-        return Ok(is_alone);
-    }
-    Ok(is_alone && fails_rightly(rt, alloc, call, true, before)?)
-}
-
-#[test]
-fn a_failing_call_ends_the_run_by_name(rt: HostRuntime) -> Result<(), Fail> {
-    let before = calls_before(&rt, rt.alloc())?;
-    // A blank image is laid out and gets its directory before the first act, and the run makes six calls.
-    for call in LINES + 1..=before.saturating_add(6) {
-        assert!(rt; is_named(&rt, rt.alloc(), call, before)?, "call {call}");
-    }
-    Ok(())
-}
-
-#[test]
-fn a_failing_read_is_a_fault_and_a_later_call_none(rt: HostRuntime) -> Result<(), Fail> {
-    let behind = calls_before(&rt, rt.alloc())?.saturating_add(7);
-    for (call, later, status) in [(1, false, 11), (LINES, true, 11), (behind, true, 0)] {
-        let (found, _) = failing(&rt, rt.alloc(), call, later, 0)?;
-        assert!(rt; found == status, "call {call}");
-    }
-    Ok(())
-}
-
-/// The words of an image.
-fn words_of(alloc: Global, image: &MemoryImage) -> Result<Vec<u64>, AllocError> {
-    let mut words = Vec::with_capacity(alloc, 262_144)?;
-    for line in 0..image.lines() {
-        words.extend_from_slice(&line_of(image, line))?;
-    }
-    Ok(words)
-}
-
-/// The words of a line, zeros behind the last.
-fn line_of(image: &MemoryImage, line: u64) -> [u64; 8] {
-    let mut words = [0; 8];
-    if line < image.lines() {
-        for word in 0..8 {
-            words[word as usize] = image.word(line, word);
-        }
-    }
-    words
-}
-
-/// An image of the words of another, but for one.
-fn with_word(
-    alloc: Global,
-    image: &MemoryImage,
-    at: usize,
-    value: u64,
-) -> Result<MemoryImage, AllocError> {
-    let mut words = words_of(alloc, image)?;
-    if at < words.len() {
-        words[at] = value;
-    }
-    MemoryImage::of_words(alloc, &words, no_fails(alloc))
-}
-
-/// The place of a word in the image that a run left, its value there, and how a run that prints ends on that: word 3 of the
-/// superblock, root slots 0 and 1, the count of log 0, and the array's head and element 1.
-static CHANGES: [(usize, u64, u8); 8] = [
-    (3, 6, 17),
-    (8, 80_000, 17),
-    (8, 41_155, 17),
-    (9, 41_154, 17),
-    (33_032, 1, 17),
-    (164_616, 12_884_901_889, 17),
-    (164_618, 4_294_967_296, 17),
-    (164_618, 4_294_967_295, 0),
+/// Calls of a run on a blank image whose failure ends it before an act: the image's first read, its last one, and such as lay the image out
+/// or add to its directory. Whether all later ones fail too.
+static EARLY: [(u64, bool); 8] = [
+    (1, false),
+    (LINES, true),
+    (LINES + 1, false),
+    (LINES + 1, true),
+    (LINES + 2, false),
+    (LINES + 20, true),
+    (LINES + 101, false),
+    (LINES + 200, true),
 ];
 
-/// How a run that prints ends on an image.
-fn status_on<R>(rt: &R, alloc: Global, image: MemoryImage) -> Result<u8, Fail>
-where
-    R: Threads + Wait + Clone + Send + Sync + Drop,
-{
-    let (status, _) = prints_seven(rt, alloc, &[PRINTS], image)?;
-    Ok(status)
-}
-
 #[test]
-fn images_of_another_form_are_refused(rt: HostRuntime) -> Result<(), Fail> {
-    let (_, stored) = left_by(&rt, rt.alloc(), &[STORES], blank(rt.alloc())?)?;
-    for (at, value, status) in &CHANGES {
-        let changed = with_word(rt.alloc(), &stored, *at, *value)?;
-        assert!(rt;
-            status_on(&rt, rt.alloc(), changed)? == *status,
-            "word {at}"
-        );
+fn an_image_that_fails_early_ends_the_run(rt: HostRuntime) -> Result<(), Fail> {
+    for (call, later) in &EARLY {
+        let (status, graph) = failing(&rt, rt.alloc(), *call, *later, call % 8)?;
+        assert!(rt; status == 11 && is_null(&graph), "call {call}");
     }
     Ok(())
 }
 
+/// Whether the fence of the store into the root failed, alone or with all later calls, the run ended by that, and each stop leaves a graph
+/// with that store or without it.
+fn is_fence_named<R>(rt: &R, alloc: Global, fence: u64, later: bool) -> Result<bool, Fail>
+where
+    R: Threads + Wait + Clone + Send + Sync + Drop,
+{
+    for pick in 0..8 {
+        let (status, graph) = failing(rt, alloc, fence, later, pick)?;
+        let found = element_of(&graph);
+        let is_left = found == Some(Value::Null) || found == Some(Value::Int(0));
+        if status != 11 || !is_left {
+            return Ok(false);
+        }
+    }
+    Ok(true)
+}
+
 #[test]
-fn an_image_of_40_lines_is_refused(rt: HostRuntime) -> Result<(), Fail> {
-    let small = MemoryImage::new(rt.alloc(), 40, no_fails(rt.alloc()))?;
-    assert!(rt; status_on(&rt, rt.alloc(), small)? == 17);
+fn a_fence_that_fails_ends_the_run(rt: HostRuntime) -> Result<(), Fail> {
+    let whole = run(&rt, rt.alloc(), &[STORES, PRINTS], blank(rt.alloc())?)?;
+    let fence = calls_of(&whole)?.root;
+    for later in [false, true] {
+        let is_named = is_fence_named(&rt, rt.alloc(), fence, later)?;
+        assert!(rt; is_named, "call {fence} fails, and later ones: {later}");
+    }
+    let (status, _) = failing(&rt, rt.alloc(), fence.saturating_add(3), true, 0)?;
+    assert!(rt; status == 0, "no call is made that late");
     Ok(())
 }

@@ -82,57 +82,110 @@ where
     Ok(autopersist(rt, alloc, &words, source, image, sink, gate, watcher))
 }
 
-/// The operations of the program that prints 7.
-fn seven_ops() -> Result<[Op; 8], Fail> {
+/// The operations of the program that prints 7, which makes no calls of the image.
+fn seven_acts() -> Result<[(u64, Op); 8], Fail> {
     let key = PlainKey::Object(0);
     let bytes = Piece::new(b"7\n").ok_or("a piece")?;
     Ok([
-        Op::Init {
-            class: 0,
-            is: Stage::Begun,
-        },
-        Op::Init {
-            class: 0,
-            is: Stage::Done,
-        },
-        Op::Read {
-            place: Place::Static(0),
-            value: Value::Obj(0),
-        },
-        Op::Class {
-            object: Some(0),
-            shape: Some(2),
-        },
-        Op::Enter { key },
-        Op::Print { bytes },
-        Op::Exit { key },
-        Op::Ended { uncaught: None },
+        (0, init(Stage::Begun)),
+        (0, init(Stage::Done)),
+        (0, read(Place::Static(0), Value::Obj(0))),
+        (0, class_of_stream()),
+        (0, Op::Enter { key }),
+        (0, Op::Print { bytes }),
+        (0, Op::Exit { key }),
+        (0, Op::Ended { uncaught: None }),
     ])
 }
 
-/// Whether a run printed 7, on an empty graph.
-fn prints_seven(ended: &Run) -> bool {
+fn init(is: Stage) -> Op {
+    Op::Init { class: 0, is }
+}
+
+/// Object 0 is the one of `System.out`, whose class has number 2.
+fn class_of_stream() -> Op {
+    Op::Class {
+        object: Some(0),
+        shape: Some(2),
+    }
+}
+
+fn read(place: Place, value: Value) -> Op {
+    Op::Read { place, value }
+}
+
+fn stored(place: Place, value: Value) -> Op {
+    Op::Stored { place, value }
+}
+
+/// The operations of the program that makes an array, stores 7 and prints it, byte by byte. A line is written and fenced for the
+/// array, for the root and for the element. The stream and the arguments have numbers 0 and 1; an `int[]` has shape 30, behind Main, the 28
+/// built-in classes and `char[]`.
+fn storing_acts() -> Result<[(u64, Op); 19], Fail> {
+    let root = Place::Static(1);
+    let element = Place::Slot {
+        object: 2,
+        index: 1,
+    };
+    let array = Value::Obj(2);
+    let seven = Value::Int(7);
+    let key = PlainKey::Object(0);
+    let digit = Piece::new(b"7").ok_or("a piece")?;
+    let line_feed = Piece::new(b"\n").ok_or("a piece")?;
+    let alloc = Op::Alloc {
+        object: 2,
+        shape: 30,
+        length: 3,
+    };
+    let asked = Op::Asked {
+        place: root,
+        value: array,
+    };
+    Ok([
+        (0, init(Stage::Begun)),
+        (0, init(Stage::Done)),
+        (0, alloc),
+        (0, asked),
+        (2, Op::Joined),
+        (2, stored(root, array)),
+        (4, Op::Fenced),
+        (4, read(root, array)),
+        (4, stored(element, seven)),
+        (6, Op::Fenced),
+        (6, read(Place::Static(0), Value::Obj(0))),
+        (6, read(root, array)),
+        (6, read(element, seven)),
+        (6, class_of_stream()),
+        (6, Op::Enter { key }),
+        (6, Op::Print { bytes: digit }),
+        (6, Op::Print { bytes: line_feed }),
+        (6, Op::Exit { key }),
+        (6, Op::Ended { uncaught: None }),
+    ])
+}
+
+/// Whether a run printed 7, on a graph without nodes and with so many roots.
+fn prints_seven(ended: &Run, roots: u64) -> bool {
     ended.status.number() == 0
         && ended.sink.as_slice() == b"7\n".as_slice()
-        && ended.opening.roots.len() == 0
+        && ended.opening.roots.len() as u64 == roots
         && ended.opening.nodes.len() == 0
 }
 
-/// What an act did, where it is the first thread's. All acts come after as many calls of the image: nothing is stored.
-fn op_of(ended: &Run, i: u32) -> Option<Op> {
+/// How many image calls came before an act since the first one, and what it did, where it is the first thread's.
+fn act_of(ended: &Run, i: u32) -> Option<(u64, Op)> {
     let first = ended.acts.get(0)?;
     let act = ended.acts.get(i)?;
-    if act.thread == ThreadNo::main() && act.at == first.at {
-        Some(act.op)
+    if act.thread == ThreadNo::main() {
+        Some((act.at.saturating_sub(first.at), act.op))
     } else {
         None
     }
 }
 
-/// Whether the watcher was told an act, or that there is none, and the act names nothing.
+/// Whether the watcher was told an act, or that there is none.
 fn is_seen(ended: &Run, i: u32) -> bool {
     ended.watcher.acts.get(i).copied() == ended.acts.get(i).copied()
-        && ended.acts.named(i).is_empty()
 }
 
 /// A gate that wasn't called.
@@ -144,10 +197,10 @@ fn no_turns() -> Turns {
 }
 
 /// The first act that isn't the one in the list, or of which the watcher was told otherwise; none where all are right.
-fn first_other(ended: &Run, ops: &[Op]) -> Option<u32> {
-    for i in 0..9_u32 {
-        let wanted = ops.get(i as usize).copied();
-        if op_of(ended, i) != wanted || !is_seen(ended, i) {
+fn first_other(ended: &Run, acts: &[(u64, Op)]) -> Option<u32> {
+    for i in 0..20_u32 {
+        let wanted = acts.get(i as usize).copied();
+        if act_of(ended, i) != wanted || !is_seen(ended, i) {
             return Some(i);
         }
     }
@@ -156,11 +209,23 @@ fn first_other(ended: &Run, ops: &[Op]) -> Option<u32> {
 
 #[test]
 fn seven_is_printed(rt: HostRuntime) -> Result<(), Fail> {
-    let ops = seven_ops()?;
+    let acts = seven_acts()?;
     let gate = no_turns();
     let ended = run(&rt, rt.alloc(), &SEVEN, 24, 9, &gate)?;
-    let other = first_other(&ended, ops.as_slice());
-    assert!(rt; prints_seven(&ended) && other.is_none(), "act {other:?}");
+    let other = first_other(&ended, acts.as_slice());
+    assert!(rt; prints_seven(&ended, 0) && other == None, "act {other:?}");
+    Ok(())
+}
+
+#[test]
+fn an_element_is_stored_and_printed(rt: HostRuntime) -> Result<(), Fail> {
+    let acts = storing_acts()?;
+    let gate = no_turns();
+    let class = main_class(rt.alloc(), &[STORES, PRINTS])?;
+    let ended = run(&rt, rt.alloc(), &class, 1, 9, &gate)?;
+    let other = first_other(&ended, acts.as_slice());
+    let is_printed = prints_seven(&ended, 1) && ended.acts.named(4) == [2].as_slice();
+    assert!(rt; is_printed && other == None, "act {other:?}");
     Ok(())
 }
 

@@ -17,17 +17,21 @@ use Rattle.class_file.specs.declared.refusal.ClassRefusal.{ClassRefusal}
 use Rattle.class_file.specs.declared.refusal.ClassRefusal.TheVariants as class
 use Rattle.class_links.specs.declared.refusal.LinkRefusal.{LinkRefusal}
 use Rattle.class_links.specs.declared.refusal.LinkRefusal.TheVariants as link
+use Rattle.image_layout.specs.declared.superblock.BadReason.{BadReason}
+use Rattle.image_layout.specs.declared.superblock.BadReason.TheVariants as reason
 use Rattle.plain_model.specs.declared.throws.Throws.{Throws}
 use Rattle.plain_model.specs.declared.throws.Throws.TheVariants as thrown
 use Rattle.statuses.specs.declared.status.Status.{Status}
-use Rattle.statuses.specs.declared.status.Status.TheVariants.{Ok, Uncaught, Usage, BadClass, LinkRefused, BadCode, RegionRace, Full as FullOf, SourceFault, ImageFault, SinkFault, OutOfMemory, Stuck, LinkFault, NotBuilt}
+use Rattle.statuses.specs.declared.status.Status.TheVariants.{Ok, Uncaught, Usage, BadClass, BadImage, LinkRefused, ShapeChanged, BadCode, RegionRace, Full as FullOf, SourceFault, ImageFault, SinkFault, OutOfMemory, Stuck, LinkFault, NotBuilt}
 
 abbrev pub number_of : Status → ℕ
 number_of Ok = 0
 number_of (Uncaught thread class) = 1
 number_of Usage = 2
 number_of (BadClass file refusal) = 3
+number_of (BadImage line reason) = 4
 number_of (LinkRefused refusal) = 5
+number_of (ShapeChanged shape) = 6
 number_of (BadCode method pc) = 7
 number_of (RegionRace thread other place) = 8
 number_of (FullOf full) = 9
@@ -104,6 +108,21 @@ which_text which.Roots = codes "Roots"
 which_text which.Files = codes "Files"
 which_text which.FileBytes = codes "FileBytes"
 
+abbrev pub reason_text : BadReason → List ℕ
+reason_text reason.Size = codes "Size"
+reason_text reason.Magic = codes "Magic"
+reason_text reason.Version = codes "Version"
+reason_text reason.LineCount = codes "LineCount"
+reason_text reason.DirectoryUse = codes "DirectoryUse"
+reason_text reason.Entry = codes "Entry"
+reason_text reason.LogCount = codes "LogCount"
+reason_text reason.LogPlace = codes "LogPlace"
+reason_text reason.Reference = codes "Reference"
+reason_text reason.Shape = codes "Shape"
+reason_text reason.Length = codes "Length"
+reason_text reason.Overlap = codes "Overlap"
+reason_text reason.Value = codes "Value"
+
 -- the classes of the throwables that requests throw, in internal form (JVMS 4.2.1)
 abbrev pub class_name : Throws → List ℕ
 class_name thrown.NegativeArraySize = codes "java/lang/NegativeArraySizeException"
@@ -153,7 +172,10 @@ what_of Ok = []
 what_of (Uncaught thread class) = codes "uncaught" ++ spaced thread ++ codes " " ++ class
 what_of Usage = codes "usage"
 what_of (BadClass file refusal) = codes "class " ++ file ++ codes " " ++ class_text refusal
+what_of (BadImage line reason) =
+    with_numbers (codes "image") (line ∷ []) ++ codes " " ++ reason_text reason
 what_of (LinkRefused refusal) = codes "refused " ++ link_text refusal
+what_of (ShapeChanged shape) = codes "shape " ++ shape
 what_of (BadCode method pc) = codes "code " ++ with_numbers method (pc ∷ [])
 what_of (RegionRace thread other place) =
     with_numbers (codes "race") (thread ∷ other ∷ []) ++ codes " " ++ place_text place

@@ -5,6 +5,7 @@ ghost use Rattle.statuses.specs.Statuses.{number_of};
 use ap_base::{Bytes, Place, ThreadNo};
 use class_file::ClassRefusal;
 use class_links::LinkRefusal;
+use image_layout::BadReason;
 use run_types::{Full, LinkKind, Waits};
 
 /// How the top call ended.
@@ -24,9 +25,18 @@ pub enum Status {
         file: Bytes,
         refusal: ClassRefusal,
     },
+    /// The image is neither blank nor well formed: the first check that fails, at this line.
+    BadImage {
+        line: u32,
+        reason: BadReason,
+    },
     /// The class files don't link.
     LinkRefused {
         refusal: LinkRefusal,
+    },
+    /// The image's directory has a shape of this name, and the class set has no class with its fields.
+    ShapeChanged {
+        shape: Bytes,
     },
     /// An instruction of this method found an operand of a wrong kind, or left its stack, its locals or its code.
     BadCode {
@@ -70,7 +80,9 @@ impl Status {
             Status::Uncaught { .. } => 1,
             Status::Usage => 2,
             Status::BadClass { .. } => 3,
+            Status::BadImage { .. } => 4,
             Status::LinkRefused { .. } => 5,
+            Status::ShapeChanged { .. } => 6,
             Status::BadCode { .. } => 7,
             Status::RegionRace { .. } => 8,
             Status::Full(_) => 9,

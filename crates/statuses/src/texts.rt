@@ -1,7 +1,7 @@
 // The texts of statuses.
 ghost use Rattle.std.specs.Prelude.{◌≡◌, ◌<◌, ◌≤◌, ◌∷◌, [], ◌++◌, length, codes, OnOk, IfOk};
 ghost use Rattle.std.specs.List.{flat_map};
-ghost use Rattle.statuses.specs.Statuses.{spaced, with_numbers, pool_text, code_text, class_text, with_names, link_text, class_name, which_text, place_text, on_text, wait_text, waits_text, kind_text, what_of, text_of};
+ghost use Rattle.statuses.specs.Statuses.{spaced, with_numbers, pool_text, code_text, class_text, with_names, link_text, class_name, which_text, place_text, on_text, wait_text, waits_text, kind_text, reason_text, what_of, text_of};
 
 use crate::Status;
 use ap_base::{Bytes, Place, ThreadNo};
@@ -9,6 +9,7 @@ use class_file::ClassRefusal;
 use class_links::LinkRefusal;
 use code_form::CodeRefusal;
 use const_pool::PoolRefusal;
+use image_layout::BadReason;
 use itoa::Buffer;
 use plain_model::Throws;
 use run_types::{LinkKind, On, Waits, Which};
@@ -284,6 +285,26 @@ fn kind_name(kind: LinkKind) -> &'static [u8]
     }
 }
 
+fn reason_name(reason: BadReason) -> &'static [u8]
+    ensures { result.now ≡ reason_text reason }
+{
+    match reason {
+        BadReason::Size => b"Size",
+        BadReason::Magic => b"Magic",
+        BadReason::Version => b"Version",
+        BadReason::LineCount => b"LineCount",
+        BadReason::DirectoryUse => b"DirectoryUse",
+        BadReason::Entry => b"Entry",
+        BadReason::LogCount => b"LogCount",
+        BadReason::LogPlace => b"LogPlace",
+        BadReason::Reference => b"Reference",
+        BadReason::Shape => b"Shape",
+        BadReason::Length => b"Length",
+        BadReason::Overlap => b"Overlap",
+        BadReason::Value => b"Value",
+    }
+}
+
 fn put_uncaught(out: &mut Vec<u8>, thread: ThreadNo, class: &Bytes) -> Result<(), AllocError>
     ensures { OnOk result (out.new.items ≡ out.old.items
         ++ (codes "uncaught" ++ spaced thread ++ codes " " ++ class.now)) }
@@ -307,9 +328,18 @@ fn put_what(out: &mut Vec<u8>, status: &Status) -> Result<(), AllocError>
             put(out, b" ")?;
             put_class(out, *refusal)
         }
+        Status::BadImage { line, reason } => {
+            put_with(out, b"image", u64::from(*line))?;
+            put(out, b" ")?;
+            put(out, reason_name(*reason))
+        }
         Status::LinkRefused { refusal } => {
             put(out, b"refused ")?;
             put_link(out, refusal)
+        }
+        Status::ShapeChanged { shape } => {
+            put(out, b"shape ")?;
+            put(out, shape.as_slice())
         }
         Status::BadCode { method, pc } => {
             put(out, b"code ")?;

@@ -67,6 +67,8 @@ TwoCallsAtMost old new = SameImage old new ⊎ OneCall old new ⊎ TwoCalls old 
 pub record GoesOn (old new : Memory) : Type 0 where
   pub size : new.size ≡ old.size
   pub telling : KeepsTelling old new
+  -- an image that tells nothing goes on so
+  pub silent : KeepsTelling new old
   pub counts : (begin : ℕ) → CountsFrom begin old → CountsFrom begin new
   pub calls : CallsGoOn old new
 

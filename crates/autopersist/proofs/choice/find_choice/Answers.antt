@@ -4,14 +4,17 @@ use Rattle.std.proofs.lemmas.Result.{err_from_is_err_and}
 use Rattle.std.specs.Prelude.{ℕ, IfErr, IsOk}
 use Rattle.ap_base.specs.declared.source.NamedBytes.{NamedBytes}
 use Rattle.autopersist.specs.declared.choice.Found.{Found}
-use Rattle.autopersist.specs.Choices.{choice_of}
 use Rattle.statuses.specs.declared.status.Status.{Status}
-use Rattle.autopersist.specs.Files.{classes_among}
+use Rattle.autopersist.specs.Files.{Choice, classes_among}
 use Rattle.autopersist.specs.Reading.{IsLeft, IsOfClasses}
 use Rattle.autopersist.specs.TopCall.{IsOfWords}
 use Rattle.autopersist.specs.Words.{Asked, asked_by, main_class, texts}
 use Rattle.autopersist.proofs.Causes.{cause_of_files, choice_asked, cause_of_choice, class_unrefused, of_words_too, left_of_choice}
 use Rattle.autopersist.proofs.choice.find_choice.Goals as goal
+
+-- what was found to run
+abbrev given : Found → Choice
+given found = record { set = found.set; main = found.main.items }
 
 -- the class for which the words ask
 named : (words : List (List ℕ)) (a : Asked) → Some a ≡ asked_by words → main_class words ≡ Some a.main
@@ -20,12 +23,12 @@ named words a is = sym (ap (λ (asked : Option Asked). option_map (λ (b : Asked
 pub returns-in_err-classes-clause-cause : goal.returns-in_err-classes-clause-cause
 returns-in_err-classes-clause-cause g c =
     let p = err_from_is_err_and c.from_residual.result c.from_residual.ensures.1 in
-    rw (p.1, p.2) (λ start. cause_of_files (texts c.args.words.now) (g.C.ClassSource.left c.args.source.now) start c.in-Some.command.main.now c.in_err-classes.field-0.0
+    rw (p.1, p.2) (λ over. cause_of_files (texts c.args.words.now) (g.C.ClassSource.left c.args.source.now) over c.in-Some.command.main.now c.in_err-classes.field-0.0
     (named (texts c.args.words.now) _ c.in-Some.ensures) c.in_err-classes.ensures.files c.in_err-classes.ensures.refused)
 
 pub returns-clause-found : goal.returns-clause-found
 returns-clause-found g c =
-    choice_asked (λ (found : Found). choice_of found.choice) (texts c.args.words.now) (g.C.ClassSource.left c.args.source.now) c.in-Some.command.main.now
+    choice_asked given (texts c.args.words.now) (g.C.ClassSource.left c.args.source.now) c.in-Some.command.main.now
     c.in_ok-classes.classes.items c.choose.result (named (texts c.args.words.now) _ c.in-Some.ensures) c.in_ok-classes.ensures.classes
     c.choose.ensures.found
 

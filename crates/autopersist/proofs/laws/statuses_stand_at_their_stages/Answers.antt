@@ -20,6 +20,8 @@ only_free status.SinkFault free = absurd free
 only_free (status.Stuck waits) free = absurd free
 only_free (status.LinkFault kind name) free = absurd free
 only_free status.NotBuilt free = absurd free
+only_free (status.BadImage line reason) free = absurd free
+only_free (status.ShapeChanged shape) free = absurd free
 
 pub returns : goal.returns
 returns c = record {
@@ -29,6 +31,8 @@ returns c = record {
   file = λ file refusal. refl;
   linking = λ refusal. refl;
   form = refl;
+  refused = λ line reason. refl;
+  changed = λ shape. refl;
   room = λ full. refl;
   names = λ kind name. refl;
   image = refl;

@@ -1,72 +1,126 @@
-use Rattle.std.proofs.Common.{◌≡◌, inr, List, [], Option, String, Global, sym, subst}
+use Rattle.std.proofs.Common.{◌≡◌, ℕ, inl, inr, List, [], Option, Some, String, Global, subst}
 use Rattle.ap_base.specs.declared.source.NamedBytes.{NamedBytes}
+use Rattle.graph_model.specs.declared.types.Graph.{Graph}
 use Rattle.line_image.specs.Told.{Told}
-use Rattle.run_history.specs.Recorded.{History}
+use Rattle.run_history.specs.Recorded.{Recorded}
+use Rattle.class_set.specs.Linked.{Linked}
 use Rattle.statuses.specs.declared.status.Status.{Status}
-use Rattle.autopersist.specs.Choices.{choice_of}
+use Rattle.statuses.specs.declared.status.Status.TheVariants as status
 use Rattle.autopersist.specs.Files.{Choice}
-use Rattle.autopersist.specs.TopCall.{IsAsked, IsCauseOf, IsOfRun}
+use Rattle.autopersist.specs.Reading.{IsLeft}
+use Rattle.autopersist.specs.Sets.{SetRunsOver}
+use Rattle.autopersist.specs.TopCall.{AnswersFor, IsAsked, IsCauseOf, IsOfRun, OfChoice, RunsAs, over}
+use Rattle.autopersist.specs.TopCall as top_call
 use Rattle.autopersist.specs.Words.{texts}
-use Rattle.autopersist.proofs.Causes.{cause_of_run, of_run, left_of_run, answers_by_words, answers_by_run, asked_unrefused}
-use Rattle.autopersist.proofs.top_call.autopersist.Given.{Over}
+use Rattle.autopersist.proofs.Causes.{cause_of_run, memory_early, of_run, left_of_run, answers_by_words, answers_by_run, asked_unrefused}
 use Rattle.autopersist.proofs.top_call.autopersist.Goals as goal
-use Rattle.autopersist.proofs.top_call.autopersist.Goals.{Joined-choice}
 
 -- the slice of the words has their bytes
-asked : (slice words : List (String Global)) (left : Option (List NamedBytes)) (choice : Choice) → slice ≡ words → IsAsked (texts slice) left choice
-    → IsAsked (texts words) left choice
-asked slice words left choice same is = subst (λ (ws : List (String Global)). IsAsked (texts ws) left choice) same is
+asked : (slice words : List (String Global)) (left : Option (List NamedBytes)) (choice : Choice) → slice ≡ words
+    → IsAsked (texts slice) left choice → IsAsked (texts words) left choice
+asked slice words left choice same is =
+    subst (λ (ws : List (String Global)). IsAsked (texts ws) left choice) same is
 
-cause : (slice words : List (String Global)) (left : Option (List NamedBytes)) (start : Told) (s : Status) → slice ≡ words
-    → IsCauseOf (texts slice) left start [] s → IsCauseOf (texts words) left start [] s
-cause slice words left start s same is = subst (λ (ws : List (String Global)). IsCauseOf (texts ws) left start [] s) same is
+cause : (slice words : List (String Global)) (left : Option (List NamedBytes)) (passed : top_call.Over) (s : Status)
+    → slice ≡ words → IsCauseOf (texts slice) left passed s → IsCauseOf (texts words) left passed s
+cause slice words left passed s same is =
+    subst (λ (ws : List (String Global)). IsCauseOf (texts ws) left passed s) same is
 
--- what was chosen is what the words ask for
-ran_asked : (g : Over) (c : Joined-choice g) → IsAsked (texts c.args.words.now.items) (g.C.ClassSource.left c.args.source) (choice_of c.in-Ok.field-0.choice)
-ran_asked g c = asked _ c.args.words.now.items (g.C.ClassSource.left c.args.source) (choice_of c.in-Ok.field-0.choice) c.as_slice.ensures.value c.in-Ok.ensures.found
+-- ---- a run of what was found
 
-ran_of : (g : Over) (c : Joined-choice g) → IsOfRun c.run_choice-ran.result.status
-ran_of g c =
-    of_run (texts c.args.words.now.items) (g.C.ClassSource.left c.args.source)
-    (g.I.Image.told c.args.image) c.run_choice-ran.result.opening c.run_choice-ran.result.acts.acts
-    (g.I.Image.told c.run_choice-ran.result.image) c.run_choice-ran.result.status
-    (choice_of c.in-Ok.field-0.choice) c.run_choice-ran.ensures.ran
+module _ (words slice : List (String Global)) (left : Option (List NamedBytes)) (set : Linked) (main text : List ℕ)
+    (start : Told) (opening : Graph) (acts : List Recorded) (after : Told) (how : Status) (same_words : slice ≡ words)
+    (same_text : text ≡ main) (found : IsAsked (texts slice) left (record { set = set; main = main }))
+    (ran : SetRunsOver set text start opening acts after how) where
+  abbrev choice : Choice
+  choice = record { set = set; main = main }
+
+  abbrev passed : top_call.Over
+  passed = over start opening acts after
+
+  is_asked : IsAsked (texts words) left choice
+  is_asked = asked slice words left choice same_words found
+
+  runs : SetRunsOver set main start opening acts after how
+  runs = subst (λ (name : List ℕ). SetRunsOver set name start opening acts after how) same_text ran
+
+  of : IsOfRun how
+  of = of_run set main start opening acts after how runs.ends
+
+  ran_so : OfChoice (texts words) left (RunsAs passed how)
+  ran_so = record { choice = choice; is_asked = is_asked; holds = runs }
+
+  caused : IsCauseOf (texts words) left passed how
+  caused = cause_of_run (texts words) left passed how choice is_asked runs.ends of
+
+  answered : AnswersFor (texts words) left how
+  answered = answers_by_run (texts words) left passed choice how is_asked of
+
+  leaves : (files : List NamedBytes) (others : Option (List NamedBytes)) → left ≡ Some files → others ≡ Some []
+      → IsLeft files how others
+  leaves files others told none =
+      left_of_run files (asked_unrefused (texts words) left choice is_asked files told) how others of none
+
+  early : how ≡ status.OutOfMemory → acts ≡ []
+  early is = memory_early set main start opening acts after how is runs.ends
 
 pub returns-in-Ok-clause-theorem : goal.returns-in-Ok-clause-theorem
-returns-in-Ok-clause-theorem g c = inr (record {
-  choice = choice_of c.in-Ok.field-0.choice;
-  is_asked = ran_asked g c;
-  holds = c.run_choice-ran.ensures.ran;
-})
+returns-in-Ok-clause-theorem g c =
+    inr (ran_so c.args.words.now.items c.as_slice.result.now (g.C.ClassSource.left c.args.source) c.in-Ok.field-0.set
+    c.in-Ok.field-0.main.items c.as_slice-in-Ok.result.now (g.I.Image.told c.args.image) c.run_set-ran.result.opening
+    c.run_set-ran.result.acts.acts (g.I.Image.told c.run_set-ran.result.image) c.run_set-ran.result.status
+    c.as_slice.ensures.value c.as_slice-in-Ok.ensures.value c.in-Ok.ensures.found c.run_set-ran.ensures.ran)
 
 pub returns-in-Ok-clause-cause : goal.returns-in-Ok-clause-cause
 returns-in-Ok-clause-cause g c =
-    cause_of_run (texts c.args.words.now.items) (g.C.ClassSource.left c.args.source)
-    (g.I.Image.told c.args.image) c.run_choice-ran.result.opening c.run_choice-ran.result.acts.acts
-    (g.I.Image.told c.run_choice-ran.result.image) c.run_choice-ran.result.status
-    (choice_of c.in-Ok.field-0.choice) (ran_asked g c) c.run_choice-ran.ensures.ran
+    caused c.args.words.now.items c.as_slice.result.now (g.C.ClassSource.left c.args.source) c.in-Ok.field-0.set
+    c.in-Ok.field-0.main.items c.as_slice-in-Ok.result.now (g.I.Image.told c.args.image) c.run_set-ran.result.opening
+    c.run_set-ran.result.acts.acts (g.I.Image.told c.run_set-ran.result.image) c.run_set-ran.result.status
+    c.as_slice.ensures.value c.as_slice-in-Ok.ensures.value c.in-Ok.ensures.found c.run_set-ran.ensures.ran
 
 pub returns-in-Ok-clause-answers : goal.returns-in-Ok-clause-answers
 returns-in-Ok-clause-answers g c =
-    answers_by_run (texts c.args.words.now.items) (g.C.ClassSource.left c.args.source) (g.I.Image.told c.args.image)
-    (choice_of c.in-Ok.field-0.choice) c.run_choice-ran.result.status (ran_asked g c) (ran_of g c)
+    answered c.args.words.now.items c.as_slice.result.now (g.C.ClassSource.left c.args.source) c.in-Ok.field-0.set
+    c.in-Ok.field-0.main.items c.as_slice-in-Ok.result.now (g.I.Image.told c.args.image) c.run_set-ran.result.opening
+    c.run_set-ran.result.acts.acts (g.I.Image.told c.run_set-ran.result.image) c.run_set-ran.result.status
+    c.as_slice.ensures.value c.as_slice-in-Ok.ensures.value c.in-Ok.ensures.found c.run_set-ran.ensures.ran
 
 pub returns-in-Ok-clause-left : goal.returns-in-Ok-clause-left
-returns-in-Ok-clause-left g c = λ none files told.
-    left_of_run files
-    (asked_unrefused (texts c.args.words.now.items) (g.C.ClassSource.left c.args.source) (choice_of c.in-Ok.field-0.choice) (ran_asked g c) files told)
-    c.run_choice-ran.result.status (g.C.ClassSource.left c.find_choice.new.source) (ran_of g c) (c.in-Ok.ensures.whole files told)
+returns-in-Ok-clause-left g c =
+    λ none files told. leaves c.args.words.now.items c.as_slice.result.now (g.C.ClassSource.left c.args.source) c.in-Ok.field-0.set
+    c.in-Ok.field-0.main.items c.as_slice-in-Ok.result.now (g.I.Image.told c.args.image) c.run_set-ran.result.opening
+    c.run_set-ran.result.acts.acts (g.I.Image.told c.run_set-ran.result.image) c.run_set-ran.result.status
+    c.as_slice.ensures.value c.as_slice-in-Ok.ensures.value c.in-Ok.ensures.found c.run_set-ran.ensures.ran
+    files (g.C.ClassSource.left c.find_choice.new.source) told (c.in-Ok.ensures.whole files told)
+
+pub returns-in-Ok-clause-no_memory : goal.returns-in-Ok-clause-no_memory
+returns-in-Ok-clause-no_memory g c =
+    early c.args.words.now.items c.as_slice.result.now (g.C.ClassSource.left c.args.source) c.in-Ok.field-0.set
+    c.in-Ok.field-0.main.items c.as_slice-in-Ok.result.now (g.I.Image.told c.args.image) c.run_set-ran.result.opening
+    c.run_set-ran.result.acts.acts (g.I.Image.told c.run_set-ran.result.image) c.run_set-ran.result.status
+    c.as_slice.ensures.value c.as_slice-in-Ok.ensures.value c.in-Ok.ensures.found c.run_set-ran.ensures.ran
+
+pub returns-in-Ok-clause-early : goal.returns-in-Ok-clause-early
+returns-in-Ok-clause-early g c =
+    inl (of c.args.words.now.items c.as_slice.result.now (g.C.ClassSource.left c.args.source) c.in-Ok.field-0.set
+    c.in-Ok.field-0.main.items c.as_slice-in-Ok.result.now (g.I.Image.told c.args.image) c.run_set-ran.result.opening
+    c.run_set-ran.result.acts.acts (g.I.Image.told c.run_set-ran.result.image) c.run_set-ran.result.status
+    c.as_slice.ensures.value c.as_slice-in-Ok.ensures.value c.in-Ok.ensures.found c.run_set-ran.ensures.ran)
+
+pub returns-in-Ok-clause-size : goal.returns-in-Ok-clause-size
+returns-in-Ok-clause-size g c =
+    c.run_set-ran.ensures.ran.size
 
 pub returns-in-Err-clause-cause : goal.returns-in-Err-clause-cause
 returns-in-Err-clause-cause g c =
-    let words = texts c.args.words.now.items in
-    let left = g.C.ClassSource.left c.args.source in
-    let start = g.I.Image.told c.args.image in
-    subst (λ (h : History). IsCauseOf words left start h.acts c.in-Err.status) (sym c.new.ensures.empty)
-    (cause _ c.args.words.now.items left start c.in-Err.status c.as_slice.ensures.value (c.in-Err.ensures.cause start))
+    cause _ c.args.words.now.items (g.C.ClassSource.left c.args.source) _ c.in-Err.status c.as_slice.ensures.value
+    (c.in-Err.ensures.cause _)
 
 pub returns-in-Err-clause-answers : goal.returns-in-Err-clause-answers
 returns-in-Err-clause-answers g c =
     let start = g.I.Image.told c.args.image in
-    answers_by_words (texts c.args.words.now.items) (g.C.ClassSource.left c.args.source) start c.in-Err.status c.in-Err.ensures.of_words
-    (cause _ c.args.words.now.items (g.C.ClassSource.left c.args.source) start c.in-Err.status c.as_slice.ensures.value (c.in-Err.ensures.cause start))
+    let passed = over start c.no_graph.result [] start in
+    answers_by_words (texts c.args.words.now.items) (g.C.ClassSource.left c.args.source) passed c.in-Err.status
+    c.in-Err.ensures.of_words
+    (cause _ c.args.words.now.items (g.C.ClassSource.left c.args.source) passed c.in-Err.status
+    c.as_slice.ensures.value (c.in-Err.ensures.cause passed))

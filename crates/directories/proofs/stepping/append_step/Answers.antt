@@ -10,7 +10,7 @@ returns-in-Words-clause-changes g c =
     (omega arith) c.words_step.ensures.changes
 
 pub returns-in-Words-clause-stops : goal.returns-in-Words-clause-stops
-returns-in-Words-clause-stops g c tells come =
+returns-in-Words-clause-stops g c known come =
     words_stops c.args.used c.args.entry.now c.requires.room c.args.memory.now c.words_step.new.memory c.in-Words.n (length c.args.entry.now)
     (subst (λ (p : Progress). HasCome p c.args.used c.args.entry.now c.args.memory.now) c.in-Words.is come) c.words_step.ensures.changes
 
@@ -19,11 +19,11 @@ returns-in-Fenced-clause-changes g c =
     count_of_entry c.args.used c.args.entry.now c.args.memory.now c.raise.new.memory c.raise.ensures.changes
 
 pub returns-in-Fenced-clause-stops : goal.returns-in-Fenced-clause-stops
-returns-in-Fenced-clause-stops g c tells come =
+returns-in-Fenced-clause-stops g c known come =
     raise_stops c.args.used c.args.entry.now c.requires.room c.args.memory.now c.raise.new.memory
     (subst (λ (p : Progress). HasCome p c.args.used c.args.entry.now c.args.memory.now) c.in-Fenced.is come) c.raise.ensures.changes
 
 pub returns-in-Raised-clause-stops : goal.returns-in-Raised-clause-stops
-returns-in-Raised-clause-stops g c tells come =
+returns-in-Raised-clause-stops g c known come =
     finish_stops c.args.used c.args.entry.now c.requires.room c.args.memory.now c.finish.new.memory
     (subst (λ (p : Progress). HasCome p c.args.used c.args.entry.now c.args.memory.now) c.in-Raised.is come) c.finish.ensures.changes

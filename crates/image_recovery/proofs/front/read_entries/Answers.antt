@@ -19,6 +19,9 @@ returns-in-Ok-clause-entries g c first known looks is =
 pub returns-in-Ok-clause-unplanned : goal.returns-in-Ok-clause-unplanned
 returns-in-Ok-clause-unplanned g c first known looks = (c.in-Ok.ensures.found (looks.changes.known known)).left
 
+pub returns-in-Ok-clause-begins : goal.returns-in-Ok-clause-begins
+returns-in-Ok-clause-begins g c first known looks = (c.in-Ok.ensures.found (looks.changes.known known)).progress
+
 pub returns-in-Ok-clause-used : goal.returns-in-Ok-clause-used
 returns-in-Ok-clause-used g c first known looks = (c.in-Ok.ensures.found (looks.changes.known known)).used
 

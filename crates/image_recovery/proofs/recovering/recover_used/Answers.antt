@@ -42,6 +42,7 @@ returns-clause-finds g c first known looks is =
         walk = here.walks;
       };
       unplanned = c.in_ok-front.ensures.unplanned first known looks;
+      begins = c.in_ok-front.ensures.begins first known looks;
       used = c.in_ok-front.ensures.used first known looks ∙ is.says;
       graph_is = here.graph;
       free_is = here.free;

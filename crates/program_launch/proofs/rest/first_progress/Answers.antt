@@ -1,5 +1,5 @@
 use Rattle.std.proofs.Common.{ap, length}
-use Rattle.program_launch.proofs.FirstParts.{progress_filled}
+use Rattle.program_launch.proofs.Progress.{progress_filled}
 use Rattle.program_launch.proofs.rest.first_progress.Goals as goal
 
 pub returns : goal.returns

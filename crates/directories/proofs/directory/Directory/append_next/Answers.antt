@@ -26,7 +26,7 @@ returns-in_err-append_step-clause-stands g c =
     let changes : ChangesTo (OfEntry kept.used words) old new = c.append_step.ensures.changes in
     subst (λ (k : Kept). (had : List DirectoryEntry) → Stands had k old → StandsOn had k k new) c.self.view_is
     (λ had stands. step_stands had kept words old new is some changes stands kept.progress
-    (c.in_err-append_step.ensures.failed stands.tells (has_come had kept words old new is some changes stands)))
+    (c.in_err-append_step.ensures.failed stands.known (has_come had kept words old new is some changes stands)))
 
 pub returns-in_err-append_step-clause-stops : goal.returns-in_err-append_step-clause-stops
 returns-in_err-append_step-clause-stops g c =
@@ -41,7 +41,7 @@ returns-in_err-append_step-clause-stops g c =
     let changes : ChangesTo (OfEntry kept.used words) old new = c.append_step.ensures.changes in
     subst (λ (k : Kept). (had : List DirectoryEntry) → Stands had k old → StopsLeave old new (HasSome had k.left)) c.self.view_is
     (λ had stands. step_stops had kept words old new is some changes stands
-    (c.append_step.ensures.stops stands.tells (has_come had kept words old new is some changes stands)))
+    (c.append_step.ensures.stops stands.known (has_come had kept words old new is some changes stands)))
 
 pub overflow_cast-self : goal.overflow_cast-self
 overflow_cast-self g c =
@@ -90,7 +90,7 @@ returns-in-Touched-clause-stands g c =
     subst (λ (k : Kept). (had : List DirectoryEntry) → Stands had k old → StandsOn had k k new) c.self.view_is
     (λ had stands. step_stands had kept words old new is some changes stands kept.progress
     (subst (λ (s : Step). HasComeBy s kept.progress kept.used words new) c.in-Touched.is
-    (c.in_ok-append_step.ensures.comes stands.tells (has_come had kept words old new is some changes stands))))
+    (c.in_ok-append_step.ensures.comes stands.known (has_come had kept words old new is some changes stands))))
 
 pub returns-in-Touched-clause-stops : goal.returns-in-Touched-clause-stops
 returns-in-Touched-clause-stops g c =
@@ -105,7 +105,7 @@ returns-in-Touched-clause-stops g c =
     let changes : ChangesTo (OfEntry kept.used words) old new = c.append_step.ensures.changes in
     subst (λ (k : Kept). (had : List DirectoryEntry) → Stands had k old → StopsLeave old new (HasSome had k.left)) c.self.view_is
     (λ had stands. step_stops had kept words old new is some changes stands
-    (c.append_step.ensures.stops stands.tells (has_come had kept words old new is some changes stands)))
+    (c.append_step.ensures.stops stands.known (has_come had kept words old new is some changes stands)))
 
 pub returns-in-Comes-clause-stands : goal.returns-in-Comes-clause-stands
 returns-in-Comes-clause-stands g c =
@@ -121,7 +121,7 @@ returns-in-Comes-clause-stands g c =
     subst (λ (k : Kept). (had : List DirectoryEntry) → Stands had k old → StandsOn had k (the_view (record c.self.inside { progress = c.in-Comes.progress })) new) c.self.view_is
     (λ had stands. step_stands had kept words old new is some changes stands c.in-Comes.progress
     (subst (λ (s : Step). HasComeBy s kept.progress kept.used words new) c.in-Comes.is
-    (c.in_ok-append_step.ensures.comes stands.tells (has_come had kept words old new is some changes stands))))
+    (c.in_ok-append_step.ensures.comes stands.known (has_come had kept words old new is some changes stands))))
 
 pub returns-in-Comes-clause-stops : goal.returns-in-Comes-clause-stops
 returns-in-Comes-clause-stops g c =
@@ -136,7 +136,7 @@ returns-in-Comes-clause-stops g c =
     let changes : ChangesTo (OfEntry kept.used words) old new = c.append_step.ensures.changes in
     subst (λ (k : Kept). (had : List DirectoryEntry) → Stands had k old → StopsLeave old new (HasSome had k.left)) c.self.view_is
     (λ had stands. step_stops had kept words old new is some changes stands
-    (c.append_step.ensures.stops stands.tells (has_come had kept words old new is some changes stands)))
+    (c.append_step.ensures.stops stands.known (has_come had kept words old new is some changes stands)))
 
 pub returns-in-Finished-clause-steps : goal.returns-in-Finished-clause-steps
 returns-in-Finished-clause-steps g c =
@@ -184,7 +184,7 @@ returns-in-Finished-clause-stands g c =
     subst (λ (k : Kept). (had : List DirectoryEntry) → Stands had k old → StandsOn had k next new) c.self.view_is
     (λ had stands. step_in had kept words old new is some changes stands next after refl refl
     (subst (λ (s : Step). HasComeBy s kept.progress kept.used words new) c.in-Finished.is
-    (c.in_ok-append_step.ensures.comes stands.tells (has_come had kept words old new is some changes stands))))
+    (c.in_ok-append_step.ensures.comes stands.known (has_come had kept words old new is some changes stands))))
 
 pub returns-in-Finished-clause-stops : goal.returns-in-Finished-clause-stops
 returns-in-Finished-clause-stops g c =
@@ -199,4 +199,4 @@ returns-in-Finished-clause-stops g c =
     let changes : ChangesTo (OfEntry kept.used words) old new = c.append_step.ensures.changes in
     subst (λ (k : Kept). (had : List DirectoryEntry) → Stands had k old → StopsLeave old new (HasSome had k.left)) c.self.view_is
     (λ had stands. step_stops had kept words old new is some changes stands
-    (c.append_step.ensures.stops stands.tells (has_come had kept words old new is some changes stands)))
+    (c.append_step.ensures.stops stands.known (has_come had kept words old new is some changes stands)))

@@ -1,4 +1,0 @@
-pub mod Standing
-pub mod Left
-pub mod Laws
-pub mod Rows

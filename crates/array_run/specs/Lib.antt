@@ -1,5 +1,0 @@
-pub mod Opening
-pub mod Telling
-pub mod Going
-pub mod Firsts
-pub mod Finding

@@ -1,0 +1,42 @@
+use Rattle.std.proofs.Common.{sym, ◌∙◌}
+use Rattle.autopersist.proofs.Outside.{failed_opening, never_by_sink, rose_since, tells_nothing}
+use Rattle.autopersist.proofs.SetRan.{still_apart, unopened_ran}
+use Rattle.autopersist.proofs.sets.run_set.Goals as goal
+
+pub run_opened-requires-clause-opened : goal.run_opened-requires-clause-opened
+run_opened-requires-clause-opened g c = (g.I.Image.told c.args.image, c.args.set, c.in-Ok.ensures.opened)
+
+pub run_opened-requires-clause-differ : goal.run_opened-requires-clause-differ
+run_opened-requires-clause-differ g c =
+    let opened = c.in-Ok.opened in
+    still_apart c.args.set c.open_for.new.set (g.I.Image.told c.args.image) opened.memory opened.directory opened.lines
+    opened.graph opened.free c.in-Ok.ensures.opened c.requires.differ
+
+pub returns-in-Ok-clause-ran : goal.returns-in-Ok-clause-ran
+returns-in-Ok-clause-ran g c =
+    c.run_opened.ensures.ran (g.I.Image.told c.args.image) c.args.set c.in-Ok.ensures.opened
+
+pub returns-in-Ok-clause-image_fault : goal.returns-in-Ok-clause-image_fault
+returns-in-Ok-clause-image_fault g c = λ is.
+    rose_since (g.I.Image.faults c.args.image) c.in-Ok.opened.memory.faults (g.I.Image.faults c.run_opened.result.image)
+    c.in-Ok.ensures.later (c.run_opened.ensures.image_fault is)
+
+pub returns-clause-ran : goal.returns-clause-ran
+returns-clause-ran g c =
+    rw (c.unbegun.ensures.opening, c.unbegun.ensures.acts, c.unbegun.ensures.image, c.unbegun.ensures.status, c.of_unopened.ensures)
+    (unopened_ran c.args.set c.open_for.new.set (g.I.Image.told c.args.image) (g.I.Image.told c.in-Err.image) c.in-Err.why
+    c.args.class.now c.in-Err.ensures.unopened)
+
+pub returns-clause-told : goal.returns-clause-told
+returns-clause-told g c =
+    rw (c.unbegun.ensures.acts, c.unbegun.ensures.watcher, c.unbegun.ensures.sink)
+    (tells_nothing (g.W.Watcher.seen c.args.watcher) (g.S.Sink.taken c.args.sink))
+
+pub returns-clause-sink_fault : goal.returns-clause-sink_fault
+returns-clause-sink_fault g c = λ is.
+    absurd (never_by_sink c.in-Err.why (sym (c.unbegun.ensures.status ∙ c.of_unopened.ensures) ∙ is))
+
+pub returns-clause-image_fault : goal.returns-clause-image_fault
+returns-clause-image_fault g c = λ is.
+    rw c.unbegun.ensures.image
+    (c.in-Err.ensures.cause (failed_opening c.in-Err.why (sym (c.unbegun.ensures.status ∙ c.of_unopened.ensures) ∙ is)))

@@ -1,0 +1,258 @@
+// The run of a class set over an image, from its opening on.
+ghost use Rattle.std.specs.Prelude.{◌≡◌, ℕ, []};
+ghost use Rattle.ap_base.specs.Causes.{Rose};
+ghost use Rattle.line_image.specs.Told.{Told};
+ghost use Rattle.image_meaning.specs.Meaning.{empty_graph};
+ghost use Rattle.class_set.specs.Linked.{Linked};
+ghost use Rattle.class_set.specs.Facts.{facts_of};
+ghost use Rattle.first_spaces.specs.Parts.{RootsDiffer};
+ghost use Rattle.set_opening.specs.Opened.{IsOpenedFor};
+ghost use Rattle.durable_launch.specs.Launching.{CanLaunch};
+ghost use Rattle.durable_run.specs.Turning.{IsReady};
+ghost use Rattle.machine_forms.specs.Machines.{Opening, memory_of};
+ghost use Rattle.program_host.specs.Hosts.{setting_in};
+ghost use Rattle.autopersist.specs.Sets.{SetRunsOver, default_limits, kind_of, status_of_unopened};
+ghost use Rattle.autopersist.specs.Began.{RanBy, status_of_turned, status_of_unlaunched};
+ghost use Rattle.autopersist.specs.TopCall.{Tells};
+
+use crate::ran::{Ran, no_graph, unbegun};
+use ap_base::{Gate, Sink, ThreadNo};
+use class_set::ClassSet;
+use durable_launch::{Launched, OpenedHeap, launch, open_heap};
+use durable_run::{Run, Turned, run_thread};
+use graph_model::Graph;
+use line_image::Image;
+use machine_runs::each_stop_is_allowed;
+use program_launch::{NoLaunch, NoMain, find_main};
+use run_history::{Acts, Watcher};
+use run_types::{Limits, LinkKind};
+use set_opening::{OpenedImage, Unopened, open_for};
+use set_types::SetTypes;
+use statuses::{NameRoom, Status, main_status, status_of_fault, uncaught_status};
+use std::alloc::Global;
+
+// The limits of a run for which the words ask no others.
+const LIMITS: Limits = Limits {
+    heap_words: 8_388_608,
+    acts: 1_048_576,
+};
+
+fn kind_of(none: NoMain) -> LinkKind
+    ensures { result ≡ kind_of none }
+{
+    match none {
+        NoMain::Class => LinkKind::MissingClass,
+        NoMain::Method => LinkKind::MissingMethod,
+    }
+}
+
+fn of_unopened(why: Unopened) -> Status
+    ensures { result ≡ status_of_unopened why }
+{
+    match why {
+        Unopened::BadImage { line, reason } => Status::BadImage { line, reason },
+        Unopened::ShapeChanged { name } => Status::ShapeChanged { shape: name },
+        Unopened::Full(full) => Status::Full(full),
+        Unopened::ImageFailed => Status::ImageFault,
+        Unopened::OutOfMemory => Status::OutOfMemory,
+    }
+}
+
+fn of_unlaunched(why: NoLaunch) -> Status
+    ensures { result ≡ status_of_unlaunched why }
+{
+    match why {
+        NoLaunch::Full(full) => Status::Full(full),
+        NoLaunch::OutOfMemory => Status::OutOfMemory,
+    }
+}
+
+// How a run has ended, by its last turn.
+fn of_turned(set: &ClassSet, turned: Turned, room: NameRoom) -> Status
+    ensures { result ≡ status_of_turned set.now turned }
+{
+    match turned {
+        Turned::Ended(None) => Status::Ok,
+        Turned::Ended(Some(class)) => uncaught_status(set, ThreadNo::main(), class, room),
+        Turned::Over(fault) => status_of_fault(set, &fault, room),
+        Turned::Unbuilt | Turned::Acted => Status::NotBuilt,
+    }
+}
+
+// The graph from which a run began; the one without roots and nodes where there is no act.
+fn opening_of(alloc: Global, acts: &Acts, graph: Graph) -> Graph
+    ensures none { acts.now.acts ≡ [] → result ≡ empty_graph }
+    ensures some { (acts.now.acts ≡ [] → ⊥) → result ≡ graph }
+{
+    if acts.len() == 0 {
+        no_graph(alloc)
+    } else {
+        graph
+    }
+}
+
+/// Opens an image for a class set and runs the set, from its class of this name on.
+pub(crate) fn run_set<I: Image, S: Sink, G: Gate, W: Watcher>(
+    alloc: Global,
+    mut set: ClassSet,
+    class: &[u8],
+    room: NameRoom,
+    image: I,
+    sink: S,
+    gate: &G,
+    watcher: W,
+) -> Ran<I, S, W>
+    requires differ { RootsDiffer (facts_of set) }
+    ensures ran { SetRunsOver set class.now (I.told image) result.opening result.acts.acts
+        (I.told result.image) result.status }
+    ensures told { Tells result.acts.acts (W.seen watcher) (W.seen result.watcher)
+        (S.taken sink) (S.taken result.sink) }
+    ensures sink_fault { result.status ≡ Status.SinkFault
+        → Rose (S.faults sink) (S.faults result.sink) }
+    ensures image_fault { result.status ≡ Status.ImageFault
+        → Rose (I.faults image) (I.faults result.image) }
+{
+    match open_for(alloc, &mut set, image) {
+        Ok(opened) => run_opened(alloc, &set, class, room, opened, sink, gate, watcher),
+        Err((why, image)) => unbegun(alloc, of_unopened(why), image, sink, watcher),
+    }
+}
+
+// Runs a set over an image that was opened for it.
+fn run_opened<I: Image, S: Sink, G: Gate, W: Watcher>(
+    alloc: Global,
+    set: &ClassSet,
+    class: &[u8],
+    room: NameRoom,
+    opened: OpenedImage<I>,
+    sink: S,
+    gate: &G,
+    watcher: W,
+) -> Ran<I, S, W>
+    requires opened { (start : Told) × (old : Linked) × IsOpenedFor start old set.now
+        opened.memory opened.directory opened.lines opened.graph opened.free }
+    requires differ { RootsDiffer (facts_of set.now) }
+    ensures ran { (start : Told) (old : Linked) → IsOpenedFor start old set.now
+        opened.memory opened.directory opened.lines opened.graph opened.free
+        → SetRunsOver old class.now start result.opening result.acts.acts
+        (I.told result.image) result.status }
+    ensures told { Tells result.acts.acts (W.seen watcher) (W.seen result.watcher)
+        (S.taken sink) (S.taken result.sink) }
+    ensures sink_fault { result.status ≡ Status.SinkFault
+        → Rose (S.faults sink) (S.faults result.sink) }
+    ensures image_fault { result.status ≡ Status.ImageFault
+        → Rose opened.memory.faults (I.faults result.image) }
+{
+    match open_heap(alloc, set, opened, LIMITS.heap_words) {
+        Ok(heap) => run_heap(alloc, set, class, room, heap, sink, gate, watcher),
+        Err((why, memory)) => {
+            unbegun(
+                alloc,
+                of_unlaunched(why),
+                memory.into_image(),
+                sink,
+                watcher,
+            )
+        }
+    }
+}
+
+// Runs a set from the first heap over an opened image, where its main class has a `main`.
+fn run_heap<I: Image, S: Sink, G: Gate, W: Watcher>(
+    alloc: Global,
+    set: &ClassSet,
+    class: &[u8],
+    room: NameRoom,
+    heap: OpenedHeap<I>,
+    sink: S,
+    gate: &G,
+    watcher: W,
+) -> Ran<I, S, W>
+    requires can { (start : Told) × (old : Linked)
+        × CanLaunch start old set.now default_limits.heap_words heap }
+    ensures ran { (start : Told) (old : Linked)
+        → CanLaunch start old set.now default_limits.heap_words heap
+        → SetRunsOver old class.now start result.opening result.acts.acts
+        (I.told result.image) result.status }
+    ensures told { Tells result.acts.acts (W.seen watcher) (W.seen result.watcher)
+        (S.taken sink) (S.taken result.sink) }
+    ensures sink_fault { result.status ≡ Status.SinkFault
+        → Rose (S.faults sink) (S.faults result.sink) }
+    ensures image_fault { result.status ≡ Status.ImageFault
+        → Rose heap.spaces.heap.memory.faults (I.faults result.image) }
+{
+    each_stop_is_allowed();
+    let main = match find_main(set, class) {
+        Ok(main) => main,
+        Err(none) => {
+            let status = main_status(kind_of(none), class, room);
+            let image = heap.spaces.heap.memory.into_image();
+            return unbegun(alloc, status, image, sink, watcher);
+        }
+    };
+    match launch(alloc, set, &main, heap, &LIMITS) {
+        Ok(launched) => run_launched(alloc, set, room, launched, sink, gate, watcher),
+        Err(memory) => unbegun(
+            alloc,
+            Status::OutOfMemory,
+            memory.into_image(),
+            sink,
+            watcher,
+        ),
+    }
+}
+
+// Runs a set from its first turn on.
+fn run_launched<I: Image, S: Sink, G: Gate, W: Watcher>(
+    alloc: Global,
+    set: &ClassSet,
+    room: NameRoom,
+    launched: Launched<I>,
+    sink: S,
+    gate: &G,
+    watcher: W,
+) -> Ran<I, S, W>
+    requires ready { (o : Opening) × (first : ℕ) × IsReady o first (facts_of set.now)
+        (setting_in launched.host) launched.heap launched.frames }
+    requires empty { launched.heap.history.acts ≡ [] }
+    ensures ran { (o : Opening) (first : ℕ) → IsReady o first (facts_of set.now)
+        (setting_in launched.host) launched.heap launched.frames
+        → RanBy o first set.now launched.graph result.opening result.acts.acts
+        (I.told result.image) result.status }
+    ensures told { Tells result.acts.acts (W.seen watcher) (W.seen result.watcher)
+        (S.taken sink) (S.taken result.sink) }
+    ensures sink_fault { result.status ≡ Status.SinkFault
+        → Rose (S.faults sink) (S.faults result.sink) }
+    ensures image_fault { result.status ≡ Status.ImageFault
+        → Rose (memory_of launched.heap.machine).faults (I.faults result.image) }
+{
+    let Launched {
+        host,
+        heap,
+        frames,
+        graph,
+    } = launched;
+    let mut run = Run {
+        frames,
+        heap,
+        sink,
+        watcher,
+        turns: 0,
+    };
+    let turned = run_thread(&mut run, &SetTypes::of(set), &host, gate);
+    let Run {
+        heap,
+        sink,
+        watcher,
+        ..
+    } = run;
+    let (acts, memory) = heap.finish();
+    Ran {
+        status: of_turned(set, turned, room),
+        opening: opening_of(alloc, &acts, graph),
+        acts,
+        image: memory.into_image(),
+        sink,
+        watcher,
+    }
+}

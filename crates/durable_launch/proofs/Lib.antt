@@ -1,0 +1,3 @@
+pub mod FirstHeaps
+pub mod Beginning
+pub mod Launching

@@ -1,0 +1,58 @@
+// What a run has beside its heap.
+ghost use Rattle.std.specs.Prelude.{◌≡◌, IfOk};
+ghost use Rattle.class_set.specs.Facts.{facts_of};
+ghost use Rattle.frames.specs.Turns.{begun_main};
+ghost use Rattle.one_space.specs.Beside.{IsFirstRest};
+ghost use Rattle.plain_model.specs.Facts.{known_classes};
+ghost use Rattle.program_host.specs.Hosts.{setting_in};
+ghost use Rattle.program_host.specs.Settings.{setting_of};
+ghost use Rattle.program_launch.specs.Launches.{set_program};
+
+use ap_base::{ListOf, Ref};
+use class_set::ClassSet;
+use natives::NativeState;
+use private_steps::Frames;
+use program_host::ProgramHost;
+use program_launch::{Main, first_rest, program_of};
+use shared_objects::Rest;
+use std::alloc::{AllocError, Global};
+
+/// What the frames of a run are given, those of thread 0, which is about to initialise the main class
+/// and then to call its `main`, and what its world has beside the heap.
+#[derive(Drop)]
+pub(crate) struct Beside {
+    pub(crate) host: ProgramHost,
+    pub(crate) frames: Frames<Ref, NativeState>,
+    pub(crate) rest: Rest,
+}
+
+/// What the run of a set has beside its heap, where these references stand for the array of arguments
+/// and for the literals.
+pub(crate) fn make_beside(
+    alloc: Global,
+    set: &ClassSet,
+    main: &Main,
+    arguments: Ref,
+    literals: Vec<Ref>,
+) -> Result<Beside, AllocError>
+    ensures host { IfOk result (λ beside. setting_in beside.host ≡ setting_of (set_program set.now)
+        main.now.method (known_classes (facts_of set.now)) literals.items) }
+    ensures frames { IfOk result (λ beside.
+        beside.frames ≡ begun_main main.now.class main.now.method arguments) }
+    ensures rest { IfOk result (λ beside. IsFirstRest (facts_of set.now) beside.rest) }
+{
+    let program = program_of(alloc, set)?;
+    let host = ProgramHost::new(
+        program,
+        main.method,
+        set.known(),
+        ListOf::from_vec(literals),
+    );
+    let mut frames = Frames::new(alloc)?;
+    frames.begin_main(main.class, main.method, arguments);
+    Ok(Beside {
+        host,
+        frames,
+        rest: first_rest(alloc, set)?,
+    })
+}

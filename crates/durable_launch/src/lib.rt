@@ -1,0 +1,10 @@
+//! From an opened image and a class set to the first turn of a run over it: the first heap, the main
+//! method's frames, the decoded code, and all beside it.
+#![tactic(auto)]
+
+mod beside;
+mod heaps;
+mod launches;
+
+pub use heaps::{OpenedHeap, open_heap};
+pub use launches::{Launched, launch};

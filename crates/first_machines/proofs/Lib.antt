@@ -1,2 +1,0 @@
-mod Referring
-pub mod Beginning

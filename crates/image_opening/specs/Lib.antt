@@ -1,5 +1,0 @@
-pub mod Form
-pub mod Opened
-pub mod Prepared
-pub mod Rest
-pub mod Wanted

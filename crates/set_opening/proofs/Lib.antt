@@ -1,0 +1,14 @@
+pub mod Agreeing
+pub mod Arrays
+pub mod Attaching
+pub mod Classes
+pub mod Finding
+pub mod Literals
+pub mod Names
+pub mod Opened
+pub mod Openings
+pub mod Pools
+pub mod Ready
+pub mod Recovered
+pub mod Steps
+pub mod Suits

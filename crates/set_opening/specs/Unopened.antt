@@ -1,0 +1,128 @@
+-- Images that couldn't be opened for a class set.
+use Rattle.std.specs.Prelude.{◌≡◌, ◌⊎◌, ◌<◌, ℕ, List, [], Err}
+use Rattle.graph_model.specs.declared.types.Graph.{Graph}
+use Rattle.line_image.specs.Told.{Told}
+use Rattle.line_image.specs.Trace.{LeavesNow}
+use Rattle.line_memory.specs.Memory.{Memory, IsTelling, shown}
+use Rattle.line_memory.specs.Moments.{Goes}
+use Rattle.line_memory.specs.declared.attach.AttachFault.{AttachFault}
+use Rattle.line_memory.specs.declared.attach.AttachFault.TheVariants as attach
+use Rattle.image_layout.specs.declared.superblock.BadReason.TheVariants.{Size}
+use Rattle.image_layout.specs.Places.{min_lines, max_lines}
+use Rattle.image_meaning.specs.Directories.{Directory}
+use Rattle.image_meaning.specs.Entries.{DirectoryEntry}
+use Rattle.image_meaning.specs.Meaning.{meaning, StandsFor}
+use Rattle.word_changes.specs.Changes.{ChangesTo, GoesOn, StopsLeave}
+use Rattle.image_walk.specs.declared.fault.RecoverFault.{RecoverFault}
+use Rattle.image_walk.specs.declared.fault.RecoverFault.TheVariants as recovery
+use Rattle.image_recovery.specs.Putting.{IsPutBack}
+use Rattle.class_set.specs.Facts.{facts_of}
+use Rattle.class_set.specs.Linked.{Linked}
+use Rattle.class_set.specs.Sets.{made_of}
+use Rattle.directories.specs.ClassSets.{AreEntriesOf}
+use Rattle.directories.specs.Kept.{Kept}
+use Rattle.directories.specs.Planning.{lacking}
+use Rattle.set_opening.specs.declared.unopened.Unopened.{Unopened}
+use Rattle.set_opening.specs.declared.unopened.Unopened.TheVariants.{BadImage, ShapeChanged, Full, ImageFailed, OutOfMemory}
+use Rattle.set_opening.specs.Attached.{IsAttached}
+use Rattle.set_opening.specs.Found.{IsDirectoryIn, IsFound}
+use Rattle.set_opening.specs.Fitted.{HasMoreArrays, IsUnfit}
+use Rattle.set_opening.specs.Opened.{StandsWithFirst}
+
+-- ---- faults, as they are passed on
+
+abbrev pub IsOfAttach : AttachFault → Unopened → Type 0
+IsOfAttach attach.Size why = why ≡ BadImage 0 Size
+IsOfAttach attach.ImageFailed why = why ≡ ImageFailed
+IsOfAttach attach.OutOfMemory why = why ≡ OutOfMemory
+
+abbrev pub IsOfRecovery : RecoverFault → Unopened → Type 0
+IsOfRecovery (recovery.Bad line reason) why = why ≡ BadImage line reason
+IsOfRecovery recovery.ImageFailed why = why ≡ ImageFailed
+IsOfRecovery recovery.OutOfMemory why = why ≡ OutOfMemory
+
+-- ---- an image that wasn't attached
+
+-- it has too few lines or too many
+abbrev pub IsOfWrongSize : Told → Type 0
+IsOfWrongSize start = (start.size < min_lines) ⊎ (max_lines < start.size)
+
+abbrev pub IsAttachFault : Told → Unopened → Type 0
+IsAttachFault start (BadImage line reason) = (line ≡ 0) × (reason ≡ Size) × IsOfWrongSize start
+IsAttachFault start (ShapeChanged name) = ⊥
+IsAttachFault start (Full full) = ⊥
+IsAttachFault start ImageFailed = Unit {0}
+IsAttachFault start OutOfMemory = Unit {0}
+
+-- Nothing was written to it and no fence is made: its lines are too few or too many, or couldn't be read, or
+-- the fence behind the reads failed.
+pub record IsUnattached (start after : Told) (why : Unopened) : Type 0 where
+  pub size : after.size ≡ start.size
+  pub trace : after.trace ≡ start.trace
+  pub moments : Goes start after (LeavesNow start.trace)
+  pub cause : IsAttachFault start why
+  pub sized : IsOfWrongSize start → why ≡ BadImage 0 Size
+
+-- ---- one that was attached, and then given back as it was left
+
+-- What is bad is the first check of its words that fails, and then words were put back alone.
+abbrev pub IsRecoveryFault : Memory → Memory → Unopened → Type 0
+IsRecoveryFault before m (BadImage line reason) =
+    (meaning before.size (shown before) ≡ Err (line, reason)) × ChangesTo (IsPutBack (shown before)) before m
+IsRecoveryFault before m (ShapeChanged name) = ⊥
+IsRecoveryFault before m (Full full) = ⊥
+IsRecoveryFault before m ImageFailed = Unit {0}
+IsRecoveryFault before m OutOfMemory = Unit {0}
+
+-- Each stop leaves an image that stands for the graph for which it stood, if there is one.
+pub record IsLeft (start after : Told) (before m : Memory) (added : List DirectoryEntry) : Type 0 where
+  pub attached : IsAttached start before
+  pub size : after.size ≡ start.size
+  pub told : after ≡ m.image
+  pub goes_on : GoesOn before m
+  pub stops : IsTelling start.trace → (graph : Graph) → StandsFor before.size (shown before) graph
+      → StopsLeave before m (StandsWithFirst before.size graph added)
+
+-- It couldn't be recovered.
+pub record IsUnrecovered (start after : Told) (why : Unopened) : Type 0 where
+  pub before : Memory
+  pub memory : Memory
+  pub left : IsLeft start after before memory []
+  pub cause : IsRecoveryFault before memory why
+
+-- What is in it wasn't found.
+abbrev pub IsUnfound : Told → Told → Unopened → Type 0
+IsUnfound start after why = IsUnattached start after why ⊎ IsUnrecovered start after why
+
+-- It was recovered and couldn't be made ready for the set: nothing was done to it since.
+pub record IsUnprepared (start after : Told) (old set : Linked) (why : Unopened) : Type 0 where
+  pub before : Memory
+  pub memory : Memory
+  pub directory : Kept
+  pub graph : Graph
+  pub lines : List ℕ
+  pub free : ℕ
+  pub found : IsFound start before memory directory graph lines free
+  pub left : IsLeft start after before memory []
+  pub cause : IsUnfit old set directory graph lines why
+
+-- It failed while entries of the set were appended: those that the directory that was found lacks.
+pub record IsUnappended (start after : Told) (old set : Linked) (why : Unopened) : Type 0 where
+  pub before : Memory
+  pub memory : Memory
+  pub found : Directory
+  pub found_is : IsDirectoryIn (shown before) found
+  pub entries : List DirectoryEntry
+  pub are_its : AreEntriesOf (facts_of set) (made_of set) entries
+  pub added : List DirectoryEntry
+  pub added_is : added ≡ lacking found entries
+  pub left : IsLeft start after before memory added
+  pub set_is : HasMoreArrays old set
+  pub cause : why ≡ ImageFailed
+
+-- ---- all of it
+
+abbrev pub IsUnopened : Told → Told → Linked → Linked → Unopened → Type 0
+IsUnopened start after old set why =
+    (IsUnattached start after why × (set ≡ old)) ⊎ (IsUnrecovered start after why × (set ≡ old))
+    ⊎ IsUnprepared start after old set why ⊎ IsUnappended start after old set why

@@ -1,0 +1,13 @@
+//! An image is opened for a class set of any shape.
+#![tactic(auto)]
+
+mod appending;
+mod numbering;
+mod opening;
+mod preparing;
+mod recovering;
+mod unopened;
+mod values;
+
+pub use opening::{OpenedImage, open_for};
+pub use unopened::Unopened;

@@ -1,0 +1,8 @@
+mod Apart
+mod Classes
+mod Given
+mod Homes
+mod Listing
+mod Numbered
+mod Places
+mod Texts

@@ -1,0 +1,5 @@
+pub mod Homes
+pub mod Names
+pub mod Numbering
+pub mod Objects
+pub mod Over

@@ -1,0 +1,12 @@
+//! The parts of the first heap of a class set over an image with a directory.
+#![tactic(auto)]
+
+mod fields;
+mod heap;
+mod objects;
+mod parts;
+mod roots;
+mod tables;
+
+pub use parts::spaces_parts;
+pub use roots::roots_differ;
