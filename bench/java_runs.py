@@ -18,9 +18,9 @@ def has_java():
 class Runtime:
     """The built program, with an image file that is blank for each run."""
 
-    def __init__(self, program):
+    def __init__(self, program, parent=None):
         self.program = program
-        self.folder = tempfile.TemporaryDirectory(prefix="bench_java_")
+        self.folder = tempfile.TemporaryDirectory(prefix="bench_java_", dir=parent)
         self.empty = 0.0
 
     def once(self, name):

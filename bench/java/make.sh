@@ -5,6 +5,6 @@ cd "$(dirname "$0")"
 rm -rf classes
 for source in *.java; do
     name=${source%.java}
-    javac --release 8 -g:none -Xlint:-options -d "classes/$name" "$source"
+    javac --release 8 -g:none -Xlint:-options -sourcepath .:../../java -implicit:none -d "classes/$name" "$source"
     [ "$name" = Timer ] || python3 ../../java/check_classes.py "classes/$name"/*.class
 done
