@@ -1,0 +1,5 @@
+pub mod Classes
+pub mod Lists
+pub mod Named
+pub mod Reaching
+pub mod Starting

@@ -1,0 +1,4 @@
+pub mod Launches
+pub mod Objects
+pub mod Roots
+pub mod Values
