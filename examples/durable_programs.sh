@@ -1,5 +1,5 @@
 #!/bin/sh
-# Runs the three programs of java/durable, each several times on one image. Each run but the last is killed once it has printed some
+# Runs the four programs of java/durable, each several times on one image. Each run but the last is killed once it has printed some
 # lines, and the next one has to find all that these lines told, and nothing else but what was being done then. No JDK is needed.
 #
 # usage: examples/durable_programs.sh [--program PROGRAM] [--rounds N]
@@ -100,8 +100,23 @@ key_value() {
     tail -n 1 "$work/told"
 }
 
+# Each run is killed at some moment of the system's choice. Whatever it was doing, the sum of the accounts is there.
+transfers() {
+    count=0
+    for round in $(seq 1 "$rounds"); do
+        killed_after Transfers $((5 * round))
+        begins=$(last_of "begins with" told -1)
+        is_near "$begins" "$count" || fail Transfers "after $count transfers it begins with $begins"
+        grep -q "^begins with .* sum 40000$" "$work/told" || fail Transfers "the sum isn't 40000"
+        count=$(last_of "made transfer" told "$begins")
+    done
+    whole_run Transfers || fail Transfers "$(cat "$work/errors")"
+    is_near "$(last_of "begins with" told -1)" "$count" || fail Transfers "after $count transfers: $(head -n 1 "$work/told")"
+    tail -n 1 "$work/told"
+}
+
 "$program" >/dev/null 2>&1
-for each in ledger jobs_queue key_value; do
+for each in ledger jobs_queue key_value transfers; do
     rm -f "$work/image" && truncate -s 2097152 "$work/image"
     $each
 done

@@ -20,7 +20,7 @@ abbrev pub status_of_unlaunched : NoLaunch → Status
 status_of_unlaunched (no_launch.Full full) = status.Full full
 status_of_unlaunched no_launch.OutOfMemory = status.OutOfMemory
 
--- A run with threads or regions isn't built.
+-- A run with threads isn't built.
 abbrev pub status_of_turned : Linked → Turned → Status
 status_of_turned set (Ended None) = status.Ok
 status_of_turned set (Ended (Some class)) = uncaught_in set 0 class

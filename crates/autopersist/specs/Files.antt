@@ -63,7 +63,7 @@ pub record Choice : Type 0 where
   pub set : Linked
   pub main : List ℕ
 
--- What is built of a class set: each whose code asks for no threads and no regions, and no two of whose durable roots have one name.
+-- What is built of a class set: each whose code asks for no threads, and no two of whose durable roots have one name.
 abbrev pub Builds : List ℕ → Linked → Result Choice Status → Type 0
 Builds name set (Ok choice) =
     (asks set ≡ false) × RootsDiffer (facts_of set) × (choice ≡ record { set = set; main = name })

@@ -115,7 +115,7 @@ pub record Ends (set : Linked) (launch : Launch) (lines : ℕ) (acts : List Reco
   pub ended : EndsAs launch.set launch.main launch.opening (plain_code launch) launch.limits lines acts ending
   pub is : how ≡ status_of_ending set ending
 
--- After these acts its thread asks to start another one, or to begin or end a region: that isn't built yet.
+-- After these acts its thread asks to start another one: that isn't built yet.
 pub record AsksMore (launch : Launch) (acts : List Recorded) (how : Status) : Type 0 where
   pub shown : Shown
   pub rest : Rest

@@ -19,7 +19,7 @@ use ap_base::ClassSource;
 use class_file::ClassFile;
 use class_links::LinkRefusal;
 use class_set::ClassSet;
-use set_demands::asks_for_threads_or_regions;
+use set_demands::asks_for_threads;
 use set_spaces::roots_differ;
 use statuses::{NameRoom, Status};
 use std::alloc::{AllocError, Global};
@@ -102,15 +102,15 @@ fn choose(alloc: Global, class: &str, classes: Vec<ClassFile>) -> Result<Found, 
     }
 }
 
-// Whether a class set's runs are built: its code asks for no threads and no regions, and no two of its
-// durable roots have one name.
+// Whether a class set's runs are built: its code asks for no threads, and no two of its durable roots
+// have one name.
 fn is_built(alloc: Global, set: &ClassSet) -> Result<bool, AllocError>
     ensures built { IfOk result (λ built. IsTrue built → (name : List ℕ)
         → Builds name set.now (Ok (record { set = set.now; main = name }))) }
     ensures other { IfOk result (λ built. IsFalse built
         → (name : List ℕ) → Builds name set.now (Err Status.NotBuilt)) }
 {
-    if asks_for_threads_or_regions(set) {
+    if asks_for_threads(set) {
         return Ok(false);
     }
     roots_differ(alloc, set)

@@ -1,5 +1,5 @@
 -- A first machine is one whose thread may take its first turn.
-use Rattle.std.proofs.Common.{◌≡◌, ℕ, ◌<◌, true, false, List, [], ◌∷◌, length, Some, None, refl, ap, sym, subst, ◌∙◌, arith}
+use Rattle.std.proofs.Common.{◌≡◌, ℕ, ◌<◌, true, false, List, [], ◌∷◌, length, Some, None, refl, ap, sym, subst, ◌∙◌, arith, lit<}
 use Rattle.std.specs.Prelude.{nat_lt, ◌≢◌, AllPairs}
 use Rattle.std.proofs.lemmas.Bool.{lt-ltb}
 use Rattle.run_history.specs.Recorded.{Recorded}
@@ -16,7 +16,8 @@ use Rattle.twin_forms.specs.Table.{Entry, IsClaimed}
 use Rattle.convert_queue.specs.Queues.{Queued}
 use Rattle.machine_forms.specs.declared.doing.Doing.{Doing}
 use Rattle.machine_forms.specs.declared.doing.Doing.TheVariants.{Nothing}
-use Rattle.machine_forms.specs.Machines.{Opening, doing_of, known_in, layout_in, memory_of}
+use Rattle.region_log.specs.Log.{Log}
+use Rattle.machine_forms.specs.Machines.{Opening, doing_of, known_in, layout_in, log_of, memory_of}
 use Rattle.machine_forms.specs.Keeping.{IsDoing, KeepsRun}
 use Rattle.machine_runs.specs.Frames.{RunsAsPlain}
 use Rattle.machine_starts.specs.First.{IsFirstMachine}
@@ -28,7 +29,7 @@ use Rattle.machine_lines.specs.Laws.{StartsTakeNoLines}
 use Rattle.machine_lines.specs.Unwritten.{StartsHaveUnwritten}
 use Rattle.shared_heap.specs.Shared.{Shared}
 use Rattle.shared_heap.specs.Conversions.{NamesClaimed}
-use Rattle.machine.specs.Running.{IsRunning, IsAboutItsStore, LagsByItsStore, HadNoFault, ListsClasses}
+use Rattle.machine.specs.Running.{AsksItsEnd, IsRunning, IsAboutItsStore, LagsByItsStore, HadNoFault, ListsClasses}
 
 -- ---- no act
 
@@ -62,6 +63,10 @@ module _ (o : Opening) (lines : List ℕ) (s : Shared) (es : List Entry) (fs : T
 
   lags : LagsByItsStore o.launch (doing_of s.machine 0) fs
   lags = subst (λ (d : Doing). LagsByItsStore o.launch d fs) (sym idle) tt
+
+  -- no region is being ended
+  ends : AsksItsEnd o.launch (log_of s.machine 0).underway fs
+  ends = subst (λ (log : Log). AsksItsEnd o.launch log.underway fs) (sym (first.empty 0 (lit< tt))) tt
 
   unasked : (p : Pending) → pending_of (known_at o.launch s.machine.acts).asked 0 ≡ Some p → ⊥
   unasked p is =
@@ -114,6 +119,7 @@ module _ (o : Opening) (lines : List ℕ) (s : Shared) (es : List Entry) (fs : T
     names = names none count;
     about = about;
     lags = lags;
+    ends = ends;
     alone = alone;
     lines = lines_are;
     acts = acts;

@@ -29,7 +29,7 @@ use Rattle.run_forms.specs.Views.{ThreadFrames}
 use Rattle.run_forms.specs.Standing.{IsLaunch, Launch, setting_of}
 use Rattle.twin_forms.specs.Table.{Entry}
 use Rattle.first_spaces.specs.Spaces.{spaces_of}
-use Rattle.machine_forms.specs.Machines.{Opening}
+use Rattle.machine_forms.specs.Machines.{Opening, empty_log}
 use Rattle.machine_starts.specs.First.{IsFirstMachine, IsOpenedImage, BeginsMain}
 use Rattle.machine_starts.specs.Laws.{FirstMachinesKeepRuns, FirstMachinesRunAsPlain}
 use Rattle.machine_starts.specs.Shapes.{MadeHeapsHaveTheirDirectory}
@@ -38,6 +38,7 @@ use Rattle.machine_lines.specs.Unwritten.{StartsHaveUnwritten}
 use Rattle.machine.specs.Running.{ListsClasses}
 use Rattle.asked_arrays.specs.Written.{ThreadsAskForWrittenArrays}
 use Rattle.shared_heap.specs.Shared.{Shared}
+use Rattle.shared_heap.proofs.Logging.{at_to, long_to}
 use Rattle.shared_heap.specs.First.{first_shared}
 use Rattle.durable_run.specs.Turning.{IsReady, AsksListed}
 use Rattle.durable_launch.specs.declared.heaps.OpenedHeap.{OpenedHeap}
@@ -128,6 +129,8 @@ module _ {I : Type 0} (start : Told) (old set : Linked) (main : Main) (limits : 
     queue = refl;
     free = can.opened.ready.free_is;
     doing = refl;
+    logs = long_to 64;
+    empty = λ t below. at_to 64 t (empty_log t) below;
     acts = refl;
   }
 

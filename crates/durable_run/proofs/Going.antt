@@ -63,8 +63,6 @@ ended-state (s ∷ ss) one e = (s, refl, not-false s.ended e, refl)
 
 pub built-so : (request : Request Ref Item) → is_built request ≡ true → IsBuilt request
 built-so (ask.Start from thread) e = no-true e
-built-so (ask.Begin from) e = no-true e
-built-so (ask.End from) e = no-true e
 built-so request e = tt
 
 -- what was asked so waits for its reply

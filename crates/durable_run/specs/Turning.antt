@@ -44,11 +44,9 @@ abbrev pub uncaught_in : List ThreadState → Option ℕ
 uncaught_in [] = None
 uncaught_in (s ∷ ss) = s.uncaught
 
--- starting a thread and beginning and ending a region aren't built yet
+-- starting a thread isn't built yet
 abbrev pub is_built : Request Ref Item → Bool
 is_built (ask.Start from thread) = false
-is_built (ask.Begin from) = false
-is_built (ask.End from) = false
 is_built request = true
 
 -- the count of turns: one more where the thread lives

@@ -25,7 +25,7 @@ pub enum Turned {
     Ended(Option<u32>),
     /// The run is over.
     Over(RunFault),
-    /// It asks to start a thread, or to begin or end a region, which isn't built yet.
+    /// It asks to start a thread, which isn't built yet.
     Unbuilt,
 }
 

@@ -178,3 +178,23 @@ module _ (launch : Launch) (acts : List Recorded) (calls : ℕ) (named : List �
   about-joined = about-by launch (acts ++ joined ∷ []) (next_known (known_at launch acts) joined)
       (request_after launch.set launch.main launch.opening (plain_code launch) acts 0)
       (known-more launch acts joined refl) (request-stays launch acts joined refl) joined-by
+
+-- ---- places that are guarded
+
+module _ (launch : Launch) (acts : List Recorded) (calls : ℕ) (place : Place)
+    (about : IsAboutItsStore launch acts) where
+  abbrev guarded : Recorded
+  guarded = act_of 0 calls (op.Guarded place)
+
+  guarded-by : AboutBy launch (next_known (known_at launch acts) guarded)
+      (request_after launch.set launch.main launch.opening (plain_code launch) acts 0)
+  unfolding known_after_op
+  guarded-by = record {
+    durable = λ p is. about.durable p is;
+    stores = λ p request is asks. about.stores p request is asks;
+  }
+
+  pub about-guarded : IsAboutItsStore launch (acts ++ guarded ∷ [])
+  about-guarded = about-by launch (acts ++ guarded ∷ []) (next_known (known_at launch acts) guarded)
+      (request_after launch.set launch.main launch.opening (plain_code launch) acts 0)
+      (known-more launch acts guarded refl) (request-stays launch acts guarded refl) guarded-by

@@ -1,11 +1,10 @@
 -- The plan of a request, and its step.
-use Rattle.std.proofs.Common.{◌≡◌, ℕ, ◌-◌, ◌<◌, ◌≤◌, ◌^◌, List, [], ◌∷◌, ◌++◌, length, Option, Some, None, refl, sym, ap, subst, arith}
+use Rattle.std.proofs.Common.{◌≡◌, ℕ, ◌-◌, ◌<◌, ◌≤◌, ◌^◌, List, [], ◌∷◌, length, Option, Some, None, refl, sym, ap, subst, arith}
 use Rattle.std.specs.Prelude.{IsSome}
 use Rattle.ap_base.specs.declared.reference.Ref.{Ref}
 use Rattle.ap_base.specs.declared.reference.Item.{Item}
 use Rattle.run_types.specs.declared.fault.Which.TheVariants as which
 use Rattle.natives.specs.declared.requests.Request.{Request}
-use Rattle.run_history.specs.Recorded.{Recorded}
 use Rattle.plain_model.specs.Facts.{SetFacts}
 use Rattle.plain_model.specs.Ends.{full}
 use Rattle.step_forms.specs.declared.stepped.Stepped.{Stepped}
@@ -14,14 +13,15 @@ use Rattle.step_forms.specs.Follows.{Agrees}
 use Rattle.shared_steps.specs.Output.{FaultsGo, OutputGoes, SharesGo}
 use Rattle.run_forms.specs.Views.{ThreadFrames}
 use Rattle.twin_forms.specs.Table.{Entry}
-use Rattle.machine_forms.specs.Machines.{Opening, doing_of, memory_of, shown_in}
+use Rattle.region_log.specs.declared.entry.Underway.TheVariants.{Nothing as Idle}
+use Rattle.machine_forms.specs.Machines.{Opening, doing_of, log_of, memory_of, shown_in}
 use Rattle.machine_runs.specs.Frames.{IsReady}
 use Rattle.object_steps.specs.declared.storing.Store.{Store}
 use Rattle.shared_heap.specs.Shared.{Shared}
 use Rattle.shared_heap.specs.Requests.{IsPlannedFor, MayAsk, StepsTo}
 use Rattle.machine.specs.declared.events.Event.{Event}
-use Rattle.machine.specs.Ended.{HasPlanned, HasSomePlanned, StoreComesTo, event_of}
-use Rattle.machine.specs.Events.{Comes, HasSinkCause, IsOver, IsShare, TakesOutput}
+use Rattle.machine.specs.Ended.{ComesTo, HasPlanned, HasSomePlanned, IsOutside, Serves, StoreComesTo, event_of}
+use Rattle.machine.specs.Events.{Comes, HasSinkCause, IsOver, SparesSink}
 use Rattle.machine.specs.Laws.{Laws}
 use Rattle.machine.specs.Running.{IsDue}
 use Rattle.machine.proofs.Given.{agrees-now, may-ask}
@@ -58,13 +58,15 @@ module _ (laws : Laws) (set : SetFacts) (s : Shared) (request : Request Ref Item
   -- ---- a store
 
   module _ (now : Shared) (store : Store) (t : ℕ) (zero : t ≡ 0) (same : now ≡ s)
-      (planned : IsPlannedFor set t request store s) (gives : given request ≡ None → ⊥) where
+      (idle : (log_of s.machine 0).underway ≡ Idle) (planned : IsPlannedFor set t request store s)
+      (gives : given request ≡ None → ⊥) where
     has-planned : (o : Opening) (first : ℕ) (es : List Entry) (fs : ThreadFrames)
         → IsDue o first set s es fs request → HasPlanned o first set now es fs request store
     has-planned o first es fs due =
         subst (λ (x : Shared). HasPlanned o first set x es fs request store) (sym same) (record {
           due = due;
           ready = ready;
+          idle = idle;
           planned = subst (λ u. IsPlannedFor set u request store s) zero planned;
           gives = some-of (given request) gives;
         })
@@ -76,51 +78,78 @@ module _ (laws : Laws) (set : SetFacts) (s : Shared) (request : Request Ref Item
       from-start : StoreComesTo store result s new
       from-start = subst (λ (y : Shared). StoreComesTo store result y new) same x
 
-      pub store-comes : (o : Opening) (first : ℕ) (es : List Entry) (fs : ThreadFrames)
+      store-comes : (o : Opening) (first : ℕ) (es : List Entry) (fs : ThreadFrames)
           → IsDue o first set s es fs request → Comes o first fs request result s new
       store-comes o first es fs due = from-start.comes o first set es fs request
           (subst (λ (y : Shared). HasPlanned o first set y es fs request store) same
           (has-planned o first es fs due))
 
-      pub store-told : (takes : Option (List ℕ)) → TakesOutput s.history.acts new.history.acts takes takes
-      store-told takes = spares-output result s.history.acts new.history.acts takes from-start.sink
-
-      pub store-share : (takes : ℕ → Option ℕ) (act : Recorded)
-          → new.history.acts ≡ s.history.acts ++ act ∷ [] → IsShare request takes act.act.op
-      store-share takes = spares-share result s.history.acts new.history.acts request takes from-start.sink
-
-      pub store-cause : (faults : ℕ) → HasSinkCause result faults faults
-      store-cause faults = spares-cause result faults from-start.sink.fault
+      pub store-serves : (takes : ℕ → Option ℕ) (taken : Option (List ℕ)) (faults : ℕ)
+          → Serves set request result s new takes taken taken faults faults
+      store-serves takes taken faults = record {
+        comes = store-comes;
+        told = spares-output result s.history.acts new.history.acts taken from-start.sink;
+        share = spares-share result s.history.acts new.history.acts request takes from-start.sink;
+        cause = spares-cause result faults from-start.sink.fault;
+      }
 
   -- ---- a step
 
   module _ (room : length s.history.acts < s.history.limit) (now new : Shared) (result : Stepped) (t : ℕ)
       (zero : t ≡ 0) (same : now ≡ s) (x : StepsTo set t request result now new) (none : IsNoStore result)
+      (idle : (log_of s.machine 0).underway ≡ Idle) (outside : IsOutside (log_of s.machine 0).depth request)
       (event : Event) (is_event : event ≡ event_of request result) where
     steps : StepsTo set 0 request result s new
     steps = subst (λ (y : Shared). StepsTo set 0 request result y new) same
         (subst (λ u. StepsTo set u request result now new) zero x)
 
-    pub step-comes : (o : Opening) (first : ℕ) (es : List Entry) (fs : ThreadFrames)
+    step-comes : (o : Opening) (first : ℕ) (es : List Entry) (fs : ThreadFrames)
         → IsDue o first set s es fs request → Comes o first fs request event s new
     step-comes o first es fs due = subst (λ e. Comes o first fs request e s new) (sym is_event)
-        (stepped-comes laws o first set s es fs request due room ready new result steps none)
+        (stepped-comes laws o first set s es fs request due room ready new idle outside result steps none)
 
-    pub step-told : IsDueFor set s request → (takes takes' : Option (List ℕ))
-        → OutputGoes request takes result takes' → TakesOutput s.history.acts new.history.acts takes takes'
-    step-told (o, first, es, fs, due) takes takes' put =
-        stepped-told laws o first set s es fs request due room ready new result steps none takes takes' put
+    pub step-serves : IsDueFor set s request → (takes : ℕ → Option ℕ) (taken taken' : Option (List ℕ))
+        (faults faults' : ℕ) → OutputGoes request taken result taken' → SharesGo request takes result
+        → FaultsGo request faults result faults'
+        → Serves set request event s new takes taken taken' faults faults'
+    step-serves (o, first, es, fs, due) takes taken taken' faults faults' put share go = record {
+      comes = step-comes;
+      told = stepped-told laws o first set s es fs request due room ready new result steps none taken taken' put;
+      share = stepped-share laws o first set s es fs request due room ready new result steps none takes share;
+      cause = subst (λ e. HasSinkCause e faults faults') (sym is_event)
+          (stepped-cause laws o first set s es fs request due room ready new result steps none faults faults' go);
+    }
 
-    pub step-share : IsDueFor set s request → (takes : ℕ → Option ℕ) → SharesGo request takes result
-        → (act : Recorded) → new.history.acts ≡ s.history.acts ++ act ∷ [] → IsShare request takes act.act.op
-    step-share (o, first, es, fs, due) takes share act is =
-        stepped-share laws o first set s es fs request due room ready new result steps none takes share act is
+-- ---- an event that has no part in the sink
 
-    pub step-cause : IsDueFor set s request → (before after : ℕ) → FaultsGo request before result after
-        → HasSinkCause event before after
-    step-cause (o, first, es, fs, due) before after go = subst (λ e. HasSinkCause e before after) (sym
-        is_event)
-        (stepped-cause laws o first set s es fs request due room ready new result steps none before after go)
+pub spared-serves : (set : SetFacts) (s new : Shared) (request : Request Ref Item) (result : Event)
+    → ((o : Opening) (first : ℕ) (es : List Entry) (fs : ThreadFrames) → IsDue o first set s es fs request
+    → Comes o first fs request result s new)
+    → SparesSink result s.history.acts new.history.acts
+    → (takes : ℕ → Option ℕ) (taken : Option (List ℕ)) (faults : ℕ)
+    → Serves set request result s new takes taken taken faults faults
+spared-serves set s new request result comes spares takes taken faults = record {
+  comes = comes;
+  told = spares-output result s.history.acts new.history.acts taken spares;
+  share = spares-share result s.history.acts new.history.acts request takes spares;
+  cause = spares-cause result faults spares.fault;
+}
+
+pub comes-serves : (set : SetFacts) (s new : Shared) (request : Request Ref Item) (result : Event)
+    → ComesTo result s new → (takes : ℕ → Option ℕ) (taken : Option (List ℕ)) (faults : ℕ)
+    → Serves set request result s new takes taken taken faults faults
+comes-serves set s new request result x = spared-serves set s new request result
+    (λ o first es fs due. x.comes o first set es fs request due) x.sink
+
+-- the sink was left alone
+pub serves-as : (set : SetFacts) (s new : Shared) (request : Request Ref Item) (result event : Event)
+    (takes : ℕ → Option ℕ) (taken taken' : Option (List ℕ)) (faults faults' : ℕ)
+    → Serves set request result s new takes taken taken faults faults → event ≡ result → taken' ≡ taken
+    → faults' ≡ faults → Serves set request event s new takes taken taken' faults faults'
+serves-as set s new request result event takes taken taken' faults faults' x is same_taken same_faults =
+    subst (λ e. Serves set request e s new takes taken taken' faults faults') (sym is)
+    (subst (λ t. Serves set request result s new takes taken t faults faults') (sym same_taken)
+    (subst (λ n. Serves set request result s new takes taken taken faults n) (sym same_faults) x))
 
 -- ---- a full history
 

@@ -152,7 +152,18 @@ module _ (o : Opening) (m : Machine) (es : List Entry) (k : KeepsRun o m es) (re
     closed = k.asked.closed;
     timed = k.asked.timed;
     few = k.asked.few;
-    regions = k.asked.regions;
+    regions = record {
+      many = k.asked.regions.many;
+      each = λ t below. (let own = k.asked.regions.each t below in record {
+        thread = own.thread;
+        guards = own.guards;
+        keeps = own.keeps;
+        region = own.region;
+        old = own.old;
+      });
+      others = k.asked.regions.others;
+      apart = k.asked.regions.apart;
+    };
   }
 
   pub keeps-aside : KeepsRun o aside es

@@ -29,10 +29,12 @@ use Rattle.machine_forms.specs.Machines.{Opening, Machine, doing_of, known_in, l
 use Rattle.machine_forms.specs.Keeping.{IsDoing}
 use Rattle.machine_forms.specs.Events.{AsksFor, BeginsOn, IsSlotOfClaimed, act_in, value_in, with_asked}
 use Rattle.machine_runs.specs.Frames.{IsReady}
+use Rattle.machine_ends.specs.Stores.{StoresFreely}
 use Rattle.object_steps.specs.declared.storing.Store.{Store}
 use Rattle.object_steps.specs.Stores.{place_of}
 use Rattle.store_barrier.specs.Barriers.{ConvertsFirst}
 use Rattle.store_barrier.specs.Laws.{Asks}
+use Rattle.store_barrier.specs.Regions.{IsApart}
 use Rattle.shared_heap.specs.Shared.{Shared}
 use Rattle.shared_heap.specs.Conversions.{BeginsOnce}
 use Rattle.shared_heap.specs.Requests.{AsksTo, value_stored}
@@ -44,7 +46,8 @@ use Rattle.machine.specs.Running.{HadNoFault, IsAboutItsStore, LagsByItsStore}
 use Rattle.machine.proofs.About.{IsIdle, about-asked, idle-asks}
 use Rattle.machine.proofs.Basics.{doing-set, not-longer, shared-is}
 use Rattle.machine.proofs.Faults.{none-more}
-use Rattle.machine.proofs.Leaving.{few, goes-on, same-room, same-size}
+use Rattle.machine.proofs.Freely.{freely-volatile}
+use Rattle.machine.proofs.Leaving.{ends-same, few, goes-on, same-room, same-size}
 use Rattle.machine.proofs.Memory.{same-image}
 use Rattle.machine.proofs.Names.{none-queued-now, unclaimed}
 use Rattle.machine.proofs.Planned.{is-store, plain-asks, plain-stores, same-value}
@@ -59,7 +62,9 @@ nothing-of d (inr is) not = absurd (not is)
 
 module _ (laws : Laws) (o : Opening) (first : ℕ) (set : SetFacts) (s : Shared) (es : List Entry)
     (fs : ThreadFrames) (request : Request Ref Item) (store : Store)
-    (h : HasPlanned o first set s es fs request store) (room : length s.history.acts < s.history.limit) where
+    (h : HasPlanned o first set s es fs request store)
+    (free : StoresFreely o s.machine 0 (place_of store.target) (value_in s.machine store.kept))
+    (room : length s.history.acts < s.history.limit) where
   abbrev goal : Place
   goal = place_of store.target
 
@@ -141,6 +146,7 @@ module _ (laws : Laws) (o : Opening) (first : ℕ) (set : SetFacts) (s : Shared)
                   (plain-stores laws o first set s es fs request store h);
               lags = subst (λ d. LagsByItsStore o.launch d fs)
                   (sym (doing-set s.machine.doing Converting h.due.running.keeps.asked.threads)) tt;
+              ends = h.due.running.ends;
               alone = h.due.running.alone;
               lines = refl;
               acts = ap (λ (xs : List Recorded). xs ++ act ∷ []) h.due.running.acts;
@@ -152,7 +158,7 @@ module _ (laws : Laws) (o : Opening) (first : ℕ) (set : SetFacts) (s : Shared)
                   lines 0 _
                   fs request goal store.kept h.ready h.due.asks
                   (is-store laws o first set s es fs request store h)
-                  (few laws o first set s es fs request h.due room));
+                  free (few laws o first set s es fs request h.due room));
             });
             threads = refl;
           };
@@ -251,6 +257,7 @@ module _ (laws : Laws) (o : Opening) (first : ℕ) (set : SetFacts) (s : Shared)
                 about = subst (IsAboutItsStore o.launch) (sym (acts-same begun.Claimed b))
                     h.due.running.about;
                 lags = subst (λ d. LagsByItsStore o.launch d fs) (sym (doing-same-now begun.Claimed b)) tt;
+                ends = ends-same o first s es fs h.due.running new.machine (ap (λ (m : Machine). m.logs) b.same);
                 alone = ap (λ (r : Rest). length r.threads) b.monitors ∙ h.due.running.alone;
                 lines = b.alone.lines ∙ same-size o first s es fs h.due.running new.machine b.after kept
                     ∙ sym h.due.running.lines;
@@ -278,11 +285,14 @@ module _ (laws : Laws) (o : Opening) (first : ℕ) (set : SetFacts) (s : Shared)
 -- ---- of each run
 
 pub asked-comes-to : Laws → (s new : Shared) (store : Store) (object : Ref)
+    → IsApart s.machine.spaces s.machine.logs 0 (place_of store.target)
     → length s.history.acts < s.history.limit → IsReadyToAsk s
     → ((es : List Entry) → Stands s.machine.spaces es → ConvertsFirst s.machine.spaces es store object)
     → AsksTo 0 (place_of store.target) (value_stored s store) s new → StoreComesTo store Micro s new
-asked-comes-to laws s new store object room nothing convert x = record {
-  comes = λ o first set es fs request h. asked-store laws o first set s es fs request store h room object
+asked-comes-to laws s new store object apart room nothing convert x = record {
+  comes = λ o first set es fs request h. asked-store laws o first set s es fs request store h
+      (freely-volatile laws o first set s es fs request store h apart object
+      (convert es h.due.running.keeps.heap.whole)) room object
       (nothing-of (doing_of s.machine 0) h.ready nothing) (convert es h.due.running.keeps.heap.whole) new x;
   sink = record { acts = inr (_, ap (λ (y : History). y.acts) x.history, tt); fault = tt };
 }

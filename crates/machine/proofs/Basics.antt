@@ -1,5 +1,6 @@
 -- Small facts about options, lists and what threads are about.
-use Rattle.std.proofs.Common.{◌≡◌, ℕ, List, [], ◌∷◌, ◌++◌, length, Option, Some, None, ap, arith}
+use Rattle.std.proofs.Common.{◌≡◌, inl, inr, ℕ, ◌<◌, Bool, true, false, List, [], ◌∷◌, ◌++◌, length, Option, Some, None, sym, ◌∙◌, ap, arith}
+use Rattle.std.proofs.lemmas.Bool.{cases_lt}
 use Rattle.std.specs.Prelude.{slice_index_or, slice_set}
 use Rattle.std.proofs.lemmas.List.{get_or-set_same, set-get_or, length-append}
 use Rattle.run_history.specs.Recorded.{History}
@@ -21,6 +22,13 @@ not-longer xs x e = absurd (let long = ap length e in let one = length-append xs
   long,
   one,
 ))
+
+-- what isn't more than none is none
+pub none-of : (b : Bool) (n : ℕ) → b ≡ false → (0 < n → b ≡ true) → n ≡ 0
+none-of b n is some = elim (cases_lt 0 n) [
+  | inl below ↦ absurd (let no : false ≡ true = sym is ∙ some below in cc)
+  | inr past ↦ omega (arith, past)
+]
 
 -- ---- what the thread is about
 

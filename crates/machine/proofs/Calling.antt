@@ -6,6 +6,7 @@ use Rattle.ap_base.specs.declared.reference.Ref.{Ref}
 use Rattle.ap_base.specs.declared.reference.Item.{Item}
 use Rattle.run_types.specs.declared.fault.RunFault.TheVariants as fault
 use Rattle.natives.specs.declared.requests.Request.{Request}
+use Rattle.natives.specs.declared.requests.Request.TheVariants as ask
 use Rattle.natives.specs.declared.requests.Reply.TheVariants as reply
 use Rattle.run_history.specs.declared.act.Act.{Act}
 use Rattle.run_history.specs.declared.act.Op.TheVariants as op
@@ -13,16 +14,18 @@ use Rattle.run_history.specs.Recorded.{History, Recorded, with_act}
 use Rattle.plain_model.specs.Facts.{SetFacts}
 use Rattle.step_forms.specs.Becomes.{given}
 use Rattle.run_forms.specs.Views.{ThreadFrames}
+use Rattle.region_log.specs.declared.entry.Underway.{Underway}
+use Rattle.region_log.specs.declared.entry.Underway.TheVariants.{Nothing as Idle, Adding, Ending}
 use Rattle.twin_forms.specs.Table.{Entry}
 use Rattle.machine_forms.specs.declared.doing.Doing.TheVariants.{Nothing, Writing, Fencing}
-use Rattle.machine_forms.specs.Machines.{Opening, doing_of, memory_of}
+use Rattle.machine_forms.specs.Machines.{Opening, doing_of, log_of, memory_of}
 use Rattle.machine_forms.specs.Events.{with_twin, with_write, with_fence}
 use Rattle.shared_heap.specs.Shared.{Shared, Failed, Fences, Writes}
 use Rattle.machine.specs.declared.events.Event.TheVariants.{Did, Micro, Over}
 use Rattle.machine.specs.Ended.{ComesTo}
 use Rattle.machine.specs.Events.{Comes, IsBroken, answered}
 use Rattle.machine.specs.Laws.{Laws}
-use Rattle.machine.specs.Running.{AsksSomeStore, IsDue, LagsByItsStore}
+use Rattle.machine.specs.Running.{AsksItsEnd, AsksSomeStore, IsDue, LagsByItsStore}
 use Rattle.machine.proofs.About.{IsIdle, about-idle}
 use Rattle.machine.proofs.Basics.{doing-set, shared-is, some-same}
 use Rattle.machine.proofs.Faults.{none-more}
@@ -43,6 +46,15 @@ module _ (laws : Laws) (o : Opening) (first : ℕ) (set : SetFacts) (s : Shared)
   whole : AsksSomeStore o.launch fs → IsBroken request → ⊥
   whole store = given-whole request (subst (λ (q : Request Ref Item). IsSome (given q))
       (some-same store.0 request (sym store.1 ∙ due.asks.asks)) store.2)
+
+  -- and ends no region
+  no-end : AsksSomeStore o.launch fs → (u : Underway) → AsksItsEnd o.launch u fs → (fs' : ThreadFrames)
+      → AsksItsEnd o.launch u fs'
+  no-end store Idle ends fs' = tt
+  no-end store (Adding e stage) ends fs' = tt
+  no-end store (Ending stage) ends fs' = absurd (let gives : IsSome (given (ask.End ends.0)) =
+      subst (λ (q : Request Ref Item). IsSome (given q))
+      (some-same store.0 (ask.End ends.0) (sym store.1 ∙ ends.1)) store.2 in let no = gives in cc)
 
   -- ---- the write-back
 
@@ -84,6 +96,7 @@ module _ (laws : Laws) (o : Opening) (first : ℕ) (set : SetFacts) (s : Shared)
               lags = subst (λ d. LagsByItsStore o.launch d fs)
                   (sym (doing-set s.machine.doing Fencing due.running.keeps.asked.threads))
                   (lag-writing w.wrote.line w.wrote.doing);
+              ends = due.running.ends;
               alone = due.running.alone;
               lines = refl;
               acts = due.running.acts;
@@ -159,6 +172,7 @@ module _ (laws : Laws) (o : Opening) (first : ℕ) (set : SetFacts) (s : Shared)
               about = about-idle o (with_fence s.machine f.twin 0) es kept (subst IsIdle (sym idle-now) tt);
               lags = subst (λ d. LagsByItsStore o.launch d (answered o.launch fs reply.Done)) (sym
                   idle-now) tt;
+              ends = no-end (lag-fencing f.made.doing) (log_of s.machine 0).underway due.running.ends _;
               alone = due.running.alone;
               lines = refl;
               acts = ap (λ (xs : List Recorded). xs ++ fence_recorded ∷ []) due.running.acts;

@@ -13,6 +13,7 @@ use Rattle.run_forms.specs.Views.{ThreadFrames}
 use Rattle.run_forms.specs.Ends.{IsEndedBy}
 use Rattle.twin_forms.specs.Table.{Entry}
 use Rattle.twin_forms.specs.Sights.{Twin}
+use Rattle.two_spaces.specs.Whole.{Stands}
 use Rattle.convert_words.specs.declared.step.ConvertStep.{ConvertStep}
 use Rattle.convert_words.specs.declared.step.ConvertStep.TheVariants as step
 use Rattle.convert_words.specs.Scenes.{Scene}
@@ -20,13 +21,17 @@ use Rattle.convert_words.specs.Converting.{Says}
 use Rattle.machine_forms.specs.declared.doing.Doing.TheVariants.{Converting}
 use Rattle.machine_forms.specs.Machines.{Opening, Machine, doing_of, memory_of, scene_of}
 use Rattle.machine_forms.specs.Keeping.{KeepsRun}
-use Rattle.machine_forms.specs.Events.{Converted, act_in}
+use Rattle.machine_forms.specs.Events.{Converted, act_in, value_in}
 use Rattle.machine_runs.specs.Frames.{RunsAsPlain}
 use Rattle.machine_asks.proofs.Converted.{counted}
 use Rattle.machine_lines.specs.Lines.{TakesLines, lines_fault}
 use Rattle.machine_lines.specs.Unwritten.{HasUnwritten}
 use Rattle.machine_lines.specs.Work.{lowering}
+use Rattle.machine_ends.specs.Stores.{StoresFreely}
 use Rattle.object_steps.specs.declared.storing.Store.{Store}
+use Rattle.object_steps.specs.Stores.{place_of}
+use Rattle.store_barrier.specs.Barriers.{ConvertsFirst}
+use Rattle.store_barrier.specs.Regions.{IsApart}
 use Rattle.shared_heap.specs.declared.conversions.Conversion.{Conversion}
 use Rattle.shared_heap.specs.declared.conversions.Conversion.TheVariants as did
 use Rattle.shared_heap.specs.Shared.{Shared}
@@ -39,7 +44,8 @@ use Rattle.machine.specs.Running.{HadNoFault, IsAboutItsStore, LagsByItsStore}
 use Rattle.machine.proofs.About.{about-joined}
 use Rattle.machine.proofs.Basics.{not-longer}
 use Rattle.machine.proofs.Faults.{none-more}
-use Rattle.machine.proofs.Leaving.{converts-alone, few, goes-on, lives, same-room, same-size}
+use Rattle.machine.proofs.Freely.{freely-volatile}
+use Rattle.machine.proofs.Leaving.{converts-alone, ends-same, few, goes-on, lives, same-room, same-size}
 use Rattle.machine.proofs.Planned.{is-store}
 use Rattle.machine.proofs.Refusing.{refused-over}
 use Rattle.machine.proofs.Waiting.{touches-none, waits-none}
@@ -87,7 +93,9 @@ next-room step.Repaired t s s' es es' h h' moves says next roomy =
 
 module _ (laws : Laws) (o : Opening) (first : ℕ) (set : SetFacts) (s : Shared) (es : List Entry)
     (fs : ThreadFrames) (request : Request Ref Item) (store : Store)
-    (h : HasPlanned o first set s es fs request store) (room : length s.history.acts < s.history.limit)
+    (h : HasPlanned o first set s es fs request store)
+    (free : StoresFreely o s.machine 0 (place_of store.target) (value_in s.machine store.kept))
+    (room : length s.history.acts < s.history.limit)
     (converting : doing_of s.machine 0 ≡ Converting) (new : Shared) where
   -- ---- a machine that was converted
 
@@ -97,6 +105,9 @@ module _ (laws : Laws) (o : Opening) (first : ℕ) (set : SetFacts) (s : Shared)
 
     doing-stays : doing_of m' 0 ≡ Converting
     doing-stays = ap (λ (m : Machine). doing_of m 0) same ∙ converting
+
+    logs-stay : m'.logs ≡ s.machine.logs
+    logs-stay = ap (λ (m : Machine). m.logs) same
 
     threads-stay : m'.rest.threads ≡ s.machine.rest.threads
     threads-stay = ap (λ (m : Machine). m.rest.threads) same
@@ -158,6 +169,7 @@ module _ (laws : Laws) (o : Opening) (first : ℕ) (set : SetFacts) (s : Shared)
               names = g.alone.names;
               about = subst (IsAboutItsStore o.launch) (sym same) h.due.running.about;
               lags = subst (λ d. LagsByItsStore o.launch d fs) (sym (doing-stays new.machine c.same)) tt;
+              ends = ends-same o first s es fs h.due.running new.machine (logs-stay new.machine c.same);
               alone = ap length (threads-stay new.machine c.same) ∙ h.due.running.alone;
               lines = g.alone.lines ∙ size ∙ sym h.due.running.lines;
               acts = next-acts answer s.history new.history g.history ∙ h.due.running.acts ∙ sym same;
@@ -185,7 +197,7 @@ module _ (laws : Laws) (o : Opening) (first : ℕ) (set : SetFacts) (s : Shared)
         → Comes o first fs request (Over (lines_fault need left)) s new
     full-comes later =
         let c = g.converts in record {
-          goes = refused-over laws o first set s es fs request store h room need left new c.event.after
+          goes = refused-over laws o first set s es fs request store h free room need left new c.event.after
               (laws.keep.steps o s.machine es h.due.running.keeps new.machine 0 (step.Full need left) c tt)
               (laws.frames.steps o s.machine es (fs ∷ []) h.due.running.keeps h.due.running.plain
               new.machine 0
@@ -260,6 +272,8 @@ module _ (laws : Laws) (o : Opening) (first : ℕ) (set : SetFacts) (s : Shared)
                   (about-joined o.launch s.machine.acts (memory_of j.between).calls named
                   h.due.running.about);
               lags = subst (λ d. LagsByItsStore o.launch d fs) (sym doing-now) tt;
+              ends = ends-same o first s es fs h.due.running new.machine
+                  (ap (λ (m : Machine). m.logs) j.machine ∙ logs-stay j.between c.same);
               alone = ap (λ (m : Machine). length m.rest.threads) j.machine
                   ∙ ap length (threads-stay j.between c.same) ∙ h.due.running.alone;
               lines = j.alone.lines ∙ size ∙ sym h.due.running.lines;
@@ -276,7 +290,7 @@ module _ (laws : Laws) (o : Opening) (first : ℕ) (set : SetFacts) (s : Shared)
                   lines 0 _
                   fs request _ store.kept h.ready h.due.asks
                   (is-store laws o first set s es fs request store h)
-                  (few laws o first set s es fs request h.due room)));
+                  free (few laws o first set s es fs request h.due room)));
             });
             threads = ap (λ (m : Machine). m.rest.threads) j.machine ∙ threads-stay j.between c.same;
           };
@@ -325,7 +339,10 @@ module _ (laws : Laws) (o : Opening) (first : ℕ) (set : SetFacts) (s : Shared)
 
 -- ---- of each run
 
-module _ (laws : Laws) (s new : Shared) (store : Store) (room : length s.history.acts < s.history.limit)
+module _ (laws : Laws) (s new : Shared) (store : Store) (object : Ref)
+    (apart : IsApart s.machine.spaces s.machine.logs 0 (place_of store.target))
+    (convert : (es : List Entry) → Stands s.machine.spaces es → ConvertsFirst s.machine.spaces es store object)
+    (room : length s.history.acts < s.history.limit)
     (converting : doing_of s.machine 0 ≡ Converting)
     (later : (memory_of s.machine).faults ≤ (memory_of new.machine).faults) where
   abbrev Goes : Conversion → Type 0
@@ -333,17 +350,21 @@ module _ (laws : Laws) (s new : Shared) (store : Store) (room : length s.history
 
   module _ (o : Opening) (first : ℕ) (set : SetFacts) (es : List Entry) (fs : ThreadFrames)
       (request : Request Ref Item) (h : HasPlanned o first set s es fs request store) where
+    free : StoresFreely o s.machine 0 (place_of store.target) (value_in s.machine store.kept)
+    free = freely-volatile laws o first set s es fs request store h apart object
+        (convert es h.due.running.keeps.heap.whole)
+
     went : (result : Conversion) → IsThread result → GoesTo 0 result s new es
         → Comes o first fs request (went_event result) s new
-    went did.Went thread g = went-comes laws o first set s es fs request store h room converting new g.0
+    went did.Went thread g = went-comes laws o first set s es fs request store h free room converting new g.0
         g.2 g.1
         later
-    went did.Joined thread j = joined-comes laws o first set s es fs request store h room converting new j
+    went did.Joined thread j = joined-comes laws o first set s es fs request store h free room converting new j
         later
     went (did.Waits u) thread g =
-        absurd (never-waits laws o first set s es fs request store h room converting new u thread g)
+        absurd (never-waits laws o first set s es fs request store h free room converting new u thread g)
     went (did.Full need left) thread g =
-        full-comes laws o first set s es fs request store h room converting new need left g later
+        full-comes laws o first set s es fs request store h free room converting new need left g later
 
     spared : (result : Conversion) → IsThread result → GoesTo 0 result s new es
         → SparesSink (went_event result) s.history.acts new.history.acts
@@ -352,7 +373,7 @@ module _ (laws : Laws) (s new : Shared) (store : Store) (room : length s.history
     spared did.Joined thread j =
         record { acts = inr (_, ap (λ (x : History). x.acts) j.history, tt); fault = tt }
     spared (did.Waits u) thread g =
-        absurd (never-waits laws o first set s es fs request store h room converting new u thread g)
+        absurd (never-waits laws o first set s es fs request store h free room converting new u thread g)
     spared (did.Full need left) thread g =
         record { acts = inl (ap (λ (x : History). x.acts) g.history); fault = tt }
 
@@ -366,18 +387,23 @@ module _ (laws : Laws) (s new : Shared) (store : Store) (room : length s.history
   }
 
 -- where the image failed
-pub failed-comes-of : Laws → (s new : Shared) (store : Store) → length s.history.acts < s.history.limit
+pub failed-comes-of : Laws → (s new : Shared) (store : Store) (object : Ref)
+    → IsApart s.machine.spaces s.machine.logs 0 (place_of store.target)
+    → ((es : List Entry) → Stands s.machine.spaces es → ConvertsFirst s.machine.spaces es store object)
+    → length s.history.acts < s.history.limit
     → doing_of s.machine 0 ≡ Converting
     → ((es : List Entry) → ConvertsAlone 0 s es → FailsTo 0 s new es)
     → Rose (memory_of s.machine).faults (memory_of new.machine).faults → HasSomePlanned s store
     → StoreComesTo store (Over fault.ImageFault) s new
-failed-comes-of laws s new store room converting fails rose (o, first, set, es, fs, request, h) = record {
-  comes = λ o2 first2 set2 es2 fs2 request2 h2. failed-comes laws o2 first2 set2 s es2 fs2 request2 store
-      h2 room
-      converting new (fails es2 (converts-alone laws o2 first2 set2 s es2 fs2 request2 h2.due)) rose;
-  sink = record {
-    acts = inl (ap (λ (x : History). x.acts)
-        (fails es (converts-alone laws o first set s es fs request h.due)).history);
-    fault = tt;
-  };
-}
+failed-comes-of laws s new store object apart convert room converting fails rose
+    (o, first, set, es, fs, request, h) = record {
+      comes = λ o2 first2 set2 es2 fs2 request2 h2. failed-comes laws o2 first2 set2 s es2 fs2 request2 store
+          h2 (freely-volatile laws o2 first2 set2 s es2 fs2 request2 store h2 apart object
+          (convert es2 h2.due.running.keeps.heap.whole)) room
+          converting new (fails es2 (converts-alone laws o2 first2 set2 s es2 fs2 request2 h2.due)) rose;
+      sink = record {
+        acts = inl (ap (λ (x : History). x.acts)
+            (fails es (converts-alone laws o first set s es fs request h.due)).history);
+        fault = tt;
+      };
+    }

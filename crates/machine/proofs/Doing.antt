@@ -14,7 +14,9 @@ use Rattle.run_forms.specs.Ends.{MeetsNoFault}
 use Rattle.twin_forms.specs.Table.{Entry}
 use Rattle.machine_forms.specs.declared.doing.Doing.{Doing}
 use Rattle.machine_forms.specs.declared.doing.Doing.TheVariants.{Nothing}
-use Rattle.machine_forms.specs.Machines.{Opening, doing_of, memory_of}
+use Rattle.region_log.specs.declared.entry.Underway.TheVariants.{Nothing as Idle}
+use Rattle.region_log.specs.Log.{Log}
+use Rattle.machine_forms.specs.Machines.{Opening, doing_of, empty_log, log_of, memory_of}
 use Rattle.machine_forms.specs.Events.{ActsBeside, act_in, left_by}
 use Rattle.machine_runs.specs.Frames.{Begins, IsReady}
 use Rattle.machine_asks.proofs.Doing.{holds-nothing}
@@ -26,7 +28,7 @@ use Rattle.machine.specs.Running.{HadNoFault, IsDue, LagsByItsStore}
 use Rattle.machine.proofs.About.{IsIdle, about-idle}
 use Rattle.machine.proofs.Basics.{doing-set}
 use Rattle.machine.proofs.Faults.{none-more}
-use Rattle.machine.proofs.Leaving.{goes-on, same-room}
+use Rattle.machine.proofs.Leaving.{ends-idle, goes-on, same-room}
 use Rattle.machine.proofs.Memory.{does-stay}
 use Rattle.machine.proofs.Names.{names-none, none-queued-now}
 
@@ -40,6 +42,7 @@ module _ (laws : Laws) (o : Opening) (first : ℕ) (set : SetFacts) (s : Shared)
   -- What an act of a request that changes no durable place leaves: its thread is about nothing.
   pub record Answers : Type 0 where
     pub ready : IsReady (doing_of s.machine 0)
+    pub idle : (log_of s.machine 0).underway ≡ Idle
     pub left : left_by operation (doing_of s.machine 0) ≡ Nothing
     pub begun : Begins o new.machine operation []
     pub meets : (lines : ℕ) → MeetsNoFault o.launch lines s.machine.acts 0
@@ -85,6 +88,8 @@ module _ (laws : Laws) (o : Opening) (first : ℕ) (set : SetFacts) (s : Shared)
                   (none-queued-now o new.machine es' kept idle) a.named a.count due.running.names;
               about = about-idle o new.machine es' kept idle;
               lags = subst (λ d. LagsByItsStore o.launch d (answered o.launch fs r)) (sym idle-now) tt;
+              ends = ends-idle o.launch new.machine _
+                  (ap (λ (logs : List Log). (slice_index_or logs 0 (empty_log 0)).underway) acts.logs ∙ a.idle);
               alone = a.threads;
               lines = a.lines;
               acts = a.history;

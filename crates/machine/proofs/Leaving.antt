@@ -1,14 +1,16 @@
 -- What an event leaves is what the next one needs.
 use Rattle.std.proofs.Common.{◌≡◌, ℕ, ◌-◌, ◌<◌, ◌≤◌, List, [], ◌∷◌, length, sym, ◌∙◌, ap, subst, arith}
-use Rattle.std.specs.Prelude.{slice_index}
+use Rattle.std.specs.Prelude.{slice_index, slice_index_or}
 use Rattle.ap_base.specs.declared.reference.Ref.{Ref}
 use Rattle.ap_base.specs.declared.reference.Item.{Item}
 use Rattle.natives.specs.declared.requests.Request.{Request}
 use Rattle.plain_model.specs.Facts.{SetFacts}
 use Rattle.run_forms.specs.Views.{ThreadFrames}
-use Rattle.run_forms.specs.Standing.{IsAsked}
+use Rattle.run_forms.specs.Standing.{IsAsked, Launch}
 use Rattle.twin_forms.specs.Table.{Entry}
-use Rattle.machine_forms.specs.Machines.{Opening, Machine, doing_of, memory_of, shown_in}
+use Rattle.region_log.specs.declared.entry.Underway.TheVariants.{Nothing as Idle}
+use Rattle.region_log.specs.Log.{Log}
+use Rattle.machine_forms.specs.Machines.{Opening, Machine, doing_of, empty_log, log_of, memory_of, shown_in}
 use Rattle.machine_forms.specs.Keeping.{KeepsRun}
 use Rattle.machine_forms.specs.Events.{IsFitRequest}
 use Rattle.machine_runs.specs.Frames.{IsReady, RunsAsPlain}
@@ -18,7 +20,7 @@ use Rattle.machine_ends.specs.Laws.{Lives}
 use Rattle.shared_heap.specs.Shared.{Shared}
 use Rattle.shared_heap.specs.Conversions.{ConvertsAlone, NamesClaimed}
 use Rattle.machine.specs.Laws.{Laws}
-use Rattle.machine.specs.Running.{HadNoFault, IsAboutItsStore, IsDue, IsRunning, LagsByItsStore}
+use Rattle.machine.specs.Running.{AsksItsEnd, HadNoFault, IsAboutItsStore, IsDue, IsRunning, LagsByItsStore}
 
 -- ---- what is left
 
@@ -32,6 +34,7 @@ pub record Leaves (o : Opening) (first : ℕ) (s new : Shared) (es' : List Entry
   pub names : NamesClaimed 0 new es'
   pub about : IsAboutItsStore o.launch new.machine.acts
   pub lags : LagsByItsStore o.launch (doing_of new.machine 0) fs'
+  pub ends : AsksItsEnd o.launch (log_of new.machine 0).underway fs'
   pub alone : length new.machine.rest.threads ≡ 1
   pub lines : new.lines ≡ s.lines
   pub acts : new.history.acts ≡ new.machine.acts
@@ -59,6 +62,7 @@ module _ (o : Opening) (first : ℕ) (s : Shared) (es : List Entry) (fs : Thread
         names = l.names;
         about = l.about;
         lags = l.lags;
+        ends = l.ends;
         alone = l.alone;
         lines = l.lines ∙ r.lines ∙ sym size;
         acts = l.acts;
@@ -69,11 +73,21 @@ module _ (o : Opening) (first : ℕ) (s : Shared) (es : List Entry) (fs : Thread
         unfaulted = l.unfaulted;
       }
 
+  -- where the logs are as they were
+  pub ends-same : (m' : Machine) → m'.logs ≡ s.machine.logs → AsksItsEnd o.launch (log_of m' 0).underway fs
+  ends-same m' same = subst (λ (logs : List Log). AsksItsEnd o.launch
+      (slice_index_or logs 0 (empty_log 0)).underway fs) (sym same) r.ends
+
   -- where no line is taken
   pub same-room : (m' : Machine) (es' : List Entry) → KeepsRun o m' es' → m'.free ≡ s.machine.free
       → (memory_of m').size - m'.free < s.history.room
   same-room m' es' k' free =
       let size = same-size m' es' k' in let room = r.room in omega (arith, size, free, room)
+
+-- where nothing is under way in the thread's log
+pub ends-idle : (launch : Launch) (m' : Machine) (fs' : ThreadFrames) → (log_of m' 0).underway ≡ Idle
+    → AsksItsEnd launch (log_of m' 0).underway fs'
+ends-idle launch m' fs' idle = subst (λ u. AsksItsEnd launch u fs') (sym idle) tt
 
 -- ---- what an event is given
 

@@ -83,3 +83,16 @@ names-none o s new operation es es' k k' after none none' history named x = reco
       (claimed-was es es' (table-adds s.machine operation es es' after) u n c);
   count = named ∙ x.count ∙ empty-queue o s.machine es k none ∙ sym (empty-queue o new.machine es' k' none');
 }
+
+-- where nothing more is named, and the queues are as they were
+pub names-same : (s new : Shared) (es : List Entry) → new.history.named ≡ s.history.named → new.named ≡ s.named
+    → new.machine.queue ≡ s.machine.queue → NamesClaimed 0 s es → NamesClaimed 0 new es
+names-same s new es history named queue x = record {
+  once = subst (AllPairs (λ m n. m ≢ n)) (sym history) x.once;
+  those = λ n. (
+    λ has. (x.those n).0 (subst (λ (ns : List ℕ). has_number ns n ≡ true) history has),
+    λ c. subst (λ (ns : List ℕ). has_number ns n ≡ true) (sym history) ((x.those n).1 c),
+  );
+  alone = x.alone;
+  count = named ∙ x.count ∙ ap (λ q. length (queue_of q 0)) (sym queue);
+}

@@ -21,8 +21,12 @@ use Rattle.machine_forms.specs.Machines.{Opening, Machine, doing_of, memory_of}
 use Rattle.machine_forms.specs.Keeping.{KeepsRun}
 use Rattle.machine_runs.specs.Frames.{RunsAsPlain}
 use Rattle.machine_lines.specs.Lines.{IsRefused, lines_fault, lines_from}
+use Rattle.machine_ends.specs.Stores.{StoresFreely}
+use Rattle.machine_forms.specs.Events.{value_in}
 use Rattle.object_steps.specs.declared.storing.Store.{Store}
+use Rattle.object_steps.specs.Stores.{place_of}
 use Rattle.store_barrier.specs.Barriers.{ConvertsFirst}
+use Rattle.store_barrier.specs.Regions.{IsApart}
 use Rattle.shared_heap.specs.declared.conversions.Conversion.{Conversion}
 use Rattle.shared_heap.specs.declared.conversions.Conversion.TheVariants as did
 use Rattle.shared_heap.specs.Shared.{Shared}
@@ -32,6 +36,7 @@ use Rattle.machine.specs.Ended.{HasPlanned, HasSomePlanned, StoreComesTo, went_e
 use Rattle.machine.specs.Events.{Comes, IsOver, SparesSink}
 use Rattle.machine.specs.Laws.{Laws}
 use Rattle.machine.proofs.Asking.{acts-same, begins-on, claimed-comes}
+use Rattle.machine.proofs.Freely.{freely-volatile}
 use Rattle.machine.proofs.Leaving.{converts-alone, few, same-size}
 use Rattle.machine.proofs.Memory.{same-image}
 use Rattle.machine.proofs.Planned.{is-store}
@@ -43,14 +48,17 @@ no-fault met (inr over) = absurd (let more = over.1 in omega (arith, more))
 
 module _ (laws : Laws) (o : Opening) (first : ℕ) (set : SetFacts) (s : Shared) (es : List Entry)
     (fs : ThreadFrames) (request : Request Ref Item) (store : Store)
-    (h : HasPlanned o first set s es fs request store) (room : length s.history.acts < s.history.limit) where
+    (h : HasPlanned o first set s es fs request store)
+    (free : StoresFreely o s.machine 0 (place_of store.target) (value_in s.machine store.kept))
+    (room : length s.history.acts < s.history.limit) where
   none-met : (lines : ℕ)
       → fault_after o.launch.set o.launch.main o.launch.opening (plain_code o.launch) o.launch.limits lines
       s.machine.acts 0
       ≡ None
   none-met lines = no-fault _ (laws.ends.stores_meet o s.machine es (fs ∷ []) h.due.running.keeps
       h.due.running.plain lines 0 0 fs request _ store.kept h.ready h.due.asks
-      (is-store laws o first set s es fs request store h) (few laws o first set s es fs request h.due room)).1
+      (is-store laws o first set s es fs request store h)
+      free (few laws o first set s es fs request h.due room)).1
 
   -- The run ends for want of lines.
   pub refused-ends : (need left : ℕ) → IsRefused o s.machine first 0 need left
@@ -79,9 +87,9 @@ module _ (laws : Laws) (o : Opening) (first : ℕ) (set : SetFacts) (s : Shared)
       (need left : ℕ) (b : BeginsOnce 0 convert.item.number (begun_as.Full need left) s new es) where
     refused-comes : Comes o first fs request (Over (lines_fault need left)) s new
     refused-comes =
-        let on = begins-on laws o first set s es fs request store h room object converting convert unnamed new
+        let on = begins-on laws o first set s es fs request store h free room object converting convert unnamed new
         (begun_as.Full need left) b in
-        let same = acts-same laws o first set s es fs request store h room object converting convert
+        let same = acts-same laws o first set s es fs request store h free room object converting convert
         unnamed new
         (begun_as.Full need left) b in
         record {
@@ -104,6 +112,7 @@ module _ (laws : Laws) (o : Opening) (first : ℕ) (set : SetFacts) (s : Shared)
         }
 
 module _ (laws : Laws) (s new : Shared) (store : Store) (object : Ref)
+    (apart : IsApart s.machine.spaces s.machine.logs 0 (place_of store.target))
     (room : length s.history.acts < s.history.limit) (converting : doing_of s.machine 0 ≡ Converting)
     (unnamed : s.named ≡ 0)
     (convert : (es : List Entry) → Stands s.machine.spaces es → ConvertsFirst s.machine.spaces es store
@@ -124,14 +133,16 @@ module _ (laws : Laws) (s new : Shared) (store : Store) (object : Ref)
         is : HasPlanned o first set s es fs request store → ConvertsFirst s.machine.spaces es store object
         is planned = convert es planned.due.running.keeps.heap.whole
 
+        free : HasPlanned o first set s es fs request store
+            → StoresFreely o s.machine 0 (place_of store.target) (value_in s.machine store.kept)
+        free planned = freely-volatile laws o first set s es fs request store planned apart object (is planned)
+
         by : (r : Conversion) → BeginsTo 0 (is h).item.number r s new es
             → Comes o first fs request (went_event r) s new
-        by did.Went b = claimed-comes laws o first set s es fs request store h room object converting (is
-            h) unnamed
-            new b
-        by (did.Full need left) b = refused-comes laws o first set s es fs request store h room object
-            converting
-            (is h) unnamed new need left b
+        by did.Went b = claimed-comes laws o first set s es fs request store h (free h) room object converting
+            (is h) unnamed new b
+        by (did.Full need left) b = refused-comes laws o first set s es fs request store h (free h) room object
+            converting (is h) unnamed new need left b
         by did.Joined b = absurd b
         by (did.Waits u) b = absurd b
 

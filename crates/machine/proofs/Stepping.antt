@@ -14,7 +14,7 @@ use Rattle.natives.specs.declared.requests.Reply.{Reply}
 use Rattle.run_history.specs.declared.act.Op.{Op}
 use Rattle.run_history.specs.declared.act.Op.TheVariants as op
 use Rattle.run_history.specs.Recorded.{History, Recorded, names_after, names_for}
-use Rattle.run_history.specs.Worlds.{Thread, World, at_thread, threads_after_op}
+use Rattle.run_history.specs.Worlds.{Thread, World, at_thread, depth_of, threads_after_op}
 use Rattle.plain_model.specs.Facts.{SetFacts}
 use Rattle.plain_model.specs.Requests.{PlainRequest}
 use Rattle.plain_model.specs.Codes.{begun_by, is_persistent, taken_by}
@@ -37,14 +37,16 @@ use Rattle.convert_queue.specs.Queues.{Queues}
 use Rattle.two_spaces.specs.Seen.{Spaces, shown_of}
 use Rattle.machine_forms.specs.declared.doing.Doing.{Doing}
 use Rattle.machine_forms.specs.declared.doing.Doing.TheVariants.{Nothing, Converting}
-use Rattle.machine_forms.specs.Machines.{Opening, Machine, doing_of, known_in, layout_in, memory_of, roots_in, shown_in}
+use Rattle.region_log.specs.declared.entry.Underway.TheVariants.{Nothing as Idle}
+use Rattle.machine_ends.specs.Stores.{IsFreeOp}
+use Rattle.machine_forms.specs.Machines.{Opening, Machine, doing_of, known_in, layout_in, log_of, memory_of, roots_in, shown_in}
 use Rattle.machine_forms.specs.Keeping.{IsDoing, KeepsRun}
 use Rattle.machine_forms.specs.Events.{ActsBeside, DoesRequest, IsFree, IsListed, LeavesRegions, MakesListed, NotesStore, StoresBeside, act_in, left_by}
 use Rattle.machine_runs.specs.Frames.{IsReady, RunsAsPlain}
 use Rattle.shared_heap.specs.Shared.{Shared}
 use Rattle.shared_heap.specs.Requests.{StepsTo}
 use Rattle.machine.specs.declared.events.Event.TheVariants.{Did, Micro, Over}
-use Rattle.machine.specs.Ended.{event_of, nowhere}
+use Rattle.machine.specs.Ended.{IsOutside, event_of, nowhere}
 use Rattle.machine.specs.Events.{Comes, HasImageCause, HasSinkCause, IsOver, IsShare, TakesOutput}
 use Rattle.machine.specs.Laws.{Laws}
 use Rattle.machine.specs.Running.{IsDue}
@@ -87,6 +89,11 @@ module _ (set : SetFacts) (Made : ℕ → Type 0) (may : MayMake set Made) where
   fine-outside op.End fine = absurd fine
   fine-outside o fine = tt
 
+free-op : (ope : Opening) (m : Machine) (o : Op) (r : Reply Ref Item) → IsNoStore (stepped.Did o r)
+    → IsFreeOp ope m 0 o
+free-op ope m (op.Stored place value) r none = absurd none
+free-op ope m o r none = tt
+
 fine-listed : (set : SetFacts) (o : Opening) (m : Machine) (may : MayMake set (IsListed o m)) (operation : Op)
     → DoesFine set (IsListed o m) may operation → MakesListed o m operation
 fine-listed set o m may (op.Alloc n class count) fine = fine
@@ -114,14 +121,22 @@ at-length f [] t = refl
 at-length f (th ∷ ths) zero = refl
 at-length f (th ∷ ths) (suc t) = ap suc (at-length f ths t)
 
-module _ (set : SetFacts) (Made : ℕ → Type 0) (may : MayMake set Made) where
-  threads-length : (ths : List Thread) (t : ℕ) (o : Op) → DoesFine set Made may o
-      → length (threads_after_op ths t o) ≡ length ths
-  threads-length ths t (op.Start n child) fine = absurd fine
-  threads-length ths t op.Begin fine = absurd fine
-  threads-length ths t op.End fine = absurd fine
-  threads-length ths t (op.Ended uncaught) fine = at-length _ ths t
-  threads-length ths t o fine = refl
+abbrev pub StartsNone : Op → Type 0
+StartsNone (op.Start n child) = ⊥
+StartsNone o = Unit {0}
+
+pub threads-length : (ths : List Thread) (t : ℕ) (o : Op) → StartsNone o
+    → length (threads_after_op ths t o) ≡ length ths
+threads-length ths t (op.Start n child) none = absurd none
+threads-length ths t op.Begin none = at-length _ ths t
+threads-length ths t op.End none = at-length _ ths t
+threads-length ths t (op.Ended uncaught) none = at-length _ ths t
+threads-length ths t o none = refl
+
+fine-starts : (set : SetFacts) (Made : ℕ → Type 0) (may : MayMake set Made) (o : Op) → DoesFine set Made may o
+    → StartsNone o
+fine-starts set Made may (op.Start n child) fine = absurd fine
+fine-starts set Made may o fine = tt
 
 module _ (laws : Laws) (o : Opening) (first : ℕ) (set : SetFacts) (s : Shared) (es : List Entry)
     (fs : ThreadFrames) (request : Request Ref Item) (due : IsDue o first set s es fs request)
@@ -130,11 +145,18 @@ module _ (laws : Laws) (o : Opening) (first : ℕ) (set : SetFacts) (s : Shared)
     abbrev plain : PlainRequest
     plain = plain_request (shown_in s.machine).number request
 
+    -- the log counts the regions that the acts have opened
+    pub depth-is : (log_of s.machine 0).depth ≡ depth_of (world_of [] (shown_in s.machine) s.machine.rest) 0
+    depth-is =
+        let own = due.running.keeps.asked.regions.each 0 (lit< tt) in
+        own.guards.depth ∙ ap (depth_of (known_in o s.machine).world) own.thread
+        ∙ ap (λ (w : World). depth_of w 0) due.running.keeps.world.world
+
     may : MayMake o.launch.set (IsListed o s.machine)
     may = may-make o.launch.set (IsListed o s.machine) due.running.listed
 
     module _ (result : Stepped) (x : StepsTo set 0 request result s new) (none : IsNoStore result) where
-      is-step : IsStep o.launch.set 0 request (shown_in s.machine) s.machine.rest result (shown_in
+      pub is-step : IsStep o.launch.set 0 request (shown_in s.machine) s.machine.rest result (shown_in
           new.machine)
           new.machine.rest
       is-step = subst (λ (y : SetFacts). IsStep y 0 request (shown_in s.machine) s.machine.rest result
@@ -161,34 +183,27 @@ module _ (laws : Laws) (o : Opening) (first : ℕ) (set : SetFacts) (s : Shared)
           stores-alone o.launch.set 0 request (shown_in s.machine) s.machine.rest (shown_in new.machine)
           new.machine.rest p.place p.value (roots_in o s.machine) stores result is-step none
 
-      nothing : doing_of s.machine 0 ≡ Nothing
+      pub nothing : doing_of s.machine 0 ≡ Nothing
       nothing = elim ready [ inl is ↦ is | inr converting ↦ absurd (not-converting converting) ]
 
     -- ---- it did something
 
     module _ (operation : Op) (r : Reply Ref Item) (x : StepsTo set 0 request (stepped.Did operation r) s new)
         (none : IsNoStore (stepped.Did operation r)) where
-      is : IsStep o.launch.set 0 request (shown_in s.machine) s.machine.rest (stepped.Did operation r)
+      pub is : IsStep o.launch.set 0 request (shown_in s.machine) s.machine.rest (stepped.Did operation r)
           (shown_in new.machine) new.machine.rest
       is = is-step (stepped.Did operation r) x none
 
-      does-it : step o.launch.set (world_of [] (shown_in s.machine) s.machine.rest) 0 (taken_by operation)
+      pub does-it : step o.launch.set (world_of [] (shown_in s.machine) s.machine.rest) 0 (taken_by operation)
           plain
           ≡ Does operation (plain_reply (shown_in new.machine).number r)
       does-it = (is.follows []).0
 
-      visible : is_persistent operation ≡ false
+      pub visible : is_persistent operation ≡ false
       visible = step-visible o.launch.set (world_of [] (shown_in s.machine) s.machine.rest) 0 (taken_by
           operation)
           plain operation (plain_reply (shown_in new.machine).number r)
           (asked laws o first set s es fs request due ready).fit does-it
-
-      fine : DoesFine o.launch.set (IsListed o s.machine) may operation
-      fine = did-fine o.launch.set (IsListed o s.machine) may
-          (world_of [] (shown_in s.machine) s.machine.rest) 0 (shown_in s.machine).number (taken_by
-          operation) request
-          operation (plain_reply (shown_in new.machine).number r) due.built
-          (asked laws o first set s es fs request due ready).fit due.made does-it
 
       abbrev act : Recorded
       act = act_in s.machine 0 operation []
@@ -198,14 +213,14 @@ module _ (laws : Laws) (o : Opening) (first : ℕ) (set : SetFacts) (s : Shared)
           ∙ ap (λ (ns : List ℕ). s.history.acts ++ record { act = act.act; named = ns } ∷ [])
           (named-none operation s.history.named visible)
 
-      machine-acts : new.machine.acts ≡ s.machine.acts ++ act ∷ []
+      pub machine-acts : new.machine.acts ≡ s.machine.acts ++ act ∷ []
       machine-acts = ap (λ (m : Machine). m.acts) x.machine ∙ did-acts
           ∙ ap (λ (xs : List Recorded). xs ++ act ∷ []) due.running.acts
 
       free : IsFree o s.machine es 0 (doing_of s.machine 0)
       free = subst (IsFree o s.machine es 0) (sym (nothing (stepped.Did operation r) x none)) tt
 
-      does : DoesRequest o s.machine new.machine es 0 request operation r
+      pub does : DoesRequest o s.machine new.machine es 0 request operation r
       does = record {
         thread = lit< tt;
         fit = fits laws o first set s es fs request due ready;
@@ -217,64 +232,77 @@ module _ (laws : Laws) (o : Opening) (first : ℕ) (set : SetFacts) (s : Shared)
         acts = machine-acts;
       }
 
-      acts-beside : ActsBeside o s.machine new.machine es 0 request operation r
-      acts-beside = record {
-        does = does;
-        outside = fine-outside o.launch.set (IsListed o s.machine) may operation fine;
-        beside = beside-none o s.machine es operation r none;
-        notes = notes-none es operation r s.machine.queue new.machine.queue none
-            (ap (λ (m : Machine). m.queue) x.machine);
-        listed = fine-listed o.launch.set o s.machine may operation fine;
-        doing = ap (λ (m : Machine). m.doing) x.machine ∙ sym (doing-same s.machine.doing)
-            ∙ ap (slice_set s.machine.doing 0) (sym (left-same operation r (doing_of s.machine 0) none));
-      }
+      -- the request neither begins nor ends a region
+      module _ (idle : (log_of s.machine 0).underway ≡ Idle)
+          (outside : IsOutside (log_of s.machine 0).depth request) where
+        fine : DoesFine o.launch.set (IsListed o s.machine) may operation
+        fine = did-fine o.launch.set (IsListed o s.machine) may
+            (world_of [] (shown_in s.machine) s.machine.rest) 0 (shown_in s.machine).number (taken_by
+            operation) request
+            operation (plain_reply (shown_in new.machine).number r) due.built
+            (subst (λ depth. IsOutside depth request) depth-is outside)
+            (asked laws o first set s es fs request due ready).fit due.made does-it
 
-      begun-none : (operation' : Op) → DoesFine o.launch.set (IsListed o s.machine) may operation'
-          → [] ≡ begun_by o.launch.set o.launch.main o.launch.opening (plain_code o.launch) operation'
-      begun-none (op.Start n child) fine' = absurd fine'
-      begun-none operation' fine' = refl
+        acts-beside : ActsBeside o s.machine new.machine es 0 request operation r
+        acts-beside = record {
+          does = does;
+          outside = fine-outside o.launch.set (IsListed o s.machine) may operation fine;
+          beside = beside-none o s.machine es operation r none;
+          logs = ap (λ (m : Machine). m.logs) x.machine;
+          notes = notes-none es operation r s.machine.queue new.machine.queue none
+              (ap (λ (m : Machine). m.queue) x.machine);
+          listed = fine-listed o.launch.set o s.machine may operation fine;
+          doing = ap (λ (m : Machine). m.doing) x.machine ∙ sym (doing-same s.machine.doing)
+              ∙ ap (slice_set s.machine.doing 0) (sym (left-same operation r (doing_of s.machine 0) none));
+        }
 
-      monitors-now : length (known_at o.launch (s.machine.acts ++ act ∷ [])).world.monitors
-          ≡ length new.machine.rest.monitors
-      monitors-now =
-          let kept = laws.keep.beside o s.machine es due.running.keeps new.machine 0 request operation r
-          acts-beside
-          in
-          ap (λ (acts : List Recorded). length (known_at o.launch acts).world.monitors) (sym machine-acts)
-          ∙ ap (λ (w : World). length w.monitors) kept.2.world.world
-          ∙ length-map new.machine.rest.monitors (plain_monitor (shown_in new.machine).number)
+        begun-none : (operation' : Op) → DoesFine o.launch.set (IsListed o s.machine) may operation'
+            → [] ≡ begun_by o.launch.set o.launch.main o.launch.opening (plain_code o.launch) operation'
+        begun-none (op.Start n child) fine' = absurd fine'
+        begun-none operation' fine' = refl
 
-      alone-now : length new.machine.rest.threads ≡ 1
-      alone-now =
-          sym (length-map new.machine.rest.threads plain_thread)
-          ∙ ap (λ (w : World). length w.threads) (is.follows []).2
-          ∙ threads-length o.launch.set (IsListed o s.machine) may (map plain_thread s.machine.rest.threads) 0
-          operation fine
-          ∙ length-map s.machine.rest.threads plain_thread ∙ due.running.alone
+        monitors-now : length (known_at o.launch (s.machine.acts ++ act ∷ [])).world.monitors
+            ≡ length new.machine.rest.monitors
+        monitors-now =
+            let kept = laws.keep.beside o s.machine es due.running.keeps new.machine 0 request operation r
+            acts-beside
+            in
+            ap (λ (acts : List Recorded). length (known_at o.launch acts).world.monitors) (sym machine-acts)
+            ∙ ap (λ (w : World). length w.monitors) kept.2.world.world
+            ∙ length-map new.machine.rest.monitors (plain_monitor (shown_in new.machine).number)
 
-      did-comes : Comes o first fs request (Did r) s new
-      did-comes = answers laws o first set s es fs request due new operation r acts-beside (record {
-        ready = ready;
-        left = left-same operation r (doing_of s.machine 0) none
-            ∙ nothing (stepped.Did operation r) x none;
-        begun = begun-none operation fine;
-        meets = λ lines. subst (MeetsNoFault o.launch lines s.machine.acts 0) (sym monitors-now)
-            (laws.ends.steps_meet o s.machine es (fs ∷ []) due.running.keeps due.running.plain lines 0 fs
-            request
-            operation r (shown_in new.machine) new.machine.rest ready due.asks is
-            (few laws o first set s es fs request due room));
-        threads = alone-now;
-        lines = x.lines;
-        history = sym (ap (λ (m : Machine). m.acts) x.machine);
-        named = ap (λ (y : History). y.named) x.history ∙ named-still operation s.history.named visible;
-        limit = ap (λ (y : History). y.limit) x.history;
-        room = ap (λ (y : History). y.room) x.history;
-        count = x.named;
-        whole = broken-over o.launch.set (world_of [] (shown_in s.machine) s.machine.rest) 0 (taken_by
-            operation)
-            (shown_in s.machine).number request operation (plain_reply (shown_in new.machine).number r)
-            does-it;
-      })
+        alone-now : length new.machine.rest.threads ≡ 1
+        alone-now =
+            sym (length-map new.machine.rest.threads plain_thread)
+            ∙ ap (λ (w : World). length w.threads) (is.follows []).2
+            ∙ threads-length (map plain_thread s.machine.rest.threads) 0 operation
+            (fine-starts o.launch.set (IsListed o s.machine) may operation fine)
+            ∙ length-map s.machine.rest.threads plain_thread ∙ due.running.alone
+
+        did-comes : Comes o first fs request (Did r) s new
+        did-comes = answers laws o first set s es fs request due new operation r acts-beside (record {
+          ready = ready;
+          idle = idle;
+          left = left-same operation r (doing_of s.machine 0) none
+              ∙ nothing (stepped.Did operation r) x none;
+          begun = begun-none operation fine;
+          meets = λ lines. subst (MeetsNoFault o.launch lines s.machine.acts 0) (sym monitors-now)
+              (laws.ends.steps_meet o s.machine es (fs ∷ []) due.running.keeps due.running.plain lines 0 fs
+              request
+              operation r (shown_in new.machine) new.machine.rest ready due.asks is
+              (free-op o s.machine operation r none) (few laws o first set s es fs request due room));
+          threads = alone-now;
+          lines = x.lines;
+          history = sym (ap (λ (m : Machine). m.acts) x.machine);
+          named = ap (λ (y : History). y.named) x.history ∙ named-still operation s.history.named visible;
+          limit = ap (λ (y : History). y.limit) x.history;
+          room = ap (λ (y : History). y.room) x.history;
+          count = x.named;
+          whole = broken-over o.launch.set (world_of [] (shown_in s.machine) s.machine.rest) 0 (taken_by
+              operation)
+              (shown_in s.machine).number request operation (plain_reply (shown_in new.machine).number r)
+              does-it;
+        })
 
       silent-print : prints plain ≡ false → is_print operation ≡ false
       silent-print quiet = (step-silent o.launch.set (world_of [] (shown_in s.machine) s.machine.rest) 0
@@ -361,14 +389,15 @@ module _ (laws : Laws) (o : Opening) (first : ℕ) (set : SetFacts) (s : Shared)
 
     -- ---- all steps
 
-    pub stepped-comes : (result : Stepped) → StepsTo set 0 request result s new → IsNoStore result
+    pub stepped-comes : (log_of s.machine 0).underway ≡ Idle → IsOutside (log_of s.machine 0).depth request
+        → (result : Stepped) → StepsTo set 0 request result s new → IsNoStore result
         → Comes o first fs request (event_of request result) s new
-    stepped-comes (stepped.Did operation r) x none = did-comes operation r x none
-    stepped-comes (stepped.Waits on) x none =
+    stepped-comes idle outside (stepped.Did operation r) x none = did-comes operation r x none idle outside
+    stepped-comes idle outside (stepped.Waits on) x none =
         stops-comes (stepped.Waits on) x
         (stops (stepped.Waits on) x none x.heap x.history (λ roots. (x.step.follows roots).1)) _
         (λ lines. ends (stepped.Waits on) x none lines due.running.alone refl) tt
-    stepped-comes stepped.Wrong x none =
+    stepped-comes idle outside stepped.Wrong x none =
         stops-comes stepped.Wrong x
         (stops stepped.Wrong x none x.heap x.history (λ roots. (x.step.follows roots).1)) _
         (λ lines. wrong lines (ends stepped.Wrong x none lines)) tt
@@ -379,7 +408,7 @@ module _ (laws : Laws) (o : Opening) (first : ℕ) (set : SetFacts) (s : Shared)
         wrong lines (from, is_from, ended) =
             subst (λ (a : At). IsEndedBy o.launch lines s.machine.acts 0 (fault.BadCode a))
             (sym (ap (λ (a : Option At). unwrap_or a nowhere) is_from)) ended
-    stepped-comes (stepped.Over f) x none =
+    stepped-comes idle outside (stepped.Over f) x none =
         stops-comes (stepped.Over f) x
         (stops (stepped.Over f) x none x.heap x.history (λ roots. (x.step.follows roots).1)) f
         (λ lines. ends (stepped.Over f) x none lines) (inside f x none)

@@ -1,6 +1,5 @@
--- What the steps of requests do that aren't stores: they start no thread, begin and end no region, and
--- make objects of
--- listed classes alone.
+-- What the steps of requests do that aren't stores, and neither begin nor end a region: they start no thread,
+-- and make objects of listed classes alone.
 use Rattle.std.proofs.Common.{◌≡◌, inl, inr, ℕ, ◌+◌, ◌-◌, ◌<◌, ℤ, pos, negsuc, ◌&&◌, ◌||◌, Bool, true, false, not, List, length, take, nat_eq, nat_lt, nat_le, Option, Some, None, refl, sym, ◌∙◌, ap, subst, if◌then◌else◌, arith, lit<}
 use Rattle.std.specs.Prelude.{slice_get, slice_index_or, IsSome}
 use Rattle.std.proofs.lemmas.Bool.{cases_lt}
@@ -27,7 +26,7 @@ use Rattle.run_history.specs.declared.act.PlainKey.{PlainKey}
 use Rattle.run_history.specs.declared.plain.Monitor.{Monitor}
 use Rattle.run_history.specs.declared.plain.Progress.{Progress}
 use Rattle.run_history.specs.declared.plain.Progress.TheVariants.{Untouched, BegunBy, Finished}
-use Rattle.run_history.specs.Worlds.{Thread, World}
+use Rattle.run_history.specs.Worlds.{Thread, World, depth_of}
 use Rattle.plain_model.specs.declared.throws.Throws.{Throws}
 use Rattle.plain_model.specs.declared.throws.Throws.TheVariants.{NegativeArraySize, NullPointer, ArrayIndexOutOfBounds, StringIndexOutOfBounds, ArrayStore, ClassCast, IllegalMonitorState, IllegalThreadState, IllegalState, Arithmetic}
 use Rattle.plain_model.specs.BuiltIn.{built_in_classes, chars_array}
@@ -47,6 +46,7 @@ use Rattle.step_forms.specs.declared.stepped.Stepped.{Stepped}
 use Rattle.step_forms.specs.declared.stepped.Stepped.TheVariants as stepped
 use Rattle.step_forms.specs.Becomes.{IsNoStore, given}
 use Rattle.step_forms.specs.Follows.{IsFullOf, IsLimit, IsStep, stored_as}
+use Rattle.machine.specs.Ended.{IsOutside}
 use Rattle.machine.specs.Running.{IsBuilt, asked_class}
 use Rattle.machine.specs.Events.{IsBroken}
 use Rattle.machine.proofs.Basics.{no-some}
@@ -203,59 +203,60 @@ module _ (set : SetFacts) (Made : ℕ → Type 0) (may : MayMake set Made) where
     fine-prints taken piece = fine-if (nat_lt 0 taken && nat_le taken (length piece))
         (Does (op.Print (take taken piece)) (reply.Printed taken)) WrongOperand tt tt
 
-    fine : (number : Numbers) (taken : ℕ) (q : Request Ref Item) → IsBuilt q
+    fine : (number : Numbers) (taken : ℕ) (q : Request Ref Item) → IsBuilt q → IsOutside (depth_of world t) q
         → IsFit set world t (plain_request number q)
         → ((class : ℕ) → asked_class q ≡ Some class → Made class)
         → IsFine (step set world t taken (plain_request number q))
     unfolding step
-    fine number taken ask.Pause built fit asked = tt
-    fine number taken (ask.Broken f) built fit asked = tt
-    fine number taken (ask.New from class) built fit asked =
+    fine number taken ask.Pause built outside fit asked = tt
+    fine number taken (ask.Broken f) built outside fit asked = tt
+    fine number taken (ask.New from class) built outside fit asked =
         fine-class class _ (may.new class fit.0 fit.1)
-    fine number taken (ask.NewArray from shape count) built fit asked =
+    fine number taken (ask.NewArray from shape count) built outside fit asked =
         fine-array shape count (asked shape refl)
-    fine number taken (ask.NewText from count) built fit asked = fine-array _ count may.text
-    fine number taken (ask.GetStatic from field) built fit asked = fine-class field.class _ tt
-    fine number taken (ask.PutStatic from field value) built fit asked = fine-class field.class _ tt
-    fine number taken (ask.GetField from holder field) built fit asked = fine-object _ _ _ (λ n. tt)
-    fine number taken (ask.PutField from holder field value) built fit asked = fine-object _ _ _ (λ n. tt)
-    fine number taken (ask.GetElement from array index kind) built fit asked =
+    fine number taken (ask.NewText from count) built outside fit asked = fine-array _ count may.text
+    fine number taken (ask.GetStatic from field) built outside fit asked = fine-class field.class _ tt
+    fine number taken (ask.PutStatic from field value) built outside fit asked = fine-class field.class _ tt
+    fine number taken (ask.GetField from holder field) built outside fit asked = fine-object _ _ _ (λ n. tt)
+    fine number taken (ask.PutField from holder field value) built outside fit asked = fine-object _ _ _ (λ n. tt)
+    fine number taken (ask.GetElement from array index kind) built outside fit asked =
         fine-object _ _ _ (λ n. fine-index n index _ _ (λ i. tt))
-    fine number taken (ask.PutElement from array index kind value) built fit asked =
+    fine number taken (ask.PutElement from array index kind value) built outside fit asked =
         fine-object _ _ _ (λ n. fine-index n index _ _ (λ i. fine-puts n kind i _))
-    fine number taken (ask.Length from array) built fit asked = fine-object _ _ _ (λ n. tt)
-    fine number taken (ask.ClassOf from object within) built fit asked = fine-object _ _ _ (λ n. tt)
-    fine number taken (ask.Cast from object target) built fit asked =
+    fine number taken (ask.Length from array) built outside fit asked = fine-object _ _ _ (λ n. tt)
+    fine number taken (ask.ClassOf from object within) built outside fit asked = fine-object _ _ _ (λ n. tt)
+    fine number taken (ask.Cast from object target) built outside fit asked =
         fine-reference (ref_value number object) (Does (Steps.null_class set world) reply.Done)
         (Steps.casts set world target) tt (fine-casts target)
-    fine number taken (ask.IsA from object target) built fit asked =
+    fine number taken (ask.IsA from object target) built outside fit asked =
         fine-reference (ref_value number object)
         (Does (Steps.null_class set world) (reply.Item (Steps.bool_value false)))
         (Steps.tests set world target) tt (λ n. tt)
-    fine number taken (ask.Same from left right) built fit asked = fine-compares _
-    fine number taken (ask.Enter from (key.Object object)) built fit asked =
+    fine number taken (ask.Same from left right) built outside fit asked = fine-compares _
+    fine number taken (ask.Enter from (key.Object object)) built outside fit asked =
         fine-object _ _ _ (λ n. fine-enters _ _)
-    fine number taken (ask.Enter from (key.Class class)) built fit asked = fine-enters _ _
-    fine number taken (ask.Exit from (key.Object object)) built fit asked =
+    fine number taken (ask.Enter from (key.Class class)) built outside fit asked = fine-enters _ _
+    fine number taken (ask.Exit from (key.Object object)) built outside fit asked =
         fine-object _ _ _ (λ n. fine-exits _ _)
-    fine number taken (ask.Exit from (key.Class class)) built fit asked = fine-exits _ _
-    fine number taken (ask.Start from thread) built fit asked = absurd built
-    fine number taken (ask.Join from thread) built fit asked = fine-object _ _ _ (λ n. fine-joins n _)
-    fine number taken (ask.Init from class) built fit asked = fine-class class _ tt
-    fine number taken (ask.InitDone from class) built fit asked = tt
-    fine number taken (ask.Print from piece) built fit asked = fine-prints taken piece
-    fine number taken (ask.Raise from class) built fit asked = asked class refl
-    fine number taken (ask.Begin from) built fit asked = absurd built
-    fine number taken (ask.End from) built fit asked = absurd built
-    fine number taken (ask.Leave uncaught) built fit asked = tt
+    fine number taken (ask.Exit from (key.Class class)) built outside fit asked = fine-exits _ _
+    fine number taken (ask.Start from thread) built outside fit asked = absurd built
+    fine number taken (ask.Join from thread) built outside fit asked = fine-object _ _ _ (λ n. fine-joins n _)
+    fine number taken (ask.Init from class) built outside fit asked = fine-class class _ tt
+    fine number taken (ask.InitDone from class) built outside fit asked = tt
+    fine number taken (ask.Print from piece) built outside fit asked = fine-prints taken piece
+    fine number taken (ask.Raise from class) built outside fit asked = asked class refl
+    fine number taken (ask.Begin from) built outside fit asked = absurd outside
+    fine number taken (ask.End from) built outside fit asked =
+        subst (λ depth. IsFine (Steps.ends_region set world depth)) (sym outside) (may.thrown IllegalState)
+    fine number taken (ask.Leave uncaught) built outside fit asked = tt
 
     -- What the step of such a request does is fine.
     pub did-fine : (number : Numbers) (taken : ℕ) (q : Request Ref Item) (o : Op) (r : PlainReply) → IsBuilt q
-        → IsFit set world t (plain_request number q)
+        → IsOutside (depth_of world t) q → IsFit set world t (plain_request number q)
         → ((class : ℕ) → asked_class q ≡ Some class → Made class)
         → step set world t taken (plain_request number q) ≡ Does o r → DoesFine o
-    did-fine number taken q o r built fit asked does =
-        subst IsFine does (fine number taken q built fit asked)
+    did-fine number taken q o r built outside fit asked does =
+        subst IsFine does (fine number taken q built outside fit asked)
 
 -- ---- a request that stores does nothing else
 

@@ -1,10 +1,12 @@
 -- What the step of a request comes to as an event; and what an event is given further.
-use Rattle.std.specs.Prelude.{ℕ, ◌<◌, List, replicate, slice_set, unwrap_or, Some, None, IsSome}
+use Rattle.std.specs.Prelude.{◌≡◌, ℕ, ◌<◌, List, [], ◌∷◌, ◌++◌, replicate, slice_set, unwrap_or, Option, Some, None, IsSome}
 use Rattle.ap_base.specs.declared.reference.Ref.{Ref}
 use Rattle.ap_base.specs.declared.reference.Item.{Item}
 use Rattle.run_types.specs.declared.fault.RunFault.TheVariants as fault
 use Rattle.run_types.specs.declared.resolved.At.{At}
 use Rattle.natives.specs.declared.requests.Request.{Request}
+use Rattle.natives.specs.declared.requests.Request.TheVariants as ask
+use Rattle.run_history.specs.Recorded.{Recorded}
 use Rattle.plain_model.specs.Facts.{SetFacts}
 use Rattle.step_forms.specs.declared.stepped.Stepped.{Stepped}
 use Rattle.step_forms.specs.declared.stepped.Stepped.TheVariants as stepped
@@ -12,7 +14,8 @@ use Rattle.step_forms.specs.Becomes.{given}
 use Rattle.run_forms.specs.Views.{ThreadFrames}
 use Rattle.run_forms.specs.Ends.{from_in}
 use Rattle.twin_forms.specs.Table.{Entry}
-use Rattle.machine_forms.specs.Machines.{Opening, doing_of}
+use Rattle.region_log.specs.declared.entry.Underway.TheVariants.{Nothing as Idle}
+use Rattle.machine_forms.specs.Machines.{Opening, doing_of, log_of}
 use Rattle.machine_runs.specs.Frames.{IsReady}
 use Rattle.object_steps.specs.declared.storing.Store.{Store}
 use Rattle.machine_lines.specs.Lines.{lines_fault}
@@ -22,7 +25,7 @@ use Rattle.shared_heap.specs.Shared.{Shared}
 use Rattle.shared_heap.specs.Requests.{IsPlannedFor}
 use Rattle.machine.specs.declared.events.Event.{Event}
 use Rattle.machine.specs.declared.events.Event.TheVariants.{Did, Micro, Over}
-use Rattle.machine.specs.Events.{Comes, SparesSink}
+use Rattle.machine.specs.Events.{Comes, HasSinkCause, IsShare, SparesSink, TakesOutput}
 use Rattle.machine.specs.Running.{IsDue}
 
 abbrev pub nowhere : At
@@ -45,13 +48,22 @@ abbrev pub IsThread : Conversion → Type 0
 IsThread (did.Waits u) = u < 64
 IsThread other = Unit {0}
 
--- The tests of the request's store are passed.
+-- The tests of the request's store are passed. Nothing is under way in the thread's log.
 pub record HasPlanned (o : Opening) (first : ℕ) (set : SetFacts) (s : Shared) (es : List Entry)
     (fs : ThreadFrames) (request : Request Ref Item) (store : Store) : Type 0 where
   pub due : IsDue o first set s es fs request
   pub ready : IsReady (doing_of s.machine 0)
+  pub idle : (log_of s.machine 0).underway ≡ Idle
   pub planned : IsPlannedFor set 0 request store s
   pub gives : IsSome (given request)
+
+-- ---- regions
+
+-- Where so many regions are open, the request begins none and ends none.
+abbrev pub IsOutside : ℕ → Request Ref Item → Type 0
+IsOutside depth (ask.Begin from) = ⊥
+IsOutside depth (ask.End from) = depth ≡ 0
+IsOutside depth request = Unit {0}
 
 -- ---- of whatever run
 
@@ -77,3 +89,16 @@ pub record StoreComesTo (store : Store) (result : Event) (old new : Shared) : Ty
       (request : Request Ref Item) → HasPlanned o first set old es fs request store
       → Comes o first fs request result old new
   pub sink : SparesSink result old.history.acts new.history.acts
+
+-- ---- of a set's request
+
+-- What an event comes to for each run of the set of which one is due with this request, and what the sink was
+-- given in it.
+pub record Serves (set : SetFacts) (request : Request Ref Item) (result : Event) (old new : Shared)
+    (takes : ℕ → Option ℕ) (taken taken' : Option (List ℕ)) (faults faults' : ℕ) : Type 0 where
+  pub comes : (o : Opening) (first : ℕ) (es : List Entry) (fs : ThreadFrames)
+      → IsDue o first set old es fs request → Comes o first fs request result old new
+  pub told : TakesOutput old.history.acts new.history.acts taken taken'
+  pub share : (act : Recorded) → new.history.acts ≡ old.history.acts ++ act ∷ []
+      → IsShare request takes act.act.op
+  pub cause : HasSinkCause result faults faults'

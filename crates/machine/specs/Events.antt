@@ -48,8 +48,7 @@ pub record AsksOn (o : Opening) (first : ℕ) (old new : Shared) (fs : ThreadFra
   pub running : IsRunning o first new es fs
   pub threads : new.machine.rest.threads ≡ old.machine.rest.threads
 
--- The run is over by this fault, which the event of the thread meets after the acts that were made; the
--- machine
+-- The run is over by this fault, which the event of the thread meets after the acts that were made; the machine
 -- keeps its run still.
 pub record IsOver (o : Opening) (first : ℕ) (f : RunFault) (old new : Shared) (fs : ThreadFrames)
     : Type 0 where

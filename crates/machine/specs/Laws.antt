@@ -1,13 +1,14 @@
 -- The laws of machines by which events go on.
 use Rattle.std.specs.Prelude.{ℕ, ◌<◌}
 use Rattle.line_memory.specs.Memory.{Memory, IsResident}
-use Rattle.machine_runs.specs.Keeping.{ActsKeepRuns, AskedKeepRuns, BeginningsKeepRuns, CallsKeepRuns, ConversionsKeepRuns, DurableStoresKeepRuns, FailuresKeepRuns, FencesKeepRuns, SealsKeepRuns, WritesKeepRuns}
-use Rattle.machine_runs.specs.Frames.{ActsAnswer, AskedLeavesFrames, BeginningsLeaveFrames, CallsLeaveFrames, ConversionsLeaveFrames, DurableStoresLeaveFrames, FailuresLeaveFrames, FencesAnswer, ReadyThreadsAskAlike, SealsLeaveFrames, WritesLeaveFrames}
+use Rattle.machine_runs.specs.Keeping.{ActsKeepRuns, AskedKeepRuns, BeginningsKeepRuns, CallsKeepRuns, ConversionsKeepRuns, DurableStoresKeepRuns, FailuresKeepRuns, FencesKeepRuns, RegionsKeepRuns, SealsKeepRuns, WritesKeepRuns}
+use Rattle.machine_runs.specs.Frames.{ActsAnswer, AskedLeavesFrames, BeginningsLeaveFrames, CallsLeaveFrames, ConversionsLeaveFrames, DurableStoresLeaveFrames, FailuresLeaveFrames, FencesAnswer, ReadyThreadsAskAlike, RegionsGoOnAsPlain, SealsLeaveFrames, WritesLeaveFrames}
 use Rattle.machine_lines.specs.Laws.{ActsKeepLines, AskedKeepLines, BeginningsKeepLines, ConversionsKeepLines, DurableStoresKeepLines, FencesKeepLines, RefusalsEndTheRun, RefusedBeginningsFillTheImage, RefusedStepsFillTheImage, SealsKeepLines, WritesKeepLines}
+use Rattle.machine_lines.specs.Regions.{EndingLowersTheMeasure, LoggingLowersTheMeasure, RegionsKeepLines, RegionsLeaveUnwritten}
 use Rattle.machine_lines.specs.Unwritten.{ActsLeaveUnwritten, AskedLeavesUnwritten, BeginningsLeaveUnwritten, ConversionsLeaveUnwritten, DurableStoresLeaveUnwritten, FencesLeaveUnwritten, SealsLeaveUnwritten, WritesLeaveUnwritten}
 use Rattle.machine_lines.specs.Work.{QuietEventsLowerTheMeasure}
-use Rattle.machine_ends.specs.Laws.{FencesMeetNoFault, FullHistoriesEnd, ImageFaultsEnd, StepsEnd, StepsMeetNoFault, StoresMeetNoFault}
-use Rattle.store_barrier.specs.Laws.{ConversionsAreAsked, DurableLinesAgree, DurablePlacesAgree, StoresKeepDurable}
+use Rattle.machine_ends.specs.Laws.{EndsMeetNoFault, FencesMeetNoFault, FullHistoriesEnd, FullLogsEnd, ImageFaultsEnd, RacesEnd, StepsEnd, StepsMeetNoFault, StoresMeetNoFault}
+use Rattle.store_barrier.specs.Laws.{ConversionsAreAsked, DurableLinesAgree, DurablePlacesAgree, DurableWordsAgree, GuardsAgree, PlacesMayBeGuarded, StoredPlacesAreKept, StoresAreLogged, StoresAreOutside, StoresKeepDurable}
 
 -- Each event keeps the run.
 pub record EventsKeep : Type 0 where
@@ -21,6 +22,7 @@ pub record EventsKeep : Type 0 where
   pub asked : AskedKeepRuns
   pub beside : ActsKeepRuns
   pub durable : DurableStoresKeepRuns
+  pub regions : RegionsKeepRuns
 
 -- The frames go on as the plain run's.
 pub record FramesGoOn : Type 0 where
@@ -34,6 +36,7 @@ pub record FramesGoOn : Type 0 where
   pub asked : AskedLeavesFrames
   pub beside : ActsAnswer
   pub durable : DurableStoresLeaveFrames
+  pub regions : RegionsGoOnAsPlain
   pub alike : ReadyThreadsAskAlike
 
 -- Objects have taken the lines from the first one on.
@@ -46,6 +49,7 @@ pub record LinesAreTaken : Type 0 where
   pub asked : AskedKeepLines
   pub beside : ActsKeepLines
   pub durable : DurableStoresKeepLines
+  pub regions : RegionsKeepLines
 
 -- Until its flush a thread writes none of its lines back.
 pub record NoneIsWritten : Type 0 where
@@ -57,15 +61,19 @@ pub record NoneIsWritten : Type 0 where
   pub asked : AskedLeavesUnwritten
   pub beside : ActsLeaveUnwritten
   pub durable : DurableStoresLeaveUnwritten
+  pub regions : RegionsLeaveUnwritten
 
 -- how runs end, and that acts met no fault
 pub record RunsEnd : Type 0 where
   pub full : FullHistoriesEnd
   pub steps : StepsEnd
   pub image : ImageFaultsEnd
+  pub logs : FullLogsEnd
+  pub races : RacesEnd
   pub steps_meet : StepsMeetNoFault
   pub fences_meet : FencesMeetNoFault
   pub stores_meet : StoresMeetNoFault
+  pub ends_meet : EndsMeetNoFault
   pub refused_steps : RefusedStepsFillTheImage
   pub refused_begins : RefusedBeginningsFillTheImage
   pub refusals : RefusalsEndTheRun
@@ -74,8 +82,14 @@ pub record RunsEnd : Type 0 where
 pub record BarriersServe : Type 0 where
   pub places : DurablePlacesAgree
   pub lines : DurableLinesAgree
+  pub words : DurableWordsAgree
+  pub kept : StoredPlacesAreKept
+  pub guards : GuardsAgree
   pub asked : ConversionsAreAsked
   pub durable : StoresKeepDurable
+  pub outside : StoresAreOutside
+  pub logged : StoresAreLogged
+  pub may : PlacesMayBeGuarded
 
 abbrev pub AreResident : Type 0
 AreResident = (m : Memory) (l : ℕ) → l < m.size → IsResident m l
@@ -88,4 +102,6 @@ pub record Laws : Type 0 where
   pub ends : RunsEnd
   pub barriers : BarriersServe
   pub measure : QuietEventsLowerTheMeasure
+  pub logging : LoggingLowersTheMeasure
+  pub ending : EndingLowersTheMeasure
   pub resident : AreResident

@@ -2,6 +2,7 @@
 use Rattle.std.specs.Prelude.{◌≡◌, ℕ, ◌-◌, ◌<◌, ◌≤◌, true, false, List, [], ◌∷◌, ◌++◌, length, Option, Some, None, IsSome}
 use Rattle.ap_base.specs.declared.reference.Ref.{Ref}
 use Rattle.ap_base.specs.declared.reference.Item.{Item}
+use Rattle.run_types.specs.declared.resolved.At.{At}
 use Rattle.natives.specs.declared.requests.Request.{Request}
 use Rattle.natives.specs.declared.requests.Request.TheVariants as ask
 use Rattle.run_history.specs.Recorded.{Recorded}
@@ -16,10 +17,12 @@ use Rattle.step_forms.specs.Follows.{stored_as}
 use Rattle.run_forms.specs.Views.{ThreadFrames}
 use Rattle.run_forms.specs.Standing.{Launch, known_at, plain_code, setting_of}
 use Rattle.run_forms.specs.Ends.{MeetsNoFault}
+use Rattle.region_log.specs.declared.entry.Underway.{Underway}
+use Rattle.region_log.specs.declared.entry.Underway.TheVariants.{Nothing as Idle, Adding, Ending}
 use Rattle.twin_forms.specs.Table.{Entry}
 use Rattle.machine_forms.specs.declared.doing.Doing.{Doing}
 use Rattle.machine_forms.specs.declared.doing.Doing.TheVariants.{Nothing, Converting, Writing, Fencing}
-use Rattle.machine_forms.specs.Machines.{Opening, Machine, doing_of, memory_of}
+use Rattle.machine_forms.specs.Machines.{Opening, Machine, doing_of, log_of, memory_of}
 use Rattle.machine_forms.specs.Keeping.{KeepsRun}
 use Rattle.machine_forms.specs.Events.{IsListed}
 use Rattle.machine_runs.specs.Frames.{Asks, RunsAsPlain}
@@ -30,11 +33,9 @@ use Rattle.shared_heap.specs.Conversions.{NamesClaimed}
 
 -- ---- requests
 
--- A request that starts no thread, and begins or ends no region.
+-- a request that starts no thread
 abbrev pub IsBuilt : Request Ref Item → Type 0
 IsBuilt (ask.Start from thread) = ⊥
-IsBuilt (ask.Begin from) = ⊥
-IsBuilt (ask.End from) = ⊥
 IsBuilt request = Unit {0}
 
 -- The class of which a request makes an object where no `new` names it: an array type, or a throwable's
@@ -72,17 +73,21 @@ LagsByItsStore launch Converting fs = Unit {0}
 LagsByItsStore launch (Writing line) fs = AsksSomeStore launch fs
 LagsByItsStore launch Fencing fs = AsksSomeStore launch fs
 
--- Before each of these acts the history had room, and by what acts tell the event of its thread ended the
--- run by
--- no fault, unless more monitors were held after it than may be; however many lines an image has for objects.
+-- While a region of the thread is being ended, its turn asks that.
+abbrev pub AsksItsEnd : Launch → Underway → ThreadFrames → Type 0
+AsksItsEnd launch Idle fs = Unit {0}
+AsksItsEnd launch (Adding e stage) fs = Unit {0}
+AsksItsEnd launch (Ending stage) fs = (from : At) × ((turn (setting_of launch) fs).asks ≡ Some (ask.End from))
+
+-- Before each of these acts the history had room, and by what acts tell the event of its thread ended the run
+-- by no fault, unless more monitors were held after it than may be; however many lines an image has for objects.
 abbrev pub HadNoFault : Launch → List Recorded → Type 0
 HadNoFault launch acts = (lines : ℕ) (front : List Recorded) (a : Recorded) (rest : List Recorded)
     → acts ≡ front ++ a ∷ rest
     → MeetsNoFault launch lines front a.act.thread (length (known_at launch (front ++ a ∷ [])).world.monitors)
 
--- Between events: the machine keeps its run, and with these frames of its thread, its first and only one,
--- it runs
--- as the plain machine does. `first` is the first line that was free when the run began.
+-- Between events: the machine keeps its run, and with these frames of its thread, its first and only one, it
+-- runs as the plain machine does. `first` is the first line that was free when the run began.
 pub record IsRunning (o : Opening) (first : ℕ) (s : Shared) (es : List Entry) (fs : ThreadFrames) : Type 0
   where
     pub keeps : KeepsRun o s.machine es
@@ -94,6 +99,7 @@ pub record IsRunning (o : Opening) (first : ℕ) (s : Shared) (es : List Entry) 
     pub names : NamesClaimed 0 s es
     pub about : IsAboutItsStore o.launch s.machine.acts
     pub lags : LagsByItsStore o.launch (doing_of s.machine 0) fs
+    pub ends : AsksItsEnd o.launch (log_of s.machine 0).underway fs
     pub alone : length s.machine.rest.threads ≡ 1
     pub lines : s.lines ≡ (memory_of s.machine).size
     pub acts : s.history.acts ≡ s.machine.acts

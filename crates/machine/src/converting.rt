@@ -1,10 +1,13 @@
 // What a store is to make durable is converted, one step an event.
 ghost use Rattle.std.specs.Prelude.{◌≡◌, ◌<◌, List, length};
+ghost use Rattle.ap_base.specs.declared.reference.Ref.{Ref as Reference};
 ghost use Rattle.twin_forms.specs.Table.{Entry};
 ghost use Rattle.two_spaces.specs.Whole.{Stands};
 ghost use Rattle.machine_forms.specs.declared.doing.Doing.TheVariants.{Converting};
 ghost use Rattle.machine_forms.specs.Machines.{doing_of};
+ghost use Rattle.object_steps.specs.Stores.{place_of};
 ghost use Rattle.store_barrier.specs.Barriers.{ConvertsFirst};
+ghost use Rattle.store_barrier.specs.Regions.{IsApart};
 ghost use Rattle.machine.specs.Ended.{HasSomePlanned, IsThread, StoreComesTo, went_event};
 
 use crate::Event;
@@ -21,6 +24,7 @@ use shared_heap::{Conversion, SharedHeap};
 pub(crate) fn convert<I: Image>(heap: &mut SharedHeap<I>, store: &Store, object: Ref) -> Event
     requires planned { HasSomePlanned heap.old store.now }
     requires room { length heap.old.history.acts < heap.old.history.limit }
+    requires apart { IsApart heap.old.machine.spaces heap.old.machine.logs 0 (place_of store.now.target) }
     requires first { (es : List Entry) → Stands heap.old.machine.spaces es
         → ConvertsFirst heap.old.machine.spaces es store.now object }
     ensures { StoreComesTo store.now result heap.old heap.new }
@@ -58,6 +62,7 @@ fn went(did: Conversion) -> Event
 fn begin<I: Image>(heap: &mut SharedHeap<I>, store: &Store, object: Ref) -> Event
     requires planned { HasSomePlanned heap.old store.now }
     requires room { length heap.old.history.acts < heap.old.history.limit }
+    requires apart { IsApart heap.old.machine.spaces heap.old.machine.logs 0 (place_of store.now.target) }
     requires doing { doing_of heap.old.machine 0 ≡ Converting }
     requires idle { heap.old.named ≡ 0 }
     requires first { (es : List Entry) → Stands heap.old.machine.spaces es
@@ -73,8 +78,11 @@ fn begin<I: Image>(heap: &mut SharedHeap<I>, store: &Store, object: Ref) -> Even
 fn step<I: Image>(heap: &mut SharedHeap<I>, store: &Store) -> Event
     requires planned { HasSomePlanned heap.old store.now }
     requires room { length heap.old.history.acts < heap.old.history.limit }
+    requires apart { IsApart heap.old.machine.spaces heap.old.machine.logs 0 (place_of store.now.target) }
     requires doing { doing_of heap.old.machine 0 ≡ Converting }
     requires some { 0 < heap.old.named }
+    requires first { (object : Reference) × ((es : List Entry) → Stands heap.old.machine.spaces es
+        → ConvertsFirst heap.old.machine.spaces es store.now object) }
     ensures { StoreComesTo store.now result heap.old heap.new }
 {
     laws();

@@ -6,6 +6,7 @@ mod converting;
 mod events;
 mod laws;
 mod parts;
+mod regions;
 mod running;
 mod storing;
 

@@ -1,21 +1,23 @@
 // Events.
-ghost use Rattle.std.specs.Prelude.{◌≡◌, ◌<◌, ◌≤◌, ◌++◌, [], ◌∷◌, ℕ, List, length};
+ghost use Rattle.std.specs.Prelude.{◌≡◌, ◌<◌, ◌≤◌, ◌^◌, ◌++◌, [], ◌∷◌, ℕ, List, length};
 ghost use Rattle.run_history.specs.Recorded.{Recorded};
 ghost use Rattle.run_forms.specs.Views.{ThreadFrames};
 ghost use Rattle.run_types.specs.declared.fault.Which.TheVariants as which;
 ghost use Rattle.plain_model.specs.Ends.{full};
 ghost use Rattle.twin_forms.specs.Table.{Entry};
 ghost use Rattle.machine_forms.specs.declared.doing.Doing.TheVariants.{Fencing, Writing};
-ghost use Rattle.machine_forms.specs.Machines.{Opening, doing_of, memory_of};
+ghost use Rattle.region_log.specs.declared.entry.Underway.TheVariants as underway;
+ghost use Rattle.machine_forms.specs.Machines.{Opening, doing_of, log_of, memory_of};
 ghost use Rattle.machine_runs.specs.Frames.{IsReady};
 ghost use Rattle.machine_lines.specs.Work.{measure};
-ghost use Rattle.machine.specs.Ended.{ComesTo, IsSomeDue};
-ghost use Rattle.machine.specs.Events.{AddsActs, CallsAtMostOnce, Comes, GoesTo, HasImageCause, HasSinkCause, IsAnswerTo, IsShare, TakesOutput};
+ghost use Rattle.machine.specs.Ended.{ComesTo, IsOutside, IsSomeDue, Serves};
+ghost use Rattle.machine.specs.Events.{AddsActs, CallsAtMostOnce, GoesTo, HasImageCause, HasSinkCause, IsAnswerTo, IsShare, TakesOutput};
 ghost use Rattle.machine.specs.Running.{IsDue};
 
 use crate::Event;
 use crate::laws::laws;
 use crate::parts::ended;
+use crate::regions::{begin, end, log};
 use crate::storing::store;
 use ap_base::{Sink, ThreadNo};
 use line_image::Image;
@@ -27,8 +29,9 @@ use shared_objects::Types;
 
 /// One event of the thread, which runs alone, for the request that it asks: at most one call of
 /// the image or of the sink, and at most one act. A durable store is asked where its value isn't
-/// durable, converted, made, written back and fenced, each in events of its own (Shull, Huang and
-/// Torrellas, "AutoPersist", PLDI 2019).
+/// durable, converted, made, written back and fenced, each in events of its own; in a failure-atomic
+/// region it is logged before it is made, and its line is written back as the region ends (Shull,
+/// Huang and Torrellas, "AutoPersist", PLDI 2019).
 pub fn event<C: Types, I: Image, S: Sink>(
     heap: &mut SharedHeap<I>,
     set: &C,
@@ -56,7 +59,7 @@ pub fn event<C: Types, I: Image, S: Sink>(
         → result ≡ Event.Over (full which.Acts 1 0) }
     ensures answers { IsAnswerTo result request.now }
     ensures numbers { heap.new.machine.spaces.numbers ≡ heap.old.machine.spaces.numbers }
-    // So a loop over events of one request ends.
+    // So a loop over events of one request ends, within the acts that the history may have.
     ensures quiet { result ≡ Event.Micro → heap.new.history.acts ≡ heap.old.history.acts
         → measure heap.new.machine < measure heap.old.machine }
 {
@@ -71,7 +74,7 @@ pub fn event<C: Types, I: Image, S: Sink>(
     match heap.doing(ThreadNo::main()) {
         Doing::Writing(line) => write_back(heap, line),
         Doing::Fencing => fence(heap),
-        Doing::Nothing | Doing::Converting => answer(heap, set, sink, request),
+        Doing::Nothing | Doing::Converting => go_on(heap, set, sink, request),
     }
 }
 
@@ -103,7 +106,44 @@ fn fence<I: Image>(heap: &mut SharedHeap<I>) -> Event
     }
 }
 
-// The request's step, or what is to be done for its store.
+// What is under way in the thread's log goes on, or else the request does.
+fn go_on<C: Types, I: Image, S: Sink>(
+    heap: &mut SharedHeap<I>,
+    set: &C,
+    sink: &mut S,
+    request: &Request,
+) -> Event
+    requires due { (o : Opening) × (first : ℕ) × (es : List Entry) × (fs : ThreadFrames)
+        × IsDue o first (C.facts set.now) heap.old es fs request.now }
+    requires room { length heap.old.history.acts < heap.old.history.limit }
+    requires counted { heap.old.history.limit < 2 ^ 32 }
+    requires ready { IsReady (doing_of heap.old.machine 0) }
+    ensures serves { Serves (C.facts set.now) request.now result heap.old heap.new (S.takes sink.old)
+        (S.taken sink.old) (S.taken sink.new) (S.faults sink.old) (S.faults sink.new) }
+    ensures sink { result ≡ Event.Micro → sink.new ≡ sink.old }
+{
+    laws();
+    if heap.is_logging(ThreadNo::main()) {
+        return log(heap);
+    }
+    if heap.is_ending(ThreadNo::main()) {
+        return end(heap, set, sink, request);
+    }
+    let is_open = heap.depth(ThreadNo::main()) > 0;
+    match *request {
+        Request::Begin { .. } => begin(heap, set, sink, request),
+        Request::End { .. } => {
+            if is_open {
+                end(heap, set, sink, request)
+            } else {
+                answer(heap, set, sink, request)
+            }
+        }
+        _ => answer(heap, set, sink, request),
+    }
+}
+
+// The step of a request that neither begins nor ends a region, or what is to be done for its store.
 fn answer<C: Types, I: Image, S: Sink>(
     heap: &mut SharedHeap<I>,
     set: &C,
@@ -114,15 +154,11 @@ fn answer<C: Types, I: Image, S: Sink>(
         × IsDue o first (C.facts set.now) heap.old es fs request.now }
     requires room { length heap.old.history.acts < heap.old.history.limit }
     requires ready { IsReady (doing_of heap.old.machine 0) }
-    ensures comes { (o : Opening) (first : ℕ) (es : List Entry) (fs : ThreadFrames)
-        → IsDue o first (C.facts set.now) heap.old es fs request.now
-        → Comes o first fs request.now result heap.old heap.new }
-    ensures told { TakesOutput heap.old.history.acts heap.new.history.acts (S.taken sink.old)
-        (S.taken sink.new) }
-    ensures share { (act : Recorded) → heap.new.history.acts ≡ heap.old.history.acts ++ act ∷ []
-        → IsShare request.now (S.takes sink.old) act.act.op }
+    requires idle { (log_of heap.old.machine 0).underway ≡ underway.Nothing }
+    requires outside { IsOutside (log_of heap.old.machine 0).depth request.now }
+    ensures serves { Serves (C.facts set.now) request.now result heap.old heap.new (S.takes sink.old)
+        (S.taken sink.old) (S.taken sink.new) (S.faults sink.old) (S.faults sink.new) }
     ensures sink { result ≡ Event.Micro → sink.new ≡ sink.old }
-    ensures sink_cause { HasSinkCause result (S.faults sink.old) (S.faults sink.new) }
 {
     laws();
     // that so many acts can be counted

@@ -3,38 +3,72 @@ ghost use Rattle.std.specs.Prelude.{◌<◌, List, length};
 ghost use Rattle.twin_forms.specs.Table.{Entry};
 ghost use Rattle.two_spaces.specs.Whole.{Stands};
 ghost use Rattle.object_steps.specs.Stores.{place_of};
-ghost use Rattle.store_barrier.specs.Barriers.{IsLineOf, MayFollow};
+ghost use Rattle.store_barrier.specs.Barriers.{MayFollow};
+ghost use Rattle.store_barrier.specs.Regions.{HasLogged, IsApart, IsLineLeft, LogsFirst};
 ghost use Rattle.machine.specs.Ended.{HasSomePlanned, StoreComesTo};
 
 use crate::Event;
 use crate::converting::convert;
 use crate::laws::laws;
-use ap_base::ThreadNo;
+use ap_base::{Spot, ThreadNo};
 use line_image::Image;
 use natives::Reply;
 use object_steps::Store;
-use shared_heap::SharedHeap;
+use run_types::{Full, RunFault, Which};
+use shared_heap::{SharedHeap, place_of};
 use store_barrier::Barrier;
 
-/// The store is made, where nothing is to be converted before it.
+/// The store is made, where nothing is to be converted or logged before it.
 pub(crate) fn store<I: Image>(heap: &mut SharedHeap<I>, store: Store) -> Event
     requires planned { HasSomePlanned heap.old store }
     requires room { length heap.old.history.acts < heap.old.history.limit }
     ensures { StoreComesTo store result heap.old heap.new }
 {
-    match heap.barrier(&store) {
+    laws();
+    match heap.barrier(ThreadNo::main(), &store) {
+        Barrier::Race(other) => Event::Over(RunFault::RegionRace {
+            thread: ThreadNo::main(),
+            other,
+            place: place_of(store.target),
+        }),
         Barrier::ConvertFirst(object) => convert(heap, &store, object),
+        Barrier::LogFirst(spot) => guard(heap, &store, spot),
         Barrier::Store(line) => make(heap, store, line),
     }
 }
 
-// Makes a store. That to a durable place is answered once it is fenced.
+// The place of the store is guarded: its word is logged next. Where the log is full, the run is over.
+fn guard<I: Image>(heap: &mut SharedHeap<I>, store: &Store, spot: Spot) -> Event
+    requires planned { HasSomePlanned heap.old store.now }
+    requires room { length heap.old.history.acts < heap.old.history.limit }
+    requires apart { IsApart heap.old.machine.spaces heap.old.machine.logs 0 (place_of store.now.target) }
+    requires follows { MayFollow heap.old.machine.spaces store.now }
+    requires first { (es : List Entry) → Stands heap.old.machine.spaces es
+        → LogsFirst heap.old.machine.spaces es heap.old.machine.logs 0 (place_of store.now.target) spot }
+    ensures { StoreComesTo store.now result heap.old heap.new }
+{
+    laws();
+    if heap.log_is_full(ThreadNo::main()) {
+        return Event::Over(RunFault::Full(Full {
+            which: Which::LogEntries,
+            need: 1,
+            left: 0,
+        }));
+    }
+    heap.guard(ThreadNo::main(), store, spot);
+    Event::Micro
+}
+
+// Makes a store. That to a durable place outside regions is answered once it is fenced.
 fn make<I: Image>(heap: &mut SharedHeap<I>, store: Store, line: Option<u32>) -> Event
     requires planned { HasSomePlanned heap.old store }
     requires room { length heap.old.history.acts < heap.old.history.limit }
+    requires apart { IsApart heap.old.machine.spaces heap.old.machine.logs 0 (place_of store.target) }
     requires follows { MayFollow heap.old.machine.spaces store }
+    requires logged { (es : List Entry) → Stands heap.old.machine.spaces es
+        → HasLogged heap.old.machine.spaces es heap.old.machine.logs 0 (place_of store.target) }
     requires line { (es : List Entry) → Stands heap.old.machine.spaces es
-        → IsLineOf heap.old.machine.spaces es (place_of store.target) line }
+        → IsLineLeft heap.old.machine.spaces es heap.old.machine.logs 0 (place_of store.target) line }
     ensures { StoreComesTo store result heap.old heap.new }
 {
     laws();

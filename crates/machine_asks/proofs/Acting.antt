@@ -10,11 +10,14 @@ use Rattle.twin_forms.proofs.Led.{same_or_not}
 use Rattle.convert_words.specs.Agreeing.{Is}
 use Rattle.machine_forms.specs.declared.doing.Doing.{Doing}
 use Rattle.machine_forms.specs.declared.doing.Doing.TheVariants.{Nothing}
-use Rattle.machine_forms.specs.Machines.{Opening, Machine, first_of, known_in, wants_in, memory_of, doing_of, layout_in}
-use Rattle.machine_forms.specs.Keeping.{IsDoing, QueuesFirst, HasNoRegions, KeepsAsked, KeepsRun}
+use Rattle.machine_forms.specs.Machines.{Opening, Machine, first_of, known_in, wants_in, memory_of, doing_of, log_of, layout_in}
+use Rattle.machine_forms.specs.Keeping.{IsDoing, QueuesFirst, GuardApart, KeepsRegions, KeepsAsked, KeepsRun}
 use Rattle.machine_asks.proofs.Acts.{roots-next, pending-kept, unfenced-kept}
 use Rattle.machine_asks.proofs.Wishes.{wants-kept}
-use Rattle.machine_asks.proofs.Regions.{IsOutside, guards-next, closing-next, depth-next}
+use Rattle.machine_asks.proofs.Outside.{IsOutside}
+use Rattle.machine_asks.proofs.Memories.{KeepsWhole}
+use Rattle.machine_asks.proofs.Logs.{regions-left}
+use Rattle.machine_asks.proofs.Regions.{outside-spares, outside-guards-next}
 use Rattle.machine_asks.proofs.Lists.{each-set}
 use Rattle.machine_asks.proofs.Keeping.{doing-kept, first-kept, known-with, are-durable, durable-in, claimed-pending}
 
@@ -28,7 +31,7 @@ pub record KeepsBy (known : Knowledge) (o : Opening) (m : Machine) (es : List En
   pub closed : IsClosed known
   pub timed : known.at ≤ (memory_of m).calls
   pub few : (memory_of m).calls < 2 ^ 64
-  pub regions : HasNoRegions known
+  pub regions : KeepsRegions o m es
 
 pub keeps-by : (known : Knowledge) (o : Opening) (m : Machine) (es : List Entry) → known_in o m ≡ known
     → KeepsBy known o m es → KeepsAsked o m es
@@ -49,7 +52,7 @@ keeps-by known o m es is by =
 -- What the act leaves. Whoever has something queued or claimed had it, and has asked what it had asked.
 pub record Acted (o : Opening) (m m' : Machine) (es es' : List Entry) (a : Recorded) : Type 0 where
   pub acts : m'.acts ≡ m.acts ++ a ∷ []
-  pub outside : IsOutside a.act.op
+  pub regions : KeepsRegions o m' es'
   pub closed : IsClosed (next_known (known_in o m) a)
   pub timed : a.act.at ≤ (memory_of m').calls
   pub few : (memory_of m').calls < 2 ^ 64
@@ -63,12 +66,15 @@ pub record Acted (o : Opening) (m m' : Machine) (es es' : List Entry) (a : Recor
       × (pending_of (next_known (known_in o m) a).asked u ≡ pending_of (known_in o m).asked u)
 
 module _ (o : Opening) (m m' : Machine) (es es' : List Entry) (k : KeepsRun o m es) (a : Recorded) where
-  pub regions-next : IsOutside a.act.op → HasNoRegions (next_known (known_in o m) a)
-  regions-next outside = record {
-    guards = guards-next (known_in o m) a outside ∙ k.asked.regions.guards;
-    closing = closing-next (known_in o m) a outside ∙ k.asked.regions.closing;
-    depths = λ u. depth-next (known_in o m) a outside u ∙ k.asked.regions.depths u;
-  }
+  -- an act that is none of a region leaves all regions
+  pub outside-regions : m'.acts ≡ m.acts ++ a ∷ [] → IsOutside a.act.op → m'.logs ≡ m.logs
+      → ((n : ℕ) → InP es n → (layout_in o es').line_of n ≡ (layout_in o es).line_of n)
+      → ((u : ℕ) → u < 64 → KeepsWhole (log_of m u) (memory_of m')) → KeepsRegions o m' es'
+  outside-regions acts outside logs lines whole =
+      regions-left o m es k es' m' (next_known (known_in o m) a) (known-with o m es k m' a acts) logs
+      (λ u. outside-spares (known_in o m) a (layout_in o es) (layout_in o es')
+      (λ n is. lines n (durable-in o m es k n is)) outside u)
+      (subst GuardApart (sym (outside-guards-next (known_in o m) a outside)) k.asked.regions.apart) whole
 
   pub acted-keeps : Acted o m m' es es' a → KeepsAsked o m' es'
   acted-keeps acted = keeps-by (next_known (known_in o m) a) o m' es' (known-with o m es k m' a acted.acts)
@@ -87,7 +93,7 @@ module _ (o : Opening) (m m' : Machine) (es es' : List Entry) (k : KeepsRun o m 
         closed = acted.closed;
         timed = acted.timed;
         few = acted.few;
-        regions = regions-next acted.outside;
+        regions = acted.regions;
       })
 
   -- what the threads are about after an act of one of them

@@ -257,7 +257,7 @@ module _ (known : Knowledge) (a : Recorded) (u : ℕ) (other : u ≢ a.act.threa
 abbrev pub AreDurable : Knowledge → Type 0
 AreDurable known = (u : ℕ) (p : Place) → unfenced_at known.unfenced u ≡ Some p → durable_at known p ≡ true
 
-durable-kept : (known : Knowledge) (a : Recorded) (p : Place) → durable_at known p ≡ true
+pub durable-kept : (known : Knowledge) (a : Recorded) (p : Place) → durable_at known p ≡ true
     → durable_at (next_known known a) p ≡ true
 durable-kept known a (Static n) is = ap (λ roots. is_root roots n) (roots-next known a) ∙ is
 durable-kept known a (Slot n i) is =

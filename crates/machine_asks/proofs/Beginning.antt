@@ -17,7 +17,9 @@ use Rattle.machine_forms.specs.Events.{BeginsOn}
 use Rattle.machine_asks.specs.Laws.{BeginningsKeepAsked}
 use Rattle.machine_asks.proofs.Wishes.{wants-asked}
 use Rattle.machine_asks.proofs.Tables.{durable-line}
-use Rattle.machine_asks.proofs.Converted.{quiet-keeps, Claims, queued-same, wanted-same, queued-claim, wanted-claim}
+use Rattle.machine_asks.proofs.Changes.{whole-same}
+use Rattle.machine_asks.proofs.Quiet.{quiet-keeps, quiet-regions}
+use Rattle.machine_asks.proofs.Converted.{Claims, queued-same, wanted-same, queued-claim, wanted-claim}
 
 module _ (o : Opening) (m : Machine) (es : List Entry) (k : KeepsRun o m es) (m' : Machine) (es' : List Entry)
     (t n word : ℕ) (answer : Begun) (b : BeginsOn t n word answer o m m' es es') where
@@ -45,6 +47,10 @@ module _ (o : Opening) (m : Machine) (es : List Entry) (k : KeepsRun o m es) (m'
     later = (let same = ap (λ (x : Memory). x.calls) same-memory in omega (arith, same));
     few = (let same = ap (λ (x : Memory). x.calls) same-memory in let few = k.asked.few in omega
         (arith, same, few));
+    regions = quiet-regions o m m' es es' k (ap (λ (x : Machine). x.acts) b.same)
+        (ap (λ (x : Machine). x.logs) b.same) (λ n p. (b.begins.durable n).1 p)
+        (durable-line v v' es es' k.heap.agrees.lies lies' b.begins.shows)
+        (λ u lt. whole-same o m es k (memory_of m') u lt same-memory);
   })
 
   queues-keep : m'.queue.queues ≡ m.queue.queues → KeepsAsked o m' es'

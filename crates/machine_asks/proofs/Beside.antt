@@ -1,39 +1,43 @@
 -- Acts of requests that change no durable place: each may come next, and what was asked is kept.
-use Rattle.std.proofs.Common.{◌≡◌, ◌⊎◌, inl, inr, ℕ, ◌+◌, ◌-◌, ◌<◌, ◌≤◌, Bool, true, false, List, [], ◌∷◌, ◌++◌, length, refl, sym, ◌∙◌, ap, subst, arith}
+use Rattle.std.proofs.Common.{◌≡◌, inl, inr, ℕ, ◌<◌, ◌≤◌, Bool, true, false, List, [], ◌∷◌, ◌++◌, length, refl, sym, ◌∙◌, ap, subst, arith}
 use Rattle.std.specs.Prelude.{slice_index_or}
 use Rattle.std.proofs.lemmas.Bool.{false≢true, true≢false}
 use Rattle.std.proofs.lemmas.List.{length-set, length_push, get_or_push, get_or_append_left}
-use Rattle.std.proofs.Math.ListN.{get_or-eq_default}
+use Rattle.ap_base.specs.declared.place.Place.{Place}
 use Rattle.ap_base.specs.declared.place.Place.TheVariants.{Static, Slot}
 use Rattle.ap_base.specs.declared.reference.Ref.{Ref}
 use Rattle.ap_base.specs.declared.reference.Item.{Item}
 use Rattle.natives.specs.declared.requests.Request.{Request}
 use Rattle.natives.specs.declared.requests.Reply.{Reply}
+use Rattle.graph_model.specs.declared.types.Value.{Value}
 use Rattle.graph_model.specs.Heaps.{has_number}
 use Rattle.run_history.specs.declared.act.Op.{Op}
 use Rattle.run_history.specs.declared.act.Op.TheVariants as op
 use Rattle.run_history.specs.Recorded.{Recorded}
-use Rattle.run_history.specs.Worlds.{depth_of}
+use Rattle.run_history.specs.Worlds.{depth_of, has_place}
 use Rattle.run_history.specs.Knowing.{Knowledge, pending_of, owes_fence, unfenced_at, durable_at, store_fate, is_single, next_known}
 use Rattle.plain_model.specs.Codes.{is_persistent}
+use Rattle.shared_objects.specs.Worlds.{heap_of}
 use Rattle.stop_invariant.specs.Layouts.{Layout}
-use Rattle.twin_forms.specs.Table.{Entry, entry, IsClaimed, InP, HasCopied, line_of, no_entry}
+use Rattle.twin_forms.specs.Table.{Entry, entry, IsClaimed, InP, line_of, no_entry}
 use Rattle.twin_forms.specs.Moves.{fresh}
-use Rattle.twin_forms.proofs.Led.{same_or_not, below_or_not}
+use Rattle.twin_forms.proofs.Led.{below_or_not}
 use Rattle.two_spaces.proofs.Keeping.{copied_or_not}
 use Rattle.convert_queue.specs.Queues.{Queues}
 use Rattle.convert_words.specs.Agreeing.{Is}
 use Rattle.machine_forms.specs.declared.doing.Doing.{Doing}
 use Rattle.machine_forms.specs.declared.doing.Doing.TheVariants.{Nothing}
-use Rattle.machine_forms.specs.Machines.{Opening, Machine, known_in, doing_of, layout_in}
+use Rattle.machine_forms.specs.Machines.{Opening, Machine, known_in, shown_in, memory_of, doing_of, log_of, layout_in}
 use Rattle.machine_forms.specs.Keeping.{IsDoing, KeepsRun}
-use Rattle.machine_forms.specs.Events.{ActsBeside, StoresBeside, NotesStore, TableAfter, IsWithFresh, LeavesRegions, left_by, act_in}
+use Rattle.machine_forms.specs.Events.{ActsBeside, DoesRequest, StoresBeside, NotesStore, TableAfter, IsWithFresh, LeavesRegions, left_by, act_in}
 use Rattle.machine_asks.specs.Laws.{ActsMayCome, ActsKeepAsked}
 use Rattle.machine_asks.proofs.Acts.{asked_after, unfenced_after, stored_unfenced, asked-next, unfenced-next, roots-next, pending-without_own}
-use Rattle.machine_asks.proofs.Coming.{LeavesClosed, step-comes}
-use Rattle.machine_asks.proofs.Regions.{IsOutside}
+use Rattle.machine_asks.proofs.Coming.{LeavesClosed, StoresOutside, step-comes}
+use Rattle.machine_asks.proofs.Outside.{IsOutside}
+use Rattle.machine_asks.proofs.Memories.{KeepsWhole}
+use Rattle.machine_asks.proofs.Requested.{copied-there, stored-there, beside-whole}
 use Rattle.machine_asks.proofs.Keeping.{LeavesThread, doing-kept, line-in, is-queues, are-durable, durable-in, in-durable}
-use Rattle.machine_asks.proofs.Acting.{Acted, acted-keeps, doing-after, holder-asks, claimer-asks}
+use Rattle.machine_asks.proofs.Acting.{Acted, acted-keeps, outside-regions, doing-after, holder-asks, claimer-asks}
 use Rattle.machine_asks.proofs.Fences.{same-closed, same-durable}
 use Rattle.machine_asks.proofs.Doing.{visible, about, owes-nothing, holds-nothing, free, calls-same}
 
@@ -174,27 +178,13 @@ elsewhere-of o m es (op.Stored (Static f) value) beside = beside
 elsewhere-of o m es (op.Stored (Slot n i) value) beside = beside.0
 elsewhere-of o m es operation beside = tt
 
--- a line that is copied is one of a durable object, or of a claimed one
-copied-there : (o : Opening) (m : Machine) (es : List Entry) (k : KeepsRun o m es) (n c : ℕ)
-    → HasCopied (entry es n) c → InP es n ⊎ ((u : ℕ) × IsClaimed es u n)
-copied-there o m es k n c copied = elim (below_or_not n (length es)) [
-  | inl lt ↦ (elim (same_or_not (entry es n).owner 0) [
-    | inr some ↦ (let own : (entry es n).owner ≡ ((entry es n).owner - 1) + 1 = omega (arith, some) in
-        inr ((entry es n).owner - 1, (lt, own)))
-    | inl none ↦ inl (lt, moved lt none copied, none)
-  ])
-  | inr past ↦ absurd (let none = get_or-eq_default es no_entry past in
-      nothing (subst (λ (e : Entry). HasCopied e c) none copied))
-]
-  where
-    nothing : HasCopied no_entry c → ⊥
-    nothing (inl two) = omega (arith, two)
-    nothing (inr one) = let st = one.0 in omega (arith, st)
-
-    moved : n < length es → (entry es n).owner ≡ 0 → HasCopied (entry es n) c → 1 < (entry es n).stage
-    moved lt none (inl two) = two
-    moved lt none (inr one) = absurd
-        (let some = k.heap.whole.lies.table.copying n lt one.0 in omega (arith, none, some))
+stores-outside : (o : Opening) (m : Machine) (es : List Entry) (t : ℕ) (operation : Op)
+    → StoresBeside o m es operation → StoresOutside (known_in o m) t operation
+stores-outside o m es t (op.Stored (Static f) value) beside =
+    λ durable. absurd (false≢true (sym beside ∙ durable))
+stores-outside o m es t (op.Stored (Slot n i) value) beside =
+    λ durable. absurd (false≢true (sym beside.0 ∙ durable))
+stores-outside o m es t operation beside = tt
 
 queues-of : (o : Opening) (m : Machine) (es : List Entry) (k : KeepsRun o m es) (operation : Op) (q' : Queues)
     → StoresBeside o m es operation → NotesStore es operation m.queue q' → q'.queues ≡ m.queue.queues
@@ -230,6 +220,15 @@ module _ (o : Opening) (m : Machine) (es : List Entry) (k : KeepsRun o m es) (m'
   empty : (i n : ℕ) → Is m.queue es t i n → ⊥
   empty i n at = holds-nothing o m m' es t request operation r k acts.does i n at
 
+  -- a store is one to a place that is there
+  there : (place : Place) (value : Value) → operation ≡ op.Stored place value
+      → has_place (heap_of [] (shown_in m)) place ≡ true
+  there place value is = stored-there o m es k m' t request place value r
+      (subst (λ (x : Op). DoesRequest o m m' es t request x r) is acts.does)
+
+  whole : (u : ℕ) → u < 64 → KeepsWhole (log_of m u) (memory_of m')
+  whole u lt = beside-whole o m es k m'.spaces u lt operation r acts.beside there acts.does.heap
+
   module _ (es' : List Entry) (after : TableAfter m operation es es') where
     adds : OnlyAdds es es'
     adds = table-adds m operation es es' after
@@ -259,7 +258,7 @@ module _ (o : Opening) (m : Machine) (es : List Entry) (k : KeepsRun o m es) (m'
     beside-acted : Acted o m m' es es' act
     beside-acted = record {
       acts = acts.does.acts;
-      outside = outside;
+      regions = outside-regions o m m' es es' k act acts.does.acts outside acts.logs lines whole;
       closed = same-closed o m es k act leaves;
       timed = (let same = calls-same o m m' es t request operation r k acts.does in omega (arith, same));
       few = (let same = calls-same o m m' es t request operation r k acts.does in let few = k.asked.few in
@@ -290,7 +289,7 @@ acts-come o m es k m' t request operation r acts =
     step-comes o.launch.set (known_in o m) _ _ t _ (free o m m' es t request operation r k acts.does)
     operation
     (outside o m es k m' t request operation r acts) (is-visible o m es k m' t request operation r acts)
-    (about o m m' es t request operation r k acts.does)
+    (about o m m' es t request operation r k acts.does) (stores-outside o m es t operation acts.beside)
     (same-closed o m es k (act_in m t operation []) (leaves o m es k m' t request operation r acts))
 
 pub acts-keep : ActsKeepAsked

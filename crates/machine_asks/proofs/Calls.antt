@@ -1,14 +1,29 @@
 -- Calls of the image leave what was asked, and a write-back what is owed.
-use Rattle.std.proofs.Common.{◌≡◌, ◌≢◌, ℕ, refl, sym, ◌∙◌, subst, arith}
+use Rattle.std.proofs.Common.{◌≡◌, ◌≢◌, ℕ, List, refl, sym, ◌∙◌, subst, arith}
 use Rattle.std.proofs.lemmas.List.{length-set}
 use Rattle.machine_forms.specs.declared.doing.Doing.{Doing}
 use Rattle.machine_forms.specs.declared.doing.Doing.TheVariants.{Nothing, Writing, Fencing}
-use Rattle.machine_forms.specs.Machines.{known_in, memory_of, doing_of, layout_in}
-use Rattle.machine_forms.specs.Keeping.{IsDoing}
-use Rattle.machine_forms.specs.Events.{with_twin, with_write}
+use Rattle.twin_forms.specs.Table.{Entry}
+use Rattle.twin_forms.specs.Sights.{Twin}
+use Rattle.machine_forms.specs.Machines.{Opening, Machine, known_in, memory_of, doing_of, log_of, layout_in}
+use Rattle.machine_forms.specs.Keeping.{IsDoing, KeepsRegions, KeepsRun}
+use Rattle.machine_forms.specs.Events.{CallsImage, with_twin, with_write}
 use Rattle.machine_asks.specs.Laws.{CallsKeepAsked, WritesKeepAsked}
 use Rattle.machine_asks.proofs.Lists.{each-set, set-within}
 use Rattle.machine_asks.proofs.Keeping.{few-calls, first-kept}
+use Rattle.machine_asks.proofs.Memories.{KeepsWhole}
+use Rattle.machine_asks.proofs.Changes.{whole-call}
+use Rattle.machine_asks.proofs.Quiet.{quiet-regions}
+
+-- a call leaves all regions
+call-regions : (o : Opening) (m : Machine) (es : List Entry) (k : KeepsRun o m es) (twin : Twin)
+    (m' : Machine)
+    → CallsImage m twin → m'.acts ≡ m.acts → m'.logs ≡ m.logs → memory_of m' ≡ twin.memory
+    → KeepsRegions o m' es
+call-regions o m es k twin m' c acts logs memory =
+    quiet-regions o m m' es es k acts logs (λ n p. p) (λ n p. refl)
+    (λ u lt. subst (KeepsWhole (log_of m u)) (sym memory)
+    (whole-call o m es k twin.memory u lt c.call.keeps c.call.known_after))
 
 pub calls-keep : CallsKeepAsked
 calls-keep o m es k twin c = record {
@@ -21,7 +36,7 @@ calls-keep o m es k twin c = record {
   closed = k.asked.closed;
   timed = (let before = k.asked.timed in let later = c.later in omega (arith, before, later));
   few = few-calls (memory_of m) twin.memory c.count k.asked.few;
-  regions = k.asked.regions;
+  regions = call-regions o m es k twin (with_twin m twin) c refl refl refl;
 }
 
 busy : (d : Doing) (line : ℕ) → d ≡ Writing line → d ≢ Nothing
@@ -45,5 +60,5 @@ writes-keep o m es k twin t w =
       closed = after.closed;
       timed = after.timed;
       few = after.few;
-      regions = after.regions;
+      regions = call-regions o m es k twin (with_write m twin t) w.calls refl refl refl;
     }

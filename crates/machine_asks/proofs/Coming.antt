@@ -1,5 +1,5 @@
 -- When an act may come next, outside regions.
-use Rattle.std.proofs.Common.{◌≡◌, inl, ℕ, ◌<◌, ◌≤◌, Bool, true, false, List, [], ◌++◌, length, Option, refl, sym, ◌∙◌, ap}
+use Rattle.std.proofs.Common.{◌≡◌, inl, ℕ, ◌<◌, ◌≤◌, Bool, true, false, List, [], ◌++◌, length, Option, None, refl, sym, ◌∙◌, ap}
 use Rattle.std.proofs.lemmas.Bool.{true≢false}
 use Rattle.std.proofs.lemmas.List.{append-nil}
 use Rattle.ap_base.specs.declared.place.Place.TheVariants.{Static, Slot}
@@ -17,7 +17,7 @@ use Rattle.plain_model.specs.Runs.{IsAbout, MayAct, Rule, is_fenced, is_volatile
 use Rattle.plain_model.proofs.Durable.{made_durable}
 use Rattle.machine_asks.proofs.Acts.{durable-next}
 use Rattle.machine_asks.proofs.Closed.{AreClosed, of_known, is_closed_by, slot-stored, static-stored, made}
-use Rattle.machine_asks.proofs.Regions.{IsOutside}
+use Rattle.machine_asks.proofs.Outside.{IsOutside}
 
 -- ---- the heap after an act
 
@@ -79,12 +79,24 @@ closed-next known a leaves there c =
 
 -- ---- acts
 
--- What visible acts need that begin and end no region, where none is open.
+-- What visible acts need.
 pub record IsFree (known : Knowledge) (t calls : ℕ) : Type 0 where
   pub later : known.at ≤ calls
-  pub guards : known.guards ≡ []
-  pub depth : depth_of known.world t ≡ 0
   pub owes : owes_fence known.unfenced t ≡ false
+
+-- a durable store is outside regions, at a place that no region has guarded
+abbrev pub StoresOutside : Knowledge → ℕ → Op → Type 0
+StoresOutside known t (op.Stored place value) = durable_at known place ≡ true
+    → (guard_of known.guards place ≡ None) × (depth_of known.world t ≡ 0)
+StoresOutside known t o = Unit {0}
+
+pub names-of : (o : Op) → NamesRightly o []
+names-of op.Joined = tt
+names-of o = refl
+
+pub not-fenced : (o : Op) → is_persistent o ≡ false → is_fenced o ≡ false
+not-fenced op.Fenced e = absurd (true≢false e)
+not-fenced o e = refl
 
 abbrev pub act_at : ℕ → ℕ → Op → Recorded
 act_at t calls o = record { act = record { thread = t; at = calls; op = o }; named = [] }
@@ -92,35 +104,28 @@ act_at t calls o = record { act = record { thread = t; at = calls; op = o }; nam
 module _ (set : SetFacts) (known : Knowledge) (Now : Wishes) (q : Option PlainRequest) (t calls : ℕ)
     (free : IsFree known t calls) where
   rule-of : (o : Op) → IsOutside o → is_persistent o ≡ false → IsAbout set known q t o
-      → Rule set known Now q t [] o
-  rule-of (op.Asked place value) is e about = absurd (true≢false e)
-  rule-of op.Joined is e about = absurd (true≢false e)
-  rule-of (op.Guarded place) is e about = absurd is
-  rule-of op.Closing is e about = absurd is
-  rule-of op.Fenced is e about = absurd (true≢false e)
-  rule-of (op.Stored place value) is e about = record {
+      → StoresOutside known t o → Rule set known Now q t [] o
+  rule-of (op.Asked place value) is e about stores = absurd (true≢false e)
+  rule-of op.Joined is e about stores = absurd (true≢false e)
+  rule-of (op.Guarded place) is e about stores = absurd is
+  rule-of op.Closing is e about stores = absurd is
+  rule-of op.Fenced is e about stores = absurd (true≢false e)
+  rule-of (op.Stored place value) is e about stores = record {
     is_about = about;
-    no_race = λ durable. inl (ap (λ gs. guard_of gs place) free.guards);
-    guarded = λ durable inside. absurd (inside free.depth);
+    no_race = λ durable. inl (stores durable).0;
+    guarded = λ durable inside. absurd (inside (stores durable).1);
   }
-  rule-of op.Begin is e about = absurd is
-  rule-of op.End is e about = absurd is
-  rule-of o is e about = about
-
-  names-of : (o : Op) → NamesRightly o []
-  names-of op.Joined = tt
-  names-of o = refl
-
-  not-fenced : (o : Op) → is_persistent o ≡ false → is_fenced o ≡ false
-  not-fenced op.Fenced e = absurd (true≢false e)
-  not-fenced o e = refl
+  rule-of op.Begin is e about stores = absurd is
+  rule-of op.End is e about stores = absurd is
+  rule-of o is e about stores = about
 
   -- what a step does may come next
   pub step-comes : (o : Op) → IsOutside o → is_persistent o ≡ false → IsAbout set known q t o
-      → IsClosed (next_known known (act_at t calls o)) → MayAct set known Now q (act_at t calls o)
-  step-comes o is e about closed = record {
+      → StoresOutside known t o → IsClosed (next_known known (act_at t calls o))
+      → MayAct set known Now q (act_at t calls o)
+  step-comes o is e about stores closed = record {
     later = free.later;
-    rule = rule-of o is e about;
+    rule = rule-of o is e about stores;
     named = names-of o;
     fence = not-fenced o e ∙ sym free.owes;
     is_closed = closed;

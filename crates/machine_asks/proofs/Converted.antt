@@ -1,13 +1,12 @@
 -- Steps of conversions that seal nothing leave what was asked, and what is claimed is wanted.
-use Rattle.std.proofs.Common.{◌≡◌, ◌≢◌, ◌⊎◌, inl, inr, ◌↔◌, ℕ, ◌+◌, ◌<◌, ◌≤◌, ◌^◌, true, List, [], ◌∷◌, ◌++◌, length, refl, sym, ◌∙◌, ap, subst, arith}
+use Rattle.std.proofs.Common.{◌≡◌, ◌≢◌, ◌⊎◌, inl, inr, ◌↔◌, ℕ, ◌+◌, ◌<◌, true, List, [], ◌∷◌, ◌++◌, length, refl, sym, ◌∙◌, ap, subst, arith}
 use Rattle.std.specs.Prelude.{slice_set, slice_index_or}
 use Rattle.std.proofs.lemmas.List.{length_push, get_or-set_same, get_or-set_other, get_or_append_left}
 use Rattle.graph_model.specs.declared.types.Heap.{Heap}
 use Rattle.graph_model.specs.Reach.{Refers}
 use Rattle.line_memory.specs.Memory.{Memory, SameImage, OneCall}
-use Rattle.run_history.specs.Recorded.{Recorded}
-use Rattle.run_history.specs.Knowing.{known_after}
-use Rattle.run_history.specs.Wanted.{NoWish, WantsAfter}
+use Rattle.line_memory.specs.Moments.{KeepsShown}
+use Rattle.run_history.specs.Wanted.{NoWish}
 use Rattle.shared_objects.specs.Worlds.{heap_of}
 use Rattle.twin_forms.specs.Table.{Entry, entry, View, Names, Lies, IsClaimed, InP, refers, word_of}
 use Rattle.twin_forms.specs.Moves.{SameHeap}
@@ -20,68 +19,17 @@ use Rattle.convert_words.specs.Agreeing.{Is, Queueing}
 use Rattle.convert_words.specs.Steps.{OneBecomes, claimed_at}
 use Rattle.convert_words.specs.Scenes.{Scene}
 use Rattle.convert_words.specs.Converting.{Says, Calls, TakesIn}
-use Rattle.machine_forms.specs.declared.doing.Doing.{Doing}
-use Rattle.machine_forms.specs.declared.doing.Doing.TheVariants.{Nothing}
-use Rattle.machine_forms.specs.Machines.{Opening, Machine, first_of, known_in, wants_in, roots_in, memory_of, shown_in, scene_of, doing_of, layout_in}
-use Rattle.machine_forms.specs.Keeping.{IsDoing, QueuesFirst, KeepsAsked, KeepsRun}
+use Rattle.machine_forms.specs.Machines.{Opening, Machine, first_of, known_in, wants_in, roots_in, memory_of, shown_in, scene_of}
+use Rattle.machine_forms.specs.Keeping.{QueuesFirst, KeepsAsked, KeepsRun}
 use Rattle.machine_forms.specs.Events.{ConvertsOn, IsNoSeal}
 use Rattle.machine_asks.specs.Laws.{ConversionsKeepAsked, FailuresKeepAsked}
 use Rattle.machine_asks.proofs.Wishes.{wants-closed}
 use Rattle.machine_asks.proofs.Tables.{HasItem, durable-line, is-kept, is-back, same-durable, same-item}
 use Rattle.machine_asks.proofs.Words.{slot-refers, leads-named}
-use Rattle.machine_asks.proofs.Keeping.{few-calls, later-calls, doing-kept, line-in, is-queues, first-kept, are-durable, durable-in}
-use Rattle.machine_asks.proofs.Acting.{keeps-by}
-
--- ---- no act is made
-
--- What is left by an event that makes no act.
-pub record Quiet (o : Opening) (m m' : Machine) (es es' : List Entry) : Type 0 where
-  pub acts : m'.acts ≡ m.acts
-  pub about : m'.doing ≡ m.doing
-  pub durable : (n : ℕ) → InP es' n ↔ InP es n
-  pub lines : (n : ℕ) → InP es n → (entry es' n).line ≡ (entry es n).line
-  pub queued : (u i n : ℕ) → Is m'.queue es' u i n → QueuesFirst (known_in o m) m' es' u
-  pub wanted : (u n : ℕ) → IsClaimed es' u n → wants_in o m u n
-  pub later : (memory_of m).calls ≤ (memory_of m').calls
-  pub few : (memory_of m').calls < 2 ^ 64
-
-module _ (o : Opening) (m m' : Machine) (es es' : List Entry) (k : KeepsRun o m es)
-    (quiet : Quiet o m m' es es') where
-  known-same : known_in o m' ≡ known_in o m
-  known-same = ap (λ (acts : List Recorded). known_after (first_of o) acts) quiet.acts
-
-  about-same : (u : ℕ) → IsDoing (known_in o m) (layout_in o es') u (doing_of m' u)
-  about-same u = subst (λ (ds : List Doing).
-      IsDoing (known_in o m) (layout_in o es') u (slice_index_or ds u Nothing))
-      (sym quiet.about)
-      (doing-kept (known_in o m) (known_in o m) (layout_in o es) (layout_in o es') u (doing_of m u) (record {
-        durable = are-durable o m es k;
-        roots = refl;
-        lines = λ n is. (let p = durable-in o m es k n is in
-            line-in o es' n ((quiet.durable n).1 p) ∙ quiet.lines n p ∙ sym (line-in o es n p));
-        size = refl;
-        pending = refl;
-        unfenced = refl;
-      }) (k.asked.doing u))
-
-  pub quiet-keeps : KeepsAsked o m' es'
-  quiet-keeps = keeps-by (known_in o m) o m' es' known-same (record {
-    durable = λ n. (
-      λ is. (quiet.durable n).1 ((k.asked.durable n).0 is),
-      λ p.
-          (k.asked.durable n).1 ((quiet.durable n).0 p),
-    );
-    doing = about-same;
-    threads = ap length quiet.about ∙ k.asked.threads;
-    queued = quiet.queued;
-    wanted = λ u n c. subst (λ (acts : List Recorded). WantsAfter (first_of o) NoWish acts u n)
-        (sym quiet.acts)
-        (quiet.wanted u n c);
-    closed = k.asked.closed;
-    timed = (let before = k.asked.timed in let later = quiet.later in omega (arith, before, later));
-    few = quiet.few;
-    regions = k.asked.regions;
-  })
+use Rattle.machine_asks.proofs.Keeping.{few-calls, later-calls, is-queues, first-kept}
+use Rattle.machine_asks.proofs.Quiet.{Quiet, quiet-keeps, quiet-regions}
+use Rattle.machine_asks.proofs.Changes.{whole-call}
+use Rattle.machine_asks.proofs.Steps.{step-whole}
 
 -- ---- a claim
 
@@ -288,6 +236,10 @@ module _ (o : Opening) (m : Machine) (es : List Entry) (k : KeepsRun o m es) (m'
     wanted = wanted;
     later = later-calls (memory_of m) (memory_of m') counted k.asked.few;
     few = few-calls (memory_of m) (memory_of m') counted k.asked.few;
+    regions = quiet-regions o m m' es after k (ap (λ (x : Machine). x.acts) c.same)
+        (ap (λ (x : Machine). x.logs) c.same) (λ n p. (durable n).1 p)
+        (durable-line (view_of at.heap) (view_of m'.spaces.twin) es after lies-at lies-after
+        c.event.converts.shows) (λ u lt. step-whole o m es k m' t answer c u lt);
   }
 
   plain-keeps : IsPlain answer → IsNoSeal answer → KeepsAsked o m' after
@@ -371,4 +323,9 @@ failures-keep o m es k m' t f =
       wanted = k.asked.wanted;
       later = later-calls (memory_of m) (memory_of m') count k.asked.few;
       few = few-calls (memory_of m) (memory_of m') count k.asked.few;
+      regions = quiet-regions o m m' es es k (ap (λ (x : Machine). x.acts) f.same)
+          (ap (λ (x : Machine). x.logs) f.same) (λ n p. p) (λ n p. refl)
+          (λ u lt. whole-call o m es k (memory_of m') u lt
+          (subst (λ (x : Memory). KeepsShown x (memory_of m'))
+          (ap (λ (x : Twin). x.memory) f.event.goes_on.heap) f.event.fails.keeps) f.sound.known);
     })

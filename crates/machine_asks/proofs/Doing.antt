@@ -1,4 +1,4 @@
--- What a request's step leaves of a machine where no region is open.
+-- What a request's step leaves of a machine.
 use Rattle.std.proofs.Common.{◌≡◌, inl, inr, ℕ, false, List, [], Some, ◌∙◌, ap}
 use Rattle.std.specs.Prelude.{slice_index_or}
 use Rattle.ap_base.specs.declared.place.Place.{Place}
@@ -69,6 +69,27 @@ same-calls s now es (op.Throw n class) r stands becomes =
     ap (λ (m : Memory). m.calls) (becomes es stands).memory
 same-calls s now es o r stands becomes = ap (λ (x : Spaces). x.twin.memory.calls) becomes
 
+-- ---- what a thread is about
+
+-- Who has asked nothing, or for what is durable now, owes no fence and has claimed nothing.
+module _ (o : Opening) (m : Machine) (es : List Entry) (t : ℕ) (k : KeepsRun o m es) where
+  pub idle-owes : (d : Doing) → IsIdle o m es t d → IsDoing (known_in o m) (layout_in o es) t d
+      → owes_fence (known_in o m).unfenced t ≡ false
+  idle-owes Nothing idle is = is.1
+  idle-owes Converting idle is = is.1
+  idle-owes (Writing line) idle is = absurd idle
+  idle-owes Fencing idle is = absurd idle
+
+  pub idle-empty : (d : Doing) → IsIdle o m es t d → IsDoing (known_in o m) (layout_in o es) t d
+      → (i n : ℕ) → Is m.queue es t i n → ⊥
+  idle-empty Nothing idle is i n at = none-queued o m es k t i n is.0 at
+  idle-empty Converting idle is i n at =
+      let first = k.asked.queued t i n at in
+      claimed-outside o m es k t first.object first.first.claimed
+      (idle first.pending first.object first.is_pending first.value)
+  idle-empty (Writing line) idle is i n at = absurd idle
+  idle-empty Fencing idle is i n at = absurd idle
+
 -- ---- one step
 
 module _ (o : Opening) (m m' : Machine) (es : List Entry) (t : ℕ) (request : Request Ref Item)
@@ -86,34 +107,15 @@ module _ (o : Opening) (m m' : Machine) (es : List Entry) (t : ℕ) (request : R
       k.world.world
       ∙ (does.step.follows (roots_in o m)).0)
 
-  idle-owes : (d : Doing) → IsIdle o m es t d → IsDoing (known_in o m) (layout_in o es) t d
-      → owes_fence (known_in o m).unfenced t ≡ false
-  idle-owes Nothing idle is = is.1
-  idle-owes Converting idle is = is.1
-  idle-owes (Writing line) idle is = absurd idle
-  idle-owes Fencing idle is = absurd idle
-
   pub owes-nothing : owes_fence (known_in o m).unfenced t ≡ false
-  owes-nothing = idle-owes (doing_of m t) does.doing (k.asked.doing t)
-
-  idle-empty : (d : Doing) → IsIdle o m es t d → IsDoing (known_in o m) (layout_in o es) t d
-      → (i n : ℕ) → Is m.queue es t i n → ⊥
-  idle-empty Nothing idle is i n at = none-queued o m es k t i n is.0 at
-  idle-empty Converting idle is i n at =
-      let first = k.asked.queued t i n at in
-      claimed-outside o m es k t first.object first.first.claimed
-      (idle first.pending first.object first.is_pending first.value)
-  idle-empty (Writing line) idle is i n at = absurd idle
-  idle-empty Fencing idle is i n at = absurd idle
+  owes-nothing = idle-owes o m es t k (doing_of m t) does.doing (k.asked.doing t)
 
   pub holds-nothing : (i n : ℕ) → Is m.queue es t i n → ⊥
-  holds-nothing i n at = idle-empty (doing_of m t) does.doing (k.asked.doing t) i n at
+  holds-nothing i n at = idle-empty o m es t k (doing_of m t) does.doing (k.asked.doing t) i n at
 
   pub free : IsFree (known_in o m) t (memory_of m).calls
   free = record {
     later = k.asked.timed;
-    guards = k.asked.regions.guards;
-    depth = k.asked.regions.depths t;
     owes = owes-nothing;
   }
 

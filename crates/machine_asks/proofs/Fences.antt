@@ -22,14 +22,15 @@ use Rattle.machine_forms.specs.declared.doing.Doing.{Doing}
 use Rattle.machine_forms.specs.declared.doing.Doing.TheVariants.{Nothing, Converting, Fencing}
 use Rattle.machine_forms.specs.Machines.{Opening, Machine, known_in, wants_in, roots_in, memory_of, shown_in, doing_of, layout_in}
 use Rattle.machine_forms.specs.Keeping.{IsDoing, KeepsRun}
-use Rattle.machine_forms.specs.Events.{MakesFence, with_twin, with_fence, act_in, AsksFor, IsSlotOfClaimed, with_asked, value_in}
+use Rattle.machine_forms.specs.Events.{MakesFence, with_twin, with_fence, act_in, AsksFor, IsStoreOf, IsSlotOfClaimed, with_asked, value_in}
 use Rattle.machine_asks.specs.Laws.{FencedMayCome, FencesKeepAsked, AskedMayCome, AskedKeepAsked}
 use Rattle.machine_asks.proofs.Acts.{asked-next, unfenced-next, unfenced-without_own, owes_none, owes_some, pending-own}
 use Rattle.machine_asks.proofs.Asking.{stores-anyhow}
 use Rattle.machine_asks.proofs.Coming.{AreThere, LeavesClosed, closed-next, durable-same}
 use Rattle.machine_asks.proofs.Lists.{set-within}
+use Rattle.machine_asks.proofs.Changes.{whole-same, whole-call}
 use Rattle.machine_asks.proofs.Keeping.{few-calls, is-queues, none-queued, not-durable, durable-in}
-use Rattle.machine_asks.proofs.Acting.{Acted, acted-keeps, doing-after, holder-asks, claimer-asks}
+use Rattle.machine_asks.proofs.Acting.{Acted, acted-keeps, outside-regions, doing-after, holder-asks, claimer-asks}
 
 -- ---- one machine
 
@@ -73,7 +74,8 @@ module _ (o : Opening) (m : Machine) (es : List Entry) (k : KeepsRun o m es) (tw
   fence-acted : Acted o m (with_fence m twin t) es es fence
   fence-acted = record {
     acts = refl;
-    outside = tt;
+    regions = outside-regions o m (with_fence m twin t) es es k fence refl tt refl (λ n p. refl)
+        (λ u lt. whole-call o m es k twin.memory u lt f.calls.call.keeps f.calls.call.known_after);
     closed = same-closed o m es k fence tt;
     timed = omega arith;
     few = few-calls (memory_of m) twin.memory f.calls.count k.asked.few;
@@ -110,6 +112,16 @@ fences-keep o m es k twin t f =
 
 -- ---- what is asked
 
+-- the plain step of a store that a request asks
+pub about-store : (o : Opening) (m : Machine) (es : List Entry) (k : KeepsRun o m es) (t : ℕ)
+    (request : Request Ref Item) (place : Place) (item : Item) → IsStoreOf o m t request place item
+    → IsAbout o.launch.set (known_in o m) (Some (plain_request (shown_in m).number request)) t
+    (op.Stored place (value_in m item))
+about-store o m es k t request place item stores = ap op_of (
+    ap (λ w. step o.launch.set w t 1 (plain_request (shown_in m).number request)) k.world.world
+    ∙ stores-anyhow o.launch.set (shown_in m) m.rest t (roots_in o m) 1
+    (plain_request (shown_in m).number request) place (value_in m item) stores.asks)
+
 module _ (o : Opening) (m : Machine) (es : List Entry) (k : KeepsRun o m es) (t : ℕ)
     (request : Request Ref Item)
     (place : Place) (item : Item) (asks : AsksFor o m es t request place item) where
@@ -121,13 +133,6 @@ module _ (o : Opening) (m : Machine) (es : List Entry) (k : KeepsRun o m es) (t 
 
   is-idle : IsDoing (known_in o m) (layout_in o es) t Nothing
   is-idle = subst (IsDoing (known_in o m) (layout_in o es) t) asks.doing (k.asked.doing t)
-
-  about : IsAbout o.launch.set (known_in o m) (Some (plain_request (shown_in m).number request)) t
-      (op.Stored place value)
-  about = ap op_of (
-      ap (λ w. step o.launch.set w t 1 (plain_request (shown_in m).number request)) k.world.world
-      ∙ stores-anyhow o.launch.set (shown_in m) m.rest t (roots_in o m) 1
-      (plain_request (shown_in m).number request) place value asks.stores.asks)
 
   holder : (d : Bool) → d ≡ true ⊎ IsSlotOfClaimed es place
       → (d ≡ true) ⊎ IsKeptSlotOfWanted (known_in o m) (wants_in o m) place
@@ -147,7 +152,7 @@ module _ (o : Opening) (m : Machine) (es : List Entry) (k : KeepsRun o m es) (t 
     later = k.asked.timed;
     rule = record {
       none_pending = is-idle.0;
-      is_about = about;
+      is_about = about-store o m es k t request place item asks.stores;
       volatile = (asks.object, asks.value, not-durable o m es k asks.object asks.volatile);
       holder = holder _ asks.holder;
     };
@@ -159,7 +164,8 @@ module _ (o : Opening) (m : Machine) (es : List Entry) (k : KeepsRun o m es) (t 
   ask-acted : Acted o m (with_asked m t place value) es es asked
   ask-acted = record {
     acts = refl;
-    outside = tt;
+    regions = outside-regions o m (with_asked m t place value) es es k asked refl tt refl (λ n p. refl)
+        (λ u lt. whole-same o m es k (memory_of m) u lt refl);
     closed = same-closed o m es k asked tt;
     timed = omega arith;
     few = k.asked.few;

@@ -32,10 +32,11 @@ use Rattle.machine_asks.proofs.Closed.{of_known, is_closed_by, joined, has_numbe
 use Rattle.plain_model.proofs.Durable.{has_number-append_left, has_number-append_cases}
 use Rattle.machine_asks.proofs.Coming.{heap-next}
 use Rattle.machine_asks.proofs.Lists.{all-numbers}
+use Rattle.machine_asks.proofs.Steps.{step-whole}
 use Rattle.machine_asks.proofs.Tables.{durable-line, is-kept, is-back, same-item}
 use Rattle.machine_asks.proofs.Words.{LeadsTo, refers-slot}
 use Rattle.machine_asks.proofs.Keeping.{few-calls, later-calls, doing-kept, line-in, is-queues, are-durable, durable-in, in-durable, not-durable, claimed-outside}
-use Rattle.machine_asks.proofs.Acting.{Acted, acted-keeps}
+use Rattle.machine_asks.proofs.Acting.{Acted, acted-keeps, outside-regions}
 use Rattle.machine_asks.proofs.Converted.{memory-at, counted, lies-at, lies-after, heap-is}
 
 module _ (o : Opening) (m : Machine) (es : List Entry) (k : KeepsRun o m es) (m' : Machine) (t set : ℕ)
@@ -148,6 +149,13 @@ module _ (o : Opening) (m : Machine) (es : List Entry) (k : KeepsRun o m es) (m'
   still-there : (n : ℕ) → InP es n → InP after n
   still-there n p = (says.durable n).1 (inl p)
 
+  lines-now : (n : ℕ) → InP es n → (layout_in o after).line_of n ≡ (layout_in o es).line_of n
+  lines-now n p =
+      line-in o after n (still-there n p)
+      ∙ durable-line (view_of at.heap) v' es after (lies-at o m es k m' t (step.Sealed set) c)
+      (lies-after o m es k m' t (step.Sealed set) c) c.event.converts.shows n p
+      ∙ sym (line-in o es n p)
+
   about-now : (u : ℕ) → IsDoing (next_known (known_in o m) act) (layout_in o after) u (doing_of m' u)
   about-now u = subst (λ (ds : List Doing). IsDoing (next_known (known_in o m) act) (layout_in o after) u
       (slice_index_or ds u Nothing)) (sym (ap (λ (x : Machine). x.doing) c.same))
@@ -156,11 +164,7 @@ module _ (o : Opening) (m : Machine) (es : List Entry) (k : KeepsRun o m es) (m'
       (record {
         durable = are-durable o m es k;
         roots = roots-next (known_in o m) act;
-        lines = λ n is. (let p = durable-in o m es k n is in
-            line-in o after n (still-there n p)
-            ∙ durable-line (view_of at.heap) v' es after (lies-at o m es k m' t (step.Sealed set) c)
-            (lies-after o m es k m' t (step.Sealed set) c) c.event.converts.shows n p
-            ∙ sym (line-in o es n p));
+        lines = λ n is. lines-now n (durable-in o m es k n is);
         size = refl;
         pending = ap (λ ps. pending_of ps u) (asked-next (known_in o m) act);
         unfenced = ap (λ us. unfenced_at us u) (unfenced-next (known_in o m) act);
@@ -196,7 +200,9 @@ module _ (o : Opening) (m : Machine) (es : List Entry) (k : KeepsRun o m es) (m'
   sealed-acted : Acted o m (with_joined m' t named) es after act
   sealed-acted = record {
     acts = ap (λ (x : Machine). x.acts ++ act ∷ []) c.same;
-    outside = tt;
+    regions = outside-regions o m (with_joined m' t named) es after k act
+        (ap (λ (x : Machine). x.acts ++ act ∷ []) c.same) tt (ap (λ (x : Machine). x.logs) c.same) lines-now
+        (λ u lt. step-whole o m es k m' t (step.Sealed set) c u lt);
     closed = closed-now;
     timed = omega arith;
     few = few-calls (memory_of m) (memory_of m') (counted o m es k m' t (step.Sealed set) c) k.asked.few;

@@ -23,7 +23,7 @@ use Rattle.two_spaces.specs.Seen.{Spaces, shown_of, object_of, slot_value, slot_
 use Rattle.two_spaces.proofs.Shifting.{object_is, values_long, value_at}
 
 -- within a list it doesn't matter what stands for its end
-read-same : {X : Type 0} (xs : List X) (i : ℕ) (d e : X) → i < length xs → slice_index_or xs i d
+pub read-same : {X : Type 0} (xs : List X) (i : ℕ) (d e : X) → i < length xs → slice_index_or xs i d
     ≡ slice_index_or xs i e
 read-same xs i d e lt =
     let x = sym (slice_get-get_or xs i d lt) ∙ slice_get-get_or xs i e lt in cc

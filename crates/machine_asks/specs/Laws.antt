@@ -1,11 +1,13 @@
 -- Each act of a machine may come next in a plain run, and each event leaves what was asked and what is owed
 -- as the acts say.
-use Rattle.std.specs.Prelude.{◌≡◌, ◌↔◌, ℕ, ◌<◌, ◌^◌, List, [], length, replicate, Option, Some}
+use Rattle.std.specs.Prelude.{◌≡◌, ◌↔◌, ℕ, ◌<◌, ◌≤◌, ◌^◌, List, [], length, replicate, Option, Some}
 use Rattle.ap_base.specs.declared.reference.Ref.{Ref}
 use Rattle.ap_base.specs.declared.reference.Item.{Item}
 use Rattle.ap_base.specs.declared.place.Place.{Place}
 use Rattle.natives.specs.declared.requests.Request.{Request}
 use Rattle.natives.specs.declared.requests.Reply.{Reply}
+use Rattle.image_layout.specs.Places.{min_lines}
+use Rattle.line_memory.specs.Memory.{IsTelling}
 use Rattle.run_history.specs.declared.act.Op.{Op}
 use Rattle.run_history.specs.declared.act.Op.TheVariants as op
 use Rattle.run_history.specs.Recorded.{Recorded}
@@ -19,9 +21,13 @@ use Rattle.convert_queue.specs.Queues.{queue_of}
 use Rattle.convert_words.specs.declared.step.ConvertStep.{ConvertStep}
 use Rattle.converter.specs.declared.begin.Begun.{Begun}
 use Rattle.machine_forms.specs.declared.doing.Doing.TheVariants.{Nothing}
-use Rattle.machine_forms.specs.Machines.{Opening, Machine, known_in, wants_in, shown_in, memory_of}
+use Rattle.machine_forms.specs.Machines.{Opening, Machine, known_in, wants_in, shown_in, memory_of, log_of, empty_log}
 use Rattle.machine_forms.specs.Keeping.{KeepsRun, KeepsAsked}
+use Rattle.region_log.specs.declared.entry.Entry.{Entry as LogEntry}
+use Rattle.region_log.specs.Kept.{Counts}
+use Rattle.region_log.specs.Log.{Log}
 use Rattle.machine_forms.specs.Events.{CallsImage, with_twin, act_in, WritesBack, with_write, MakesFence, with_fence, ConvertsOn, FailsOn, BeginsOn, IsNoSeal, Seals, with_joined, AsksFor, with_asked, value_in, ActsBeside, TableAfter, StoresDurably}
+use Rattle.machine_forms.specs.Events.{BeginsRegion, ClosesRegion, EndsRegion, GuardsPlace, RegionStep, StoresLogged, with_logged}
 
 -- of every machine that keeps its run
 abbrev pub OfRuns : (Opening → Machine → List Entry → Type 0) → Type 0
@@ -30,7 +36,7 @@ OfRuns P = (o : Opening) (m : Machine) (es : List Entry) → KeepsRun o m es →
 -- ---- the start
 
 -- No act is made, no thread is about anything, and nothing is claimed. The nodes of the opening graph are
--- durable.
+-- durable. Each log is empty, and that is durable.
 pub record IsAtStart (o : Opening) (m : Machine) (es : List Entry) : Type 0 where
   pub opening : IsOpening o.launch.set o.launch.opening
   pub acts : m.acts ≡ []
@@ -39,6 +45,10 @@ pub record IsAtStart (o : Opening) (m : Machine) (es : List Entry) : Type 0 wher
   pub claimed : (t n : ℕ) → IsClaimed es t n → ⊥
   pub durable : (n : ℕ) → InP es n ↔ (n < length o.launch.opening.nodes)
   pub few : (memory_of m).calls < 2 ^ 64
+  pub logs : length m.logs ≡ 64
+  pub empty : (t : ℕ) → t < 64 → log_of m t ≡ empty_log t
+  pub long : min_lines ≤ (memory_of m).size
+  pub counts : (t : ℕ) → t < 64 → IsTelling (memory_of m).image.trace → Counts (memory_of m) t 0
 
 abbrev pub StartsKeepAsked : Type 0
 StartsKeepAsked = (o : Opening) (m : Machine) (es : List Entry) → IsAtStart o m es → KeepsAsked o m es
@@ -75,6 +85,23 @@ abbrev pub DurableStoresMayCome : Type 0
 DurableStoresMayCome = OfRuns (λ o m es. (m' : Machine) (t : ℕ) (request : Request Ref Item) (place : Place)
     (item : Item) → StoresDurably o m m' es t request place item
     → MayCome o m (asked_by m request) (act_in m t (op.Stored place (value_in m item)) []))
+
+-- the acts of a region
+pub record RegionActsMayCome : Type 0 where
+  pub begin : OfRuns (λ o m es. (m' : Machine) (t : ℕ) (request : Request Ref Item) (r : Reply Ref Item)
+      → BeginsRegion o m m' es t request r → MayCome o m (asked_by m request) (act_in m t op.Begin []))
+  pub guarded : OfRuns (λ o m es. (t : ℕ) (request : Request Ref Item) (place : Place) (item : Item)
+      (e : LogEntry) → GuardsPlace o m es t request place item e
+      → MayCome o m (asked_by m request) (act_in m t (op.Guarded place) []))
+  pub stored : OfRuns (λ o m es. (m' : Machine) (t : ℕ) (request : Request Ref Item) (place : Place)
+      (item : Item) → StoresLogged o m m' es t request place item
+      → MayCome o m (asked_by m request) (act_in m t (op.Stored place (value_in m item)) []))
+  pub closing : OfRuns (λ o m es. (twin : Twin) (t : ℕ) (request : Request Ref Item) (log' : Log)
+      → ClosesRegion o m twin t request log'
+      → MayCome o m (asked_by m request) (act_in (with_logged m twin t log') t op.Closing []))
+  pub end : OfRuns (λ o m es. (m' : Machine) (t : ℕ) (request : Request Ref Item) (r : Reply Ref Item)
+      → (ends : EndsRegion o m m' es t request r)
+      → MayCome o m (asked_by m request) (act_in (with_logged m ends.twin t ends.log) t op.End []))
 
 -- ---- calls of the image
 
@@ -120,3 +147,8 @@ ActsKeepAsked = OfRuns (λ o m es. (m' : Machine) (es' : List Entry) (t : ℕ) (
 abbrev pub DurableStoresKeepAsked : Type 0
 DurableStoresKeepAsked = OfRuns (λ o m es. (m' : Machine) (t : ℕ) (request : Request Ref Item)
     (place : Place) (item : Item) → StoresDurably o m m' es t request place item → KeepsAsked o m' es)
+
+-- ---- regions
+
+abbrev pub RegionsKeepAsked : Type 0
+RegionsKeepAsked = OfRuns (λ o m es. (m' : Machine) → RegionStep o m es m' → KeepsAsked o m' es)

@@ -1,5 +1,5 @@
 // Laws of acts, and of what was asked.
-ghost use Rattle.machine_asks.specs.Laws.{ActsKeepAsked, ActsMayCome, AskedKeepAsked, AskedMayCome, BeginningsKeepAsked, CallsKeepAsked, ConversionsKeepAsked, DurableStoresKeepAsked, DurableStoresMayCome, FailuresKeepAsked, FencedMayCome, FencesKeepAsked, JoinedMayCome, SealsKeepAsked, StartsKeepAsked, WritesKeepAsked};
+ghost use Rattle.machine_asks.specs.Laws.{ActsKeepAsked, ActsMayCome, AskedKeepAsked, AskedMayCome, BeginningsKeepAsked, CallsKeepAsked, ConversionsKeepAsked, DurableStoresKeepAsked, DurableStoresMayCome, FailuresKeepAsked, FencedMayCome, FencesKeepAsked, JoinedMayCome, RegionActsMayCome, RegionsKeepAsked, SealsKeepAsked, StartsKeepAsked, WritesKeepAsked};
 
 /// A machine without acts, over objects of which the nodes of the opening graph are durable.
 pub fn machines_start_with_nothing_asked()
@@ -35,4 +35,15 @@ pub fn acts_keep_what_was_asked()
     ensures asked { AskedKeepAsked }
     ensures beside { ActsKeepAsked }
     ensures durable { DurableStoresKeepAsked }
+{}
+
+/// The acts of a region may come next in a plain run: its begin, a place that it guards, a store
+/// there, its closing and its end.
+pub fn acts_of_regions_may_come()
+    ensures { RegionActsMayCome }
+{}
+
+/// The events of regions: they begin, guard and log words, store there, and end, a call at a time.
+pub fn regions_keep_what_was_asked()
+    ensures { RegionsKeepAsked }
 {}

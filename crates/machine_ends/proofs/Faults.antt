@@ -1,6 +1,6 @@
 -- The fault of a step is that by which the event ends the plain run, and a step that does an operation met
--- none; of a thread that owes no fence, where no region is open.
-use Rattle.std.proofs.Common.{◌≡◌, ℕ, ◌<◌, ◌≤◌, ◌&&◌, ◌||◌, Bool, true, false, not, List, [], ◌∷◌, length, map, replicate, nat_eq, nat_le, is_some, Option, Some, None, inl, inr, refl, ap, sym, subst, ◌∙◌, arith, if◌then◌else◌}
+-- none; of a thread that owes no fence.
+use Rattle.std.proofs.Common.{◌≡◌, ℕ, ◌<◌, ◌≤◌, ◌&&◌, ◌||◌, Bool, true, false, not, List, ◌∷◌, length, map, replicate, nat_le, is_some, Option, Some, None, inl, inr, refl, ap, sym, subst, ◌∙◌, arith, if◌then◌else◌}
 use Rattle.std.specs.Prelude.{slice_get, slice_set}
 use Rattle.std.proofs.lemmas.Bool.Decides.{nat_tests}
 use Rattle.std.proofs.lemmas.List.{length-map}
@@ -23,15 +23,14 @@ use Rattle.run_history.specs.declared.act.Op.{Op}
 use Rattle.run_history.specs.declared.act.Op.TheVariants as op
 use Rattle.run_history.specs.declared.plain.Monitor.{Monitor}
 use Rattle.run_history.specs.Recorded.{Recorded}
-use Rattle.run_history.specs.Worlds.{World, depth_of, entered, held, monitors_after_op}
-use Rattle.run_history.specs.Knowing.{Knowledge, durable_at, guard_of, owes_fence}
+use Rattle.run_history.specs.Worlds.{World, entered, held, monitors_after_op}
+use Rattle.run_history.specs.Knowing.{Knowledge, owes_fence}
 use Rattle.plain_model.specs.Requests.{PlainRequest}
-use Rattle.plain_model.specs.Limits.{words_made, words_left, log_entries_left, monitors_left}
+use Rattle.plain_model.specs.Limits.{words_made, words_left, monitors_left}
 use Rattle.plain_model.specs.Steps.{Step, Does, Waits, WrongOperand, IsOver, step}
 use Rattle.plain_model.specs.Codes.{asks_live, taken_by}
-use Rattle.plain_model.specs.Runs.{is_volatile}
 use Rattle.plain_model.specs.Duties.{IsFit}
-use Rattle.plain_model.specs.Ends.{full, full_unless, bad_code, all_wait, waits_from, waits_of, wait_at, wait_of, fault_of_op, fault_of_words, fault_of_enter, fault_of_store, fault_of_durable_store, Prints}
+use Rattle.plain_model.specs.Ends.{full, full_unless, bad_code, all_wait, waits_from, waits_of, wait_at, wait_of, fault_of_op, fault_of_words, fault_of_enter, fault_of_store, Prints}
 use Rattle.shared_objects.specs.declared.rest.Rest.{Rest}
 use Rattle.shared_objects.specs.Shown.{Shown}
 use Rattle.shared_objects.specs.Plain.{plain_request, plain_reply}
@@ -45,20 +44,20 @@ use Rattle.run_forms.proofs.Visible.{is_outside, prints, step-silent, step-insid
 use Rattle.machine_ends.proofs.Rooms.{requests as asked_after, fault_here, fault_so, has-room, paid-steps}
 use Rattle.machine_ends.proofs.Steps.{no-false, none-some, wrong-asks, printing, print-does, taken-one, none-from, none-left, entered-free}
 
--- What the faults of thread t's steps depend on: no region is open and no place guarded, the thread owes no
--- fence, heap and rest show the plain run's world, and what is left of the words is what the limits leave.
-pub record IsOutsideRegions (launch : Launch) (acts : List Recorded) (shown : Shown) (rest : Rest) (t : ℕ)
+-- What the faults of thread t's steps depend on: the thread owes no fence, heap and rest show the plain run's
+-- world, and what is left of the words is what the limits leave.
+pub record ShowsRun (launch : Launch) (acts : List Recorded) (shown : Shown) (rest : Rest) (t : ℕ)
     : Type 0 where
   pub roots : List Root
   pub world : (known_at launch acts).world ≡ world_of roots shown rest
   pub words : words_left launch.limits launch.opening (known_at launch acts).world.heap ≡ shown.left
-  pub guards : (known_at launch acts).guards ≡ []
-  pub depth : depth_of (known_at launch acts).world t ≡ 0
   pub paid : owes_fence (known_at launch acts).unfenced t ≡ false
 
-or-true : (b : Bool) → (b || true) ≡ true
-or-true true = refl
-or-true false = refl
+-- it is no store, or one that meets no fault by what is known
+abbrev pub MeetsNone : Launch → List Recorded → ℕ → Op → Type 0
+MeetsNone launch acts t (op.Stored place value) = fault_of_store launch.set launch.opening launch.limits
+    (known_at launch acts) t place value ≡ None
+MeetsNone launch acts t o = Unit {0}
 
 and-true : (b : Bool) → ((b || true) && true) ≡ true
 and-true true = refl
@@ -68,13 +67,9 @@ if-none : {X : Type 0} (b : Bool) (x : Option X) → x ≡ None → (if b then N
 if-none true x e = refl
 if-none false x e = e
 
-only-if : {X : Type 0} (b : Bool) (x : Option X) → x ≡ None → (if b then x else None) ≡ None
-only-if true x e = e
-only-if false x e = refl
-
 module _ (launch : Launch) (acts : List Recorded) (shown : Shown) (rest : Rest) (lines t : ℕ)
     (q : Request Ref Item) (asked : IsAsked launch acts shown rest t q)
-    (here : IsOutsideRegions launch acts shown rest t) (room : length acts < launch.limits.acts) where
+    (here : ShowsRun launch acts shown rest t) (room : length acts < launch.limits.acts) where
   abbrev known : Knowledge
   known = known_at launch acts
 
@@ -263,26 +258,28 @@ module _ (launch : Launch) (acts : List Recorded) (shown : Shown) (rest : Rest) 
 
   -- ---- no fault
 
-  -- no place is guarded, and no region to be logged
-  store-met : (place : Place) (value : Value)
-      → fault_of_store launch.set launch.opening launch.limits known t place value ≡ None
-  store-met place value =
-      only-if (durable_at known place) _
-      (ap (λ gs. fault_of_durable_store launch.set launch.opening launch.limits known t place
-      value (guard_of gs place)) here.guards
-      ∙ ap (λ depth. if is_volatile known.durable value || nat_eq depth 0 then None
-      else full_unless which.LogEntries 1 (log_entries_left known.guards t)) here.depth
-      ∙ ap (λ b. if b then None else full_unless which.LogEntries 1 (log_entries_left known.guards t))
-      (or-true (is_volatile known.durable value)))
+  -- the fault of a store
+  pub store-ends : (place : Place) (value : Value) (f : RunFault) → is_outside f ≡ false
+      → step launch.set world t 1 pq ≡ Does (op.Stored place value) reply.Done
+      → fault_of_store launch.set launch.opening launch.limits known t place value ≡ Some f
+      → IsEndedBy launch lines acts t f
+  store-ends place value f inside does met =
+      comes f inside (tells-of (Does (op.Stored place value) reply.Done) does ∙ met)
 
   -- however many monitors are held
   pub store-meets-none : (place : Place) (value : Value)
-      → step launch.set world t 1 pq ≡ Does (op.Stored place value) reply.Done → (monitors : ℕ)
+      → step launch.set world t 1 pq ≡ Does (op.Stored place value) reply.Done
+      → MeetsNone launch acts t (op.Stored place value) → (monitors : ℕ)
       → MeetsNoFault launch lines acts t monitors
-  store-meets-none place value does monitors = (
+  store-meets-none place value does met monitors = (
     has-room launch acts lines t room,
-    inl (tells-of (Does (op.Stored place value) reply.Done) does ∙ store-met place value),
+    inl (tells-of (Does (op.Stored place value) reply.Done) does ∙ met),
   )
+
+  pub end-meets-none : step launch.set world t 1 pq ≡ Does op.End reply.Done → (monitors : ℕ)
+      → MeetsNoFault launch lines acts t monitors
+  end-meets-none does monitors =
+      (has-room launch acts lines t room, inl (tells-of (Does op.End reply.Done) does))
 
   enough : (w : Which) (need there : ℕ) → need ≤ there → full_unless w need there ≡ None
   enough w need there fit =
@@ -319,22 +316,24 @@ module _ (launch : Launch) (acts : List Recorded) (shown : Shown) (rest : Rest) 
       (length (entered world.monitors key t))) (sym here.world)
       (enter-free key e (nat_le 1 (monitors_left world.monitors)) refl)
 
-  op-met : (o : Op) (left_now : ℕ) → TakesWords (words_made world.heap o) shown.left left_now
+  op-met : (o : Op) (left_now : ℕ) → MeetsNone launch acts t o
+      → TakesWords (words_made world.heap o) shown.left left_now
       → IsNoFault (fault_of_op launch.set launch.opening launch.limits known t o)
       (length (monitors_after_op world.monitors t o))
-  op-met (op.Stored place value) left_now takes = inl (store-met place value)
-  op-met (op.Enter key) left_now takes =
+  op-met (op.Stored place value) left_now met takes = inl met
+  op-met (op.Enter key) left_now met takes =
       subst (λ (w : World). IsNoFault
       (fault_of_enter launch.set launch.opening launch.limits known (held w.monitors key))
       (length (entered world.monitors key t))) (sym here.world)
       (enter-met key (held world.monitors key) refl)
-  op-met o left_now takes =
+  op-met o left_now met takes =
       inl (ap (λ (w : World). fault_of_words launch.set launch.opening launch.limits known
       (words_made w.heap o)) here.world
       ∙ words-none (words_made world.heap o) left_now takes)
 
   module _ (o : Op) (r : Reply Ref Item) (now : Shown) (rest_now : Rest)
-      (steps : IsStep launch.set t q shown rest (stepped.Did o r) now rest_now) where
+      (steps : IsStep launch.set t q shown rest (stepped.Did o r) now rest_now)
+      (met : MeetsNone launch acts t o) where
     does : step launch.set world t (taken_by o) pq ≡ Does o (plain_reply now.number r)
     does = (steps.follows here.roots).0
 
@@ -356,7 +355,7 @@ module _ (launch : Launch) (acts : List Recorded) (shown : Shown) (rest : Rest) 
         ≡ Does o (plain_reply now.number r)) one does) in
         subst (λ met. IsNoFault met (length rest_now.monitors)) (sym so)
         (subst (IsNoFault (fault_of_op launch.set launch.opening launch.limits known t o)) count
-        (op-met o now.left steps.words))
+        (op-met o now.left met steps.words))
 
     pub step-meets-none : MeetsNoFault launch lines acts t (length rest_now.monitors)
     step-meets-none = (has-room launch acts lines t room, no-fault (prints pq) refl)

@@ -1,6 +1,6 @@
 -- How an event ends the plain run of a machine over a shared heap, and how the run finishes; and that the
 -- events of its acts met no fault.
-use Rattle.std.specs.Prelude.{◌≡◌, ◌⊎◌, ℕ, ◌<◌, ◌≤◌, true, false, List, map, length, slice_get, All, Option, Some, None}
+use Rattle.std.specs.Prelude.{◌≡◌, ◌≢◌, ◌⊎◌, ℕ, ◌<◌, ◌≤◌, true, false, List, map, length, slice_get, All, Option, Some, None}
 use Rattle.ap_base.specs.declared.place.Place.{Place}
 use Rattle.ap_base.specs.declared.reference.Ref.{Ref}
 use Rattle.ap_base.specs.declared.reference.Item.{Item}
@@ -9,6 +9,7 @@ use Rattle.run_types.specs.declared.fault.Which.TheVariants as which
 use Rattle.natives.specs.declared.requests.Request.{Request}
 use Rattle.natives.specs.declared.requests.Reply.{Reply}
 use Rattle.run_history.specs.declared.act.Op.{Op}
+use Rattle.run_history.specs.Knowing.{guard_of}
 use Rattle.plain_model.specs.Ends.{Ending, Finished, Uncaught, EndsAs, first_uncaught, full}
 use Rattle.shared_objects.specs.declared.rest.Rest.{Rest}
 use Rattle.shared_objects.specs.declared.threads.ThreadState.{ThreadState}
@@ -22,9 +23,10 @@ use Rattle.run_forms.specs.Standing.{plain_code}
 use Rattle.run_forms.specs.Ends.{IsEndedBy, Ends, MeetsNoFault}
 use Rattle.machine_forms.specs.declared.doing.Doing.{Doing}
 use Rattle.machine_forms.specs.declared.doing.Doing.TheVariants.{Writing, Fencing}
-use Rattle.machine_forms.specs.Machines.{Machine, doing_of, shown_in}
-use Rattle.machine_forms.specs.Events.{IsStoreOf}
+use Rattle.machine_forms.specs.Machines.{Machine, doing_of, known_in, shown_in}
+use Rattle.machine_forms.specs.Events.{IsStoreOf, AsksEnd, value_in}
 use Rattle.machine_runs.specs.Frames.{OfPlain, Asks, IsReady}
+use Rattle.machine_ends.specs.Stores.{StoresFreely, IsFreeOp, FillsLogOf}
 
 -- ---- threads
 
@@ -59,15 +61,32 @@ abbrev pub ImageFaultsEnd : Type 0
 ImageFaultsEnd = OfPlain (λ o m es threads. (lines t : ℕ) (fs : ThreadFrames) → Lives m threads t fs
     → length m.acts < o.launch.limits.acts → IsEndedBy o.launch lines m.acts t fault.ImageFault)
 
+-- While there is room for an act, a thread whose region would guard a further place and whose log is full ends
+-- the run by that.
+abbrev pub FullLogsEnd : Type 0
+FullLogsEnd = OfPlain (λ o m es threads. (lines t : ℕ) (fs : ThreadFrames) (request : Request Ref Item)
+    (place : Place) (item : Item) → IsReady (doing_of m t) → Asks o m threads t fs request
+    → IsStoreOf o m t request place item → FillsLogOf o m t place (value_in m item)
+    → length m.acts < o.launch.limits.acts → IsEndedBy o.launch lines m.acts t (full which.LogEntries 1 0))
+
+-- So does one whose store is to a place that the open region of another thread has guarded.
+abbrev pub RacesEnd : Type 0
+RacesEnd = OfPlain (λ o m es threads. (lines t other : ℕ) (fs : ThreadFrames) (request : Request Ref Item)
+    (place : Place) (item : Item) → IsReady (doing_of m t) → Asks o m threads t fs request
+    → IsStoreOf o m t request place item → guard_of (known_in o m).guards place ≡ Some other → other ≢ t
+    → length m.acts < o.launch.limits.acts
+    → IsEndedBy o.launch lines m.acts t (fault.RegionRace t other place))
+
 -- ---- no fault
 
--- The event of a step that does an operation meets none, while there is room for its act.
+-- The event of a step that does an operation meets none, while there is room for its act; where it stores, no
+-- guard is in its way, and none is lacking.
 abbrev pub StepsMeetNoFault : Type 0
 StepsMeetNoFault = OfPlain (λ o m es threads. (lines t : ℕ) (fs : ThreadFrames) (request : Request Ref Item)
     (operation : Op) (r : Reply Ref Item) (now : Shown) (rest_now : Rest) → IsReady (doing_of m t)
     → Asks o m threads t fs request
     → IsStep o.launch.set t request (shown_in m) m.rest (stepped.Did operation r) now rest_now
-    → length m.acts < o.launch.limits.acts
+    → IsFreeOp o m t operation → length m.acts < o.launch.limits.acts
     → MeetsNoFault o.launch lines m.acts t (length rest_now.monitors))
 
 -- Nor does an event of a thread that owes a fence, however many monitors are held.
@@ -75,11 +94,19 @@ abbrev pub FencesMeetNoFault : Type 0
 FencesMeetNoFault = OfPlain (λ o m es threads. (lines t monitors : ℕ) → OwesFence (doing_of m t)
     → length m.acts < o.launch.limits.acts → MeetsNoFault o.launch lines m.acts t monitors)
 
--- Nor one of a thread whose request is a store: what is asked for it, the seal of a group, or the store.
+-- Nor one of a thread whose request is such a store: what is asked for it, the seal of a group, the place that
+-- is guarded for it, or the store.
 abbrev pub StoresMeetNoFault : Type 0
 StoresMeetNoFault = OfPlain (λ o m es threads. (lines t monitors : ℕ) (fs : ThreadFrames)
     (request : Request Ref Item) (place : Place) (item : Item) → IsReady (doing_of m t)
     → Asks o m threads t fs request → IsStoreOf o m t request place item
+    → StoresFreely o m t place (value_in m item) → length m.acts < o.launch.limits.acts
+    → MeetsNoFault o.launch lines m.acts t monitors)
+
+-- Nor one of a thread that asks to end a region: its closing, or its end.
+abbrev pub EndsMeetNoFault : Type 0
+EndsMeetNoFault = OfPlain (λ o m es threads. (lines t monitors : ℕ) (fs : ThreadFrames)
+    (request : Request Ref Item) → Asks o m threads t fs request → AsksEnd o m t request
     → length m.acts < o.launch.limits.acts → MeetsNoFault o.launch lines m.acts t monitors)
 
 -- ---- the end of a run

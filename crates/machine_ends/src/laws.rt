@@ -1,21 +1,26 @@
 // How events end a run, which acts met no fault, and how a run finishes.
-ghost use Rattle.machine_ends.specs.Laws.{FencesMeetNoFault, FullHistoriesEnd, ImageFaultsEnd, RunsFinish, SingleThreadsFinish, StepsEnd, StepsMeetNoFault, StoresMeetNoFault};
+ghost use Rattle.machine_ends.specs.Laws.{EndsMeetNoFault, FencesMeetNoFault, FullHistoriesEnd, FullLogsEnd, ImageFaultsEnd, RacesEnd, RunsFinish, SingleThreadsFinish, StepsEnd, StepsMeetNoFault, StoresMeetNoFault};
 
 /// What a step finds wrong, lacks or waits for is the fault by which the event ends the plain run; a full
-/// history ends it before all else, and the image may fail while it isn't full.
+/// history ends it before all else, and the image may fail while it isn't full. A full log ends it, and a
+/// store to a place that another thread's region has guarded.
 pub fn machines_end_by_their_faults()
     ensures full { FullHistoriesEnd }
     ensures steps { StepsEnd }
     ensures image { ImageFaultsEnd }
+    ensures logs { FullLogsEnd }
+    ensures races { RacesEnd }
 {
     machine_runs::machines_ask_as_plain_runs();
 }
 
-/// While there is room for an act, an event meets no fault whose act is of a step, of a store or a fence.
+/// While there is room for an act, an event meets no fault whose act is of a step, of a store, a fence
+/// or a region's end; where it stores, no guard is in its way, and none is lacking.
 pub fn acts_meet_no_fault()
     ensures steps { StepsMeetNoFault }
     ensures fences { FencesMeetNoFault }
     ensures stores { StoresMeetNoFault }
+    ensures ends { EndsMeetNoFault }
 {
     machine_runs::machines_ask_as_plain_runs();
 }

@@ -1,5 +1,5 @@
 -- The events of a machine: what each does to its parts, as the layers below tell it.
-use Rattle.std.specs.Prelude.{◌≡◌, ◌≢◌, ◌⊎◌, ◌↔◌, ℕ, ◌+◌, ◌<◌, ◌≤◌, true, false, List, [], ◌∷◌, ◌++◌, length, slice_index, slice_set, Some, AllPairs}
+use Rattle.std.specs.Prelude.{◌≡◌, ◌≢◌, ◌⊎◌, ◌↔◌, ℕ, ◌+◌, ◌-◌, ◌<◌, ◌≤◌, true, false, List, [], ◌∷◌, ◌++◌, length, slice_index, slice_set, None, Some, AllPairs}
 use Rattle.ap_base.specs.declared.reference.Ref.{Ref}
 use Rattle.ap_base.specs.declared.reference.Item.{Item}
 use Rattle.ap_base.specs.declared.place.Place.{Place}
@@ -9,13 +9,15 @@ use Rattle.graph_model.specs.declared.types.Value.TheVariants.{Obj as Object}
 use Rattle.graph_model.specs.Heaps.{has_number}
 use Rattle.monitors.specs.Indexed.{AreSound}
 use Rattle.natives.specs.declared.requests.Request.{Request}
+use Rattle.natives.specs.declared.requests.Request.TheVariants as ask
 use Rattle.natives.specs.declared.requests.Reply.{Reply}
 use Rattle.natives.specs.declared.requests.Reply.TheVariants as reply
 use Rattle.line_memory.specs.Memory.{IsWritten, IsDurable, SameImage, OneCall, MadeFence}
+use Rattle.run_types.specs.declared.resolved.At.{At}
 use Rattle.run_history.specs.declared.act.Op.{Op}
 use Rattle.run_history.specs.declared.act.Op.TheVariants as op
 use Rattle.run_history.specs.Recorded.{Recorded}
-use Rattle.run_history.specs.Knowing.{Pending, pending_of, durable_at}
+use Rattle.run_history.specs.Knowing.{Pending, pending_of, durable_at, guard_of}
 use Rattle.plain_model.specs.Duties.{IsFit}
 use Rattle.plain_model.specs.Runs.{is_volatile}
 use Rattle.stop_invariant.specs.Events.{line_at}
@@ -41,7 +43,14 @@ use Rattle.converter.specs.Beginning.{Begins, IsAsked}
 use Rattle.converter.specs.Stepping.{Event, FailedEvent}
 use Rattle.machine_forms.specs.declared.doing.Doing.{Doing}
 use Rattle.machine_forms.specs.declared.doing.Doing.TheVariants.{Nothing, Converting, Writing, Fencing}
-use Rattle.machine_forms.specs.Machines.{Opening, Machine, known_in, memory_of, shown_in, scene_of, doing_of, layout_in}
+use Rattle.region_log.specs.declared.entry.Entry.{Entry as LogEntry}
+use Rattle.region_log.specs.declared.entry.Underway.TheVariants.{Nothing as Idle}
+use Rattle.region_log.specs.Log.{Log}
+use Rattle.region_log.specs.Stages.{EndsAtOnce}
+use Rattle.region_log.specs.Steps.{EndsOn, FailsToEnd, FencesRegion, TouchesToEnd}
+use Rattle.region_log.specs.Steps.{EndsRegion as EmptiesLog}
+use Rattle.region_events.specs.Laws.{CallsToEnd, LogsOn, MayBeGuarded, MayBegin, one_deeper, with_entry}
+use Rattle.machine_forms.specs.Machines.{Opening, Machine, known_in, memory_of, shown_in, scene_of, doing_of, log_of, layout_in}
 
 -- ---- parts
 
@@ -58,6 +67,9 @@ with_act m t o named = record m { acts = m.acts ++ act_in m t o named ∷ [] }
 
 abbrev pub with_doing : Machine → ℕ → Doing → Machine
 with_doing m t d = record m { doing = slice_set m.doing t d }
+
+abbrev pub with_log : Machine → ℕ → Log → Machine
+with_log m t log = record m { logs = slice_set m.logs t log }
 
 -- ---- calls of the image
 
@@ -274,6 +286,7 @@ pub record ActsBeside (o : Opening) (m m' : Machine) (es : List Entry) (t : ℕ)
   pub outside : LeavesRegions operation
   pub beside : StoresBeside o m es operation
   pub notes : NotesStore es operation m.queue m'.queue
+  pub logs : m'.logs ≡ m.logs
   pub listed : MakesListed o m operation
   pub doing : m'.doing ≡ slice_set m.doing t (left_by operation (doing_of m t))
 
@@ -284,6 +297,138 @@ pub record StoresDurably (o : Opening) (m m' : Machine) (es : List Entry) (t : �
   pub stores : StoresIn m.spaces place item m'.spaces
   pub durable : durable_at (known_in o m) place ≡ true
   pub kept : is_volatile (known_in o m).durable (value_in m item) ≡ false
+  pub outside : (log_of m t).depth ≡ 0
+  pub unguarded : guard_of (known_in o m).guards place ≡ None
   pub queue : m'.queue ≡ m.queue
+  pub logs : m'.logs ≡ m.logs
   pub doing : m'.doing
       ≡ slice_set m.doing t (Writing (line_at (layout_in o es) (known_in o m) place))
+
+-- ---- regions
+
+-- A region begins: the thread's log is one level deeper.
+pub record BeginsRegion (o : Opening) (m m' : Machine) (es : List Entry) (t : ℕ) (request : Request Ref Item)
+    (r : Reply Ref Item) : Type 0 where
+  pub does : DoesRequest o m m' es t request op.Begin r
+  pub may : MayBegin (known_in o m) (log_of m t)
+  pub logs : m'.logs ≡ slice_set m.logs t (one_deeper (log_of m t))
+  pub queue : m'.queue ≡ m.queue
+  pub doing : m'.doing ≡ m.doing
+
+-- The thread's region guards the durable place of its store, whose value is durable: its log names that
+-- place's word next.
+pub record GuardsPlace (o : Opening) (m : Machine) (es : List Entry) (t : ℕ) (request : Request Ref Item)
+    (place : Place) (item : Item) (e : LogEntry) : Type 0 where
+  pub thread : t < 64
+  pub stores : IsStoreOf o m t request place item
+  pub doing : IsFree o m es t (doing_of m t)
+  pub durable : durable_at (known_in o m) place ≡ true
+  pub kept : is_volatile (known_in o m).durable (value_in m item) ≡ false
+  pub may : MayBeGuarded (known_in o m) (layout_in o es) (memory_of m) (log_of m t) e place
+
+abbrev pub with_guarded : Machine → ℕ → Place → LogEntry → Machine
+with_guarded m t place e =
+    with_act (with_log m t (with_entry (log_of m t) e)) t (op.Guarded place) []
+
+-- Beside the image nothing of the heap changes.
+abbrev pub OnlyImage : Machine → Twin → Type 0
+OnlyImage m twin = twin ≡ record m.spaces.twin { memory = twin.memory }
+
+-- A call of the image logs the word that the thread's log names, or a part of that; made or failed.
+pub record LogsWord (m : Machine) (twin : Twin) (t : ℕ) (log' : Log) : Type 0 where
+  pub thread : t < 64
+  pub entry : LogEntry
+  pub logs : LogsOn (log_of m t) log' entry (memory_of m) twin.memory
+  pub only : OnlyImage m twin
+  pub known : AllKnown twin.memory
+
+abbrev pub with_logged : Machine → Twin → ℕ → Log → Machine
+with_logged m twin t log' = with_log (with_twin m twin) t log'
+
+-- A durable store in the thread's region, whose log has the place's word.
+pub record StoresLogged (o : Opening) (m m' : Machine) (es : List Entry) (t : ℕ) (request : Request Ref Item)
+    (place : Place) (item : Item) : Type 0 where
+  pub does : DoesRequest o m m' es t request (op.Stored place (value_in m item)) reply.Done
+  pub stores : StoresIn m.spaces place item m'.spaces
+  pub durable : durable_at (known_in o m) place ≡ true
+  pub kept : is_volatile (known_in o m).durable (value_in m item) ≡ false
+  pub idle : (log_of m t).underway ≡ Idle
+  pub guard : guard_of (known_in o m).guards place ≡ Some t
+  pub queue : m'.queue ≡ m.queue
+  pub logs : m'.logs ≡ m.logs
+  pub doing : m'.doing ≡ slice_set m.doing t Nothing
+
+-- The thread asks to end a region that is open, and is about nothing else.
+pub record AsksEnd (o : Opening) (m : Machine) (t : ℕ) (request : Request Ref Item) : Type 0 where
+  pub fit : IsFitRequest o m t request
+  pub is_end : (from : At) × (request ≡ ask.End from)
+  pub doing : doing_of m t ≡ Nothing
+  pub is_open : 0 < (log_of m t).depth
+
+-- A call of the image by which the thread's region is being ended, made or failed, as its log says.
+pub record CallsEnd (o : Opening) (m : Machine) (twin : Twin) (t : ℕ) (request : Request Ref Item)
+    (log' : Log) : Type 0 where
+  pub thread : t < 64
+  pub asks : AsksEnd o m t request
+  pub call : CallsToEnd (log_of m t) log' (memory_of m) twin.memory
+  pub only : OnlyImage m twin
+  pub known : AllKnown twin.memory
+
+-- neither the fence behind all that was logged, nor the last one
+pub record EndsPart (o : Opening) (m : Machine) (twin : Twin) (t : ℕ) (request : Request Ref Item)
+    (log' : Log) : Type 0 where
+  pub calls : CallsEnd o m twin t request log'
+  pub went : TouchesToEnd (log_of m t) log' (memory_of m) twin.memory
+      ⊎ (EndsOn (log_of m t) log' (memory_of m) twin.memory
+      ⊎ FailsToEnd (log_of m t) log' (memory_of m) twin.memory)
+
+-- With the fence behind all that was logged the region becomes closing, by an act.
+pub record ClosesRegion (o : Opening) (m : Machine) (twin : Twin) (t : ℕ) (request : Request Ref Item)
+    (log' : Log) : Type 0 where
+  pub calls : CallsEnd o m twin t request log'
+  pub fences : FencesRegion (log_of m t) log' (memory_of m) twin.memory
+
+abbrev pub with_closing : Machine → Twin → ℕ → Log → Machine
+with_closing m twin t log' = with_act (with_logged m twin t log') t op.Closing []
+
+-- The last call of a region that logged something; its End follows at once.
+pub record EmptiesRegion (o : Opening) (m : Machine) (twin : Twin) (t : ℕ) (request : Request Ref Item)
+    (log' : Log) : Type 0 where
+  pub calls : CallsEnd o m twin t request log'
+  pub empties : EmptiesLog (log_of m t) log' (memory_of m) twin.memory
+
+-- How the log is left by an End: emptied by a call of the image, or one level less deep, with no call.
+pub data LeavesLog (o : Opening) (m : Machine) (twin : Twin) (t : ℕ) (request : Request Ref Item)
+    : Log → Type 0 where
+  emptied : (log' : Log) → EmptiesRegion o m twin t request log' → LeavesLog o m twin t request log'
+  at_once : twin ≡ m.spaces.twin → AsksEnd o m t request → (log_of m t).underway ≡ Idle
+      → EndsAtOnce (log_of m t)
+      → LeavesLog o m twin t request (record (log_of m t) { depth = (log_of m t).depth - 1 })
+
+-- A region ends, by an act of the thread's request.
+pub record EndsRegion (o : Opening) (m m' : Machine) (es : List Entry) (t : ℕ) (request : Request Ref Item)
+    (r : Reply Ref Item) : Type 0 where
+  pub twin : Twin
+  pub log : Log
+  pub leaves : LeavesLog o m twin t request log
+  pub does : DoesRequest o (with_logged m twin t log) m' es t request op.End r
+  pub logs : m'.logs ≡ (with_logged m twin t log).logs
+  pub queue : m'.queue ≡ m.queue
+  pub doing : m'.doing ≡ m.doing
+
+-- What an event of a region makes of a machine. Objects lie where they lay.
+pub data RegionStep (o : Opening) (m : Machine) (es : List Entry) : Machine → Type 0 where
+  begun : (m' : Machine) (t : ℕ) (request : Request Ref Item) (r : Reply Ref Item)
+      → BeginsRegion o m m' es t request r → RegionStep o m es m'
+  guarded : (t : ℕ) (request : Request Ref Item) (place : Place) (item : Item) (e : LogEntry)
+      → GuardsPlace o m es t request place item e → RegionStep o m es (with_guarded m t place e)
+  logged : (twin : Twin) (t : ℕ) (log' : Log) → LogsWord m twin t log'
+      → RegionStep o m es (with_logged m twin t log')
+  stored : (m' : Machine) (t : ℕ) (request : Request Ref Item) (place : Place) (item : Item)
+      → StoresLogged o m m' es t request place item → RegionStep o m es m'
+  ending : (twin : Twin) (t : ℕ) (request : Request Ref Item) (log' : Log)
+      → EndsPart o m twin t request log' → RegionStep o m es (with_logged m twin t log')
+  closing : (twin : Twin) (t : ℕ) (request : Request Ref Item) (log' : Log)
+      → ClosesRegion o m twin t request log' → RegionStep o m es (with_closing m twin t log')
+  ended : (m' : Machine) (t : ℕ) (request : Request Ref Item) (r : Reply Ref Item)
+      → EndsRegion o m m' es t request r → RegionStep o m es m'

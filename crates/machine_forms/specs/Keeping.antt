@@ -1,18 +1,18 @@
 -- What a machine keeps of its plain run and of each stop, at every point of its run.
 --
 -- A table says where the objects lie; whatever table it is, each event leads to one again.
-use Rattle.std.specs.Prelude.{◌≡◌, ◌↔◌, ℕ, ◌<◌, ◌≤◌, ◌^◌, true, false, List, [], length, slice_index, slice_index_or, None, Some}
+use Rattle.std.specs.Prelude.{◌≡◌, ◌↔◌, ℕ, ◌<◌, ◌≤◌, ◌^◌, Bool, true, false, ◌&&◌, ◌||◌, nat_eq, List, [], ◌∷◌, length, slice_index, slice_index_or, None, Some}
 use Rattle.ap_base.specs.declared.kind.Kind.{Kind}
 use Rattle.ap_base.specs.declared.place.Place.{Place}
 use Rattle.graph_model.specs.declared.types.Value.TheVariants.{Obj as Object}
 use Rattle.graph_model.specs.declared.types.Heap.{Heap}
-use Rattle.graph_model.specs.Heaps.{no_shape, has_number}
+use Rattle.graph_model.specs.Heaps.{no_shape, has_number, place_is}
 use Rattle.monitors.specs.Indexed.{AreSound}
 use Rattle.line_memory.specs.Memory.{IsTelling}
 use Rattle.image_layout.specs.Places.{first_object_line}
 use Rattle.image_meaning.specs.Directories.{Directory}
 use Rattle.image_meaning.specs.Corresponds.{root_static}
-use Rattle.run_history.specs.Knowing.{Knowledge, Pending, pending_of, owes_fence, unfenced_at}
+use Rattle.run_history.specs.Knowing.{Knowledge, Pending, Guard, has_guards, pending_of, owes_fence, unfenced_at}
 use Rattle.run_history.specs.Wanted.{IsClosed}
 use Rattle.run_history.specs.Worlds.{depth_of}
 use Rattle.plain_model.specs.Facts.{classes_of}
@@ -34,7 +34,9 @@ use Rattle.convert_words.specs.Agreeing.{Is}
 use Rattle.convert_words.specs.Scenes.{AgreesAt}
 use Rattle.machine_forms.specs.declared.doing.Doing.{Doing}
 use Rattle.machine_forms.specs.declared.doing.Doing.TheVariants.{Nothing, Converting, Writing, Fencing}
-use Rattle.machine_forms.specs.Machines.{Opening, Machine, first_of, known_in, wants_in, roots_in, memory_of, shown_in, scene_of, doing_of, layout_in, state_in}
+use Rattle.region_log.specs.Kept.{KeepsLog, KeepsRegion}
+use Rattle.region_events.specs.Guards.{HasOld, KeepsGuards}
+use Rattle.machine_forms.specs.Machines.{Opening, Machine, first_of, known_in, wants_in, roots_in, memory_of, shown_in, scene_of, doing_of, log_of, layout_in, state_in}
 
 -- ---- the heap
 
@@ -112,11 +114,35 @@ pub record QueuesFirst (known : Knowledge) (m : Machine) (es : List Entry) (t : 
   pub value : pending.value ≡ Object object
   pub first : Is m.queue es t 0 object
 
--- No region is open, and no place guarded.
-pub record HasNoRegions (known : Knowledge) : Type 0 where
-  pub guards : known.guards ≡ []
-  pub closing : known.closing ≡ []
-  pub depths : (t : ℕ) → depth_of known.world t ≡ 0
+-- A thread's log is what the acts say of its region, and the memory keeps it.
+pub record KeepsLogOf (o : Opening) (m : Machine) (es : List Entry) (t : ℕ) : Type 0 where
+  pub thread : (log_of m t).thread ≡ t
+  pub guards : KeepsGuards (known_in o m) (layout_in o es) (log_of m t)
+  pub keeps : KeepsLog (log_of m t) (memory_of m)
+  pub region : KeepsRegion (log_of m t) (memory_of m)
+  pub old : HasOld (log_of m t).underway (memory_of m)
+
+-- the thread has no region open
+pub record HasNoRegion (known : Knowledge) (t : ℕ) : Type 0 where
+  pub guards : has_guards known.guards t ≡ false
+  pub closing : has_number known.closing t ≡ false
+  pub depth : depth_of known.world t ≡ 0
+
+-- whether the open region of thread t has guarded the place
+abbrev pub guards_place : List Guard → ℕ → Place → Bool
+guards_place [] t p = false
+guards_place (g ∷ gs) t p = (nat_eq g.thread t && place_is g.place p) || guards_place gs t p
+
+-- no place is guarded by two threads
+abbrev pub GuardApart : List Guard → Type 0
+GuardApart gs = (p : Place) (t u : ℕ) → guards_place gs t p ≡ true → guards_place gs u p ≡ true → t ≡ u
+
+-- So it is with each thread's log, and no further thread has a region. No two regions guard one place.
+pub record KeepsRegions (o : Opening) (m : Machine) (es : List Entry) : Type 0 where
+  pub many : length m.logs ≡ 64
+  pub each : (t : ℕ) → t < 64 → KeepsLogOf o m es t
+  pub others : (t : ℕ) → 64 ≤ t → HasNoRegion (known_in o m) t
+  pub apart : GuardApart (known_in o m).guards
 
 -- Exactly those objects are durable that are sealed. What a thread has claimed it wants; what it has queued
 -- begins with what it asked. What durable places refer to is durable.
@@ -129,7 +155,7 @@ pub record KeepsAsked (o : Opening) (m : Machine) (es : List Entry) : Type 0 whe
   pub closed : IsClosed (known_in o m)
   pub timed : (known_in o m).at ≤ (memory_of m).calls
   pub few : (memory_of m).calls < 2 ^ 64
-  pub regions : HasNoRegions (known_in o m)
+  pub regions : KeepsRegions o m es
 
 -- ---- stops
 

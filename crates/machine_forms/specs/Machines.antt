@@ -1,5 +1,5 @@
 -- What a machine of threads over a shared heap is made of, and what its run began with.
-use Rattle.std.specs.Prelude.{◌≡◌, ◌↔◌, ℕ, ◌==◌, ◌&&◌, ltb, Bool, true, false, List, slice_index_or, if◌then◌else◌}
+use Rattle.std.specs.Prelude.{◌≡◌, ◌↔◌, ℕ, ◌==◌, ◌&&◌, ltb, Bool, true, false, List, [], slice_index_or, slice_set, if◌then◌else◌}
 use Rattle.graph_model.specs.declared.types.Root.{Root}
 use Rattle.line_memory.specs.Memory.{Memory}
 use Rattle.image_meaning.specs.Directories.{Directory}
@@ -18,6 +18,8 @@ use Rattle.two_spaces.specs.Seen.{Spaces, shown_of}
 use Rattle.convert_queue.specs.Queues.{Queues}
 use Rattle.convert_words.specs.Scenes.{Scene, scene}
 use Rattle.converter.specs.Stepping.{keys_of}
+use Rattle.region_log.specs.Log.{Log}
+use Rattle.region_log.specs.declared.entry.Underway.TheVariants.{Nothing as Idle}
 use Rattle.machine_forms.specs.declared.doing.Doing.{Doing}
 use Rattle.machine_forms.specs.declared.doing.Doing.TheVariants.{Nothing, Converting, Writing, Fencing}
 
@@ -38,7 +40,7 @@ first_of o = first_known o.launch.set o.launch.opening
 -- ---- the machine
 
 -- The acts so far; the heap over two spaces; what threads have claimed, and the first line that is left; the
--- monitors, classes and threads; and what each thread is about.
+-- monitors, classes and threads; what each thread is about; and the log of each thread's region.
 pub record Machine : Type 0 where
   pub acts : List Recorded
   pub spaces : Spaces
@@ -46,6 +48,7 @@ pub record Machine : Type 0 where
   pub free : ℕ
   pub rest : Rest
   pub doing : List Doing
+  pub logs : List Log
 
 abbrev pub memory_of : Machine → Memory
 memory_of m = m.spaces.twin.memory
@@ -60,6 +63,13 @@ scene_of m = scene m.spaces.twin.space m.spaces.twin.memory m.spaces.twin.marks 
 
 abbrev pub doing_of : Machine → ℕ → Doing
 doing_of m t = slice_index_or m.doing t Nothing
+
+-- the log of a thread without a region
+abbrev pub empty_log : ℕ → Log
+empty_log t = record { thread = t; depth = 0; entries = []; underway = Idle }
+
+abbrev pub log_of : Machine → ℕ → Log
+log_of m t = slice_index_or m.logs t (empty_log t)
 
 -- what is known after the acts, and what is wanted
 abbrev pub known_in : Opening → Machine → Knowledge

@@ -45,8 +45,9 @@ use Rattle.convert_words.specs.Scenes.{Scene, scene, AgreesAt, IsKey}
 use Rattle.converter.specs.Stepping.{keys_of, key_words}
 use Rattle.converter.proofs.Calling.{key_cons}
 use Rattle.machine_forms.specs.Machines.{Opening, Machine, first_of, known_in, roots_in, memory_of, scene_of, shown_in}
-use Rattle.machine_forms.specs.Keeping.{KeepsRun, KeepsHeap, KeepsWorld, HasSlotsOfRoots, HoldsNumbers, IsOfDirectory}
+use Rattle.machine_forms.specs.Keeping.{KeepsHeap, KeepsWorld, HasSlotsOfRoots, HoldsNumbers, IsOfDirectory}
 use Rattle.machine_forms.specs.Events.{DoesRequest, act_in}
+use Rattle.machine_heaps.specs.Laws.{KeepsShared}
 use Rattle.machine_heaps.proofs.Tables.{AreLow}
 use Rattle.machine_heaps.proofs.Worlds.{one_act_more}
 
@@ -208,7 +209,7 @@ directory_on directory s s' same d =
     (subst (λ (ss : List Shape). IsOfDirectory directory (record s' { shapes = ss; classes = s.classes }))
     (sym same.shapes) base)
 
-module _ (o : Opening) (m m' : Machine) (es : List Entry) (run : KeepsRun o m es) (t : ℕ)
+module _ (o : Opening) (m m' : Machine) (es : List Entry) (kept : KeepsShared o m es) (t : ℕ)
     (request : Request Ref Item) (operation : Op) (r : Reply Ref Item)
     (d : DoesRequest o m m' es t request operation r) where
   abbrev act : Recorded
@@ -232,29 +233,29 @@ module _ (o : Opening) (m m' : Machine) (es : List Entry) (run : KeepsRun o m es
       subst (λ n. AtMost n m'.rest)
       (sym (ap (λ (acts : List Recorded). length acts) d.acts ∙ one_act_more m.acts act))
       (counts_kept o.launch.set t request (shown_in m) m.rest (shown_in m') m'.rest (stepped.Did operation r)
-      d.fit.fit d.step (length m.acts) run.world.counts)
+      d.fit.fit d.step (length m.acts) kept.1.counts)
 
   pub acted_world : SameRootFields m.spaces.statics m'.spaces.statics → KeepsWorld o m'
   acted_world fields = record {
-    launched = run.world.launched;
-    world = world_now ∙ ap (λ (w : World). after w t operation) run.world.world
+    launched = kept.1.launched;
+    world = world_now ∙ ap (λ (w : World). after w t operation) kept.1.world
         ∙ sym (d.step.follows (roots_in o m)).2
         ∙ ap (λ (rs : List Root). world_of rs (shown_in m') m'.rest) (sym same_roots);
     heap = heap_kept o.launch.set t request (shown_in m) m.rest (shown_in m') m'.rest
         (stepped.Did operation r)
-        d.fit.fit d.step run.world.heap;
+        d.fit.fit d.step kept.1.heap;
     monitors = d.step.monitors;
     classes = classes_kept o.launch.set t request (shown_in m) m.rest (shown_in m') m'.rest
-        (stepped.Did operation r) d.fit.fit d.step ∙ run.world.classes;
+        (stepped.Did operation r) d.fit.fit d.step ∙ kept.1.classes;
     counts = counts_now;
     nodes =
         (let more = objects_kept o.launch.set t request (shown_in m) m.rest (shown_in m') m'.rest
         (stepped.Did operation r) d.fit.fit d.step in
-        let there = run.world.nodes in omega (arith, more, there));
+        let there = kept.1.nodes in omega (arith, more, there));
     words = words_kept o.launch.set t request (shown_in m) m.rest (shown_in m') m'.rest o.launch.limits
-        o.launch.opening (stepped.Did operation r) d.step run.world.nodes run.world.words;
+        o.launch.opening (stepped.Did operation r) d.step kept.1.nodes kept.1.words;
     roots = slots_held (known_in o m).world.heap (known_in o m').world.heap m.spaces m'.spaces same_roots
-        same_statics fields run.world.roots;
+        same_statics fields kept.1.roots;
   }
 
   pub acted_heap : (es' : List Entry) → Acts m m' o.directory es' → KeepsHeap o m' es'
@@ -268,37 +269,37 @@ module _ (o : Opening) (m m' : Machine) (es : List Entry) (run : KeepsRun o m es
         (scene m'.spaces.twin.space m'.spaces.twin.memory m'.spaces.twin.marks m'.queue f
         (keys_of m.rest.monitors)) es') (sym d.free) a.agrees);
     sound = d.sound;
-    directory = directory_on o.directory m.spaces m'.spaces a.classes run.heap.directory;
+    directory = directory_on o.directory m.spaces m'.spaces a.classes kept.0.directory;
     listed = a.listed;
     numbers = a.numbers;
     low = a.low;
-    behind = subst (λ f. first_object_line ≤ f) (sym d.free) run.heap.behind;
+    behind = subst (λ f. first_object_line ≤ f) (sym d.free) kept.0.behind;
     within =
         (let free = d.free in
-        let size = a.memory.size in let within = run.heap.within in omega (arith, free, size, within));
-    size = a.memory.size ∙ run.heap.size;
-    long = run.heap.long;
-    known = a.memory.known run.heap.known;
-    telling = λ told. a.memory.telling (run.heap.telling told);
+        let size = a.memory.size in let within = kept.0.within in omega (arith, free, size, within));
+    size = a.memory.size ∙ kept.0.size;
+    long = kept.0.long;
+    known = a.memory.known kept.0.known;
+    telling = λ told. a.memory.telling (kept.0.telling told);
   }
 
   -- ---- an act that makes nothing and stores nothing
 
   pub acted_still : m'.spaces ≡ m.spaces → m'.queue ≡ m.queue → Acts m m' o.directory es
   acted_still same queue = record {
-    whole = subst (λ (s : Spaces). Stands s es) (sym same) run.heap.whole;
+    whole = subst (λ (s : Spaces). Stands s es) (sym same) kept.0.whole;
     agrees = subst (λ (s : Spaces). AgreesAt (scene s.twin.space s.twin.memory s.twin.marks m'.queue m.free
         (keys_of m.rest.monitors)) es) (sym same)
         (subst (λ q. AgreesAt (scene m.spaces.twin.space m.spaces.twin.memory m.spaces.twin.marks q m.free
-        (keys_of m.rest.monitors)) es) (sym queue) run.heap.agrees);
+        (keys_of m.rest.monitors)) es) (sym queue) kept.0.agrees);
     classes = record {
       shapes = ap (λ (s : Spaces). s.shapes) same;
       classes = ap (λ (s : Spaces). s.classes) same;
       numbers = ap (λ (s : Spaces). s.numbers) same;
       kinds = ap (λ (s : Spaces). s.twin.marks.kinds) same;
     };
-    listed = run.heap.listed;
-    numbers = subst (λ (s : Spaces). HoldsNumbers s es) (sym same) run.heap.numbers;
-    low = run.heap.low;
+    listed = kept.0.listed;
+    numbers = subst (λ (s : Spaces). HoldsNumbers s es) (sym same) kept.0.numbers;
+    low = kept.0.low;
     memory = memory_same (memory_of m) (memory_of m') (ap (λ (s : Spaces). s.twin.memory) same);
   }

@@ -5,6 +5,7 @@ use Rattle.run_history.specs.declared.act.Op.TheVariants as op
 use Rattle.twin_forms.specs.Table.{Entry}
 use Rattle.twin_forms.specs.Sights.{Twin, Marks}
 use Rattle.two_spaces.specs.Moving.{IsMove}
+use Rattle.two_spaces.specs.Quiet.{IsImageCall}
 use Rattle.two_spaces.proofs.Quieted.{calls_quiet, quiet_moves}
 use Rattle.line_memory.specs.Memory.{Memory}
 use Rattle.convert_queue.specs.Queues.{Queues}
@@ -14,8 +15,7 @@ use Rattle.convert_words.proofs.StepLaws.{calls_keep, told_fences_keep}
 use Rattle.converter.specs.Stepping.{keys_of}
 use Rattle.machine_forms.specs.declared.doing.Doing.TheVariants.{Nothing, Fencing}
 use Rattle.machine_forms.specs.Machines.{Opening, Machine, scene_of}
-use Rattle.machine_forms.specs.Keeping.{KeepsRun}
-use Rattle.machine_forms.specs.Events.{CallsImage, with_twin, with_act, with_doing}
+use Rattle.machine_forms.specs.Events.{with_twin, with_act, with_doing}
 use Rattle.machine_heaps.specs.Laws.{KeepsShared, CallsKeepHeaps, WritesKeepHeaps, FencesKeepHeaps}
 use Rattle.machine_heaps.proofs.Moving.{moved_to, heap_arrives, world_arrives, shared_doing, shared_act}
 
@@ -28,43 +28,43 @@ agrees_over space space' memory marks marks' q free keys es same_space same_mark
     subst (λ (x : Marks). AgreesAt (scene space' memory x q free keys) es) (sym same_marks)
     (subst (λ (x : Space). AgreesAt (scene x memory marks q free keys) es) (sym same_space) a)
 
-module _ (o : Opening) (m : Machine) (es : List Entry) (run : KeepsRun o m es) (twin : Twin)
-    (c : CallsImage m twin) where
+module _ (o : Opening) (m : Machine) (es : List Entry) (kept : KeepsShared o m es) (twin : Twin)
+    (call : IsImageCall m.spaces twin) where
   pub quiet : IsMove m.spaces twin es es
-  quiet = quiet_moves m.spaces twin es (calls_quiet m.spaces twin es run.heap.whole c.call)
+  quiet = quiet_moves m.spaces twin es (calls_quiet m.spaces twin es kept.0.whole call)
 
   -- with queues that agree
   pub shared_after : (q : Queues)
       → AgreesAt (scene twin.space twin.memory twin.marks q m.free (keys_of m.rest.monitors)) es
       → KeepsShared o (moved_to m twin q m.free m.rest.monitors) es
   shared_after q agrees = (
-    heap_arrives o m es es twin q m.free m.rest.monitors run.heap quiet (record {
+    heap_arrives o m es es twin q m.free m.rest.monitors kept.0 quiet (record {
       agrees = agrees;
-      sound = run.heap.sound;
-      low = run.heap.low;
-      behind = run.heap.behind;
-      within = subst (λ n. m.free ≤ n) (sym c.call.keeps.size) run.heap.within;
-      size = c.call.keeps.size ∙ run.heap.size;
-      known = c.call.known_after;
-      telling = λ told. c.call.keeps.telling (run.heap.telling told);
+      sound = kept.0.sound;
+      low = kept.0.low;
+      behind = kept.0.behind;
+      within = subst (λ n. m.free ≤ n) (sym call.keeps.size) kept.0.within;
+      size = call.keeps.size ∙ kept.0.size;
+      known = call.known_after;
+      telling = λ told. call.keeps.telling (kept.0.telling told);
     }),
-    world_arrives o m es es twin q m.free run.world quiet (λ _ _. refl),
+    world_arrives o m es es twin q m.free kept.1 quiet (λ _ _. refl),
   )
 
   pub shared_call : KeepsShared o (with_twin m twin) es
   shared_call =
       shared_after m.queue (agrees_over m.spaces.twin.space twin.space twin.memory m.spaces.twin.marks
       twin.marks
-      m.queue m.free (keys_of m.rest.monitors) es c.call.space c.call.marks
-      (calls_keep (scene_of m) twin.memory es run.heap.known c.call.known_after c.call.keeps run.heap.agrees))
+      m.queue m.free (keys_of m.rest.monitors) es call.space call.marks
+      (calls_keep (scene_of m) twin.memory es kept.0.known call.known_after call.keeps kept.0.agrees))
 
 pub calls_keep_heaps : CallsKeepHeaps
-calls_keep_heaps o m es run twin c = shared_call o m es run twin c
+calls_keep_heaps o m es run twin c = shared_call o m es (run.heap, run.world) twin c.call
 
 pub writes_keep_heaps : WritesKeepHeaps
 writes_keep_heaps o m es run twin t w =
     shared_doing o (with_twin m twin) es (with_doing (with_twin m twin) t Fencing).doing
-    (shared_call o m es run twin w.calls)
+    (shared_call o m es (run.heap, run.world) twin w.calls.call)
 
 pub fences_keep_heaps : FencesKeepHeaps
 fences_keep_heaps o m es run twin t f =
@@ -76,4 +76,5 @@ fences_keep_heaps o m es run twin t f =
     f.durable run.heap.agrees) in
     let acted = with_act fenced t op.Fenced [] in
     shared_doing o acted es (with_doing acted t Nothing).doing
-    (shared_act o fenced es t op.Fenced [] refl (shared_after o m es run twin f.calls q agrees))
+    (shared_act o fenced es t op.Fenced [] refl
+    (shared_after o m es (run.heap, run.world) twin f.calls.call q agrees))

@@ -85,8 +85,8 @@ module _ (o : Opening) (m m' : Machine) (es : List Entry) (run : KeepsRun o m es
   shared_acts : Acts m m' o.directory es → SameRootFields m.spaces.statics m'.spaces.statics
       → KeepsShared o m' es
   shared_acts acts fields = (
-    acted_heap o m m' es run t request (op.Stored (StaticPlace f) value) r d es acts,
-    acted_world o m m' es run t request (op.Stored (StaticPlace f) value) r d fields,
+    acted_heap o m m' es (run.heap, run.world) t request (op.Stored (StaticPlace f) value) r d es acts,
+    acted_world o m m' es (run.heap, run.world) t request (op.Stored (StaticPlace f) value) r d fields,
   )
 
   -- ---- beside the heap

@@ -3,10 +3,12 @@ pub mod Beginning
 pub mod Called
 pub mod Converting
 pub mod Fields
+pub mod Logging
 pub mod Making
 pub mod Moving
 pub mod NumberKinds
 pub mod Numbers
+pub mod Regions
 pub mod Requests
 pub mod SlotKinds
 pub mod Storing

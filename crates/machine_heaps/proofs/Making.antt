@@ -95,7 +95,7 @@ module _ (o : Opening) (m m' : Machine) (es : List Entry) (run : KeepsRun o m es
 
   pub shared_made : m'.queue ≡ m.queue → IsListed o m class → KeepsShared o m' es'
   shared_made queue listed = (
-    acted_heap o m m' es run t request operation r d es' (record {
+    acted_heap o m m' es (run.heap, run.world) t request operation r d es' (record {
       whole = made.stands;
       agrees = agrees_now queue;
       classes = made.classes;
@@ -105,6 +105,6 @@ module _ (o : Opening) (m m' : Machine) (es : List Entry) (run : KeepsRun o m es
       low = low_now;
       memory = memory_same (memory_of m) (memory_of m') made.memory;
     }),
-    acted_world o m m' es run t request operation r d
+    acted_world o m m' es (run.heap, run.world) t request operation r d
         (same_fields m.spaces.statics m'.spaces.statics made.statics),
   )

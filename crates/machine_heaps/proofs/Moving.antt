@@ -10,6 +10,7 @@ use Rattle.plain_model.specs.Codes.{is_persistent}
 use Rattle.shared_objects.specs.Shown.{Shown}
 use Rattle.twin_forms.specs.Table.{Entry, entry}
 use Rattle.twin_forms.specs.Sights.{Twin, AllKnown, view_of}
+use Rattle.region_log.specs.Log.{Log}
 use Rattle.two_spaces.specs.Seen.{Spaces, shown_of}
 use Rattle.two_spaces.specs.Moving.{IsMove, SameCurrent, ShowsSame}
 use Rattle.two_spaces.proofs.Keeping.{kinds_same}
@@ -104,12 +105,12 @@ module _ (o : Opening) (m : Machine) (es es' : List Entry) (twin : Twin) (q : Qu
 
 -- ---- what threads are about, and acts of persistence
 
-abbrev pub about : Machine → List Recorded → List Doing → Machine
-about m acts doing = record m { acts = acts; doing = doing }
+abbrev pub about : Machine → List Recorded → List Doing → List Log → Machine
+about m acts doing logs = record m { acts = acts; doing = doing; logs = logs }
 
 pub heap_about : (o : Opening) (m : Machine) (es : List Entry) (acts : List Recorded) (doing : List Doing)
-    → KeepsHeap o m es → KeepsHeap o (about m acts doing) es
-heap_about o m es acts doing k = record {
+    (logs : List Log) → KeepsHeap o m es → KeepsHeap o (about m acts doing logs) es
+heap_about o m es acts doing logs k = record {
   whole = k.whole;
   agrees = k.agrees;
   sound = k.sound;
@@ -128,10 +129,10 @@ heap_about o m es acts doing k = record {
 same_shown : (shown : Shown) → ShowsSame shown shown
 same_shown shown = record { shapes = refl; objects = refl; statics = refl; keeps = λ r n is. is; left = refl }
 
-pub world_about : (o : Opening) (m : Machine) (acts : List Recorded) (doing : List Doing)
-    → (known_in o (about m acts doing)).world ≡ (known_in o m).world → length m.acts ≤ length acts
-    → KeepsWorld o m → KeepsWorld o (about m acts doing)
-world_about o m acts doing known more w = world_stays o m (about m acts doing) w (record {
+pub world_about : (o : Opening) (m : Machine) (acts : List Recorded) (doing : List Doing) (logs : List Log)
+    → (known_in o (about m acts doing logs)).world ≡ (known_in o m).world → length m.acts ≤ length acts
+    → KeepsWorld o m → KeepsWorld o (about m acts doing logs)
+world_about o m acts doing logs known more w = world_stays o m (about m acts doing logs) w (record {
   same = same_shown (shown_in m);
   known = known;
   world = λ roots. refl;
@@ -145,7 +146,13 @@ world_about o m acts doing known more w = world_stays o m (about m acts doing) w
 pub shared_doing : (o : Opening) (m : Machine) (es : List Entry) (doing : List Doing)
     → KeepsShared o m es → KeepsShared o (record m { doing = doing }) es
 shared_doing o m es doing k =
-    (heap_about o m es m.acts doing k.0, world_about o m m.acts doing refl (omega arith) k.1)
+    (heap_about o m es m.acts doing m.logs k.0, world_about o m m.acts doing m.logs refl (omega arith) k.1)
+
+-- only what logs say is otherwise
+pub shared_logs : (o : Opening) (m : Machine) (es : List Entry) (logs : List Log)
+    → KeepsShared o m es → KeepsShared o (record m { logs = logs }) es
+shared_logs o m es logs k =
+    (heap_about o m es m.acts m.doing logs k.0, world_about o m m.acts m.doing logs refl (omega arith) k.1)
 
 -- an act of persistence more
 pub shared_act : (o : Opening) (m : Machine) (es : List Entry) (t : ℕ) (op : Op) (named : List ℕ)
@@ -153,6 +160,6 @@ pub shared_act : (o : Opening) (m : Machine) (es : List Entry) (t : ℕ) (op : O
 shared_act o m es t op named is k =
     let next = with_act m t op named in
     let long = one_act_more m.acts (act_in m t op named) in (
-      heap_about o m es next.acts m.doing k.0,
-      world_about o m next.acts m.doing (same_known_world o m t op named is) (omega (arith, long)) k.1,
+      heap_about o m es next.acts m.doing m.logs k.0,
+      world_about o m next.acts m.doing m.logs (same_known_world o m t op named is) (omega (arith, long)) k.1,
     )

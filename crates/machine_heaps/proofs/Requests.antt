@@ -1,5 +1,5 @@
 -- Acts of requests, one by one.
-use Rattle.std.proofs.Common.{◌≡◌, ℕ, false, List, [], ◌∷◌, ◌++◌, length, refl, sym, ap, ◌∙◌}
+use Rattle.std.proofs.Common.{◌≡◌, ℕ, true, false, List, [], ◌∷◌, ◌++◌, length, refl, sym, ap, ◌∙◌}
 use Rattle.std.proofs.lemmas.Bool.{false≢true}
 use Rattle.ap_base.specs.declared.place.Place.{Place}
 use Rattle.ap_base.specs.declared.place.Place.TheVariants.{Static as StaticPlace, Slot as SlotPlace}
@@ -12,13 +12,14 @@ use Rattle.natives.specs.declared.requests.Reply.{Reply}
 use Rattle.natives.specs.declared.requests.Reply.TheVariants as reply
 use Rattle.run_history.specs.declared.act.Op.{Op}
 use Rattle.run_history.specs.declared.act.Op.TheVariants as op
+use Rattle.run_history.specs.Knowing.{durable_at}
 use Rattle.twin_forms.specs.Moves.{fresh}
 use Rattle.twin_forms.specs.Table.{Entry, InP}
 use Rattle.two_spaces.specs.Seen.{Spaces}
-use Rattle.two_spaces.specs.Whole.{Made}
+use Rattle.two_spaces.specs.Whole.{Made, StoresIn}
 use Rattle.machine_forms.specs.Machines.{Opening, Machine, known_in}
 use Rattle.machine_forms.specs.Keeping.{KeepsRun}
-use Rattle.machine_forms.specs.Events.{ActsBeside, DoesRequest, StoresDurably, TableAfter, value_in}
+use Rattle.machine_forms.specs.Events.{ActsBeside, DoesRequest, TableAfter, value_in}
 use Rattle.machine_heaps.specs.Laws.{KeepsShared, ActsKeepHeaps, DurableStoresKeepHeaps}
 use Rattle.machine_heaps.proofs.Acting.{acted_heap, acted_still, acted_world, same_fields}
 use Rattle.machine_heaps.proofs.Fields.{shared_field}
@@ -27,24 +28,26 @@ use Rattle.machine_heaps.proofs.Storing.{beside_agrees, durable_agrees, shared_s
 
 -- ---- durable stores
 
-durable_place : (o : Opening) (m m' : Machine) (es : List Entry) (run : KeepsRun o m es) (t : ℕ)
-    (request : Request Ref Item) (place : Place) (item : Item) → StoresDurably o m m' es t request place item
-    → KeepsShared o m' es
-durable_place o m m' es run t request (StaticPlace f) item s =
-    shared_field o m m' es run t request f (value_in m item) reply.Done s.does item s.queue
-    (s.stores es run.heap.whole)
-durable_place o m m' es run t request (SlotPlace n i) item s =
-    let stored = s.stores es run.heap.whole in
-    let durable = (run.asked.durable n).0 s.durable in
+-- a store to a durable place, of which no queue is told
+pub durable_place : (o : Opening) (m m' : Machine) (es : List Entry) (run : KeepsRun o m es) (t : ℕ)
+    (request : Request Ref Item) (place : Place) (item : Item)
+    → DoesRequest o m m' es t request (op.Stored place (value_in m item)) reply.Done
+    → StoresIn m.spaces place item m'.spaces → durable_at (known_in o m) place ≡ true
+    → m'.queue ≡ m.queue → KeepsShared o m' es
+durable_place o m m' es run t request (StaticPlace f) item does stores durable queue =
+    shared_field o m m' es run t request f (value_in m item) reply.Done does item queue
+    (stores es run.heap.whole)
+durable_place o m m' es run t request (SlotPlace n i) item does stores durable queue =
+    let stored = stores es run.heap.whole in
     shared_slot o m m' es run t request n i
-    (value_in m item) reply.Done s.does item stored.0 refl stored.1 stored.2
+    (value_in m item) reply.Done does item stored.0 refl stored.1 stored.2
     (durable_agrees o m m' es run t request n i
-    (value_in m item) reply.Done s.does item stored.0 refl stored.1
-    stored.2 m'.queue s.queue durable)
+    (value_in m item) reply.Done does item stored.0 refl stored.1
+    stored.2 m'.queue queue ((run.asked.durable n).0 durable))
 
 pub durable_stores_keep_heaps : DurableStoresKeepHeaps
 durable_stores_keep_heaps o m es run m' t request place item s =
-    durable_place o m m' es run t request place item s
+    durable_place o m m' es run t request place item s.does s.stores s.durable s.queue
 
 -- ---- acts that change no durable place
 
@@ -67,14 +70,14 @@ beside_slot o m m' es run t request n i value r a =
     (beside_agrees o m m' es run t request n i value r a.does item stored.0 is stored.1 stored.2 m'.queue
     (record { claimed = a.notes.0; none = a.notes.1 }) (not_durable o m es run n a.beside.0) a.beside.1)
 
-still : (o : Opening) (m m' : Machine) (es : List Entry) (run : KeepsRun o m es) (t : ℕ)
+pub still : (o : Opening) (m m' : Machine) (es : List Entry) (kept : KeepsShared o m es) (t : ℕ)
     (request : Request Ref Item) (operation : Op) (r : Reply Ref Item)
     → DoesRequest o m m' es t request operation r → m'.spaces ≡ m.spaces → m'.queue ≡ m.queue
     → KeepsShared o m' es
-still o m m' es run t request operation r d same queue = (
-  acted_heap o m m' es run t request operation r d es
-      (acted_still o m m' es run t request operation r d same queue),
-  acted_world o m m' es run t request operation r d
+still o m m' es kept t request operation r d same queue = (
+  acted_heap o m m' es kept t request operation r d es
+      (acted_still o m m' es kept t request operation r d same queue),
+  acted_world o m m' es kept t request operation r d
       (same_fields m.spaces.statics m'.spaces.statics (ap (λ (s : Spaces). s.statics) same)),
 )
 
@@ -104,7 +107,7 @@ acts o m m' es run t request (op.Stored (StaticPlace f) value) r a = (
 acts o m m' es run t request (op.Stored (SlotPlace n i) value) r a =
     (es, refl, beside_slot o m m' es run t request n i value r a)
 acts o m m' es run t request operation r a =
-    (es, refl, still o m m' es run t request operation r a.does a.does.heap a.notes)
+    (es, refl, still o m m' es (run.heap, run.world) t request operation r a.does a.does.heap a.notes)
 
 pub acts_keep_heaps : ActsKeepHeaps
 acts_keep_heaps o m es run m' t request operation r a = acts o m m' es run t request operation r a

@@ -379,7 +379,7 @@ module _ (o : Opening) (m m' : Machine) (es : List Entry) (run : KeepsRun o m es
 
     pub shared_slot : Agreed m'.queue → KeepsShared o m' es
     shared_slot agrees = (
-      acted_heap o m m' es run t request (op.Stored (SlotPlace n i) value) r d es (record {
+      acted_heap o m m' es (run.heap, run.world) t request (op.Stored (SlotPlace n i) value) r d es (record {
         whole = s.stands;
         agrees = agrees;
         classes = s.classes;
@@ -389,6 +389,6 @@ module _ (o : Opening) (m m' : Machine) (es : List Entry) (run : KeepsRun o m es
         low = run.heap.low;
         memory = memory_now;
       }),
-      acted_world o m m' es run t request (op.Stored (SlotPlace n i) value) r d
+      acted_world o m m' es (run.heap, run.world) t request (op.Stored (SlotPlace n i) value) r d
           (same_fields m.spaces.statics m'.spaces.statics s.statics),
     )

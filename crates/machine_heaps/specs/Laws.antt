@@ -13,7 +13,7 @@ use Rattle.convert_words.specs.declared.step.ConvertStep.{ConvertStep}
 use Rattle.converter.specs.declared.begin.Begun.{Begun}
 use Rattle.machine_forms.specs.Machines.{Opening, Machine}
 use Rattle.machine_forms.specs.Keeping.{KeepsRun, KeepsHeap, KeepsWorld}
-use Rattle.machine_forms.specs.Events.{CallsImage, with_twin, WritesBack, with_write, MakesFence, with_fence, ConvertsOn, FailsOn, BeginsOn, IsNoSeal, Seals, with_joined, AsksFor, with_asked, value_in, ActsBeside, TableAfter, StoresDurably}
+use Rattle.machine_forms.specs.Events.{CallsImage, with_twin, WritesBack, with_write, MakesFence, with_fence, ConvertsOn, FailsOn, BeginsOn, IsNoSeal, Seals, with_joined, AsksFor, with_asked, value_in, ActsBeside, RegionStep, TableAfter, StoresDurably}
 
 -- of every machine that keeps its run
 abbrev pub OfRuns : (Opening → Machine → List Entry → Type 0) → Type 0
@@ -67,3 +67,8 @@ ActsKeepHeaps = OfRuns (λ o m es. (m' : Machine) (t : ℕ) (request : Request R
 abbrev pub DurableStoresKeepHeaps : Type 0
 DurableStoresKeepHeaps = OfRuns (λ o m es. (m' : Machine) (t : ℕ) (request : Request Ref Item)
     (place : Place) (item : Item) → StoresDurably o m m' es t request place item → KeepsShared o m' es)
+
+-- ---- regions
+
+abbrev pub RegionsKeepHeaps : Type 0
+RegionsKeepHeaps = OfRuns (λ o m es. (m' : Machine) → RegionStep o m es m' → KeepsShared o m' es)

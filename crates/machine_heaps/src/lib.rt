@@ -3,4 +3,4 @@
 
 mod laws;
 
-pub use laws::{acts_keep_heaps, calls_keep_heaps, conversions_keep_heaps};
+pub use laws::{acts_keep_heaps, calls_keep_heaps, conversions_keep_heaps, regions_keep_heaps};

@@ -1,9 +1,11 @@
 pub mod Alike
 pub mod Events
 pub mod Lists
+pub mod LogWork
 pub mod Measure
 pub mod Noted
 pub mod Refused
+pub mod Regions
 pub mod Taken
 pub mod Telling
 pub mod Unwritten

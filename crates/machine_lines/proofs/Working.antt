@@ -28,11 +28,12 @@ use Rattle.machine_forms.specs.Events.{ConvertsOn, left_by}
 use Rattle.machine_asks.proofs.Lists.{set-within}
 use Rattle.machine_asks.proofs.Beside.{OnlyAdds}
 use Rattle.machine_lines.specs.Work.{lines_at, store_work, CallsLeaveWork, WritesTakeOne, FencesTakeOne, ConversionsTakeWork, BeginningsAddLines, SealsAddNone, AskedAddsNone, ActsAddTwo, DurableStoresAddTwo}
+use Rattle.machine_lines.proofs.LogWork.{logs_left}
 use Rattle.machine_lines.proofs.Alike.{SameQueues, queues-same, work-alike}
 use Rattle.machine_lines.proofs.Noted.{IsTold, table-adds, notes}
 use Rattle.machine_lines.proofs.Telling.{tells, tells-after, durable-after}
 
--- the work of conversions, and that of durable stores
+-- the work of conversions, and that of durable stores; `LogWork` has that of logs
 abbrev pub conversions_left : Machine → ℕ
 conversions_left m = work_of (lines_at m.spaces.twin.space) (scene_of m)
 
@@ -41,7 +42,7 @@ stores_left doing = sum_by store_work doing
 
 -- ---- durable stores
 
-doing-set : (doing : List Doing) (t : ℕ) (d : Doing) → t < length doing
+pub doing-set : (doing : List Doing) (t : ℕ) (d : Doing) → t < length doing
     → stores_left (slice_set doing t d) + store_work (slice_index_or doing t Nothing)
     ≡ stores_left doing + store_work d
 doing-set doing t d within = sum_by-set store_work doing t d Nothing within
@@ -71,7 +72,7 @@ left-less operation d = omega arith
 abbrev left_by_parts : Space → Marks → Queues → ℕ
 left_by_parts space marks q = queues_left (lines_at space) (done_at (lines_at space) marks.copies q) q
 
-parts-same : (twin now : Twin) (q : Queues) → now.space ≡ twin.space → now.marks ≡ twin.marks
+pub parts-same : (twin now : Twin) (q : Queues) → now.space ≡ twin.space → now.marks ≡ twin.marks
     → left_by_parts now.space now.marks q ≡ left_by_parts twin.space twin.marks q
 parts-same twin now q space marks =
     ap (λ (x : Space). left_by_parts x now.marks q) space
@@ -131,7 +132,8 @@ conversions-take o m es k old m' t answer c =
     (tells m'.spaces.twin c.event.after c.event.converts.agrees.lies) in
     let stores : stores_left m'.doing ≡ stores_left m.doing
     = ap (λ (x : Machine). stores_left x.doing) c.same in
-    omega (arith, taken, now, stores)
+    let logs : logs_left m'.logs ≡ logs_left m.logs = ap (λ (x : Machine). logs_left x.logs) c.same in
+    omega (arith, taken, now, stores, logs)
 
 pub beginnings-add : BeginningsAddLines
 beginnings-add o m es k old m' es' t n word answer b =
@@ -145,7 +147,8 @@ beginnings-add o m es k old m' es' t n word answer b =
     (tells m'.spaces.twin es' b.begins.agrees.lies) in
     let stores : stores_left m'.doing ≡ stores_left m.doing
     = ap (λ (x : Machine). stores_left x.doing) b.same in
-    omega (arith, added, now, stores)
+    let logs : logs_left m'.logs ≡ logs_left m.logs = ap (λ (x : Machine). logs_left x.logs) b.same in
+    omega (arith, added, now, stores, logs)
 
 pub seals-add : SealsAddNone
 seals-add o m es k old m' t set named s =
@@ -201,6 +204,15 @@ module _ (o : Opening) (m m' : Machine) (es es' : List Entry) (k : KeepsRun o m 
       let two = told-two (scene_of m) es is.thread is.line k.heap.agrees is.own in
       omega (arith, alike, marks, two)
 
+-- over the same table
+pub same-conversions : (o : Opening) (m m' : Machine) (es : List Entry) → KeepsRun o m es → KeepsRun o m' es
+    → m'.queue ≡ m.queue → conversions_left m' ≡ conversions_left m
+same-conversions o m m' es k k' same = same-left o m m' es es k k' (record {
+  long = omega arith;
+  same = λ n lt. refl;
+  new = λ n lt past. absurd (omega (arith, lt, past));
+}) same
+
 pub acts-add : ActsAddTwo
 acts-add o m es k old m' es' t request operation r acts after k' =
     let adds = table-adds m operation es es' after in
@@ -216,17 +228,14 @@ acts-add o m es k old m' es' t request operation r acts after k' =
       | inl same ↦ (let alike = same-left o m m' es es' k k' adds same in omega (arith, alike))
       | inr is ↦ told-left o m m' es es' k k' adds is
     ] in
-    omega (arith, stores, most)
+    let logs : logs_left m'.logs ≡ logs_left m.logs = ap logs_left acts.logs in
+    omega (arith, stores, most, logs)
 
 pub stores-add : DurableStoresAddTwo
 stores-add o m es k old m' t request place item e k' =
-    let adds : OnlyAdds es es = record {
-      long = omega arith;
-      same = λ n lt. refl;
-      new = λ n lt past. absurd (omega (arith, lt, past));
-    } in
     let all = k.asked.threads in
     let lt = e.does.thread in
     let stores = stored-two m.doing m'.doing t _ (omega (arith, all, lt)) e.doing in
-    let alike = same-left o m m' es es k k' adds e.queue in
-    omega (arith, stores, alike)
+    let alike = same-conversions o m m' es k k' e.queue in
+    let logs : logs_left m'.logs ≡ logs_left m.logs = ap logs_left e.logs in
+    omega (arith, stores, alike, logs)

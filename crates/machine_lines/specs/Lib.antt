@@ -1,4 +1,5 @@
 pub mod Laws
 pub mod Lines
+pub mod Regions
 pub mod Unwritten
 pub mod Work

@@ -1,5 +1,5 @@
--- What a machine has left to do before its conversions and durable stores are done, as a number.
-use Rattle.std.specs.Prelude.{◌≡◌, ℕ, ◌+◌, ◌-◌, ◌*◌, ◌/◌, ◌≤◌, ◌^◌, List, slice_index, sum_by}
+-- What a machine has left to do before its conversions, durable stores and regions are done, as a number.
+use Rattle.std.specs.Prelude.{◌≡◌, ℕ, ◌+◌, ◌-◌, ◌*◌, ◌/◌, ◌≤◌, ◌^◌, List, [], ◌∷◌, length, slice_index, sum_by}
 use Rattle.ap_base.specs.declared.reference.Ref.{Ref}
 use Rattle.ap_base.specs.declared.reference.Item.{Item}
 use Rattle.ap_base.specs.declared.place.Place.{Place}
@@ -16,6 +16,14 @@ use Rattle.converter.specs.declared.begin.Begun.TheVariants as begun
 use Rattle.converter.specs.Laws.{work_of, quiet}
 use Rattle.machine_forms.specs.declared.doing.Doing.{Doing}
 use Rattle.machine_forms.specs.declared.doing.Doing.TheVariants.{Nothing, Converting, Writing, Fencing}
+use Rattle.region_log.specs.declared.entry.Entry.{Entry as LogEntry}
+use Rattle.region_log.specs.declared.entry.EntryStage.{EntryStage}
+use Rattle.region_log.specs.declared.entry.EntryStage.TheVariants.{Begun as EntryBegun, Written, Fenced, Counting, Counted}
+use Rattle.region_log.specs.declared.entry.EndStage.{EndStage}
+use Rattle.region_log.specs.declared.entry.EndStage.TheVariants.{Writing as WritingLines, AllFenced, Clearing, Cleared}
+use Rattle.region_log.specs.declared.entry.Underway.{Underway}
+use Rattle.region_log.specs.declared.entry.Underway.TheVariants.{Nothing as Idle, Adding, Ending}
+use Rattle.region_log.specs.Log.{Log}
 use Rattle.machine_forms.specs.Machines.{Machine, memory_of, scene_of}
 use Rattle.machine_forms.specs.Keeping.{KeepsRun}
 use Rattle.machine_forms.specs.Events.{CallsImage, with_twin, WritesBack, with_write, MakesFence, with_fence, ConvertsOn, BeginsOn, Seals, with_joined, AsksFor, with_asked, value_in, ActsBeside, TableAfter, StoresDurably}
@@ -35,9 +43,41 @@ store_work Converting = 0
 store_work (Writing line) = 2
 store_work Fencing = 1
 
--- The work of conversions, as `converter` counts it, and that of durable stores.
+-- of an entry that is added to a log: one until it is written, one until that is fenced, one until it counts,
+-- and one until that is fenced
+abbrev pub adding_work : EntryStage → ℕ
+adding_work EntryBegun = 4
+adding_work Written = 3
+adding_work Fenced = 2
+adding_work Counting = 2
+adding_work Counted = 1
+
+-- of a region that ends, with so many words logged: one for the line of each that isn't written back, one
+-- until those are fenced, one until none counts, and one until that is fenced
+abbrev pub ending_work : ℕ → EndStage → ℕ
+ending_work logged (WritingLines lines) = (logged - lines) + 3
+ending_work logged AllFenced = 2
+ending_work logged Clearing = 2
+ending_work logged Cleared = 1
+
+-- of a region that has logged these words, until it has ended; one that logged nothing ends at once
+abbrev pub logged_work : List LogEntry → ℕ
+logged_work [] = 0
+logged_work (e ∷ entries) = length (e ∷ entries) + 3
+
+abbrev pub underway_work : List LogEntry → Underway → ℕ
+underway_work entries Idle = logged_work entries
+underway_work entries (Adding e stage) = (length entries + 1) + 3 + adding_work stage
+underway_work entries (Ending stage) = ending_work (length entries) stage
+
+-- of a thread's log: until the entry that is being added counts, and the region has ended
+abbrev pub log_work : Log → ℕ
+log_work log = underway_work log.entries log.underway
+
+-- The work of conversions, as `converter` counts it, that of durable stores, and that of regions.
 abbrev pub work_left : Machine → ℕ
 work_left m = work_of (lines_at m.spaces.twin.space) (scene_of m) + sum_by store_work m.doing
+    + sum_by log_work m.logs
 
 -- A line that is left makes work of 16 at most once it is taken: with 17 for each, a claim lowers this too.
 abbrev pub measure : Machine → ℕ

@@ -1,6 +1,7 @@
 // Which lines the objects of a run take, what a refusal comes to, and by how much events lower the work
 // that is left.
 ghost use Rattle.machine_lines.specs.Laws.{ActsKeepLines, AskedKeepLines, BeginningsKeepLines, CallsKeepLines, ConversionsKeepLines, DurableStoresKeepLines, FailuresKeepLines, FencesKeepLines, LinesAreThoseOfObjects, RefusalsEndTheRun, RefusedBeginningsFillTheImage, RefusedStepsFillTheImage, SealsKeepLines, StartsTakeNoLines, WritesKeepLines};
+ghost use Rattle.machine_lines.specs.Regions.{EndingLowersTheMeasure, GuardsAddEightToTheMeasure, LoggingLowersTheMeasure, RegionsKeepLines, RegionsLeaveUnwritten};
 ghost use Rattle.machine_lines.specs.Unwritten.{ActsLeaveUnwritten, AskedLeavesUnwritten, BeginningsLeaveUnwritten, CallsLeaveUnwritten, ConversionsLeaveUnwritten, DurableStoresLeaveUnwritten, FailuresLeaveUnwritten, FencesLeaveUnwritten, SealsLeaveUnwritten, StartsHaveUnwritten, WritesLeaveUnwritten};
 ghost use Rattle.machine_lines.specs.Work.{ActsAddTwo, ActsAddTwoToTheMeasure, AskedAddsNone, BeginningsAddLines, CallsLeaveWork, ConversionsTakeWork, DurableStoresAddTwo, FencesTakeOne, QuietEventsLowerTheMeasure, SealsAddNone, WritesTakeOne};
 
@@ -19,6 +20,7 @@ pub fn events_keep_lines()
     ensures asked { AskedKeepLines }
     ensures beside { ActsKeepLines }
     ensures durable { DurableStoresKeepLines }
+    ensures regions { RegionsKeepLines }
 {}
 
 /// A claim that is refused for want of lines fills the image by the acts, and so ends the run where they
@@ -42,6 +44,7 @@ pub fn lines_stay_unwritten()
     ensures asked { AskedLeavesUnwritten }
     ensures beside { ActsLeaveUnwritten }
     ensures durable { DurableStoresLeaveUnwritten }
+    ensures regions { RegionsLeaveUnwritten }
 {}
 
 /// Quiet events take one at least of the work that is left, a claim adds sixteen at most for each line
@@ -62,4 +65,12 @@ pub fn events_take_work()
 pub fn quiet_events_lower_the_measure()
     ensures quiet { QuietEventsLowerTheMeasure }
     ensures acts { ActsAddTwoToTheMeasure }
+{}
+
+/// Each call of a region's log that is made lowers the measure, and one that fails leaves it; a place that
+/// is guarded adds eight at most, and no other act of a region adds any.
+pub fn calls_of_regions_lower_the_measure()
+    ensures logging { LoggingLowersTheMeasure }
+    ensures ending { EndingLowersTheMeasure }
+    ensures acts { GuardsAddEightToTheMeasure }
 {}

@@ -5,6 +5,6 @@
 mod laws;
 
 pub use laws::{
-    events_keep_lines, events_take_work, lines_stay_unwritten, quiet_events_lower_the_measure,
-    refusals_fill_the_image,
+    calls_of_regions_lower_the_measure, events_keep_lines, events_take_work, lines_stay_unwritten,
+    quiet_events_lower_the_measure, refusals_fill_the_image,
 };

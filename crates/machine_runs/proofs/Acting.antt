@@ -1,5 +1,5 @@
 -- Acts of requests: the acting thread's frames are answered, its own at once or once its store is fenced.
-use Rattle.std.proofs.Common.{inl, inr, ℕ, ◌<◌, List, [], length, refl, ap, sym, subst, ◌∙◌, arith}
+use Rattle.std.proofs.Common.{◌≡◌, inl, inr, ℕ, ◌<◌, List, [], length, refl, ap, sym, subst, ◌∙◌, arith}
 use Rattle.std.specs.Prelude.{slice_set, slice_index_or}
 use Rattle.std.proofs.lemmas.List.{append-nil, length-set, length-append}
 use Rattle.std.proofs.lemmas.Option.{slice_get_within}
@@ -13,7 +13,7 @@ use Rattle.run_history.specs.declared.act.Op.TheVariants as op
 use Rattle.run_history.specs.Recorded.{Recorded}
 use Rattle.frames.specs.Turns.{turn, answer}
 use Rattle.run_forms.specs.Views.{ThreadFrames}
-use Rattle.run_forms.specs.Standing.{StandsFor, setting_of}
+use Rattle.run_forms.specs.Standing.{IsLaunch, StandsFor, setting_of}
 use Rattle.run_forms.specs.Laws.{ActsGoOn, answered_threads}
 use Rattle.twin_forms.specs.Table.{Entry}
 use Rattle.twin_forms.specs.Sights.{view_of}
@@ -22,14 +22,14 @@ use Rattle.machine_asks.specs.Laws.{ActsMayCome, DurableStoresMayCome, MayCome, 
 use Rattle.machine_forms.specs.declared.doing.Doing.{Doing}
 use Rattle.machine_forms.specs.declared.doing.Doing.TheVariants.{Nothing, Converting, Writing, Fencing}
 use Rattle.machine_forms.specs.Machines.{Opening, Machine, shown_in, doing_of}
-use Rattle.machine_forms.specs.Keeping.{KeepsRun}
 use Rattle.machine_forms.specs.Events.{act_in, value_in, left_by, IsFree, DoesRequest}
 use Rattle.machine_runs.specs.Frames.{all_acted, stored_frames, RunsAsPlain, Asks, Begins, IsReady, ActsAnswer, DurableStoresLeaveFrames}
 use Rattle.machine_runs.proofs.Lagging.{ready-own, frames-set, frames-answered}
 use Rattle.machine_runs.proofs.Going.{begun-still}
 use Rattle.machine_runs.proofs.Persisting.{asking-acted}
 
-free-ready : (o : Opening) (m : Machine) (es : List Entry) (t : ℕ) (d : Doing) → IsFree o m es t d → IsReady d
+pub free-ready : (o : Opening) (m : Machine) (es : List Entry) (t : ℕ) (d : Doing) → IsFree o m es t d
+    → IsReady d
 free-ready o m es t Nothing free = inl refl
 free-ready o m es t Converting free = inr refl
 free-ready o m es t (Writing line) free = absurd free
@@ -42,7 +42,7 @@ left-ready operation d ready = ready
 -- ---- one act
 
 module _ (law : ActsGoOn) (o : Opening) (m m' : Machine) (es : List Entry) (threads : List ThreadFrames)
-    (run : KeepsRun o m es) (plain : RunsAsPlain o m threads) (t : ℕ) (fs : ThreadFrames)
+    (launched : IsLaunch o.launch) (plain : RunsAsPlain o m threads) (t : ℕ) (fs : ThreadFrames)
     (request : Request Ref Item) (operation : Op) (r : Reply Ref Item)
     (asks : Asks o m threads t fs request) (does : DoesRequest o m m' es t request operation r)
     (may : MayCome o m (asked_by m request) (act_in m t operation [])) where
@@ -65,32 +65,37 @@ module _ (law : ActsGoOn) (o : Opening) (m m' : Machine) (es : List Entry) (thre
   acted-stands begun begins =
       subst (λ done. StandsFor o.launch done (shown_in m') m'.rest
       (answered_threads o.launch (all_acted o.launch m.doing threads) t fs r begun)) (sym does.acts)
-      (law o.launch m.acts (shown_in m) m.rest (all_acted o.launch m.doing threads) run.world.launched
+      (law o.launch m.acts (shown_in m) m.rest (all_acted o.launch m.doing threads) launched
       plain.stands act fs request r (shown_in m') m'.rest begun
       (asking-acted o m threads t fs request ready asks)
       (record { steps = does.step; may = may; null = null_is_no_object (view_of m'.spaces.twin) }) begins)
+
+  -- its own frames are answered, where it doesn't lag then
+  pub answers : (d : Doing) → IsReady d → m'.doing ≡ slice_set m.doing t d → (begun : List ThreadFrames)
+      → Begins o m' operation begun → RunsAsPlain o m' (answered_threads o.launch threads t fs r begun)
+  answers d ready-now doing begun begins =
+      let lt = lives in
+      let own = ready-own o.launch d answered ready-now in
+      let frames = frames-answered o.launch m.doing threads t d answered begun lt own plain.begun in
+      let long = length-append (slice_set threads t answered) begun in
+      let same = length-set threads t answered in record {
+        stands = subst (StandsFor o.launch m'.acts (shown_in m') m'.rest)
+            (sym (ap (λ ds. all_acted o.launch ds (answered_threads o.launch threads t fs r begun)) doing
+            ∙ frames))
+            (acted-stands begun begins);
+        begun = λ u past. ap (λ ds. slice_index_or ds u Nothing) doing
+            ∙ begun-still o m threads plain t d lt u (omega (arith, past, long, same));
+      }
 
 -- ---- acts that change no durable place
 
 pub acts-answer : ActsMayCome → ActsGoOn → ActsAnswer
 acts-answer may law o m es threads run plain m' t fs request operation r begun asks a begins =
-    let d = left_by operation (doing_of m t) in
     let came = may o m es run m' t request operation r a in
-    let lt = lives law o m m' es threads run plain t fs request operation r asks a.does came in
-    let ready-before = ready law o m m' es threads run plain t fs request operation r asks a.does came in
-    let fs' = answer (setting_of o.launch) (turn (setting_of o.launch) fs).frames r in
-    let own = ready-own o.launch d fs' (left-ready operation (doing_of m t) ready-before) in
-    let frames = frames-answered o.launch m.doing threads t d fs' begun lt own plain.begun in
-    let long = length-append (slice_set threads t fs') begun in
-    let same = length-set threads t fs' in record {
-      stands = subst (StandsFor o.launch m'.acts (shown_in m') m'.rest)
-          (sym (ap (λ ds. all_acted o.launch ds (answered_threads o.launch threads t fs r begun)) a.doing
-          ∙ frames))
-          (acted-stands law o m m' es threads run plain t fs request operation r asks a.does came begun
-          begins);
-      begun = λ u past. ap (λ ds. slice_index_or ds u Nothing) a.doing
-          ∙ begun-still o m threads plain t d lt u (omega (arith, past, long, same));
-    }
+    let before = ready law o m m' es threads run.world.launched plain t fs request operation r asks a.does
+    came in
+    answers law o m m' es threads run.world.launched plain t fs request operation r asks a.does came
+    (left_by operation (doing_of m t)) (left-ready operation (doing_of m t) before) a.doing begun begins
 
 -- ---- durable stores
 
@@ -98,7 +103,8 @@ pub stores-leave : DurableStoresMayCome → ActsGoOn → DurableStoresLeaveFrame
 stores-leave may law o m es threads run plain m' t fs request place item asks s =
     let operation = op.Stored place (value_in m item) in
     let came = may o m es run m' t request place item s in
-    let lt = lives law o m m' es threads run plain t fs request operation reply.Done asks s.does came in
+    let lt = lives law o m m' es threads run.world.launched plain t fs request operation reply.Done asks
+    s.does came in
     let all = run.asked.threads in
     let few = s.does.thread in
     let inside : t < length m.doing = omega (arith, all, few) in
@@ -107,8 +113,8 @@ stores-leave may law o m es threads run plain m' t fs request place item asks s 
     in record {
       stands = subst (StandsFor o.launch m'.acts (shown_in m') m'.rest)
           (sym (ap (λ ds. all_acted o.launch ds threads) s.doing ∙ frames))
-          (acted-stands law o m m' es threads run plain t fs request operation reply.Done asks s.does came
-          [] refl);
+          (acted-stands law o m m' es threads run.world.launched plain t fs request operation reply.Done asks
+          s.does came [] refl);
       begun = λ u past. ap (λ ds. slice_index_or ds u Nothing) s.doing
           ∙ begun-still o m threads plain t (Writing _) lt u past;
     }

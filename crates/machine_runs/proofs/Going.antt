@@ -91,7 +91,7 @@ module _ (law : MovesStandForTheRun) where
       (record {
         acts = refl;
         doing = refl;
-        move = quiet o m es run twin c;
+        move = quiet o m es (run.heap, run.world) twin c.call;
         world = (calls_keep_heaps o m es run twin c).1;
       })
 

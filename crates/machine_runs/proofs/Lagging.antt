@@ -27,6 +27,12 @@ about-other (x ∷ ds) zero (suc u) d lt = refl
 about-other (x ∷ ds) (suc t) zero d lt = absurd (omega (arith, lt))
 about-other (x ∷ ds) (suc t) (suc u) d lt = about-other ds t u d (omega (arith, lt))
 
+-- it is about what it was
+pub about-same : (ds : List Doing) (t : ℕ) → slice_set ds t (slice_index_or ds t Nothing) ≡ ds
+about-same [] t = refl
+about-same (d ∷ ds) zero = refl
+about-same (d ∷ ds) (suc t) = ap (λ xs. d ∷ xs) (about-same ds t)
+
 module _ (launch : Launch) where
   -- a ready thread doesn't lag
   pub ready-own : (d : Doing) (fs : ThreadFrames) → IsReady d → acted_frames launch d fs ≡ fs

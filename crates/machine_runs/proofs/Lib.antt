@@ -3,3 +3,4 @@ pub mod Going
 pub mod Keeping
 pub mod Lagging
 pub mod Persisting
+pub mod Regions

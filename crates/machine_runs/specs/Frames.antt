@@ -21,6 +21,9 @@ use Rattle.machine_forms.specs.declared.doing.Doing.TheVariants.{Nothing, Conver
 use Rattle.machine_forms.specs.Machines.{Opening, Machine, doing_of, shown_in}
 use Rattle.machine_forms.specs.Keeping.{KeepsRun}
 use Rattle.machine_forms.specs.Events.{CallsImage, with_twin, WritesBack, with_write, MakesFence, with_fence, ConvertsOn, FailsOn, BeginsOn, IsNoSeal, Seals, with_joined, AsksFor, with_asked, value_in, ActsBeside, StoresDurably}
+use Rattle.region_log.specs.declared.entry.Entry.{Entry as LogEntry}
+use Rattle.region_log.specs.Log.{Log}
+use Rattle.machine_forms.specs.Events.{BeginsRegion, ClosesRegion, EndsPart, EndsRegion, GuardsPlace, LogsWord, StoresLogged, with_closing, with_guarded, with_logged}
 
 -- ---- frames by the acts
 
@@ -116,6 +119,32 @@ abbrev pub DurableStoresLeaveFrames : Type 0
 DurableStoresLeaveFrames = OfPlain (λ o m es threads. (m' : Machine) (t : ℕ) (fs : ThreadFrames)
     (request : Request Ref Item) (place : Place) (item : Item) → Asks o m threads t fs request
     → StoresDurably o m m' es t request place item → RunsAsPlain o m' threads)
+
+-- ---- regions
+
+-- While a place is guarded and logged and while a region is ended, all frames stay; its store, its begin and its
+-- end answer the thread's.
+pub record RegionsGoOnAsPlain : Type 0 where
+  pub guarded : OfPlain (λ o m es threads. (t : ℕ) (fs : ThreadFrames) (request : Request Ref Item)
+      (place : Place) (item : Item) (e : LogEntry) → Asks o m threads t fs request
+      → GuardsPlace o m es t request place item e → RunsAsPlain o (with_guarded m t place e) threads)
+  pub logged : OfPlain (λ o m es threads. (twin : Twin) (t : ℕ) (log' : Log) → LogsWord m twin t log'
+      → RunsAsPlain o (with_logged m twin t log') threads)
+  pub ending : OfPlain (λ o m es threads. (twin : Twin) (t : ℕ) (request : Request Ref Item) (log' : Log)
+      → EndsPart o m twin t request log' → RunsAsPlain o (with_logged m twin t log') threads)
+  pub closing : OfPlain (λ o m es threads. (twin : Twin) (t : ℕ) (fs : ThreadFrames)
+      (request : Request Ref Item) (log' : Log) → Asks o m threads t fs request
+      → ClosesRegion o m twin t request log' → RunsAsPlain o (with_closing m twin t log') threads)
+  pub begins : OfPlain (λ o m es threads. (m' : Machine) (t : ℕ) (fs : ThreadFrames)
+      (request : Request Ref Item) (r : Reply Ref Item) → Asks o m threads t fs request
+      → BeginsRegion o m m' es t request r → RunsAsPlain o m' (answered_threads o.launch threads t fs r []))
+  pub stored : OfPlain (λ o m es threads. (m' : Machine) (t : ℕ) (fs : ThreadFrames)
+      (request : Request Ref Item) (place : Place) (item : Item) → Asks o m threads t fs request
+      → StoresLogged o m m' es t request place item
+      → RunsAsPlain o m' (answered_threads o.launch threads t fs reply.Done []))
+  pub ends : OfPlain (λ o m es threads. (m' : Machine) (t : ℕ) (fs : ThreadFrames)
+      (request : Request Ref Item) (r : Reply Ref Item) → Asks o m threads t fs request
+      → EndsRegion o m m' es t request r → RunsAsPlain o m' (answered_threads o.launch threads t fs r []))
 
 -- ---- what threads ask
 

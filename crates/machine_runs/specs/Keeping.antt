@@ -15,7 +15,7 @@ use Rattle.convert_words.specs.declared.step.ConvertStep.{ConvertStep}
 use Rattle.converter.specs.declared.begin.Begun.{Begun}
 use Rattle.machine_forms.specs.Machines.{Opening, Machine, first_of, known_in, roots_in, shown_in, state_in}
 use Rattle.machine_forms.specs.Keeping.{KeepsRun}
-use Rattle.machine_forms.specs.Events.{CallsImage, with_twin, WritesBack, with_write, MakesFence, with_fence, ConvertsOn, FailsOn, BeginsOn, IsNoSeal, Seals, with_joined, AsksFor, with_asked, value_in, ActsBeside, TableAfter, StoresDurably}
+use Rattle.machine_forms.specs.Events.{CallsImage, with_twin, WritesBack, with_write, MakesFence, with_fence, ConvertsOn, FailsOn, BeginsOn, IsNoSeal, Seals, with_joined, AsksFor, with_asked, value_in, ActsBeside, RegionStep, TableAfter, StoresDurably}
 
 -- of every machine that keeps its run
 abbrev pub OfRuns : (Opening → Machine → List Entry → Type 0) → Type 0
@@ -67,6 +67,11 @@ ActsKeepRuns = OfRuns (λ o m es. (m' : Machine) (t : ℕ) (request : Request Re
 abbrev pub DurableStoresKeepRuns : Type 0
 DurableStoresKeepRuns = OfRuns (λ o m es. (m' : Machine) (t : ℕ) (request : Request Ref Item)
     (place : Place) (item : Item) → StoresDurably o m m' es t request place item → KeepsRun o m' es)
+
+-- ---- regions
+
+abbrev pub RegionsKeepRuns : Type 0
+RegionsKeepRuns = OfRuns (λ o m es. (m' : Machine) → RegionStep o m es m' → KeepsRun o m' es)
 
 -- ---- what that is for
 

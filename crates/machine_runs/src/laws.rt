@@ -1,6 +1,6 @@
 // What the laws of heaps, of what was asked and of stops give together, and laws of frames.
-ghost use Rattle.machine_runs.specs.Frames.{ActsAnswer, ActsArePlainRuns, AskedLeavesFrames, BeginningsLeaveFrames, CallsLeaveFrames, ConversionsLeaveFrames, DurableStoresLeaveFrames, FailuresLeaveFrames, FencesAnswer, IdleMachinesStand, ReadyThreadsAskAlike, SealsLeaveFrames, WritesLeaveFrames};
-ghost use Rattle.machine_runs.specs.Keeping.{ActsKeepRuns, AskedKeepRuns, BeginningsKeepRuns, CallsKeepRuns, ConversionsKeepRuns, DurableStoresKeepRuns, EachStopIsAllowed, FailuresKeepRuns, FencesKeepRuns, MachinesShowTheirWorld, SealsKeepRuns, WritesKeepRuns};
+ghost use Rattle.machine_runs.specs.Frames.{ActsAnswer, ActsArePlainRuns, AskedLeavesFrames, BeginningsLeaveFrames, CallsLeaveFrames, ConversionsLeaveFrames, DurableStoresLeaveFrames, FailuresLeaveFrames, FencesAnswer, IdleMachinesStand, ReadyThreadsAskAlike, RegionsGoOnAsPlain, SealsLeaveFrames, WritesLeaveFrames};
+ghost use Rattle.machine_runs.specs.Keeping.{ActsKeepRuns, AskedKeepRuns, BeginningsKeepRuns, CallsKeepRuns, ConversionsKeepRuns, DurableStoresKeepRuns, EachStopIsAllowed, FailuresKeepRuns, FencesKeepRuns, MachinesShowTheirWorld, RegionsKeepRuns, SealsKeepRuns, WritesKeepRuns};
 
 /// Each event leads from a machine that keeps its run to one that does.
 pub fn events_keep_runs()
@@ -24,6 +24,15 @@ pub fn events_keep_runs()
     machine_stops::calls_keep_stops();
     machine_stops::conversions_keep_stops();
     machine_stops::acts_keep_stops();
+}
+
+/// So does each event of a failure-atomic region.
+pub fn regions_keep_runs()
+    ensures { RegionsKeepRuns }
+{
+    machine_heaps::regions_keep_heaps();
+    machine_asks::regions_keep_what_was_asked();
+    machine_stops::regions_keep_stops();
 }
 
 /// A machine that keeps its run leaves what is allowed at each stop, and shows its acts' world.
@@ -62,6 +71,16 @@ pub fn requests_go_on_as_plain_runs()
     ensures durable { DurableStoresLeaveFrames }
 {
     machine_asks::each_act_may_come();
+    run_forms::machines_go_on_as_plain_runs();
+}
+
+/// What guards and logs a place, and what ends a region, leaves all frames; a begin, a store in a
+/// region and an end answer the thread's.
+pub fn regions_go_on_as_plain_runs()
+    ensures { RegionsGoOnAsPlain }
+{
+    machine_asks::acts_of_regions_may_come();
+    run_forms::moved_heaps_stand_for_the_same_run();
     run_forms::machines_go_on_as_plain_runs();
 }
 

@@ -1,8 +1,11 @@
 -- What was asked, and what a stop leaves, at the start.
-use Rattle.std.proofs.Common.{◌≡◌, ℕ, ◌<◌, List, ap, sym, ◌∙◌, subst, arith, ◌^◌, slice_index_or}
-use Rattle.line_memory.specs.Memory.{Memory}
+use Rattle.std.proofs.Common.{◌≡◌, ℕ, ◌<◌, ◌≤◌, List, ap, sym, ◌∙◌, subst, arith, ◌^◌, slice_index_or}
+use Rattle.image_layout.specs.Places.{logs as log_count, min_lines, log_head_line}
+use Rattle.image_meaning.specs.Logs.{NoneLogged}
+use Rattle.line_memory.specs.Memory.{Memory, shown, IsTelling, IsDurable}
 use Rattle.plain_model.specs.First.{first_world}
 use Rattle.twin_forms.specs.Table.{Entry}
+use Rattle.region_log.specs.Kept.{Counts}
 use Rattle.machine_forms.specs.declared.doing.Doing.{Doing}
 use Rattle.machine_forms.specs.declared.doing.Doing.TheVariants.{Nothing}
 use Rattle.machine_forms.specs.Machines.{Opening, Machine, is_fencing, doing_of}
@@ -14,6 +17,11 @@ use Rattle.machine_starts.specs.First.{IsFirstMachine, IsDurableImage}
 use Rattle.machine_starts.proofs.Queues.{all_alike, nothing_queued}
 use Rattle.machine_starts.proofs.Nodes.{corresponds, nobody_owns, table_of_lines}
 use Rattle.machine_starts.proofs.Worlds.{slots_of_roots}
+
+-- a log in which nothing counts, durably
+none_counted : (m : Memory) (t : ℕ) → t < log_count → NoneLogged (shown m) → IsDurable m (log_head_line t) 0
+    → Counts m t 0
+none_counted m t below none durable v left = durable v left ∙ none t below
 
 module _ (o : Opening) (lines : List ℕ) (m : Machine) (es : List Entry)
     (first : IsFirstMachine o lines m es) where
@@ -37,6 +45,12 @@ module _ (o : Opening) (lines : List ℕ) (m : Machine) (es : List Entry)
           (λ below. table.1 (omega (arith, below, many))),
         );
     few = subst (λ (x : Memory). x.calls < 2 ^ 64) (sym first.memory) first.image.few;
+    logs = first.logs;
+    empty = first.empty;
+    long = subst (λ (x : Memory). min_lines ≤ x.size) (sym first.memory) first.image.size;
+    counts = λ t below. subst (λ (x : Memory). IsTelling x.image.trace → Counts x t 0) (sym first.memory)
+        (λ told. none_counted o.start t below first.image.unlogged
+        ((first.image.durable told).counts t below));
   }
 
   pub asked_kept : StartsKeepAsked → KeepsAsked o m es

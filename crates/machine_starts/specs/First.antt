@@ -7,7 +7,7 @@ use Rattle.graph_model.specs.declared.types.Shape.{Shape}
 use Rattle.graph_model.specs.Heaps.{no_shape}
 use Rattle.line_memory.specs.Memory.{Memory, shown, IsTelling, IsDurable}
 use Rattle.line_memory.specs.Moments.{CountsFrom}
-use Rattle.image_layout.specs.Places.{logs, root_slots, slot_line, slot_word, directory_line, directory_word, log_head_line, first_object_line}
+use Rattle.image_layout.specs.Places.{logs as log_count, root_slots, slot_line, slot_word, directory_line, directory_word, log_head_line, first_object_line}
 use Rattle.image_meaning.specs.Directories.{Directory}
 use Rattle.image_meaning.specs.Logs.{NoneLogged}
 use Rattle.image_meaning.specs.Laws.{Opens}
@@ -22,7 +22,7 @@ use Rattle.twin_forms.specs.Table.{Entry}
 use Rattle.twin_forms.specs.Sights.{AllKnown}
 use Rattle.two_spaces.specs.Seen.{Spaces}
 use Rattle.machine_forms.specs.declared.doing.Doing.TheVariants.{Nothing}
-use Rattle.machine_forms.specs.Machines.{Opening, Machine, memory_of, shown_in}
+use Rattle.machine_forms.specs.Machines.{Opening, Machine, memory_of, shown_in, log_of, empty_log}
 use Rattle.first_spaces.specs.Beginnings.{RootsLieInSlots, ShowsOpening, StandFor, StandsOpened}
 use Rattle.first_spaces.specs.Laws.{first_queues}
 use Rattle.first_spaces.specs.Opened.{IsOpened}
@@ -36,7 +36,7 @@ pub record IsDurableImage (m : Memory) : Type 0 where
   pub entries : (i : ℕ) → i < shown m 0 3 → IsDurable m (directory_line i) (directory_word i)
   pub slots : (r : ℕ) → r < root_slots → IsDurable m (slot_line r) (slot_word r)
   pub objects : (l w : ℕ) → first_object_line ≤ l → l < m.size → IsDurable m l w
-  pub counts : (t : ℕ) → t < logs → IsDurable m (log_head_line t) 0
+  pub counts : (t : ℕ) → t < log_count → IsDurable m (log_head_line t) 0
 
 -- The memory shows an image that opens with this directory, nothing logged, and over which a run of the opened
 -- graph begins, whose node n lies at the n-th of these lines. Where the image tells what is done to it, what
@@ -68,7 +68,7 @@ pub record HasDirectory (set : SetFacts) (directory : Directory) (s : Spaces) : 
 -- ---- the machine
 
 -- A launch over an opened image: the heap over that image is the first one, all beside it is as it begins,
--- nobody has claimed anything, no thread is about anything, and no act is made.
+-- nobody has claimed anything, no thread is about anything, each of 64 logs is empty, and no act is made.
 pub record IsFirstMachine (o : Opening) (lines : List ℕ) (m : Machine) (es : List Entry) : Type 0 where
   pub launched : IsLaunch o.launch
   pub image : IsOpenedImage o lines
@@ -81,6 +81,8 @@ pub record IsFirstMachine (o : Opening) (lines : List ℕ) (m : Machine) (es : L
   pub queue : m.queue ≡ first_queues o.start.size
   pub free : m.free ≡ free_line (shown o.start) lines
   pub doing : m.doing ≡ replicate 64 Nothing
+  pub logs : length m.logs ≡ log_count
+  pub empty : (t : ℕ) → t < log_count → log_of m t ≡ empty_log t
   pub acts : m.acts ≡ []
 
 -- Thread 0 is about to initialise the main class and then to call `main`. It is given references that stand for

@@ -6,6 +6,8 @@ pub mod Holding
 pub mod Moving
 pub mod Objects
 pub mod Opened
+pub mod Outside
+pub mod Regions
 pub mod Sealing
 pub mod Starting
 pub mod Stepping

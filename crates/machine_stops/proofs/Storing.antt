@@ -1,5 +1,5 @@
--- Durable stores outside regions.
-use Rattle.std.proofs.Common.{◌≡◌, inl, inr, ℕ, ◌+◌, ◌*◌, ◌%◌, ◌<◌, Bool, true, false, ◌==◌, not, List, [], ◌∷◌, ◌++◌, length, Option, Some, None, refl, sym, ◌∙◌, ap, subst, arith}
+-- Durable stores: the word of the place is stored to, and holds the value.
+use Rattle.std.proofs.Common.{◌≡◌, inl, inr, ℕ, ◌+◌, ◌*◌, ◌%◌, ◌<◌, Bool, true, false, ◌==◌, not, List, length, Option, Some, None, refl, sym, ◌∙◌, ap, subst, arith}
 use Rattle.std.specs.Prelude.{slice_index_or}
 use Rattle.std.proofs.lemmas.Bool.{true≢false, and_from, eq-eqb}
 use Rattle.std.proofs.lemmas.List.{length-map}
@@ -25,16 +25,15 @@ use Rattle.image_layout.specs.Places.{slot_line, slot_word}
 use Rattle.image_meaning.specs.Objects.{kind_of}
 use Rattle.image_meaning.specs.Corresponds.{LiesAt, HoldsReference, Holds}
 use Rattle.run_history.specs.declared.act.Op.TheVariants as op
-use Rattle.run_history.specs.Worlds.{has_place, depth_of}
-use Rattle.run_history.specs.Knowing.{Guard, durable_at, store_fate, guard_of}
+use Rattle.run_history.specs.Worlds.{has_place}
+use Rattle.run_history.specs.Knowing.{durable_at}
 use Rattle.run_history.proofs.Sizes.{there}
 use Rattle.plain_model.specs.Runs.{is_volatile}
 use Rattle.shared_objects.specs.Shown.{item_value, ref_value, number_value}
 use Rattle.stop_invariant.specs.Layouts.{Lies, root_number}
 use Rattle.stop_invariant.specs.Events.{Puts, line_at, word_at}
 use Rattle.stop_invariant.proofs.Held.{root_is}
-use Rattle.stop_theorem.specs.Conditions.{StoresAt, IsOutsideRegions}
-use Rattle.stop_theorem.specs.Running.{State, with_act, with_memory, SingleStored}
+use Rattle.stop_theorem.specs.Conditions.{StoresAt}
 use Rattle.twin_forms.specs.Table.{Entry, entry, View, InP, Names, IsRef, kind_at, word_of, is_reference, line_of}
 use Rattle.twin_forms.specs.Table.{Lies as LiesIn}
 use Rattle.twin_forms.specs.declared.kinds.ShapeKinds.{ShapeKinds}
@@ -44,23 +43,26 @@ use Rattle.two_spaces.specs.declared.spaces.Static.{Static as Field}
 use Rattle.two_spaces.specs.declared.spaces.Static.TheVariants.{Beside, Root as RootSlot}
 use Rattle.two_spaces.specs.Seen.{current_word, number_in, slot_shown, static_value, root_word}
 use Rattle.two_spaces.specs.Laws.{null_is_no_object}
-use Rattle.two_spaces.specs.Whole.{IsWordOf, IsStatic, StaticStored, SlotStored, RootStored, no_static}
+use Rattle.two_spaces.specs.Whole.{IsWordOf, IsStatic, StaticStored, SlotStored, RootStored, StoresIn, no_static}
 use Rattle.two_spaces.proofs.Numbering.{word_copy, number_named}
 use Rattle.two_spaces.proofs.Valuing.{ref_number}
 use Rattle.two_spaces.proofs.Shifting.{object_is, value_at as value_shown}
 use Rattle.two_spaces.proofs.Keeping.{root_is as root_spot}
-use Rattle.machine_forms.specs.declared.doing.Doing.TheVariants.{Writing}
-use Rattle.machine_forms.specs.Machines.{Opening, Machine, known_in, memory_of, layout_in, waits_in, state_in}
+use Rattle.machine_forms.specs.Machines.{Opening, Machine, known_in, memory_of, layout_in}
 use Rattle.machine_forms.specs.Keeping.{KeepsHeap, KeepsRun}
-use Rattle.machine_forms.specs.Events.{StoresDurably, value_in}
-use Rattle.machine_stops.specs.Laws.{DurableStoresKeepStops}
-use Rattle.machine_stops.proofs.Acting.{owes_nothing}
+use Rattle.machine_forms.specs.Events.{DoesRequest, value_in}
 use Rattle.machine_stops.proofs.Holding.{IsHeldRef, slot_held, object_shown}
-use Rattle.machine_stops.proofs.Moving.{runs_on, moved}
 use Rattle.machine_stops.proofs.Objects.{shape_in, shape_known, kind_known}
 use Rattle.machine_stops.proofs.Stepping.{place_there, value_then}
 use Rattle.machine_stops.proofs.Tables.{lies, heap_is, line_in, durable_there, values_many}
-use Rattle.machine_stops.proofs.Waiting.{waits_of, waits_same}
+
+-- A store at a durable place, outside regions or in one, of a value that may be kept there.
+pub record StoresKept (o : Opening) (m m' : Machine) (es : List Entry) (t : ℕ) (request : Request Ref Item)
+    (place : Place) (item : Item) : Type 0 where
+  pub does : DoesRequest o m m' es t request (op.Stored place (value_in m item)) reply.Done
+  pub stores : StoresIn m.spaces place item m'.spaces
+  pub durable : durable_at (known_in o m) place ≡ true
+  pub kept : is_volatile (known_in o m).durable (value_in m item) ≡ false
 
 -- ---- the word of a reference that may be stored
 
@@ -199,7 +201,7 @@ module _ (o : Opening) (m : Machine) (es : List Entry) (r : KeepsRun o m es) whe
 
   module _ (m' : Machine) (h : KeepsHeap o m' es) (t : ℕ) (request : Request Ref Item) (item : Item) where
     -- the store at a place, with the word that it puts there
-    abbrev Stores : Place → Type 0
+    abbrev pub Stores : Place → Type 0
     Stores place = (x : ℕ) × StoresAt (known_in o m) (layout_in o es) (memory_of m) (memory_of m') place
         (value_in m item) x
 
@@ -211,7 +213,7 @@ module _ (o : Opening) (m : Machine) (es : List Entry) (r : KeepsRun o m es) whe
         let one : slot ≡ d = cc in
         (stored.0, stored.1, subst (λ k. RootStored m.spaces es k stored.0 m'.spaces) one stored.2)
 
-    stores_at : (place : Place) → StoresDurably o m m' es t request place item → Stores place
+    pub stores_at : (place : Place) → StoresKept o m m' es t request place item → Stores place
     stores_at (Slot n i) d =
         let known = known_in o m in
         let lay = layout_in o es in
@@ -289,37 +291,3 @@ module _ (o : Opening) (m : Machine) (es : List Entry) (r : KeepsRun o m es) whe
                 (subst (IsRef es) here held.2);
           },
         )
-
--- ---- the event
-
-pub durable_keep : DurableStoresKeepStops
-durable_keep o m es r m' t request place item d h told =
-    let known = known_in o m in
-    let v = value_in m item in
-    let one : State = state_in o m es in
-    let next : State = with_act (with_memory one (memory_of m')) t (op.Stored place v) [] in
-    let owes = owes_nothing o m es r t d.does.doing in
-    let stores = stores_at o m es r m' h t request item place d in
-    let line : ℕ = line_at (layout_in o es) known place in
-    let outside : IsOutsideRegions known (waits_in m) t place = record {
-      single = record {
-        owes_none = owes.owes;
-        fate = ap (λ b. store_fate t b (depth_of known.world t) (has_number known.closing t)) d.durable
-            ∙ ap (λ k. store_fate t true k (has_number known.closing t)) (r.asked.regions.depths t);
-      };
-      unguarded = ap (λ (gs : List Guard). guard_of gs place) r.asked.regions.guards;
-      waits_not = owes.waits;
-    } in
-    let many = r.asked.threads in
-    let few = d.does.thread in
-    let lt : t < length m.doing = omega (arith, many, few) in
-    let acts : m'.acts ≡ next.acts = d.does.acts
-    ∙ ap (λ n.
-    m.acts ++ record { act = record { thread = t; at = n; op = op.Stored place v }; named = [] } ∷ [])
-    (sym stores.1.puts.same.calls) in
-    let waits : waits_in m' ≡ waits_in m = ap waits_of d.doing
-    ∙ waits_same m.doing t (Writing line) lt (sym owes.waits) in
-    moved o next.acts m'.acts (layout_in o es) (layout_in o es) (waits_in m) (waits_in m') (memory_of m')
-    (memory_of m') acts refl waits refl
-    (runs_on o one next r.heap.long
-    (SingleStored one (memory_of m') t place v stores.0 stores.1 outside) (r.stops told))

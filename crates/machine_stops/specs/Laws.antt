@@ -14,7 +14,7 @@ use Rattle.convert_words.specs.declared.step.ConvertStep.{ConvertStep}
 use Rattle.converter.specs.declared.begin.Begun.{Begun}
 use Rattle.machine_forms.specs.Machines.{Opening, Machine, first_of, memory_of, layout_in, waits_in}
 use Rattle.machine_forms.specs.Keeping.{KeepsRun, KeepsHeap, KeepsStops}
-use Rattle.machine_forms.specs.Events.{CallsImage, with_twin, WritesBack, with_write, MakesFence, with_fence, ConvertsOn, FailsOn, BeginsOn, IsNoSeal, Seals, with_joined, AsksFor, with_asked, value_in, ActsBeside, TableAfter, StoresDurably}
+use Rattle.machine_forms.specs.Events.{CallsImage, with_twin, WritesBack, with_write, MakesFence, with_fence, ConvertsOn, FailsOn, BeginsOn, IsNoSeal, Seals, with_joined, AsksFor, with_asked, value_in, ActsBeside, RegionStep, TableAfter, StoresDurably}
 
 -- of every machine that keeps its run
 abbrev pub OfRuns : (Opening → Machine → List Entry → Type 0) → Type 0
@@ -65,6 +65,12 @@ ActsKeepStops = OfRuns (λ o m es. (m' : Machine) (es' : List Entry) (t : ℕ) (
 abbrev pub DurableStoresKeepStops : Type 0
 DurableStoresKeepStops = OfRuns (λ o m es. (m' : Machine) (t : ℕ) (request : Request Ref Item)
     (place : Place) (item : Item) → StoresDurably o m m' es t request place item → KeepsHeap o m' es
+    → KeepsStops o m' es)
+
+-- ---- regions
+
+abbrev pub RegionsKeepStops : Type 0
+RegionsKeepStops = OfRuns (λ o m es. (m' : Machine) → RegionStep o m es m' → KeepsHeap o m' es
     → KeepsStops o m' es)
 
 -- ---- the start

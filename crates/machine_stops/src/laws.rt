@@ -1,5 +1,5 @@
 // Laws of stops.
-ghost use Rattle.machine_stops.specs.Laws.{ActsKeepStops, AskedKeepStops, BeginningsKeepStops, CallsKeepStops, ConversionsKeepStops, DurableStoresKeepStops, FailuresKeepStops, FencesKeepStops, SealsKeepStops, StartsKeepStops, WritesKeepStops};
+ghost use Rattle.machine_stops.specs.Laws.{ActsKeepStops, AskedKeepStops, BeginningsKeepStops, CallsKeepStops, ConversionsKeepStops, DurableStoresKeepStops, FailuresKeepStops, FencesKeepStops, RegionsKeepStops, SealsKeepStops, StartsKeepStops, WritesKeepStops};
 ghost use Rattle.machine_stops.specs.Opened.{OpenedImagesStart};
 
 /// A touch, a write-back and a fence, made or failed.
@@ -22,6 +22,12 @@ pub fn acts_keep_stops()
     ensures asked { AskedKeepStops }
     ensures beside { ActsKeepStops }
     ensures durable { DurableStoresKeepStops }
+{}
+
+/// Failure-atomic regions: a begin, a place that is guarded, each call of a log, made or failed, a
+/// store in a region, its closing and its end.
+pub fn regions_keep_stops()
+    ensures { RegionsKeepStops }
 {}
 
 /// A machine begins so over an image that was opened.

@@ -5,5 +5,5 @@ mod laws;
 
 pub use laws::{
     acts_keep_stops, calls_keep_stops, conversions_keep_stops, machines_start_with_allowed_stops,
-    opened_images_start_machines,
+    opened_images_start_machines, regions_keep_stops,
 };

@@ -13,7 +13,7 @@ use Rattle.region_log.specs.declared.entry.EndStage.{EndStage}
 use Rattle.region_log.specs.declared.entry.EndStage.TheVariants.{Writing, AllFenced, Clearing, Cleared}
 use Rattle.region_log.specs.declared.entry.Underway.{Underway}
 use Rattle.region_log.specs.declared.entry.Underway.TheVariants.{Nothing, Adding, Ending}
-use Rattle.region_log.specs.Kept.{LeavesOnly, HasEntry, HasEntries, IsWhole, IsEntryWritten, IsCounting, IsCountWritten, IsClearing, HoldsAdding, HoldsEnding, HoldsUnderway, FitsUnderway, KeepsLog}
+use Rattle.region_log.specs.Kept.{LeavesOnly, HasEntry, HasEntries, IsWhole, IsEntryWritten, IsCounting, Counts, IsCountWritten, IsClearing, HoldsAdding, HoldsEnding, HoldsUnderway, FitsUnderway, KeepsLog}
 use Rattle.region_log.specs.Log.{Log, logged_of}
 use Rattle.region_log.specs.Made.{Word, Puts, IsOfLog}
 
@@ -124,10 +124,17 @@ module _ (t : ℕ) (old new : Memory) (on : Undisturbed t old new) where
         old_written = on.written (log_entry_line t n) (log_entry_word n + 1) of_log is.old_written;
       }
 
-  counting-on : (entries : List Entry) (e : Entry) → length entries < log_entries
+  -- the count shows a value, or only the old one is left
+  raised-on : IsTelling new.image.trace → (n v : ℕ) → (shown old (log_head_line t) 0 ≡ v) ⊎ Counts old t n
+      → (shown new (log_head_line t) 0 ≡ v) ⊎ Counts new t n
+  raised-on tells n v (inl shows) = inl (on.shows tells (log_head_line t) 0 (head_of_log t) ∙ shows)
+  raised-on tells n v (inr only) = inr (only-on (log_head_line t) 0 n (head_of_log t) only)
+
+  counting-on : IsTelling new.image.trace → (entries : List Entry) (e : Entry) → length entries < log_entries
       → IsCounting old t entries e → IsCounting new t entries e
-  counting-on entries e room is = record {
+  counting-on tells entries e room is = record {
     count = λ v left. is.count v (on.leaves (log_head_line t) 0 v (head_of_log t) left);
+    raised = raised-on tells (length entries) (length entries + 1) is.raised;
     each = entries-on 0 entries (omega (arith, room)) is.each;
     entry = entry-on (length entries) (logged_of e) room is.entry;
   }
@@ -138,10 +145,11 @@ module _ (t : ℕ) (old new : Memory) (on : Undisturbed t old new) where
     written = on.written (log_head_line t) 0 (head_of_log t) is.written;
   }
 
-  clearing-on : (entries : List Entry) → length entries ≤ log_entries → IsClearing old t entries
-      → IsClearing new t entries
-  clearing-on entries room is = record {
+  clearing-on : IsTelling new.image.trace → (entries : List Entry) → length entries ≤ log_entries
+      → IsClearing old t entries → IsClearing new t entries
+  clearing-on tells entries room is = record {
     count = λ v left. is.count v (on.leaves (log_head_line t) 0 v (head_of_log t) left);
+    lowered = raised-on tells (length entries) 0 is.lowered;
     each = entries-on 0 entries (omega (arith, room)) is.each;
   }
 
@@ -159,9 +167,9 @@ module _ (t : ℕ) (old new : Memory) (on : Undisturbed t old new) where
       entry-on (length entries)
           (logged_of e) room is.1,
     )
-    adding-on e Counting room is = counting-on entries e room is
+    adding-on e Counting room is = counting-on tells entries e room is
     adding-on e Counted room is = (
-      counting-on entries e room is.0,
+      counting-on tells entries e room is.0,
       count_written-on tells
           (length entries + 1) is.1,
     )
@@ -170,8 +178,8 @@ module _ (t : ℕ) (old new : Memory) (on : Undisturbed t old new) where
         → HoldsEnding new t entries stage
     ending-on (Writing lines) room is = whole-on entries room is
     ending-on AllFenced room is = whole-on entries room is
-    ending-on Clearing room is = clearing-on entries room is
-    ending-on Cleared room is = (clearing-on entries room is.0, count_written-on tells 0 is.1)
+    ending-on Clearing room is = clearing-on tells entries room is
+    ending-on Cleared room is = (clearing-on tells entries room is.0, count_written-on tells 0 is.1)
 
     underway-on : (size depth : ℕ) (underway : Underway) → length entries ≤ log_entries
         → FitsUnderway size depth entries underway

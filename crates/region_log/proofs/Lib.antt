@@ -1,9 +1,10 @@
 mod Ending
-mod Frames
-mod Left
-mod Others
-mod Placed
+pub mod Frames
+mod Guarded
+pub mod Left
+pub mod Others
+pub mod Placed
 mod Puts
-mod Regions
-mod Said
+pub mod Regions
+pub mod Said
 mod Stepping

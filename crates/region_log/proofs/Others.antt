@@ -35,7 +35,7 @@ steps-keep log t words old new other of_log made keeps =
     (puts-keep log t words old made.placed other of_log made.puts keeps)
 
 -- no logged word lies in a log
-not_of_log : (size line t : ℕ) → may_be_logged size line ≡ true → t < logs → IsOfLog t line → ⊥
+pub not_of_log : (size line t : ℕ) → may_be_logged size line ≡ true → t < logs → IsOfLog t line → ⊥
 not_of_log size line t may below of_log =
     let from = of_log.from in let under = of_log.below in grind (arith, nat_tests)
 

@@ -125,6 +125,7 @@ module _ (t : ℕ) (entries : List Entry) (old placed : Memory) where
   raised e put is = record {
     count = λ v left. ⊎_elim (λ before. is.count v before) (λ new. inr new)
         (count_here t (length entries + 1) old placed put entries v left);
+    raised = inl put.here;
     each = count_entries t (length entries + 1) old placed put entries is.each;
     entry = count_entry t (length entries + 1) old placed put entries (length entries) (logged_of e) is.entry;
   }
@@ -134,17 +135,26 @@ module _ (t : ℕ) (entries : List Entry) (old placed : Memory) where
   lowered put is = record {
     count = λ v left. ⊎_elim (λ before. is.count v before) (λ new. inr new)
         (count_here t 0 old placed put entries v left);
+    lowered = inl put.here;
     each = count_entries t 0 old placed put entries is.each;
   }
 
 -- a log of whole entries is one whose count may be raised, or lowered
 to_counting : (m : Memory) (t : ℕ) (entries : List Entry) (e : Entry) → IsWhole m t entries
     → HasEntry m t (length entries) (logged_of e) → IsCounting m t entries e
-to_counting m t entries e whole entry = record
-    { count = λ v left. inl (whole.count v left); each = whole.each; entry = entry }
+to_counting m t entries e whole entry = record {
+  count = λ v left. inl (whole.count v left);
+  raised = inr whole.count;
+  each = whole.each;
+  entry = entry;
+}
 
 to_clearing : (m : Memory) (t : ℕ) (entries : List Entry) → IsWhole m t entries → IsClearing m t entries
-to_clearing m t entries whole = record { count = λ v left. inl (whole.count v left); each = whole.each }
+to_clearing m t entries whole = record {
+  count = λ v left. inl (whole.count v left);
+  lowered = inr whole.count;
+  each = whole.each;
+}
 
 -- ---- an entry is added
 

@@ -46,9 +46,10 @@ pub record IsEntryWritten (m : Memory) (t n : ℕ) (e : Logged) : Type 0 where
   pub place_written : IsWritten m (log_entry_line t n) (log_entry_word n)
   pub old_written : IsWritten m (log_entry_line t n) (log_entry_word n + 1)
 
--- its words are durable, and the count may be raised over it
+-- its words are durable, and the count may be raised over it: it is shown so, or wasn't yet
 pub record IsCounting (m : Memory) (t : ℕ) (entries : List Entry) (e : Entry) : Type 0 where
   pub count : (v : ℕ) → CanLeave m (log_head_line t) 0 v → (v ≡ length entries) ⊎ (v ≡ length entries + 1)
+  pub raised : (shown m (log_head_line t) 0 ≡ length entries + 1) ⊎ Counts m t (length entries)
   pub each : HasEntries m t 0 entries
   pub entry : HasEntry m t (length entries) (logged_of e)
 
@@ -66,9 +67,10 @@ HoldsAdding m t entries e Counted = IsCounting m t entries e × IsCountWritten m
 
 -- ---- a region is ended
 
--- the count may be lowered to nothing
+-- the count may be lowered to nothing: it is shown so, or wasn't yet
 pub record IsClearing (m : Memory) (t : ℕ) (entries : List Entry) : Type 0 where
   pub count : (v : ℕ) → CanLeave m (log_head_line t) 0 v → (v ≡ length entries) ⊎ (v ≡ 0)
+  pub lowered : (shown m (log_head_line t) 0 ≡ 0) ⊎ Counts m t (length entries)
   pub each : HasEntries m t 0 entries
 
 abbrev pub HoldsEnding : Memory → ℕ → List Entry → EndStage → Type 0

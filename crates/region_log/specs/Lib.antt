@@ -1,7 +1,9 @@
+pub mod Guarding
 pub mod Kept
 pub mod Laws
 pub mod Log
 pub mod Made
+pub mod Readers
 pub mod Said
 pub mod Stages
 pub mod Steps

@@ -1,6 +1,7 @@
 // Entries, and how far a log is with one or with its end.
 ghost use Rattle.std.specs.Prelude.{◌≡◌, ◌↔◌, IsTrue};
 ghost use Rattle.region_log.specs.Log.{IsLogged};
+ghost use Rattle.region_log.specs.Readers.{added_entry, is_ending, is_cleared};
 ghost use Rattle.region_log.specs.Stages.{entry_stage, next_stage, failed_stage, end_stage, next_end, failed_end};
 
 use ap_base::Spot;
@@ -108,6 +109,30 @@ impl Underway {
             Underway::Ending(stage) => stage,
             _ => EndStage::Writing(0),
         }
+    }
+
+    /// The entry that is being added.
+    pub(crate) fn entry(self) -> Option<Entry>
+        ensures { result ≡ added_entry self }
+    {
+        match self {
+            Underway::Adding(entry, _) => Some(entry),
+            _ => None,
+        }
+    }
+
+    /// Whether the end of a region is under way.
+    pub(crate) fn is_ending(self) -> bool
+        ensures { result ≡ is_ending self }
+    {
+        matches!(self, Underway::Ending(_))
+    }
+
+    /// Whether the last fence of a region's end is left.
+    pub(crate) fn is_cleared(self) -> bool
+        ensures { result ≡ is_cleared self }
+    {
+        matches!(self, Underway::Ending(EndStage::Cleared))
     }
 }
 

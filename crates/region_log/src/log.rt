@@ -6,6 +6,7 @@ ghost use Rattle.image_meaning.specs.Logs.{may_be_logged};
 ghost use Rattle.line_memory.specs.Memory.{Memory, shown, OneCall};
 ghost use Rattle.region_log.specs.Log.{Log, IsLogged, entry_of};
 ghost use Rattle.region_log.specs.Kept.{KeepsLog, KeepsRegion};
+ghost use Rattle.region_log.specs.Readers.{added_entry, is_ending, is_cleared};
 ghost use Rattle.region_log.specs.Stages.{CanAdd, CanEnd, EndsAtOnce};
 ghost use Rattle.region_log.specs.Steps.{StepsOn, TouchesFor, AddsOn, AddsEntry, FailsToAdd, TouchesToEnd, EndsOn, FencesRegion, EndsRegion, FailsToEnd};
 
@@ -97,6 +98,63 @@ impl RegionLog {
         ensures { IsTrue result ↔ IsLogged self.now.entries spot }
     {
         is_logged(&self.entries, spot)
+    }
+
+    /// The entries, in the order in which they were added.
+    pub fn entries(&self) -> &[Entry]
+        ensures { result.now ≡ self.now.entries }
+    {
+        self.entries.as_slice()
+    }
+
+    /// Whether no more words can be logged.
+    pub fn is_full(&self) -> bool
+        ensures { IsTrue result ↔ (length self.now.entries ≡ log_entries) }
+    {
+        self.entries.len() == LOG_ENTRIES as usize
+    }
+
+    /// Whether no word is logged.
+    pub fn is_empty(&self) -> bool
+        ensures { IsTrue result ↔ (self.now.entries ≡ []) }
+    {
+        self.entries.is_empty()
+    }
+
+    /// The entry that is being added.
+    pub fn adding(&self) -> Option<Entry>
+        ensures { result ≡ added_entry self.now.underway }
+    {
+        self.underway.entry()
+    }
+
+    /// Whether the end of a region is under way.
+    pub fn is_ending(&self) -> bool
+        ensures { result ≡ is_ending self.now.underway }
+    {
+        self.underway.is_ending()
+    }
+
+    /// Whether the end of a region is under way, with its last fence left.
+    pub fn is_cleared(&self) -> bool
+        ensures { result ≡ is_cleared self.now.underway }
+    {
+        self.underway.is_cleared()
+    }
+
+    /// Names the word that is to be logged next, and the value that it has. From then on it is guarded; `log_next`
+    /// with both logs it.
+    pub fn guard(&mut self, spot: Spot, old: u64)
+        requires open { 0 < self.old.depth }
+        requires idle { self.old.underway ≡ Underway.Nothing }
+        requires room { length self.old.entries < log_entries }
+        requires unlogged { ¬ IsLogged self.old.entries spot }
+        ensures named { self.new
+            ≡ record self.old { underway = Underway.Adding (entry_of spot old) EntryStage.Begun } }
+        ensures keeps { (m : Memory) → may_be_logged m.size spot.line ≡ true
+            → KeepsLog self.old m → KeepsLog self.new m }
+    {
+        self.underway = Underway::Adding(Entry { spot, old }, EntryStage::Begun);
     }
 
     /// Logs a word with the value that it shows, a part with each call: `More` until the entry counts and that is

@@ -1,13 +1,12 @@
 // What the top call prints, and how it ends, by its words, its files and its sink.
-use crate::class_bytes;
 use crate::class_files::SEVEN;
-use crate::fixture::{
-    PRINTS, RUN, STORES, blank, file, has_output, listed_classes, main_class, run_words, sink,
-    words,
-};
 use ap_base::{Bytes, ClassSource, MemorySource, NamedBytes};
 use autopersist::{Status, read_words, status_text};
 use class_rows::{CLASS_A, SEVERAL};
+use run_fixture::{
+    PRINTS, RUN, STORES, blank, class_bytes, file, has_output, listed_classes, main_class,
+    run_words, sink, words,
+};
 use std::alloc::{AllocError, Global};
 use std::sync::Wait;
 use std::test::Fail;

@@ -1,9 +1,9 @@
 // Runs of the top call on an image file, and what the adapters do at the edges: a second opening, odd files.
-use crate::fixture::{PRINTS, RUN, STORES, main_class, source, words};
 use ap_base::{ClassSource, MemorySink, NoGate, SourceError};
 use autopersist::{autopersist, status_text};
 use host_adapters::{Folder, ImageFile, class_names, hold_streams};
 use line_image::Image;
+use run_fixture::{PRINTS, RUN, STORES, main_class, source, words};
 use run_history::NoWatch;
 use std::alloc::Global;
 use std::io::Write;

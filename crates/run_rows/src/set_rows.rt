@@ -1,11 +1,11 @@
 // What runs of class sets without durable roots print, and how they end.
-use crate::fixture::{blank, has_output, run_class};
+use run_fixture::{blank, has_output, run_class};
 use std::test::Fail;
 
 /// The main class, a listing of which each class is a file, and what is printed with the status line behind it.
 type Row = (&'static str, &'static str, &'static str);
 
-static ROWS: [Row; 23] = [
+static ROWS: [Row; 24] = [
     // arithmetic at its edges (JVMS 6.5)
     (
         "Main",
@@ -206,7 +206,7 @@ static ROWS: [Row; 23] = [
          .method <clinit> ()V 2 0 static\niconst_1\niconst_0\nidiv\nputstatic Bad x I\nreturn\n.end\n",
         "autopersist: link InitFailed Bad\n",
     ),
-    // what isn't built yet: threads and regions, by what code calls
+    // what isn't built yet: threads, by what code calls
     (
         "Main",
         ".class Main\n.super java/lang/Object\n\
@@ -222,12 +222,20 @@ static ROWS: [Row; 23] = [
          invokevirtual java/lang/Thread join ()V\nreturn\n.end\n",
         "autopersist: not built\n",
     ),
+    // a region that is ended and wasn't begun, and one that is begun and never ended
+    (
+        "Main",
+        ".class Main\n.super java/lang/Object\n\
+         .method main ([Ljava/lang/String;)V 6 4 static\ninvokestatic autopersist/Region end ()V\n\
+         return\n.end\n",
+        "autopersist: uncaught 0 java/lang/IllegalStateException\n",
+    ),
     (
         "Main",
         ".class Main\n.super java/lang/Object\n\
          .method main ([Ljava/lang/String;)V 6 4 static\ninvokestatic autopersist/Region begin ()V\n\
          return\n.end\n",
-        "autopersist: not built\n",
+        "",
     ),
 ];
 

@@ -1,7 +1,6 @@
-//! What the code of a class set asks of its runtime beside a heap: other threads, and failure-atomic
-//! regions.
+//! What the code of a class set asks of its runtime beside a heap: other threads.
 #![tactic(auto)]
 
 mod demands;
 
-pub use demands::asks_for_threads_or_regions;
+pub use demands::asks_for_threads;

@@ -2,7 +2,9 @@ pub mod Calling
 pub mod Claimed
 pub mod Converting
 pub mod Here
+pub mod Logging
 pub mod Planned
+pub mod Regioning
 pub mod Requesting
 pub mod Sounding
 pub mod Storing

@@ -11,9 +11,8 @@ use Rattle.machine_forms.specs.Events.{act_in}
 use Rattle.shared_heap.specs.Shared.{Shared}
 use Rattle.shared_heap.specs.Requests.{StepsTo}
 
--- A step that did something adds one act, which names nothing, whatever is named for the next act that
--- makes objects
--- durable.
+-- A step that did something adds one act, which names nothing, whatever is named for the next act that makes
+-- objects durable.
 abbrev pub StepsNameNothing : Type 0
 StepsNameNothing = (set : SetFacts) (t : ℕ) (request : Request Ref Item) (old new : Shared) (o : Op)
     (r : Reply Ref Item) → old.machine.acts ≡ old.history.acts

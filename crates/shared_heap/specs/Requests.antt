@@ -72,7 +72,7 @@ pub record IsPlannedFor (set : SetFacts) (t : ℕ) (request : Request Ref Item) 
   pub asks : AsksStore set (shown_in s.machine) s.machine.rest t request (place_of store.target) store.kept
   pub ready : IsReady s.machine.spaces store
 
--- what a thread is about after its store: the line of a durable place is to be written back
+-- what a thread is about after its store: the line that was given is to be written back
 abbrev pub doing_stored : Option ℕ → Doing
 doing_stored None = Nothing
 doing_stored (Some line) = Writing line
@@ -80,9 +80,8 @@ doing_stored (Some line) = Writing line
 abbrev pub value_stored : Shared → Store → Value
 value_stored s store = value_in s.machine store.kept
 
--- The store was made, as the step of each request that asks it, and its act told. The queues were told
--- where it
--- went to a copied line of an object that is being converted.
+-- The store was made, as the step of each request that asks it, and its act told. The queues were told where
+-- it went to a copied line of an object that is being converted.
 pub record StoresTo (t : ℕ) (store : Store) (line : Option ℕ) (old new : Shared) : Type 0 where
   pub step : (set : SetFacts) (request : Request Ref Item) → IsPlannedFor set t request store old
       → IsStep set t request (shown_in old.machine) old.machine.rest

@@ -1,17 +1,19 @@
 // The heap.
-ghost use Rattle.std.specs.Prelude.{◌≡◌, ◌↔◌, ◌≤◌, length, IsTrue};
+ghost use Rattle.std.specs.Prelude.{◌≡◌, ◌↔◌, ◌≤◌, ◌<◌, ◌^◌, length, IsTrue};
 
 use convert_queue::Conversions;
 use line_image::Image;
 use machine_forms::Doing;
 use persist_space::PersistSpace;
+use region_logs::Logs;
 use run_history::Acts;
 use shared_objects::Rest;
 use std::marker::Model;
 use two_spaces::TwoSpaces;
 
 /// A heap of two spaces with what threads share beside it: the conversions that go on, the lines of
-/// the image that are left, monitors, classes and threads, what each thread is about, and the history.
+/// the image that are left, monitors, classes and threads, what each thread is about, the logs of their
+/// regions, and the history.
 #[derive(Drop)]
 pub struct SharedHeap<I: Image> {
     pub(crate) spaces: TwoSpaces<I>,
@@ -19,6 +21,7 @@ pub struct SharedHeap<I: Image> {
     pub(crate) lines: PersistSpace,
     pub(crate) rest: Rest,
     pub(crate) doing: Vec<Doing>,
+    pub(crate) logs: Logs,
     pub(crate) acts: Acts,
     /// how many objects are named for the next act that makes objects durable
     pub(crate) named: u32,
@@ -50,19 +53,23 @@ impl<I: Image> Model for SharedHeap<I> {
         free = h.lines.free;
         rest = h.rest;
         doing = h.doing.items;
+        logs = h.logs.logs;
       };
       history = h.acts;
       lines = h.lines.lines;
       named = h.named;
     } };
 
-    ghost invariant = { λ h. (length h.doing.items ≡ 64) × (h.limit ≡ h.acts.limit) };
+    ghost invariant = { λ h. (length h.doing.items ≡ 64) × (h.limit ≡ h.acts.limit)
+        × (h.logs.lines ≡ h.lines.lines) };
 }
 
 impl<I: Image> SharedHeap<I> {
-    /// Whether the history has all the acts that it may have. The acts of the machine are its acts.
+    /// Whether the history has all the acts that it may have, fewer than 2^32. The acts of the machine are
+    /// its acts.
     pub fn is_full(&self) -> bool
         ensures full { IsTrue result ↔ (self.now.history.limit ≤ length self.now.history.acts) }
+        ensures counted { self.now.history.limit < 2 ^ 32 }
         ensures same { self.now.machine.acts ≡ self.now.history.acts }
     {
         self.acts.len() >= self.limit

@@ -8,6 +8,7 @@ mod heap;
 mod laws;
 mod making;
 mod planning;
+mod regions;
 mod requests;
 mod telling;
 
@@ -15,3 +16,4 @@ pub use conversions::Conversion;
 pub use heap::SharedHeap;
 pub use laws::steps_add_acts_that_name_nothing;
 pub use requests::Plan;
+pub use telling::place_of;

@@ -5,7 +5,7 @@ ghost use Rattle.image_layout.specs.Places.{max_lines};
 ghost use Rattle.machine_forms.specs.declared.doing.Doing.TheVariants.{Nothing};
 ghost use Rattle.machine_forms.specs.Machines.{doing_of, memory_of};
 ghost use Rattle.store_barrier.specs.Barriers.{spaces_of};
-ghost use Rattle.shared_heap.specs.First.{first_shared};
+ghost use Rattle.shared_heap.specs.First.{empty_logs, first_shared};
 
 use crate::SharedHeap;
 use ap_base::ThreadNo;
@@ -14,13 +14,14 @@ use line_image::Image;
 use line_memory::LineMemory;
 use machine_forms::Doing;
 use persist_space::PersistSpace;
+use region_logs::Logs;
 use run_history::Acts;
 use shared_objects::{Rest, Threads};
 use std::alloc::{AllocError, Global};
 use two_spaces::TwoSpaces;
 
-// The queues of conversions, what each thread is about, and the history.
-type Reserved = (Conversions, Vec<Doing>, Acts);
+// The queues of conversions, what each thread is about, the history, and the logs of regions.
+type Reserved = (Conversions, Vec<Doing>, Acts, Logs);
 
 // All memory that a shared heap takes, for an image of so many lines and a history of so many acts.
 fn reserve(alloc: Global, lines: u32, limit: u32) -> Result<Reserved, AllocError>
@@ -29,12 +30,16 @@ fn reserve(alloc: Global, lines: u32, limit: u32) -> Result<Reserved, AllocError
     ensures doing { IfOk result (λ it. it.1.items ≡ replicate 64 Nothing) }
     ensures acts { IfOk result (λ it. it.2
         ≡ record { acts = []; named = []; limit = limit; room = lines }) }
+    ensures logs { IfOk result (λ it. it.3.logs ≡ empty_logs) }
+    ensures guardable { IfOk result (λ it. it.3.lines ≡ lines) }
 {
     let queue = Conversions::reserve(alloc, lines)?;
     let doing = vec![in alloc; Doing::Nothing; 64]?;
     let mut acts = Acts::new(alloc);
     acts.reserve(limit, lines)?;
-    Ok((queue, doing, acts))
+    let logs = Logs::reserve(alloc, lines)?;
+    logs.stand_apart();
+    Ok((queue, doing, acts, logs))
 }
 
 impl<I: Image> SharedHeap<I> {
@@ -57,7 +62,7 @@ impl<I: Image> SharedHeap<I> {
         ensures given_back { IfErr result (λ back. back ≡ spaces) }
     {
         let lines = spaces.heap.memory.lines() as u32;
-        let Ok((queue, doing, history)) = reserve(alloc, lines, acts) else {
+        let Ok((queue, doing, history, logs)) = reserve(alloc, lines, acts) else {
             return Err(spaces);
         };
         Ok(SharedHeap {
@@ -66,6 +71,7 @@ impl<I: Image> SharedHeap<I> {
             lines: PersistSpace::new(free, lines),
             rest,
             doing,
+            logs,
             acts: history,
             named: 0,
             limit: acts,

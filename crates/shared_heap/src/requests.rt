@@ -10,7 +10,8 @@ ghost use Rattle.shared_steps.specs.Output.{FaultsGo, OutputGoes, SharesGo};
 ghost use Rattle.twin_forms.specs.Table.{Entry};
 ghost use Rattle.two_spaces.specs.Whole.{IsWhole, Stands};
 ghost use Rattle.machine_forms.specs.Machines.{memory_of, shown_in};
-ghost use Rattle.store_barrier.specs.Barriers.{AgreesWith, ConvertsFirst, IfConverts, IfStores, IsLineOf, IsReady, MayFollow};
+ghost use Rattle.store_barrier.specs.Barriers.{AgreesWith, ConvertsFirst, IfConverts, IfFollows, IfLogs, IfNoRace, IfRaces, IfStores, IsReady, MayFollow};
+ghost use Rattle.store_barrier.specs.Regions.{HasLogged, IsApart, IsLineLeft, LogsFirst, Races};
 ghost use Rattle.shared_heap.specs.Plans.{IfEnded, IfPlanned};
 ghost use Rattle.shared_heap.specs.Requests.{AsksTo, IsPlannedFor, MayAsk, StepsTo, StoresTo, value_stored};
 
@@ -97,17 +98,31 @@ impl<I: Image> SharedHeap<I> {
         step
     }
 
-    /// By which rule a store goes on that can be made.
-    pub fn barrier(&self, store: &Store) -> Barrier
+    /// By which rule a store of a thread goes on that can be made.
+    pub fn barrier(&self, t: ThreadNo, store: &Store) -> Barrier
         requires whole { IsWhole self.now.machine.spaces }
         requires can { CanStore (shown_in self.now.machine) store.now }
+        requires long { 33 ≤ (memory_of self.now.machine).size }
+        requires lines { self.now.lines ≡ (memory_of self.now.machine).size }
+        ensures race { (es : List Entry) → Stands self.now.machine.spaces es
+            → IfRaces result (Races self.now.machine.spaces es self.now.machine.logs t
+            (place_of store.now.target)) }
+        ensures apart { IfNoRace result (IsApart self.now.machine.spaces self.now.machine.logs t
+            (place_of store.now.target)) }
         ensures convert { (es : List Entry) → Stands self.now.machine.spaces es
             → IfConverts result (ConvertsFirst self.now.machine.spaces es store.now) }
-        ensures store { IfStores result (λ _. MayFollow self.now.machine.spaces store.now) }
+        ensures follows { IfFollows result (MayFollow self.now.machine.spaces store.now) }
+        ensures log { (es : List Entry) → Stands self.now.machine.spaces es
+            → IfLogs result (LogsFirst self.now.machine.spaces es self.now.machine.logs t
+            (place_of store.now.target)) }
+        ensures logged { (es : List Entry) → Stands self.now.machine.spaces es
+            → IfStores result (λ _. HasLogged self.now.machine.spaces es self.now.machine.logs t
+            (place_of store.now.target)) }
         ensures line { (es : List Entry) → Stands self.now.machine.spaces es
-            → IfStores result (IsLineOf self.now.machine.spaces es (place_of store.now.target)) }
+            → IfStores result (IsLineLeft self.now.machine.spaces es self.now.machine.logs t
+            (place_of store.now.target)) }
     {
-        ask_store(&self.spaces, store)
+        ask_store(t, &self.spaces, &self.logs, store)
     }
 
     /// Asks what a store is to make durable: the thread converts that from now on.
@@ -130,8 +145,8 @@ impl<I: Image> SharedHeap<I> {
         self.doing[t.number() as usize] = Doing::Converting;
     }
 
-    /// Makes a store before which nothing is to be converted. Its place's line in the image, if it
-    /// has one, is to be written back next.
+    /// Makes a store before which nothing is to be converted. This line of the image, if one is given,
+    /// is to be written back next.
     pub fn store(&mut self, t: ThreadNo, store: Store, line: Option<u32>)
         requires ready { IsReady self.old.machine.spaces store }
         requires barrier { MayFollow self.old.machine.spaces store }

@@ -29,8 +29,8 @@ pub(crate) fn doing_stored(line: Option<u32>) -> Doing
     }
 }
 
-// The place to which a store goes.
-pub(crate) fn place_of(target: Target) -> Place
+/// The place to which a store goes.
+pub fn place_of(target: Target) -> Place
     ensures { result ≡ place_of target }
 {
     match target {

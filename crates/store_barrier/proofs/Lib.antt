@@ -1,3 +1,6 @@
+mod Apart
+mod Guarded
 mod Holders
 mod Lines
 mod Machines
+mod Spots

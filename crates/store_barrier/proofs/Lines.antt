@@ -1,6 +1,5 @@
 -- Lines of stores, and what the queues are told of them.
-use Rattle.std.proofs.Common.{◌≡◌, inl, inr, ℕ, ◌+◌, ◌<◌, List, length, Option, Some, None, refl, sym, ◌∙◌, ap, subst, arith}
-use Rattle.std.specs.Prelude.{IfSome, IsNone}
+use Rattle.std.proofs.Common.{◌≡◌, inl, inr, ℕ, ◌+◌, ◌<◌, List, length, refl, sym, ◌∙◌, ap, subst, arith}
 use Rattle.ap_base.specs.declared.reference.Ref.{Ref}
 use Rattle.graph_model.specs.declared.types.Value.{Value}
 use Rattle.run_history.specs.declared.act.Op.TheVariants.{Stored}
@@ -16,39 +15,8 @@ use Rattle.convert_words.specs.Agreeing.{IsTied, Keeps}
 use Rattle.twin_forms.specs.Sights.{held_of, view_of, written_of}
 use Rattle.convert_words.specs.Steps.{told}
 use Rattle.two_spaces.specs.Seen.{Spaces}
-use Rattle.store_barrier.specs.Barriers.{AgreesWith, IsDurablePlace, IsLineOf}
+use Rattle.store_barrier.specs.Barriers.{AgreesWith, IsDurablePlace}
 use Rattle.store_barrier.proofs.Holders.{Held}
-
--- ---- the line of a durable place
-
--- of a copied line
-pub record IsCopiedAt (e : Entry) (i line : ℕ) : Type 0 where
-  pub copied : HasCopied e (line_of i)
-  pub is : line ≡ e.line + line_of i
-
-line_there : (e : Entry) (i : ℕ) (o : Option ℕ) → HasCopied e (line_of i)
-    → IfSome o (λ line. HasCopied e (line_of i) × (line ≡ e.line + line_of i))
-    → (IsNone o → HasCopied e (line_of i) → ⊥) → o ≡ Some (e.line + line_of i)
-line_there e i None copied some none = absurd (none refl copied)
-line_there e i (Some line) copied some none = ap Some some.1
-
-pub line_durable : (s : Spaces) (store : Store) (es : List Entry) (holder : Ref) (n i : ℕ) (o : Option ℕ)
-    → store.target ≡ target.Slot holder n i → InP es n
-    → IfSome o (λ line. HasCopied (entry es n) (line_of i) × (line ≡ (entry es n).line + line_of i))
-    → (IsNone o → HasCopied (entry es n) (line_of i) → ⊥) → IsLineOf s es (place_of store.target) o
-line_durable s store es holder n i o is durable some none =
-    subst (λ (x : Target). IsLineOf s es (place_of x) o) (sym is) (record {
-      durable = λ p. line_there (entry es n) i o (inl durable.1) some none;
-      other = λ no. absurd (no durable);
-    })
-
-pub line_other : (s : Spaces) (store : Store) (es : List Entry) (holder : Ref) (n i : ℕ)
-    → store.target ≡ target.Slot holder n i → (InP es n → ⊥) → IsLineOf s es (place_of store.target) None
-line_other s store es holder n i is outside =
-    subst (λ (x : Target). IsLineOf s es (place_of x) None) (sym is) (record {
-      durable = λ p. absurd (outside p);
-      other = λ no. refl;
-    })
 
 -- ---- what the queues are told
 

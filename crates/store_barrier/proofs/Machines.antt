@@ -10,11 +10,12 @@ use Rattle.ap_base.specs.declared.reference.Item.{Item}
 use Rattle.ap_base.specs.declared.reference.Item.TheVariants.{Int as IntItem, Long as LongItem, Ref as RefItem}
 use Rattle.graph_model.specs.declared.types.Root.{Root as DurableRoot}
 use Rattle.graph_model.specs.declared.types.Heap.{Heap}
-use Rattle.image_layout.specs.Places.{slot_line}
+use Rattle.ap_base.specs.declared.place.Spot.{Spot}
+use Rattle.image_layout.specs.Places.{slot_line, slot_word}
 use Rattle.run_history.specs.Knowing.{durable_at, is_root}
 use Rattle.plain_model.specs.Runs.{is_volatile}
 use Rattle.shared_objects.specs.Shown.{item_value, number_value}
-use Rattle.stop_invariant.specs.Events.{line_at}
+use Rattle.stop_invariant.specs.Events.{line_at, word_at}
 use Rattle.stop_invariant.specs.Layouts.{root_number}
 use Rattle.object_steps.specs.declared.storing.Store.{Store}
 use Rattle.object_steps.specs.Stores.{place_of}
@@ -28,8 +29,9 @@ use Rattle.machine_forms.specs.Machines.{Machine, Opening, known_in, layout_in}
 use Rattle.machine_forms.specs.Keeping.{KeepsRun}
 use Rattle.machine_forms.specs.Events.{IsSlotOfClaimed, value_in}
 use Rattle.machine_forms.proofs.Layouts.{layouts}
-use Rattle.store_barrier.specs.Barriers.{ConvertsFirst, HoldsDurable, IsDurablePlace, IsRoot, IsVolatile, line_of_place, line_of_static, static_at}
-use Rattle.store_barrier.specs.Laws.{Asks, ConversionsAreAsked, DurableLinesAgree, DurablePlacesAgree, StoresKeepDurable}
+use Rattle.region_events.specs.Guards.{IsWordOf}
+use Rattle.store_barrier.specs.Barriers.{ConvertsFirst, HoldsDurable, IsDurablePlace, IsRoot, IsSpotAt, IsVolatile, line_of_place, line_of_static, static_at, word_of_place, word_of_static}
+use Rattle.store_barrier.specs.Laws.{Asks, ConversionsAreAsked, DurableLinesAgree, DurablePlacesAgree, DurableWordsAgree, StoresKeepDurable}
 use Rattle.store_barrier.proofs.Holders.{durable_or_not}
 
 -- ---- roots
@@ -53,6 +55,11 @@ root_at (r ∷ rs) f is = elim (nat_eq r.at f) as (λ b. nat_eq r.at f ≡ b →
     ] refl is
 
 -- ---- one machine
+
+-- where a durable object lies
+pub line_of_durable : (o : Opening) (es : List Entry) (n : ℕ) → InP es n
+    → (layout_in o es).line_of n ≡ (entry es n).line
+line_of_durable o es n durable = rw ((layouts.durable es n).1 durable) refl
 
 module _ (o : Opening) (m : Machine) (es : List Entry) (k : KeepsRun o m es) where
   abbrev heap : Heap
@@ -83,8 +90,29 @@ module _ (o : Opening) (m : Machine) (es : List Entry) (k : KeepsRun o m es) whe
       ap line_of_static root.1 ∙ ap slot_line (sym (ap (root_number heap.roots) (sym of.1)
       ∙ k.world.roots.sized.numbers root.0 of.0))
   line_agrees (place.Slot n i) durable =
-      let at : (layout_in o es).line_of n ≡ (entry es n).line = rw ((layouts.durable es n).1 durable) refl in
+      let at = line_of_durable o es n durable in
       omega (arith, at)
+
+  word_agrees : (p : Place) → IsDurablePlace m.spaces es p → word_of_place m.spaces p ≡ word_at (known_in o m) p
+  word_agrees (place.Static f) root =
+      let of = k.world.roots.others f root.0 root.1 in
+      ap word_of_static root.1 ∙ ap slot_word (sym (ap (root_number heap.roots) (sym of.1)
+      ∙ k.world.roots.sized.numbers root.0 of.0))
+  word_agrees (place.Slot n i) durable = refl
+
+  pub word_is : (p : Place) (spot : Spot) → IsSpotAt m.spaces es p spot → IsWordOf (known_in o m) (layout_in o es) spot p
+  word_is p spot at = record {
+    line = at.line ∙ line_agrees p at.durable;
+    word = at.word ∙ word_agrees p at.durable;
+  }
+
+  pub spot_is : (p : Place) (spot : Spot) → IsDurablePlace m.spaces es p → IsWordOf (known_in o m) (layout_in o es) spot p
+      → IsSpotAt m.spaces es p spot
+  spot_is p spot durable at = record {
+    durable = durable;
+    line = at.line ∙ sym (line_agrees p durable);
+    word = at.word ∙ sym (word_agrees p durable);
+  }
 
   -- an object of which a line has been copied is durable, or some thread has claimed it
   there : (n c : ℕ) → HasCopied (entry es n) c → n < length es
@@ -162,6 +190,9 @@ durable_places o m es k = place_agrees o m es k
 
 pub durable_lines : DurableLinesAgree
 durable_lines o m es k = line_agrees o m es k
+
+pub durable_words : DurableWordsAgree
+durable_words o m es k = word_is o m es k
 
 pub asked : ConversionsAreAsked
 asked o m es k = asks_for o m es k

@@ -1,13 +1,14 @@
 -- By which rule a store goes on: what a durable place refers to is durable, and so is what an object refers to
 -- whose lines are being copied (Shull, Huang and Torrellas, "AutoPersist", PLDI 2019).
-use Rattle.std.specs.Prelude.{◌≡◌, ◌⊎◌, ℕ, ◌+◌, List, Option, None, Some, slice_index_or}
+use Rattle.std.specs.Prelude.{◌≡◌, ◌⊎◌, ℕ, ◌+◌, List, Option, None, Some, IfSome, IsNone, slice_index_or}
 use Rattle.ap_base.specs.declared.place.Place.{Place}
 use Rattle.ap_base.specs.declared.place.Place.TheVariants as place
+use Rattle.ap_base.specs.declared.place.Spot.{Spot}
 use Rattle.ap_base.specs.declared.reference.Ref.{Ref}
 use Rattle.ap_base.specs.declared.reference.Item.{Item}
 use Rattle.ap_base.specs.declared.reference.Item.TheVariants.{Ref as RefItem}
 use Rattle.ap_base.specs.References.{reference_word}
-use Rattle.image_layout.specs.Places.{slot_line}
+use Rattle.image_layout.specs.Places.{slot_line, slot_word, object_word}
 use Rattle.graph_model.specs.declared.types.Value.{Value}
 use Rattle.shared_objects.specs.Shown.{item_value}
 use Rattle.twin_forms.specs.Table.{Entry, entry, HasCopied, InP, line_of}
@@ -62,6 +63,26 @@ pub record IsLineOf (s : Spaces) (es : List Entry) (p : Place) (line : Option �
   pub durable : IsDurablePlace s es p → line ≡ Some (line_of_place s es p)
   pub other : (IsDurablePlace s es p → ⊥) → line ≡ None
 
+abbrev pub word_of_static : Static → ℕ
+word_of_static (Beside item) = 0
+word_of_static (Root slot) = slot_word slot
+
+-- and the word of that line
+abbrev pub word_of_place : Spaces → Place → ℕ
+word_of_place s (place.Static f) = word_of_static (static_at s f)
+word_of_place s (place.Slot n i) = object_word i
+
+-- The place is durable, and lies in this word of the image.
+pub record IsSpotAt (s : Spaces) (es : List Entry) (p : Place) (spot : Spot) : Type 0 where
+  pub durable : IsDurablePlace s es p
+  pub line : spot.line ≡ line_of_place s es p
+  pub word : spot.word ≡ word_of_place s p
+
+-- the word of a durable place; none of any other
+pub record IsSpotOf (s : Spaces) (es : List Entry) (p : Place) (spot : Option Spot) : Type 0 where
+  pub some : IfSome spot (IsSpotAt s es p)
+  pub none : IsNone spot → ¬ IsDurablePlace s es p
+
 -- Its holder is a durable root, is durable, or has had a line copied.
 abbrev pub HoldsDurable : Spaces → List Entry → Place → Type 0
 HoldsDurable s es (place.Static f) = IsRoot (static_at s f)
@@ -86,13 +107,32 @@ MayFollow s store = (es : List Entry) (object : Ref) → Stands s es → Convert
 
 -- ---- answers
 
+abbrev pub IfRaces : Barrier → (ℕ → Type 0) → Type 0
+IfRaces (barrier.Race other) P = P other
+IfRaces answer P = Unit {0}
+
+-- every answer but a race
+abbrev pub IfNoRace : Barrier → Type 0 → Type 0
+IfNoRace (barrier.Race other) P = Unit {0}
+IfNoRace answer P = P
+
 abbrev pub IfConverts : Barrier → (Ref → Type 0) → Type 0
 IfConverts (barrier.ConvertFirst object) P = P object
-IfConverts (barrier.Store line) P = Unit {0}
+IfConverts answer P = Unit {0}
+
+abbrev pub IfLogs : Barrier → (Spot → Type 0) → Type 0
+IfLogs (barrier.LogFirst spot) P = P spot
+IfLogs answer P = Unit {0}
 
 abbrev pub IfStores : Barrier → (Option ℕ → Type 0) → Type 0
-IfStores (barrier.ConvertFirst object) P = Unit {0}
 IfStores (barrier.Store line) P = P line
+IfStores answer P = Unit {0}
+
+-- the answers after which nothing is to be converted
+abbrev pub IfFollows : Barrier → Type 0 → Type 0
+IfFollows (barrier.Race other) P = Unit {0}
+IfFollows (barrier.ConvertFirst object) P = Unit {0}
+IfFollows answer P = P
 
 -- ---- what a store needs
 

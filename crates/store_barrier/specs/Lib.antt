@@ -1,2 +1,3 @@
 pub mod Barriers
 pub mod Laws
+pub mod Regions

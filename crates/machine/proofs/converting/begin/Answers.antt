@@ -24,7 +24,7 @@ returns g c =
     subst (λ result. StoreComesTo c.args.store.now result c.args.heap.now c.begin_converting-did.new.self)
     (sym c.went.ensures.event)
     (begun-comes c.laws.ensures c.args.heap.now c.begin_converting-did.new.self c.args.store.now c.args.object
-    c.requires.room c.requires.doing c.requires.idle c.requires.first c.begin_converting-did.result
+    c.requires.apart c.requires.room c.requires.doing c.requires.idle c.requires.first c.begin_converting-did.result
     (subst (λ (t : ℕ). (es : List Entry) (n : ℕ) → ConvertsAlone t c.args.heap.now es
     → IsAsked es (reference_word c.args.object) n
     → BeginsTo t n c.begin_converting-did.result c.args.heap.now c.begin_converting-did.new.self es)

@@ -9,7 +9,8 @@ pub returns-in-Ok : goal.returns-in-Ok
 returns-in-Ok g c =
     subst (λ result. StoreComesTo c.args.store.now result c.args.heap.now c.convert.new.self)
     (sym c.went.ensures.event)
-    (went-comes-to c.laws.ensures c.args.heap.now c.convert.new.self c.args.store.now c.requires.room
+    (went-comes-to c.laws.ensures c.args.heap.now c.convert.new.self c.args.store.now c.requires.first.0
+    c.requires.apart c.requires.first.1 c.requires.room
     c.requires.doing c.convert.ensures.cause.later c.in-Ok.did c.went.ensures.thread
     (subst (λ (t : ℕ). (es : List Entry) → ConvertsAlone t c.args.heap.now es
     → GoesTo t c.in-Ok.did c.args.heap.now c.convert.new.self es)
@@ -17,7 +18,8 @@ returns-in-Ok g c =
 
 pub returns-in-Err : goal.returns-in-Err
 returns-in-Err g c =
-    failed-comes-of c.laws.ensures c.args.heap.now c.convert.new.self c.args.store.now c.requires.room
+    failed-comes-of c.laws.ensures c.args.heap.now c.convert.new.self c.args.store.now c.requires.first.0
+    c.requires.apart c.requires.first.1 c.requires.room
     c.requires.doing
     (subst (λ (t : ℕ). (es : List Entry) → ConvertsAlone t c.args.heap.now es
     → FailsTo t c.args.heap.now c.convert.new.self es)

@@ -13,6 +13,7 @@ returns c = record {
     asked = c.events_keep_runs.ensures.asked;
     beside = c.events_keep_runs.ensures.beside;
     durable = c.events_keep_runs.ensures.durable;
+    regions = c.regions_keep_runs.ensures;
   };
   frames = record {
     calls = c.events_without_acts_leave_frames.ensures.calls;
@@ -25,6 +26,7 @@ returns c = record {
     asked = c.persistence_leaves_frames.ensures.asked;
     beside = c.requests_go_on_as_plain_runs.ensures.beside;
     durable = c.requests_go_on_as_plain_runs.ensures.durable;
+    regions = c.regions_go_on_as_plain_runs.ensures;
     alike = c.machines_ask_as_plain_runs.ensures.ready;
   };
   lines = record {
@@ -36,6 +38,7 @@ returns c = record {
     asked = c.events_keep_lines.ensures.asked;
     beside = c.events_keep_lines.ensures.beside;
     durable = c.events_keep_lines.ensures.durable;
+    regions = c.events_keep_lines.ensures.regions;
   };
   unwritten = record {
     writes = c.lines_stay_unwritten.ensures.writes;
@@ -46,14 +49,18 @@ returns c = record {
     asked = c.lines_stay_unwritten.ensures.asked;
     beside = c.lines_stay_unwritten.ensures.beside;
     durable = c.lines_stay_unwritten.ensures.durable;
+    regions = c.lines_stay_unwritten.ensures.regions;
   };
   ends = record {
     full = c.machines_end_by_their_faults.ensures.full;
     steps = c.machines_end_by_their_faults.ensures.steps;
     image = c.machines_end_by_their_faults.ensures.image;
+    logs = c.machines_end_by_their_faults.ensures.logs;
+    races = c.machines_end_by_their_faults.ensures.races;
     steps_meet = c.acts_meet_no_fault.ensures.steps;
     fences_meet = c.acts_meet_no_fault.ensures.fences;
     stores_meet = c.acts_meet_no_fault.ensures.stores;
+    ends_meet = c.acts_meet_no_fault.ensures.ends;
     refused_steps = c.refusals_fill_the_image.ensures.steps;
     refused_begins = c.refusals_fill_the_image.ensures.begins;
     refusals = c.refusals_fill_the_image.ensures.ends;
@@ -61,9 +68,17 @@ returns c = record {
   barriers = record {
     places = c.answers_serve_machines.ensures.places;
     lines = c.answers_serve_machines.ensures.lines;
+    words = c.answers_serve_machines.ensures.words;
+    kept = c.answers_serve_machines.ensures.kept;
+    guards = c.answers_serve_machines.ensures.guards;
     asked = c.answers_serve_machines.ensures.asked;
     durable = c.answers_serve_machines.ensures.durable;
+    outside = c.answers_serve_machines.ensures.outside;
+    logged = c.answers_serve_machines.ensures.logged;
+    may = c.answers_serve_machines.ensures.may;
   };
   measure = c.quiet_events_lower_the_measure.ensures.quiet;
+  logging = c.calls_of_regions_lower_the_measure.ensures.logging;
+  ending = c.calls_of_regions_lower_the_measure.ensures.ending;
   resident = c.every_line_is_resident.ensures;
 }

@@ -1,7 +1,7 @@
 use Rattle.std.proofs.Common.{length, refl, ap, ◌∙◌}
 use Rattle.run_history.specs.Recorded.{History}
 use Rattle.step_forms.specs.Becomes.{given}
-use Rattle.machine.proofs.Answering.{agrees-at, may-at, some-of, some-planned, step-cause, step-comes, step-share, step-told, store-cause, store-comes, store-share, store-told}
+use Rattle.machine.proofs.Answering.{agrees-at, may-at, some-of, some-planned, step-serves, store-serves}
 use Rattle.machine.proofs.Printing.{given-faults, given-output, given-shares}
 use Rattle.machine.proofs.running.answer.Goals as goal
 
@@ -35,108 +35,36 @@ store-requires-clause-planned g c =
     some-planned c.laws.ensures (g.C.Types.facts c.args.set.now) c.args.heap.now c.args.request.now
     c.requires.ready
     c.plan.new.self c.in-Stores.planned c.main.result c.main.ensures.zero c.in-Stores.ensures.stores.0
-    c.in-Stores.ensures.stores.1 (λ none. let no = c.in-Stores.ensures.none.1 none in cc) c.requires.due
-
-pub returns-in-NoStore-clause-comes : goal.returns-in-NoStore-clause-comes
-returns-in-NoStore-clause-comes g c =
-    step-comes c.laws.ensures (g.C.Types.facts c.args.set.now) c.args.heap.now c.args.request.now
-    c.requires.ready
-    c.requires.room c.plan.new.self c.take-step.new.self c.take-step.result c.main-in-NoStore.result
-    c.main-in-NoStore.ensures.zero (c.in-NoStore.ensures.same refl) c.take-step.ensures.steps
-    c.take-step.ensures.no_store c.ended.result c.ended.ensures
-
-pub returns-in-NoStore-clause-told : goal.returns-in-NoStore-clause-told
-returns-in-NoStore-clause-told g c =
-    step-told c.laws.ensures (g.C.Types.facts c.args.set.now) c.args.heap.now c.args.request.now
-    c.requires.ready
-    c.requires.room c.plan.new.self c.take-step.new.self c.take-step.result c.main-in-NoStore.result
-    c.main-in-NoStore.ensures.zero (c.in-NoStore.ensures.same refl) c.take-step.ensures.steps
-    c.take-step.ensures.no_store c.ended.result c.ended.ensures c.requires.due _ _ c.take-step.ensures.output
-
-pub returns-in-NoStore-clause-share : goal.returns-in-NoStore-clause-share
-returns-in-NoStore-clause-share g c =
-    step-share c.laws.ensures (g.C.Types.facts c.args.set.now) c.args.heap.now c.args.request.now
-    c.requires.ready
-    c.requires.room c.plan.new.self c.take-step.new.self c.take-step.result c.main-in-NoStore.result
-    c.main-in-NoStore.ensures.zero (c.in-NoStore.ensures.same refl) c.take-step.ensures.steps
-    c.take-step.ensures.no_store c.ended.result c.ended.ensures c.requires.due (g.S.Sink.takes
-    c.args.sink.now)
-    c.take-step.ensures.share
-
-pub returns-in-NoStore-clause-sink_cause : goal.returns-in-NoStore-clause-sink_cause
-returns-in-NoStore-clause-sink_cause g c =
-    step-cause c.laws.ensures (g.C.Types.facts c.args.set.now) c.args.heap.now c.args.request.now
-    c.requires.ready
-    c.requires.room c.plan.new.self c.take-step.new.self c.take-step.result c.main-in-NoStore.result
-    c.main-in-NoStore.ensures.zero (c.in-NoStore.ensures.same refl) c.take-step.ensures.steps
-    c.take-step.ensures.no_store c.ended.result c.ended.ensures c.requires.due _ _ c.take-step.ensures.cause
-
-pub returns-in-Ends-clause-comes : goal.returns-in-Ends-clause-comes
-returns-in-Ends-clause-comes g c =
-    step-comes c.laws.ensures (g.C.Types.facts c.args.set.now) c.args.heap.now c.args.request.now
-    c.requires.ready
-    c.requires.room c.args.heap.now c.plan.new.self c.in-Ends.step c.main.result c.main.ensures.zero refl
-    c.in-Ends.ensures.ends.0 c.in-Ends.ensures.ends.1 c.ended-in-Ends.result c.ended-in-Ends.ensures
-
-pub returns-in-Ends-clause-told : goal.returns-in-Ends-clause-told
-returns-in-Ends-clause-told g c =
-    step-told c.laws.ensures (g.C.Types.facts c.args.set.now) c.args.heap.now c.args.request.now
-    c.requires.ready
-    c.requires.room c.args.heap.now c.plan.new.self c.in-Ends.step c.main.result c.main.ensures.zero refl
-    c.in-Ends.ensures.ends.0 c.in-Ends.ensures.ends.1 c.ended-in-Ends.result c.ended-in-Ends.ensures
+    c.requires.idle c.in-Stores.ensures.stores.1 (λ none. let no = c.in-Stores.ensures.none.1 none in cc)
     c.requires.due
-    _ _ (given-output c.args.request.now (g.S.Sink.taken c.args.sink.now) c.in-Ends.step
-    (some-of (given c.args.request.now) (λ none. let no = c.in-Ends.ensures.none.1 none in cc)))
 
-pub returns-in-Ends-clause-share : goal.returns-in-Ends-clause-share
-returns-in-Ends-clause-share g c =
-    step-share c.laws.ensures (g.C.Types.facts c.args.set.now) c.args.heap.now c.args.request.now
+pub returns-in-NoStore-clause-serves : goal.returns-in-NoStore-clause-serves
+returns-in-NoStore-clause-serves g c =
+    step-serves c.laws.ensures (g.C.Types.facts c.args.set.now) c.args.heap.now c.args.request.now
+    c.requires.ready
+    c.requires.room c.plan.new.self c.take-step.new.self c.take-step.result c.main-in-NoStore.result
+    c.main-in-NoStore.ensures.zero (c.in-NoStore.ensures.same refl) c.take-step.ensures.steps
+    c.take-step.ensures.no_store c.requires.idle c.requires.outside c.ended.result c.ended.ensures
+    c.requires.due (g.S.Sink.takes c.args.sink.now) _ _ _ _ c.take-step.ensures.output
+    c.take-step.ensures.share c.take-step.ensures.cause
+
+pub returns-in-Ends-clause-serves : goal.returns-in-Ends-clause-serves
+returns-in-Ends-clause-serves g c =
+    let gives = some-of (given c.args.request.now) (λ none. let no = c.in-Ends.ensures.none.1 none in cc) in
+    step-serves c.laws.ensures (g.C.Types.facts c.args.set.now) c.args.heap.now c.args.request.now
     c.requires.ready
     c.requires.room c.args.heap.now c.plan.new.self c.in-Ends.step c.main.result c.main.ensures.zero refl
-    c.in-Ends.ensures.ends.0 c.in-Ends.ensures.ends.1 c.ended-in-Ends.result c.ended-in-Ends.ensures
-    c.requires.due
-    (g.S.Sink.takes c.args.sink.now)
-    (given-shares c.args.request.now (g.S.Sink.takes c.args.sink.now) c.in-Ends.step
-    (some-of (given c.args.request.now) (λ none. let no = c.in-Ends.ensures.none.1 none in cc)))
+    c.in-Ends.ensures.ends.0 c.in-Ends.ensures.ends.1 c.requires.idle c.requires.outside
+    c.ended-in-Ends.result c.ended-in-Ends.ensures c.requires.due (g.S.Sink.takes c.args.sink.now) _ _ _ _
+    (given-output c.args.request.now (g.S.Sink.taken c.args.sink.now) c.in-Ends.step gives)
+    (given-shares c.args.request.now (g.S.Sink.takes c.args.sink.now) c.in-Ends.step gives)
+    (given-faults c.args.request.now (g.S.Sink.faults c.args.sink.now) c.in-Ends.step gives)
 
-pub returns-in-Ends-clause-sink_cause : goal.returns-in-Ends-clause-sink_cause
-returns-in-Ends-clause-sink_cause g c =
-    step-cause c.laws.ensures (g.C.Types.facts c.args.set.now) c.args.heap.now c.args.request.now
-    c.requires.ready
-    c.requires.room c.args.heap.now c.plan.new.self c.in-Ends.step c.main.result c.main.ensures.zero refl
-    c.in-Ends.ensures.ends.0 c.in-Ends.ensures.ends.1 c.ended-in-Ends.result c.ended-in-Ends.ensures
-    c.requires.due
-    _ _ (given-faults c.args.request.now (g.S.Sink.faults c.args.sink.now) c.in-Ends.step
-    (some-of (given c.args.request.now) (λ none. let no = c.in-Ends.ensures.none.1 none in cc)))
-
-pub returns-in-Stores-clause-comes : goal.returns-in-Stores-clause-comes
-returns-in-Stores-clause-comes g c =
-    store-comes c.laws.ensures (g.C.Types.facts c.args.set.now) c.args.heap.now c.args.request.now
+pub returns-in-Stores-clause-serves : goal.returns-in-Stores-clause-serves
+returns-in-Stores-clause-serves g c =
+    store-serves c.laws.ensures (g.C.Types.facts c.args.set.now) c.args.heap.now c.args.request.now
     c.requires.ready
     c.plan.new.self c.in-Stores.planned c.main.result c.main.ensures.zero c.in-Stores.ensures.stores.0
-    c.in-Stores.ensures.stores.1 (λ none. let no = c.in-Stores.ensures.none.1 none in cc)
-    c.store.new.heap c.store.result c.store.ensures
-
-pub returns-in-Stores-clause-told : goal.returns-in-Stores-clause-told
-returns-in-Stores-clause-told g c =
-    store-told c.laws.ensures (g.C.Types.facts c.args.set.now) c.args.heap.now c.args.request.now
-    c.requires.ready
-    c.plan.new.self c.in-Stores.planned c.main.result c.main.ensures.zero c.in-Stores.ensures.stores.0
-    c.in-Stores.ensures.stores.1 (λ none. let no = c.in-Stores.ensures.none.1 none in cc)
-    c.store.new.heap c.store.result c.store.ensures (g.S.Sink.taken c.args.sink.now)
-
-pub returns-in-Stores-clause-share : goal.returns-in-Stores-clause-share
-returns-in-Stores-clause-share g c =
-    store-share c.laws.ensures (g.C.Types.facts c.args.set.now) c.args.heap.now c.args.request.now
-    c.requires.ready
-    c.plan.new.self c.in-Stores.planned c.main.result c.main.ensures.zero c.in-Stores.ensures.stores.0
-    c.in-Stores.ensures.stores.1 (λ none. let no = c.in-Stores.ensures.none.1 none in cc)
+    c.requires.idle c.in-Stores.ensures.stores.1 (λ none. let no = c.in-Stores.ensures.none.1 none in cc)
     c.store.new.heap c.store.result c.store.ensures (g.S.Sink.takes c.args.sink.now)
-
-pub returns-in-Stores-clause-sink_cause : goal.returns-in-Stores-clause-sink_cause
-returns-in-Stores-clause-sink_cause g c =
-    store-cause c.laws.ensures (g.C.Types.facts c.args.set.now) c.args.heap.now c.args.request.now
-    c.requires.ready
-    c.plan.new.self c.in-Stores.planned c.main.result c.main.ensures.zero c.in-Stores.ensures.stores.0
-    c.in-Stores.ensures.stores.1 (λ none. let no = c.in-Stores.ensures.none.1 none in cc)
-    c.store.new.heap c.store.result c.store.ensures (g.S.Sink.faults c.args.sink.now)
+    (g.S.Sink.taken c.args.sink.now) (g.S.Sink.faults c.args.sink.now)

@@ -57,13 +57,14 @@ returns-in-Fencing g c =
 pub returns-in-Nothing : goal.returns-in-Nothing
 returns-in-Nothing g c =
     let due = c.requires.due in
-    let comes = c.answer.ensures.comes due.0 due.1 due.2 due.3 due.4 in record {
-      goes = λ o first es fs is. (c.answer.ensures.comes o first es fs is).goes;
+    let serves = c.go_on.ensures.serves in
+    let comes = serves.comes due.0 due.1 due.2 due.3 due.4 in record {
+      goes = λ o first es fs is. (serves.comes o first es fs is).goes;
       acts = comes.acts;
-      told = c.answer.ensures.told;
-      share = c.answer.ensures.share;
-      sink = c.answer.ensures.sink;
-      sink_cause = c.answer.ensures.sink_cause;
+      told = serves.told;
+      share = serves.share;
+      sink = c.go_on.ensures.sink;
+      sink_cause = serves.cause;
       image_cause = comes.cause;
       calls = comes.calls;
       full = λ enough. absurd (let no = sym c.if-is_full.false ∙ c.is_full.ensures.full.1 enough in cc);

@@ -1,4 +1,5 @@
 use Rattle.machine_lines.proofs.Events.{lines-of-objects, starts-take-none, calls-keep-lines, writes-keep-lines, fences-keep-lines, conversions-keep-lines, failures-keep-lines, beginnings-keep-lines, seals-keep-lines, asked-keep-lines, acts-keep-lines, stores-keep-lines}
+use Rattle.machine_lines.proofs.Regions.{regions-keep-lines}
 use Rattle.machine_lines.proofs.laws.events_keep_lines.Goals as goal
 
 pub returns-clause-objects : goal.returns-clause-objects
@@ -36,3 +37,6 @@ returns-clause-beside c = acts-keep-lines
 
 pub returns-clause-durable : goal.returns-clause-durable
 returns-clause-durable c = stores-keep-lines
+
+pub returns-clause-regions : goal.returns-clause-regions
+returns-clause-regions c = regions-keep-lines

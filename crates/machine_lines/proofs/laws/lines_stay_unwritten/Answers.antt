@@ -1,4 +1,5 @@
 use Rattle.machine_lines.proofs.Unwritten.{starts-unwritten, calls-unwritten, writes-unwritten, fences-unwritten, conversions-unwritten, failures-unwritten, beginnings-unwritten, seals-unwritten, asked-unwritten, acts-unwritten, stores-unwritten}
+use Rattle.machine_lines.proofs.Regions.{regions-unwritten}
 use Rattle.machine_lines.proofs.laws.lines_stay_unwritten.Goals as goal
 
 pub returns-clause-starts : goal.returns-clause-starts
@@ -33,3 +34,6 @@ returns-clause-beside c = acts-unwritten
 
 pub returns-clause-durable : goal.returns-clause-durable
 returns-clause-durable c = stores-unwritten
+
+pub returns-clause-regions : goal.returns-clause-regions
+returns-clause-regions c = regions-unwritten

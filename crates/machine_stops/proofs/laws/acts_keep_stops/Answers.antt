@@ -1,6 +1,6 @@
 use Rattle.machine_stops.proofs.Acting.{acts_keep}
 use Rattle.machine_stops.proofs.Calling.{asked_keep}
-use Rattle.machine_stops.proofs.Storing.{durable_keep}
+use Rattle.machine_stops.proofs.Outside.{durable_keep}
 use Rattle.machine_stops.proofs.laws.acts_keep_stops.Goals as goal
 
 pub returns-clause-asked : goal.returns-clause-asked

@@ -1,32 +1,38 @@
-use Rattle.std.proofs.Common.{sym, ◌∙◌, ap}
+use Rattle.std.proofs.Common.{ap}
 use Rattle.std.specs.Prelude.{is_some}
-use Rattle.std.proofs.lemmas.Bool.{false≢true}
-use Rattle.twin_forms.specs.Sights.{view_of}
-use Rattle.two_spaces.proofs.Valuing.{item_to}
-use Rattle.store_barrier.specs.Barriers.{spaces_of}
+use Rattle.object_steps.specs.Stores.{place_of}
+use Rattle.store_barrier.specs.Barriers.{MayFollow, spaces_of}
+use Rattle.store_barrier.specs.Regions.{IsApart}
+use Rattle.store_barrier.proofs.Spots.{apart_for, if_follows, if_no_race, races_for, whole_for}
 use Rattle.store_barrier.proofs.barrier.ask_store.Goals as goal
-use Rattle.store_barrier.proofs.barrier.ask_store.Goals.{in-Some+else-holds_durable, in_default}
 
-pub volatile_object-requires : goal.volatile_object-requires
-volatile_object-requires g c =
+pub returns-in-Some-clause-race : goal.returns-in-Some-clause-race
+returns-in-Some-clause-race g c = λ es stands.
+    races_for (spaces_of c.args.spaces.now) es c.args.logs.now.logs c.args.t (place_of c.args.store.now.target)
+    c.durable_spot-spot.result c.in-Some.other (c.durable_spot-spot.ensures.spot es stands) c.in-Some.ensures.some
+
+pub returns-in-Some-converted_first-clause-apart : goal.returns-in-Some-converted_first-clause-apart
+returns-in-Some-converted_first-clause-apart g c = λ es other stands.
+    apart_for (spaces_of c.args.spaces.now) es c.args.logs.now.logs c.args.t (place_of c.args.store.now.target)
+    c.durable_spot-spot.result other (c.durable_spot-spot.ensures.spot es stands)
+    (c.other_guard.ensures.none (ap is_some c.in_default.is) other)
+
+pub returns-clause-apart : goal.returns-clause-apart
+returns-clause-apart g c =
     let s = spaces_of c.args.spaces.now in
-    let w = c.requires.whole in
-    let to = item_to (view_of s.twin) w.0 c.args.store.now.kept w.1.lies c.requires.can.known in
-    record { known = (w.0, w.1.lies, to) }
+    let logs = c.args.logs.now.logs in
+    if_no_race c.log_or_store.result (IsApart s logs c.args.t (place_of c.args.store.now.target))
+    (λ es other stands. apart_for s es logs c.args.t (place_of c.args.store.now.target)
+    c.durable_spot-spot.result other (c.durable_spot-spot.ensures.spot es stands)
+    (c.other_guard.ensures.none (ap is_some c.in_default.is) other))
 
-pub returns-then-holds_durable-clause-convert : goal.returns-then-holds_durable-clause-convert
-returns-then-holds_durable-clause-convert g c = λ es stands.
-    let s = spaces_of c.args.spaces.now in
-    record {
-      holder = (c.holds_durable.ensures es stands).0 c.if-holds_durable.true;
-      item = c.in-Some.ensures.some es stands.lies
-          (item_to (view_of s.twin) es c.args.store.now.kept stands.lies c.requires.can.known);
-    }
+pub returns-clause-follows : goal.returns-clause-follows
+returns-clause-follows g c =
+    if_follows c.log_or_store.result (MayFollow (spaces_of c.args.spaces.now) c.args.store.now)
+    (c.converted_first.ensures.none (ap is_some c.in_default-converted_first.is))
 
-pub returns-clause-store : goal.returns-clause-store
-returns-clause-store g c = λ es object stands first. elim c.match-volatile_object.branch [
-  | in-Some+else-holds_durable w ↦ false≢true (sym w.if-holds_durable.false
-      ∙ (w.holds_durable.ensures es stands).1 first.holder)
-  | in_default w ↦ c.volatile_object.ensures.none es stands.lies (ap is_some w.in_default.is)
-      object first.item
-]
+pub returns-clause-logged : goal.returns-clause-logged
+returns-clause-logged g c = λ es stands.
+    whole_for (spaces_of c.args.spaces.now) es c.args.logs.now.logs c.args.t (place_of c.args.store.now.target)
+    c.durable_spot-spot.result c.log_or_store.result (c.durable_spot-spot.ensures.spot es stands)
+    c.log_or_store.ensures.goes

@@ -1,14 +1,17 @@
-use Rattle.store_barrier.proofs.Machines.{asked, durable_lines, durable_places, stores_keep}
+use Rattle.store_barrier.proofs.Guarded.{guards_agree, logged, may_be_guarded, outside, stored_kept}
+use Rattle.store_barrier.proofs.Machines.{asked, durable_lines, durable_places, durable_words, stores_keep}
 use Rattle.store_barrier.proofs.laws.answers_serve_machines.Goals as goal
 
-pub returns-clause-places : goal.returns-clause-places
-returns-clause-places c = durable_places
-
-pub returns-clause-lines : goal.returns-clause-lines
-returns-clause-lines c = durable_lines
-
-pub returns-clause-asked : goal.returns-clause-asked
-returns-clause-asked c = asked
-
-pub returns-clause-durable : goal.returns-clause-durable
-returns-clause-durable c = stores_keep
+pub returns : goal.returns
+returns c = record {
+  places = durable_places;
+  lines = durable_lines;
+  words = durable_words;
+  kept = stored_kept;
+  guards = guards_agree;
+  asked = asked;
+  durable = stores_keep;
+  outside = outside;
+  logged = logged;
+  may = may_be_guarded;
+}

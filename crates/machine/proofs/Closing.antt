@@ -1,0 +1,580 @@
+-- A region ends, a part with each call, and at last by its act.
+use Rattle.std.proofs.Common.{◌≡◌, ◌⊎◌, inl, inr, ℕ, ◌-◌, ◌<◌, ◌≤◌, ◌^◌, List, [], ◌∷◌, ◌++◌, length, map, Option, Some, None, refl, sym, ◌∙◌, ap, subst, arith, lit<}
+use Rattle.std.specs.Prelude.{slice_index_or}
+use Rattle.std.proofs.lemmas.List.{length-map}
+use Rattle.ap_base.specs.Causes.{Rose}
+use Rattle.ap_base.specs.declared.reference.Ref.{Ref}
+use Rattle.ap_base.specs.declared.reference.Item.{Item}
+use Rattle.run_types.specs.declared.fault.RunFault.TheVariants as fault
+use Rattle.run_types.specs.declared.resolved.At.{At}
+use Rattle.natives.specs.declared.requests.Request.{Request}
+use Rattle.natives.specs.declared.requests.Request.TheVariants as ask
+use Rattle.natives.specs.declared.requests.Reply.{Reply}
+use Rattle.line_memory.specs.Memory.{Memory, OneCall, SameImage}
+use Rattle.run_history.specs.declared.act.Op.TheVariants as op
+use Rattle.run_history.specs.Recorded.{History, Recorded, with_act}
+use Rattle.run_history.specs.Worlds.{World, depth_of}
+use Rattle.plain_model.specs.Facts.{SetFacts, classes_of}
+use Rattle.shared_objects.specs.Plain.{plain_request}
+use Rattle.shared_objects.specs.Worlds.{plain_thread, world_of}
+use Rattle.step_forms.specs.declared.stepped.Stepped.{Stepped}
+use Rattle.step_forms.specs.declared.stepped.Stepped.TheVariants as stepped
+use Rattle.step_forms.specs.Becomes.{IsNoStore, given}
+use Rattle.step_forms.specs.Follows.{Agrees, IsHeapOf, IsStep}
+use Rattle.run_forms.specs.Views.{ThreadFrames}
+use Rattle.region_log.specs.declared.entry.Underway.{Underway}
+use Rattle.region_log.specs.declared.entry.Underway.TheVariants.{Nothing as Idle, Adding, Ending}
+use Rattle.region_log.specs.Log.{Log}
+use Rattle.twin_forms.specs.Sights.{Twin}
+use Rattle.twin_forms.specs.Table.{Entry}
+use Rattle.two_spaces.specs.Seen.{Spaces}
+use Rattle.two_spaces.specs.Whole.{IsWhole}
+use Rattle.monitors.specs.Indexed.{AreSound}
+use Rattle.machine_forms.specs.declared.doing.Doing.{Doing}
+use Rattle.machine_forms.specs.declared.doing.Doing.TheVariants.{Nothing, Converting}
+use Rattle.machine_forms.specs.Machines.{Opening, Machine, doing_of, empty_log, known_in, layout_in, log_of, memory_of, shown_in}
+use Rattle.machine_forms.specs.Keeping.{IsDoing}
+use Rattle.machine_forms.specs.Events.{AsksEnd, CallsEnd, ClosesRegion, DoesRequest, EndsPart, EndsRegion, IsFree, LeavesLog, RegionStep, act_in, with_closing, with_logged}
+use Rattle.machine_forms.specs.Events as region
+use Rattle.machine_heaps.specs.Laws.{KeepsShared}
+use Rattle.machine_heaps.proofs.Regions.{left_goes_on, over_log}
+use Rattle.machine_runs.specs.Frames.{IsReady}
+use Rattle.shared_heap.specs.Shared.{Shared}
+use Rattle.shared_heap.specs.Regions.{ClosesTo, EndingFailsTo, EndsOnTo, IsEndCall, LeavesTo}
+use Rattle.shared_heap.specs.Requests.{MayAsk, StepsTo}
+use Rattle.machine.specs.declared.events.Event.{Event}
+use Rattle.machine.specs.declared.events.Event.TheVariants.{Did, Micro, Over}
+use Rattle.machine.specs.Ended.{Serves, event_of}
+use Rattle.machine.specs.Events.{Comes, SparesSink, answered}
+use Rattle.machine.specs.Laws.{Laws}
+use Rattle.machine.specs.Running.{AsksItsEnd, HadNoFault, IsDue, LagsByItsStore}
+use Rattle.machine.proofs.About.{IsIdle, about-idle}
+use Rattle.machine.proofs.Answering.{IsDueFor, spared-serves}
+use Rattle.machine.proofs.Basics.{not-longer, shared-is}
+use Rattle.machine.proofs.Faults.{none-more}
+use Rattle.machine.proofs.Given.{counts}
+use Rattle.machine.proofs.Leaving.{asked, ends-idle, few, fits, goes-on, lives, same-room}
+use Rattle.machine.proofs.Logging.{log-now}
+use Rattle.machine.proofs.Marks.{IsRegional, end-stores-none, ends, marks, regional-fits, regional-gives, regional-known, regional-whole}
+use Rattle.machine.proofs.Memory.{same-image}
+use Rattle.machine.proofs.Names.{names-same}
+use Rattle.machine.proofs.Stepping.{threads-length}
+
+module _ (laws : Laws) (o : Opening) (first : ℕ) (set : SetFacts) (s : Shared) (es : List Entry)
+    (fs : ThreadFrames) (request : Request Ref Item) (due : IsDue o first set s es fs request)
+    (room : length s.history.acts < s.history.limit) (ready : IsReady (doing_of s.machine 0))
+    (is_open : 0 < (log_of s.machine 0).depth) (from : At) (is_end : request ≡ ask.End from) where
+  -- ---- what the thread asks
+
+  regional : IsRegional request
+  regional = subst IsRegional (sym is_end) tt
+
+  -- the acts have opened as many regions as the log counts, whatever the heap shows
+  open-now : 0 < depth_of (known_in o s.machine).world 0
+  open-now =
+      let own = due.running.keeps.asked.regions.each 0 (lit< tt) in
+      let is = own.guards.depth ∙ ap (depth_of (known_in o s.machine).world) own.thread in
+      omega (arith, is_open, is)
+
+  -- a thread that converts asks a store
+  not-converting : doing_of s.machine 0 ≡ Converting → ⊥
+  not-converting converting =
+      let doing = subst (IsDoing (known_in o s.machine) (layout_in o es) 0) converting
+      (due.running.keeps.asked.doing 0) in
+      let p = doing.0.0 in
+      end-stores-none o.launch.set (known_in o s.machine).world 0 0 (shown_in s.machine).number request from is_end
+      open-now p.place p.value (due.running.about.stores p (plain_request (shown_in s.machine).number request)
+      doing.0.1 (asked laws o first set s es fs request due ready).plain)
+
+  nothing : doing_of s.machine 0 ≡ Nothing
+  nothing = elim ready [ inl is ↦ is | inr converting ↦ absurd (not-converting converting) ]
+
+  idle : IsIdle (doing_of s.machine 0)
+  idle = subst IsIdle (sym nothing) tt
+
+  asks-end : AsksEnd o s.machine 0 request
+  asks-end = record {
+    fit = fits laws o first set s es fs request due ready;
+    is_end = (from, is_end);
+    doing = nothing;
+    is_open = is_open;
+  }
+
+  -- so whatever is under way, the turn asks the end
+  asks-its-end : (u : Underway) → AsksItsEnd o.launch u fs
+  asks-its-end Idle = tt
+  asks-its-end (Adding e stage) = tt
+  asks-its-end (Ending stage) = (from, due.asks.asks ∙ ap (λ (q : Request Ref Item). Some q) is_end)
+
+  calls-end : (twin : Twin) (log : Log) → IsEndCall s.machine twin 0 log → CallsEnd o s.machine twin 0 request log
+  calls-end twin log call = record {
+    thread = lit< tt;
+    asks = asks-end;
+    call = call.call;
+    only = call.only;
+    known = call.known;
+  }
+
+  -- ---- a part
+
+  module _ (new : Shared) (l : EndsOnTo 0 s new) where
+    abbrev part_now : Shared
+    part_now = record {
+      machine = with_logged s.machine l.twin 0 l.log;
+      history = s.history;
+      lines = s.lines;
+      named = s.named;
+    }
+
+    part-is : new ≡ part_now
+    part-is = shared-is new _ _ _ _ l.left.machine l.left.history l.left.lines l.left.named
+
+    part : EndsPart o s.machine l.twin 0 request l.log
+    part = record {
+      calls = calls-end l.twin l.log l.call;
+      went = elim l.made [ inl touches ↦ inl touches | inr on ↦ inr (inl on) ];
+    }
+
+    part-step : RegionStep o s.machine es part_now.machine
+    part-step = region.ending l.twin 0 request l.log part
+
+    part-comes : (memory_of s.machine).faults ≤ l.twin.memory.faults → Comes o first fs request Micro s part_now
+    part-comes later =
+        let kept = laws.keep.regions o s.machine es due.running.keeps _ part-step in record {
+          goes = record {
+            es = es;
+            running = goes-on o first s es fs due.running part_now es fs (record {
+              keeps = kept;
+              plain = laws.frames.regions.ending o s.machine es (fs ∷ []) due.running.keeps due.running.plain
+                  l.twin 0 request l.log part;
+              taken = laws.lines.regions o s.machine es first due.running.keeps due.running.taken _ part-step;
+              unwritten = laws.unwritten.regions o s.machine es due.running.keeps due.running.unwritten _
+                  part-step;
+              names = names-same s part_now es refl refl refl due.running.names;
+              about = due.running.about;
+              lags = due.running.lags;
+              ends = asks-its-end (log_of part_now.machine 0).underway;
+              alone = due.running.alone;
+              lines = refl;
+              acts = due.running.acts;
+              limit = refl;
+              room = same-room o first s es fs due.running part_now.machine es kept refl;
+              numbers = refl;
+              unfaulted = due.running.unfaulted;
+            });
+            threads = refl;
+          };
+          acts = inl refl;
+          calls = inr l.call.call.call;
+          cause = later;
+          answers = tt;
+          numbers = refl;
+          quiet = λ micro same. elim l.made [
+            | inl touches ↦ absurd (laws.ending.untouched o s.machine es due.running.keeps
+                due.running.unwritten l.twin 0 request l.log part touches)
+            | inr on ↦ (let less = laws.ending.made o s.machine es due.running.keeps due.running.unwritten
+                l.twin 0 request l.log part on in omega (arith, less))
+          ];
+        }
+
+    pub ends-on : (memory_of s.machine).faults ≤ (memory_of new.machine).faults
+        → Comes o first fs request Micro s new
+    ends-on later = subst (Comes o first fs request Micro s) (sym part-is)
+        (part-comes (subst (λ (x : Shared). (memory_of s.machine).faults ≤ (memory_of x.machine).faults)
+        part-is later))
+
+  -- ---- the fence behind all that was logged
+
+  module _ (new : Shared) (l : ClosesTo 0 s new) where
+    abbrev act : Recorded
+    act = act_in (with_logged s.machine l.twin 0 l.log) 0 op.Closing []
+
+    abbrev closed_now : Shared
+    closed_now = record {
+      machine = with_closing s.machine l.twin 0 l.log;
+      history = with_act s.history act.act;
+      lines = s.lines;
+      named = s.named;
+    }
+
+    closed-is : new ≡ closed_now
+    closed-is = shared-is new _ _ _ _ l.machine l.history l.lines l.named
+
+    closes : ClosesRegion o s.machine l.twin 0 request l.log
+    closes = record { calls = calls-end l.twin l.log l.call; fences = l.fences }
+
+    closes-step : RegionStep o s.machine es closed_now.machine
+    closes-step = region.closing l.twin 0 request l.log closes
+
+    closed-comes : (memory_of s.machine).faults ≤ l.twin.memory.faults
+        → Comes o first fs request Micro s closed_now
+    closed-comes later =
+        let kept = laws.keep.regions o s.machine es due.running.keeps _ closes-step in record {
+          goes = record {
+            es = es;
+            running = goes-on o first s es fs due.running closed_now es fs (record {
+              keeps = kept;
+              plain = laws.frames.regions.closing o s.machine es (fs ∷ []) due.running.keeps due.running.plain
+                  l.twin 0 fs request l.log due.asks closes;
+              taken = laws.lines.regions o s.machine es first due.running.keeps due.running.taken _ closes-step;
+              unwritten = laws.unwritten.regions o s.machine es due.running.keeps due.running.unwritten _
+                  closes-step;
+              names = names-same s closed_now es refl refl refl due.running.names;
+              about = about-idle o closed_now.machine es kept idle;
+              lags = due.running.lags;
+              ends = asks-its-end (log_of closed_now.machine 0).underway;
+              alone = due.running.alone;
+              lines = refl;
+              acts = ap (λ (xs : List Recorded). xs ++ act ∷ []) due.running.acts;
+              limit = refl;
+              room = same-room o first s es fs due.running closed_now.machine es kept refl;
+              numbers = refl;
+              unfaulted = none-more o.launch s.machine.acts act due.running.unfaulted (λ lines.
+                  laws.ends.ends_meet o s.machine es (fs ∷ []) due.running.keeps due.running.plain lines 0 _ fs
+                  request due.asks asks-end (few laws o first set s es fs request due room));
+            });
+            threads = refl;
+          };
+          acts = inr (record { act = act; thread = refl; acts = refl });
+          calls = inr l.call.call.call;
+          cause = later;
+          answers = tt;
+          numbers = refl;
+          quiet = λ micro same. not-longer s.history.acts act same;
+        }
+
+    pub closed : (memory_of s.machine).faults ≤ (memory_of new.machine).faults
+        → Comes o first fs request Micro s new
+    closed later = subst (Comes o first fs request Micro s) (sym closed-is)
+        (closed-comes (subst (λ (x : Shared). (memory_of s.machine).faults ≤ (memory_of x.machine).faults)
+        closed-is later))
+
+  -- ---- the image failed
+
+  module _ (new : Shared) (f : EndingFailsTo 0 s new) where
+    abbrev failed_now : Shared
+    failed_now = record {
+      machine = with_logged s.machine f.twin 0 f.log;
+      history = s.history;
+      lines = s.lines;
+      named = s.named;
+    }
+
+    failed-is : new ≡ failed_now
+    failed-is = shared-is new _ _ _ _ f.left.machine f.left.history f.left.lines f.left.named
+
+    failed-part : EndsPart o s.machine f.twin 0 request f.log
+    failed-part = record { calls = calls-end f.twin f.log f.call; went = inr (inr f.fails) }
+
+    failed-comes : Rose (memory_of s.machine).faults f.twin.memory.faults
+        → Comes o first fs request (Over fault.ImageFault) s failed_now
+    failed-comes rose = record {
+      goes = record {
+        es = es;
+        keeps = laws.keep.regions o s.machine es due.running.keeps _ (region.ending f.twin 0 request f.log
+            failed-part);
+        plain = laws.frames.regions.ending o s.machine es (fs ∷ []) due.running.keeps due.running.plain f.twin
+            0 request f.log failed-part;
+        history = refl;
+        acts = refl;
+        ends = laws.ends.image o s.machine es (fs ∷ []) due.running.keeps due.running.plain
+            (f.twin.memory.size - first) 0 fs (lives laws o first set s es fs request due)
+            (few laws o first set s es fs request due room);
+      };
+      acts = refl;
+      calls = inr f.call.call.call;
+      cause = rose;
+      answers = tt;
+      numbers = refl;
+      quiet = λ micro same. absurd (let no = micro in cc);
+    }
+
+    pub ending-failed : Rose (memory_of s.machine).faults (memory_of new.machine).faults
+        → Comes o first fs request (Over fault.ImageFault) s new
+    ending-failed rose = subst (Comes o first fs request (Over fault.ImageFault) s) (sym failed-is)
+        (failed-comes (subst (λ (x : Shared). Rose (memory_of s.machine).faults (memory_of x.machine).faults)
+        failed-is rose))
+
+  -- ---- the log is left
+
+  module _ (between : Shared) (l : LeavesTo 0 s between) where
+    leaves : LeavesLog o s.machine l.twin 0 request l.log
+    leaves = elim l.leaves [
+      | inl emptied ↦ region.emptied l.log (record {
+        calls = calls-end l.twin l.log emptied.call;
+        empties = emptied.empties;
+      })
+      | inr left ↦ subst (LeavesLog o s.machine l.twin 0 request) (sym left.is)
+          (region.at_once left.same asks-end left.idle left.at_once)
+    ]
+
+    -- nothing is under way in it then
+    log-idle : l.log.underway ≡ Idle
+    log-idle = elim l.leaves [
+      | inl emptied ↦ ap (λ (log : Log). log.underway) emptied.empties.log
+      | inr left ↦ ap (λ (log : Log). log.underway) left.is ∙ left.idle
+    ]
+
+    abbrev left_machine : Machine
+    left_machine = with_logged s.machine l.twin 0 l.log
+
+    -- heap and world are as they were
+    pub left-keeps : KeepsShared o left_machine es
+    left-keeps = over_log o s.machine es due.running.keeps l.twin 0 l.log
+        (left_goes_on o s.machine es due.running.keeps l.twin 0 request leaves).kept
+
+    same-size : (memory_of left_machine).size ≡ (memory_of s.machine).size
+    same-size = left-keeps.0.size ∙ sym due.running.keeps.heap.size
+
+    one-or-none : SameImage (memory_of s.machine) l.twin.memory ⊎ OneCall (memory_of s.machine) l.twin.memory
+    one-or-none = elim l.leaves [
+      | inl emptied ↦ inr emptied.call.call.call
+      | inr left ↦ inl (same-image (memory_of s.machine) l.twin.memory
+          (ap (λ (t : Twin). t.memory) left.same))
+    ]
+
+    -- ---- and the step of the request is taken
+
+    pub may-end : MayAsk set left_machine 0 request
+    may-end = record {
+      thread = (let alone = due.running.alone in omega (arith, alone));
+      fit = regional-fits set (world_of [] (shown_in left_machine) left_machine.rest) 0
+          (shown_in left_machine).number request regional;
+      known = regional-known (shown_in left_machine).number request regional;
+    }
+
+    pub left-agrees : length s.history.acts < 2 ^ 32 → Agrees set (shown_in left_machine) left_machine.rest
+    left-agrees few32 = record {
+      heap = subst (λ (x : SetFacts). IsHeapOf x (shown_in left_machine)) (sym due.facts) left-keeps.1.heap;
+      classes = left-keeps.1.classes ∙ ap (λ (x : SetFacts). length (classes_of x)) (sym due.facts);
+      monitors = left-keeps.1.monitors;
+      counts = counts o s es due.running.keeps
+          (let same = ap length due.running.acts in omega (arith, few32, same));
+    }
+
+    module _ (new : Shared) (result : Stepped) (x : StepsTo set 0 request result between new)
+        (none : IsNoStore result) where
+      from-left : StepsTo set 0 request result (record between { machine = left_machine }) new
+      from-left = subst (λ (m : Machine). StepsTo set 0 request result (record between { machine = m }) new)
+          l.left.machine x
+
+      open-left : 0 < depth_of (world_of [] (shown_in left_machine) left_machine.rest) 0
+      open-left =
+          let own = due.running.keeps.asked.regions.each 0 (lit< tt) in
+          let is = own.guards.depth ∙ ap (depth_of (known_in o s.machine).world) own.thread
+          ∙ ap (λ (w : World). depth_of w 0) due.running.keeps.world.world in
+          omega (arith, is_open, is)
+
+      is-did : (r : Reply Ref Item) × (result ≡ stepped.Did op.End r)
+      is-did = marks set 0 request (shown_in left_machine) left_machine.rest (shown_in new.machine)
+          new.machine.rest op.End tt
+          (λ roots taken. ends set (world_of roots (shown_in left_machine) left_machine.rest) 0 taken
+          (shown_in left_machine).number request from is_end open-left) result from-left.step
+
+      abbrev reply : Reply Ref Item
+      reply = is-did.0
+
+      steps : StepsTo set 0 request (stepped.Did op.End reply) (record between { machine = left_machine }) new
+      steps = subst (λ y. StepsTo set 0 request y (record between { machine = left_machine }) new) is-did.1
+          from-left
+
+      abbrev end_act : Recorded
+      end_act = act_in left_machine 0 op.End []
+
+      new-history : new.history.acts ≡ s.history.acts ++ end_act ∷ []
+      new-history = ap (λ (h : History). h.acts) steps.history
+          ∙ ap (λ (h : History). h.acts ++ end_act ∷ []) l.left.history
+
+      machine-acts : new.machine.acts ≡ s.machine.acts ++ end_act ∷ []
+      machine-acts = ap (λ (m : Machine). m.acts) steps.machine ∙ new-history
+          ∙ ap (λ (xs : List Recorded). xs ++ end_act ∷ []) due.running.acts
+
+      does : DoesRequest o left_machine new.machine es 0 request op.End reply
+      does = record {
+        thread = lit< tt;
+        fit = record {
+          thread = (let alone = due.running.alone in omega (arith, alone));
+          few = (let alone = due.running.alone in omega (arith, alone));
+          fit = regional-fits o.launch.set (world_of [] (shown_in left_machine) left_machine.rest) 0
+              (shown_in left_machine).number request regional;
+          known = regional-known (shown_in left_machine).number request regional;
+        };
+        doing = subst (IsFree o left_machine es 0) (sym nothing) tt;
+        step = subst (λ (y : SetFacts). IsStep y 0 request (shown_in left_machine) left_machine.rest
+            (stepped.Did op.End reply) (shown_in new.machine) new.machine.rest) due.facts steps.step;
+        heap = steps.heap;
+        sound = steps.sound;
+        free = ap (λ (m : Machine). m.free) steps.machine;
+        acts = machine-acts;
+      }
+
+      region-ends : EndsRegion o s.machine new.machine es 0 request reply
+      region-ends = record {
+        twin = l.twin;
+        log = l.log;
+        leaves = leaves;
+        does = does;
+        logs = ap (λ (m : Machine). m.logs) steps.machine;
+        queue = ap (λ (m : Machine). m.queue) steps.machine;
+        doing = ap (λ (m : Machine). m.doing) steps.machine;
+      }
+
+      region-step : RegionStep o s.machine es new.machine
+      region-step = region.ended new.machine 0 request reply region-ends
+
+      nothing-now : doing_of new.machine 0 ≡ Nothing
+      nothing-now = ap (λ (ds : List Doing). slice_index_or ds 0 Nothing) region-ends.doing ∙ nothing
+
+      idle-now : (log_of new.machine 0).underway ≡ Idle
+      idle-now = ap (λ (logs : List Log). (slice_index_or logs 0 (empty_log 0)).underway)
+          (ap (λ (m : Machine). m.logs) steps.machine)
+          ∙ ap (λ (log : Log). log.underway)
+          (log-now s.machine l.twin l.log due.running.keeps.asked.regions.many) ∙ log-idle
+
+      alone-now : length new.machine.rest.threads ≡ 1
+      alone-now =
+          sym (length-map new.machine.rest.threads plain_thread)
+          ∙ ap (λ (w : World). length w.threads) (steps.step.follows []).2
+          ∙ threads-length (map plain_thread s.machine.rest.threads) 0 op.End tt
+          ∙ length-map s.machine.rest.threads plain_thread ∙ due.running.alone
+
+      -- the step leaves the heap
+      same-spaces : new.machine.spaces ≡ left_machine.spaces
+      same-spaces = steps.heap
+
+      same-memory : memory_of new.machine ≡ l.twin.memory
+      same-memory = ap (λ (y : Spaces). y.twin.memory) same-spaces
+
+      did-comes : (memory_of s.machine).faults ≤ (memory_of between.machine).faults
+          → Comes o first fs request (Did reply) s new
+      did-comes later =
+          let kept = laws.keep.regions o s.machine es due.running.keeps new.machine region-step in
+          let is_idle : IsIdle (doing_of new.machine 0) = subst IsIdle (sym nothing-now) tt in
+          record {
+            goes = record {
+              es = es;
+              running = goes-on o first s es fs due.running new es _ (record {
+                keeps = kept;
+                plain = laws.frames.regions.ends o s.machine es (fs ∷ []) due.running.keeps due.running.plain
+                    new.machine 0 fs request reply due.asks region-ends;
+                taken = laws.lines.regions o s.machine es first due.running.keeps due.running.taken
+                    new.machine region-step;
+                unwritten = laws.unwritten.regions o s.machine es due.running.keeps due.running.unwritten
+                    new.machine region-step;
+                names = names-same s new es (ap (λ (h : History). h.named) steps.history
+                    ∙ ap (λ (h : History). h.named) l.left.history) (steps.named ∙ l.left.named)
+                    region-ends.queue due.running.names;
+                about = about-idle o new.machine es kept is_idle;
+                lags = subst (λ d. LagsByItsStore o.launch d (answered o.launch fs reply)) (sym nothing-now)
+                    tt;
+                ends = ends-idle o.launch new.machine _ idle-now;
+                alone = alone-now;
+                lines = steps.lines ∙ l.left.lines;
+                acts = sym (ap (λ (m : Machine). m.acts) steps.machine);
+                limit = ap (λ (h : History). h.limit) steps.history ∙ ap (λ (h : History). h.limit) l.left.history;
+                room = subst (λ n. (memory_of new.machine).size - new.machine.free < n)
+                    (sym (ap (λ (h : History). h.room) steps.history ∙ ap (λ (h : History). h.room) l.left.history))
+                    (same-room o first s es fs due.running new.machine es kept does.free);
+                numbers = ap (λ (y : Spaces). y.numbers) same-spaces;
+                unfaulted = subst (HadNoFault o.launch) (sym machine-acts)
+                    (none-more o.launch s.machine.acts end_act due.running.unfaulted (λ lines.
+                    laws.ends.ends_meet o s.machine es (fs ∷ []) due.running.keeps due.running.plain lines 0 _
+                    fs request due.asks asks-end (few laws o first set s es fs request due room)));
+              });
+              idle = nothing-now;
+            };
+            acts = record { act = end_act; thread = refl; acts = new-history };
+            calls = subst (λ (y : Memory). SameImage (memory_of s.machine) y ⊎ OneCall (memory_of s.machine) y)
+                (sym same-memory) one-or-none;
+            cause = (let same = ap (λ (y : Memory). y.faults) same-memory in
+                let left = ap (λ (m : Machine). (memory_of m).faults) l.left.machine in
+                omega (arith, same, left, later));
+            answers = regional-whole request regional;
+            numbers = ap (λ (y : Spaces). y.numbers) same-spaces;
+            quiet = λ micro same. absurd (let no = micro in cc);
+          }
+
+      pub ended-comes : (memory_of s.machine).faults ≤ (memory_of between.machine).faults
+          → Comes o first fs request (event_of request result) s new
+      ended-comes later = subst (λ y. Comes o first fs request (event_of request y) s new) (sym is-did.1)
+          (did-comes later)
+
+      pub ended-spares : SparesSink (event_of request result) s.history.acts new.history.acts
+      ended-spares = subst (λ y. SparesSink (event_of request y) s.history.acts new.history.acts) (sym is-did.1)
+          (record { acts = inr (end_act, new-history, tt); fault = tt })
+
+-- ---- of each run of the set
+
+module _ (laws : Laws) (set : SetFacts) (s : Shared) (request : Request Ref Item)
+    (room : length s.history.acts < s.history.limit) (ready : IsReady (doing_of s.machine 0))
+    (is_open : 0 < (log_of s.machine 0).depth) (from : At) (is_end : request ≡ ask.End from) where
+  abbrev ServesBy : Event → Shared → Type 0
+  ServesBy result new = (takes : ℕ → Option ℕ) (taken : Option (List ℕ)) (faults : ℕ)
+      → Serves set request result s new takes taken taken faults faults
+
+  pub part-serves : (new : Shared) → EndsOnTo 0 s new
+      → (memory_of s.machine).faults ≤ (memory_of new.machine).faults → ServesBy Micro new
+  part-serves new l later = spared-serves set s new request Micro
+      (λ o first es fs due. ends-on laws o first set s es fs request due room ready is_open from is_end new l later)
+      (record { acts = inl (ap (λ (h : History). h.acts) l.left.history); fault = tt })
+
+  pub closed-serves : (new : Shared) → ClosesTo 0 s new
+      → (memory_of s.machine).faults ≤ (memory_of new.machine).faults → ServesBy Micro new
+  closed-serves new l later = spared-serves set s new request Micro
+      (λ o first es fs due. closed laws o first set s es fs request due room ready is_open from is_end new l later)
+      (record { acts = inr (_, ap (λ (h : History). h.acts) l.history, tt); fault = tt })
+
+  pub failed-serves : (new : Shared) → EndingFailsTo 0 s new
+      → Rose (memory_of s.machine).faults (memory_of new.machine).faults
+      → ServesBy (Over fault.ImageFault) new
+  failed-serves new f rose = spared-serves set s new request (Over fault.ImageFault)
+      (λ o first es fs due. ending-failed laws o first set s es fs request due room ready is_open from is_end new f
+      rose)
+      (record { acts = inl (ap (λ (h : History). h.acts) f.left.history); fault = tt })
+
+  -- ---- the last part
+
+  module _ (between : Shared) (l : LeavesTo 0 s between) (due : IsDueFor set s request) where
+    abbrev left : Machine
+    left = with_logged s.machine l.twin 0 l.log
+
+    between-is : left ≡ between.machine
+    between-is = sym l.left.machine
+
+    keeps : KeepsShared due.0 left due.2
+    keeps = left-keeps laws due.0 due.1 set s due.2 due.3 request due.4 room ready is_open from is_end between l
+
+    pub left-whole : IsWhole between.machine.spaces
+    left-whole = subst (λ (m : Machine). IsWhole m.spaces) between-is (due.2, keeps.0.whole)
+
+    pub left-long : 33 ≤ (memory_of between.machine).size
+    left-long = subst (λ (m : Machine). 33 ≤ (memory_of m).size) between-is
+        (let size = keeps.0.size in let long = keeps.0.long in omega (arith, size, long))
+
+    pub left-sound : AreSound between.machine.rest.monitors
+    left-sound = subst (λ (m : Machine). AreSound m.rest.monitors) between-is keeps.0.sound
+
+    pub left-agree : (count : ℕ) → count < 2 ^ 32 → count ≡ length between.history.acts
+        → Agrees set (shown_in between.machine) between.machine.rest
+    left-agree count few32 is = subst (λ (m : Machine). Agrees set (shown_in m) m.rest) between-is
+        (left-agrees laws due.0 due.1 set s due.2 due.3 request due.4 room ready is_open from is_end between l
+        (let same = ap (λ (h : History). length h.acts) l.left.history in omega (arith, few32, is, same)))
+
+    pub left-may : MayAsk set between.machine 0 request
+    left-may = subst (λ (m : Machine). MayAsk set m 0 request) between-is
+        (may-end laws due.0 due.1 set s due.2 due.3 request due.4 room ready is_open from is_end between l)
+
+    pub left-room : length between.history.acts < between.history.limit
+    left-room = subst (λ (h : History). length h.acts < h.limit) (sym l.left.history) room
+
+    pub gives-none : given request ≡ None
+    gives-none = regional-gives request (subst IsRegional (sym is_end) tt)
+
+    pub ended-serves : (new : Shared) (result : Stepped) → StepsTo set 0 request result between new
+        → IsNoStore result → (memory_of s.machine).faults ≤ (memory_of between.machine).faults
+        → ServesBy (event_of request result) new
+    ended-serves new result x none later = spared-serves set s new request (event_of request result)
+        (λ o first es fs its. ended-comes laws o first set s es fs request its room ready is_open from is_end
+        between l new result x none later)
+        (ended-spares laws due.0 due.1 set s due.2 due.3 request due.4 room ready is_open from is_end between l
+        new result x none)

@@ -1,0 +1,233 @@
+-- The word that a region has guarded last is logged, a part with each call.
+use Rattle.std.proofs.Common.{◌≡◌, ◌⊎◌, inl, inr, ℕ, ◌-◌, ◌<◌, ◌≤◌, true, false, List, [], ◌∷◌, length, refl, sym, ◌∙◌, ap, subst, arith, lit<}
+use Rattle.std.proofs.lemmas.Bool.{cases_lt}
+use Rattle.std.proofs.lemmas.List.{get_or-set_same}
+use Rattle.ap_base.specs.Causes.{Rose}
+use Rattle.ap_base.specs.declared.reference.Ref.{Ref}
+use Rattle.ap_base.specs.declared.reference.Item.{Item}
+use Rattle.run_types.specs.declared.fault.RunFault.TheVariants as fault
+use Rattle.natives.specs.declared.requests.Request.{Request}
+use Rattle.run_history.specs.Recorded.{History}
+use Rattle.plain_model.specs.Facts.{SetFacts}
+use Rattle.run_forms.specs.Views.{ThreadFrames}
+use Rattle.region_log.specs.Guarding.{is_adding}
+use Rattle.region_log.specs.declared.log.LogStep.{LogStep}
+use Rattle.region_log.specs.declared.log.LogStep.TheVariants as logging
+use Rattle.region_log.specs.Kept.{KeepsLog}
+use Rattle.region_log.specs.Log.{Log}
+use Rattle.region_log.specs.Steps.{AddsEntry, AddsOn, TouchesFor}
+use Rattle.twin_forms.specs.Sights.{Twin}
+use Rattle.twin_forms.specs.Table.{Entry}
+use Rattle.machine_forms.specs.Machines.{Opening, Machine, empty_log, log_of, memory_of}
+use Rattle.machine_forms.specs.Events.{LogsWord, RegionStep, with_logged}
+use Rattle.machine_forms.specs.Events as region
+use Rattle.shared_heap.specs.Shared.{Shared}
+use Rattle.shared_heap.specs.Regions.{IsLeft, LoggingFailsTo, LogsTo}
+use Rattle.machine.specs.declared.events.Event.TheVariants.{Micro, Over}
+use Rattle.machine.specs.Ended.{ComesTo, IsSomeDue}
+use Rattle.machine.specs.Events.{Comes}
+use Rattle.machine.specs.Laws.{Laws}
+use Rattle.machine.specs.Running.{AsksItsEnd, IsDue}
+use Rattle.machine.proofs.Basics.{shared-is}
+use Rattle.machine.proofs.Leaving.{few, goes-on, lives, same-room}
+
+-- the log of the thread is what it became
+pub log-now : (m : Machine) (twin : Twin) (log : Log) → length m.logs ≡ 64
+    → log_of (with_logged m twin 0 log) 0 ≡ log
+log-now m twin log many = get_or-set_same m.logs 0 log (empty_log 0) (omega (arith, many))
+
+module _ (laws : Laws) (o : Opening) (first : ℕ) (set : SetFacts) (s : Shared) (es : List Entry)
+    (fs : ThreadFrames) (request : Request Ref Item) (due : IsDue o first set s es fs request) (new : Shared)
+  where
+    -- ---- a part
+
+    -- a part that was made, whichever
+    record Part : Type 0 where
+      twin : Twin
+      log : Log
+      logs : LogsWord s.machine twin 0 log
+      made : TouchesFor logs.entry (log_of s.machine 0) log (memory_of s.machine) twin.memory
+          ⊎ (AddsOn logs.entry (log_of s.machine 0) log (memory_of s.machine) twin.memory
+          ⊎ AddsEntry logs.entry (log_of s.machine 0) log (memory_of s.machine) twin.memory)
+      left : IsLeft twin 0 log s new
+
+    module _ (l : Part) where
+      abbrev logged_now : Shared
+      logged_now = record {
+        machine = with_logged s.machine l.twin 0 l.log;
+        history = s.history;
+        lines = s.lines;
+        named = s.named;
+      }
+
+      logged-is : new ≡ logged_now
+      logged-is = shared-is new _ _ _ _ l.left.machine l.left.history l.left.lines l.left.named
+
+      region-step : RegionStep o s.machine es logged_now.machine
+      region-step = region.logged l.twin 0 l.log l.logs
+
+      no-end : AsksItsEnd o.launch l.log.underway fs
+      no-end = elim l.made [
+        | inl touches ↦ subst (λ (log : Log). AsksItsEnd o.launch log.underway fs) (sym touches.log) tt
+        | inr rest ↦ (elim rest [
+          | inl adds ↦ subst (λ (log : Log). AsksItsEnd o.launch log.underway fs) (sym adds.log) tt
+          | inr counts ↦ subst (λ (log : Log). AsksItsEnd o.launch log.underway fs) (sym counts.log) tt
+        ])
+      ]
+
+      logged-comes : (memory_of s.machine).faults ≤ l.twin.memory.faults
+          → Comes o first fs request Micro s logged_now
+      logged-comes later =
+          let kept = laws.keep.regions o s.machine es due.running.keeps _ region-step in record {
+            goes = record {
+              es = es;
+              running = goes-on o first s es fs due.running logged_now es fs (record {
+                keeps = kept;
+                plain = laws.frames.regions.logged o s.machine es (fs ∷ []) due.running.keeps
+                    due.running.plain l.twin 0 l.log l.logs;
+                taken = laws.lines.regions o s.machine es first due.running.keeps due.running.taken _
+                    region-step;
+                unwritten = laws.unwritten.regions o s.machine es due.running.keeps due.running.unwritten _
+                    region-step;
+                names = record {
+                  once = due.running.names.once;
+                  those = due.running.names.those;
+                  alone = due.running.names.alone;
+                  count = due.running.names.count;
+                };
+                about = due.running.about;
+                lags = due.running.lags;
+                ends = subst (λ (log : Log). AsksItsEnd o.launch log.underway fs)
+                    (sym (log-now s.machine l.twin l.log due.running.keeps.asked.regions.many)) no-end;
+                alone = due.running.alone;
+                lines = refl;
+                acts = due.running.acts;
+                limit = refl;
+                room = same-room o first s es fs due.running logged_now.machine es kept refl;
+                numbers = refl;
+                unfaulted = due.running.unfaulted;
+              });
+              threads = refl;
+            };
+            acts = inl refl;
+            calls = inr l.logs.logs.call;
+            cause = later;
+            answers = tt;
+            numbers = refl;
+            quiet = λ micro same. elim l.made [
+              | inl touches ↦ absurd (laws.logging.untouched o s.machine es due.running.keeps
+                  due.running.unwritten l.twin 0 l.log l.logs touches)
+              | inr made ↦ (let less = laws.logging.made o s.machine es due.running.keeps
+                  due.running.unwritten l.twin 0 l.log l.logs made in omega (arith, less))
+            ];
+          }
+
+      part-comes : (memory_of s.machine).faults ≤ (memory_of new.machine).faults
+          → Comes o first fs request Micro s new
+      part-comes later = subst (Comes o first fs request Micro s) (sym logged-is)
+          (logged-comes (subst (λ (x : Shared). (memory_of s.machine).faults ≤ (memory_of x.machine).faults)
+          logged-is later))
+
+    pub logged : (step : LogStep) → LogsTo step 0 s new
+        → (memory_of s.machine).faults ≤ (memory_of new.machine).faults → Comes o first fs request Micro s new
+    logged logging.More l = part-comes (record {
+      twin = l.twin;
+      log = l.log;
+      logs = l.logs;
+      made = elim l.made [ inl touches ↦ inl touches | inr adds ↦ inr (inl adds) ];
+      left = l.left;
+    })
+    logged logging.Logged l = part-comes (record {
+      twin = l.twin;
+      log = l.log;
+      logs = l.logs;
+      made = inr (inr l.counts);
+      left = l.left;
+    })
+    logged logging.Full l = absurd l
+
+    -- ---- the image failed
+
+    module _ (f : LoggingFailsTo 0 s new) (room : length s.history.acts < s.history.limit) where
+      abbrev failed_now : Shared
+      failed_now = record {
+        machine = with_logged s.machine f.twin 0 f.log;
+        history = s.history;
+        lines = s.lines;
+        named = s.named;
+      }
+
+      failed-is : new ≡ failed_now
+      failed-is = shared-is new _ _ _ _ f.left.machine f.left.history f.left.lines f.left.named
+
+      failed-comes : Rose (memory_of s.machine).faults f.twin.memory.faults
+          → Comes o first fs request (Over fault.ImageFault) s failed_now
+      failed-comes rose = record {
+        goes = record {
+          es = es;
+          keeps = laws.keep.regions o s.machine es due.running.keeps _ (region.logged f.twin 0 f.log f.logs);
+          plain = laws.frames.regions.logged o s.machine es (fs ∷ []) due.running.keeps due.running.plain
+              f.twin 0 f.log f.logs;
+          history = refl;
+          acts = refl;
+          ends = laws.ends.image o s.machine es (fs ∷ []) due.running.keeps due.running.plain
+              (f.twin.memory.size - first) 0 fs (lives laws o first set s es fs request due)
+              (few laws o first set s es fs request due room);
+        };
+        acts = refl;
+        calls = inr f.logs.logs.call;
+        cause = rose;
+        answers = tt;
+        numbers = refl;
+        quiet = λ micro same. absurd (let no = micro in cc);
+      }
+
+      pub logging-failed : Rose (memory_of s.machine).faults (memory_of new.machine).faults
+          → Comes o first fs request (Over fault.ImageFault) s new
+      logging-failed rose = subst (Comes o first fs request (Over fault.ImageFault) s) (sym failed-is)
+          (failed-comes (subst (λ (x : Shared). Rose (memory_of s.machine).faults (memory_of x.machine).faults)
+          failed-is rose))
+
+-- ---- of each run
+
+history-stays : (s new : Shared) (step : LogStep) → LogsTo step 0 s new → new.history.acts ≡ s.history.acts
+history-stays s new logging.More l = ap (λ (h : History). h.acts) l.left.history
+history-stays s new logging.Logged l = ap (λ (h : History). h.acts) l.left.history
+history-stays s new logging.Full l = absurd l
+
+pub logged-comes-to : Laws → (s new : Shared) (step : LogStep) → LogsTo step 0 s new
+    → (memory_of s.machine).faults ≤ (memory_of new.machine).faults → ComesTo Micro s new
+logged-comes-to laws s new step l later = record {
+  comes = λ o first set es fs request due. logged laws o first set s es fs request due new step l later;
+  sink = record { acts = inl (history-stays s new step l); fault = tt };
+}
+
+pub logging-failed-comes-to : Laws → (s new : Shared) → LoggingFailsTo 0 s new
+    → length s.history.acts < s.history.limit → Rose (memory_of s.machine).faults (memory_of new.machine).faults
+    → ComesTo (Over fault.ImageFault) s new
+logging-failed-comes-to laws s new f room rose = record {
+  comes = λ o first set es fs request due. logging-failed laws o first set s es fs request due new f room rose;
+  sink = record { acts = inl (ap (λ (h : History). h.acts) f.left.history); fault = tt };
+}
+
+-- ---- what a log's calls are given
+
+pub due-keeps-log : (s : Shared) → IsSomeDue s → KeepsLog (log_of s.machine 0) (memory_of s.machine)
+due-keeps-log s (o, first, set, es, fs, request, due) =
+    (due.running.keeps.asked.regions.each 0 (lit< tt)).keeps
+
+-- outside regions nothing is under way
+pub due-is-open : (s : Shared) → IsSomeDue s → ((log_of s.machine 0).depth ≡ 0 → ⊥) → 0 < (log_of s.machine 0).depth
+due-is-open s due not = by (log_of s.machine 0).depth not
+  where
+    by : (n : ℕ) → (n ≡ 0 → ⊥) → 0 < n
+    by n other = elim (cases_lt 0 n) [ inl below ↦ below | inr past ↦ absurd (other (omega (arith, past))) ]
+
+pub outside-idle : (s : Shared) → IsSomeDue s → (log_of s.machine 0).depth ≡ 0 → is_adding (log_of s.machine 0).underway ≡ false
+outside-idle s (o, first, set, es, fs, request, due) closed =
+    ap is_adding ((due.running.keeps.asked.regions.each 0 (lit< tt)).guards.outside closed).1
+
+pub adding-is-open : (s : Shared) → IsSomeDue s → is_adding (log_of s.machine 0).underway ≡ true
+    → 0 < (log_of s.machine 0).depth
+adding-is-open s due adding = due-is-open s due
+    (λ closed. let no : true ≡ false = sym adding ∙ outside-idle s due closed in cc)

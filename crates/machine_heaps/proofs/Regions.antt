@@ -1,0 +1,151 @@
+-- The events of regions leave the heap whole, showing the world of the acts.
+use Rattle.std.proofs.Common.{◌≡◌, ◌⊎◌, inl, inr, ℕ, ◌<◌, List, [], length, refl, sym, subst}
+use Rattle.ap_base.specs.declared.reference.Ref.{Ref}
+use Rattle.ap_base.specs.declared.reference.Item.{Item}
+use Rattle.natives.specs.declared.requests.Request.{Request}
+use Rattle.natives.specs.declared.requests.Reply.{Reply}
+use Rattle.run_history.specs.declared.act.Op.TheVariants as op
+use Rattle.region_log.specs.declared.entry.Entry.{Entry as LogEntry}
+use Rattle.region_log.specs.declared.entry.EntryStage.{EntryStage}
+use Rattle.region_log.specs.declared.entry.Underway.{Underway}
+use Rattle.region_log.specs.declared.entry.Underway.TheVariants.{Adding}
+use Rattle.region_log.specs.Log.{Log}
+use Rattle.region_log.specs.Kept.{FitsUnderway}
+use Rattle.region_log.specs.Made.{Word, PutsThenCalls, AreOfLog}
+use Rattle.region_log.specs.Stages.{end_stage, entry_stage, words_at, words_to_end}
+use Rattle.region_log.specs.Steps.{EndsOn, FailsToEnd, TouchesToEnd}
+use Rattle.region_log.proofs.Placed.{words_of_log, end_words_of_log}
+use Rattle.region_events.specs.Laws.{LogsOn, with_entry}
+use Rattle.twin_forms.specs.Sights.{Twin, AllKnown}
+use Rattle.twin_forms.specs.Table.{Entry}
+use Rattle.machine_forms.specs.Machines.{Opening, Machine, log_of, memory_of}
+use Rattle.machine_forms.specs.Keeping.{KeepsLogOf, KeepsRun}
+use Rattle.machine_forms.specs.Events.{BeginsRegion, ClosesRegion, EndsPart, EndsRegion, LeavesLog, LogsWord, OnlyImage, RegionStep, emptied, at_once, begun, guarded, logged, stored, ending, closing, ended, with_log, with_logged, with_twin}
+use Rattle.machine_heaps.specs.Laws.{KeepsShared, RegionsKeepHeaps}
+use Rattle.machine_heaps.proofs.Logging.{GoesOn, logging_goes_on, rests}
+use Rattle.machine_heaps.proofs.Moving.{shared_act, shared_logs}
+use Rattle.machine_heaps.proofs.Requests.{durable_place, still}
+
+-- ---- calls of a log
+
+module _ (o : Opening) (m : Machine) (es : List Entry) (run : KeepsRun o m es) (t : ℕ) (there : t < 64)
+    (twin : Twin) (only : OnlyImage m twin) (known : AllKnown twin.memory) where
+  abbrev log : Log
+  log = log_of m t
+
+  its : KeepsLogOf o m es t
+  its = run.asked.regions.each t there
+
+  by_words : (words : List Word) → AreOfLog log.thread words
+      → PutsThenCalls words (memory_of m) twin.memory → GoesOn o m es twin
+  by_words words own made =
+      logging_goes_on o m es (run.heap, run.world) log.thread its.keeps.thread words own twin only known made
+
+  -- an entry that is added has room
+  own_words : (e : LogEntry) (stage : EntryStage) → log.underway ≡ Adding e stage
+      → AreOfLog log.thread (words_at log.thread (length log.entries) e (entry_stage log.underway))
+  own_words e stage is =
+      words_of_log log.thread (length log.entries) e (entry_stage log.underway)
+      (subst (λ (u : Underway). FitsUnderway (memory_of m).size log.depth log.entries u) is its.keeps.fits).1
+
+  pub word_goes_on : (log' : Log) (e : LogEntry) → LogsOn log log' e (memory_of m) twin.memory
+      → GoesOn o m es twin
+  word_goes_on log' e c =
+      let own = own_words e c.adding.0 c.adding.1 in
+      let words = words_at log.thread (length log.entries) e (entry_stage log.underway) in
+      elim c.went [
+        | inl touches ↦ by_words [] tt touches.memory
+        | inr rest ↦ (elim rest [
+          | inl adds ↦ by_words words own adds.memory
+          | inr last ↦ (elim last [
+            | inl counts ↦ by_words [] tt counts.memory
+            | inr fails ↦ (elim fails.memory [
+              | inl touched ↦ by_words [] tt touched
+              | inr placed ↦ by_words words own placed
+            ])
+          ])
+        ])
+      ]
+
+  -- a fence alone
+  pub fence_goes_on : PutsThenCalls [] (memory_of m) twin.memory → GoesOn o m es twin
+  fence_goes_on made = by_words [] tt made
+
+  abbrev end_words : List Word
+  end_words = words_to_end log.thread (end_stage log.underway)
+
+  own_end : AreOfLog log.thread end_words
+  own_end = end_words_of_log log.thread (end_stage log.underway)
+
+  pub part_goes_on : (log' : Log) → TouchesToEnd log log' (memory_of m) twin.memory
+      ⊎ (EndsOn log log' (memory_of m) twin.memory ⊎ FailsToEnd log log' (memory_of m) twin.memory)
+      → GoesOn o m es twin
+  part_goes_on log' went = elim went [
+    | inl touches ↦ by_words [] tt touches.memory
+    | inr rest ↦ (elim rest [
+      | inl ends ↦ by_words end_words own_end ends.memory
+      | inr fails ↦ (elim fails.memory [
+        | inl touched ↦ by_words [] tt touched
+        | inr placed ↦ by_words end_words own_end placed
+      ])
+    ])
+  ]
+
+-- ---- events
+
+module _ (o : Opening) (m : Machine) (es : List Entry) (run : KeepsRun o m es) where
+  shared_begun : (m' : Machine) (t : ℕ) (request : Request Ref Item) (r : Reply Ref Item)
+      → BeginsRegion o m m' es t request r → KeepsShared o m' es
+  shared_begun m' t request r b =
+      still o m m' es (run.heap, run.world) t request op.Begin r b.does b.does.heap b.queue
+
+  pub over_log : (twin : Twin) (t : ℕ) (log' : Log) → KeepsShared o (with_twin m twin) es
+      → KeepsShared o (with_logged m twin t log') es
+  over_log twin t log' kept = shared_logs o (with_twin m twin) es (with_logged m twin t log').logs kept
+
+  pub logged_goes_on : (twin : Twin) (t : ℕ) (log' : Log) → LogsWord m twin t log' → GoesOn o m es twin
+  logged_goes_on twin t log' w =
+      word_goes_on o m es run t w.thread twin w.only w.known log' w.entry w.logs
+
+  pub ending_goes_on : (twin : Twin) (t : ℕ) (request : Request Ref Item) (log' : Log)
+      → EndsPart o m twin t request log' → GoesOn o m es twin
+  ending_goes_on twin t request log' e =
+      part_goes_on o m es run t e.calls.thread twin e.calls.only e.calls.known log' e.went
+
+  pub closing_goes_on : (twin : Twin) (t : ℕ) (request : Request Ref Item) (log' : Log)
+      → ClosesRegion o m twin t request log' → GoesOn o m es twin
+  closing_goes_on twin t request log' c =
+      fence_goes_on o m es run t c.calls.thread twin c.calls.only c.calls.known c.fences.memory
+
+  pub left_goes_on : (twin : Twin) (t : ℕ) (request : Request Ref Item) {log' : Log}
+      → LeavesLog o m twin t request log' → GoesOn o m es twin
+  left_goes_on twin t request (emptied log' e) =
+      fence_goes_on o m es run t e.calls.thread twin e.calls.only e.calls.known e.empties.memory
+  left_goes_on twin t request (at_once same asks idle ends) =
+      subst (GoesOn o m es) (sym same) (rests o m es (run.heap, run.world))
+
+  shared_ended : (m' : Machine) (t : ℕ) (request : Request Ref Item) (r : Reply Ref Item)
+      → EndsRegion o m m' es t request r → KeepsShared o m' es
+  shared_ended m' t request r e =
+      still o (with_logged m e.twin t e.log) m' es
+      (over_log e.twin t e.log (left_goes_on e.twin t request e.leaves).kept) t request op.End r
+      e.does e.does.heap e.queue
+
+  shared_step : {m' : Machine} → RegionStep o m es m' → KeepsShared o m' es
+  shared_step (begun m' t request r b) = shared_begun m' t request r b
+  shared_step (guarded t request place item e g) =
+      let logs = (with_log m t (with_entry (log_of m t) e)).logs in
+      shared_act o (record m { logs = logs }) es t (op.Guarded place) [] refl
+      (shared_logs o m es logs (run.heap, run.world))
+  shared_step (logged twin t log' w) = over_log twin t log' (logged_goes_on twin t log' w).kept
+  shared_step (stored m' t request place item s) =
+      durable_place o m m' es run t request place item s.does s.stores s.durable s.queue
+  shared_step (ending twin t request log' e) =
+      over_log twin t log' (ending_goes_on twin t request log' e).kept
+  shared_step (closing twin t request log' c) =
+      shared_act o (with_logged m twin t log') es t op.Closing [] refl
+      (over_log twin t log' (closing_goes_on twin t request log' c).kept)
+  shared_step (ended m' t request r e) = shared_ended m' t request r e
+
+pub regions_keep_heaps : RegionsKeepHeaps
+regions_keep_heaps o m es run m' step = shared_step o m es run step

@@ -1,0 +1,13 @@
+pub mod Acts
+pub mod Calls
+pub mod Ending
+pub mod Going
+pub mod Kept
+pub mod Lists
+pub mod Logging
+pub mod Places
+pub mod Regions
+pub mod Rules
+pub mod Standing
+pub mod Starting
+pub mod Words

@@ -1,0 +1,4 @@
+pub mod Guards
+pub mod Laws
+pub mod Rules
+pub mod Starting

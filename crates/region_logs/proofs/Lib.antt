@@ -1,0 +1,3 @@
+mod Parts
+pub mod Guards
+pub mod Tables
