@@ -41,7 +41,7 @@ use Rattle.set_opening.specs.declared.unopened.Unopened.TheVariants as unopened
 use Rattle.set_opening.specs.Attached.{AreRead, IsSettled}
 use Rattle.set_opening.specs.Opened.{IsOpenedFor}
 use Rattle.set_opening.specs.Unopened.{IsUnopened}
-use Rattle.statuses.specs.Names.{fault_status, main_text, told, uncaught_in}
+use Rattle.statuses.specs.Names.{fault_status, main_text, shortened, uncaught_in}
 use Rattle.statuses.specs.declared.status.Status.{Status}
 use Rattle.statuses.specs.declared.status.Status.TheVariants as status
 
@@ -93,7 +93,7 @@ pub record HasNoMain (set : Linked) (name : List ℕ) (graph : Graph) (how : Sta
   pub fits : words_taken graph (first_heap (facts_of set) graph) ≤ default_limits.heap_words
   pub none : NoMain
   pub missing : main_of set name ≡ Err none
-  pub is : how ≡ status.LinkFault (kind_of none) (told (main_text (kind_of none) name))
+  pub is : how ≡ status.LinkFault (kind_of none) (shortened (main_text (kind_of none) name))
 
 -- Once the image was opened, the first words were looked for, and then `main`; memory may run out before the first turn.
 pub record CannotBegin (set : Linked) (name : List ℕ) (start : Told) (how : Status) : Type 0 where

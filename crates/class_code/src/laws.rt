@@ -42,7 +42,7 @@ pub fn classes_are_those_of_the_set<M>()
 {}
 
 /// Each method of a file stands in the program under the number that its instructions have, with
-/// the code that begins at its entry.
+/// the code that begins there.
 pub fn methods_stand_where_their_code_does<M>()
     ensures { (native_at : (place number : ℕ) → Option M)
         (set : Linked) (m : ℕ) (site : Site) (start : Start)

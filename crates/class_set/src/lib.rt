@@ -4,6 +4,7 @@
 mod arrays;
 mod asked;
 mod beginnings;
+mod counts;
 mod each_once;
 mod fields;
 mod hierarchy;
@@ -15,7 +16,6 @@ mod literals;
 mod marks;
 mod members;
 mod names;
-mod orders;
 mod set;
 mod shapes;
 mod statics;

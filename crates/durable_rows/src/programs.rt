@@ -1,36 +1,16 @@
 // Programs with durable roots of any shape: what runs print one after another on one image, and what they leave in it.
 use ap_base::Place;
-use graph_model::{Graph, Node, Value};
+use graph_model::Value;
 use line_image::MemoryImage;
 use run_fixture::{
-    EMPTY, LINES, Run, blank, has_output, line_of, no_fails, recovered, run_class, word_of,
+    EMPTY, LINES, RING, Run, blank, has_null_root, has_output, is_ring, line_of, no_fails,
+    recovered, run_class, word_of,
 };
 use run_history::{Op, Stage};
 use std::alloc::{AllocError, Global};
 use std::sync::Wait;
 use std::test::Fail;
 use std::thread::Threads;
-
-/// A ring of three nodes with the values 1, 2 and 3, made where `head` is null, and else walked once around, each value printed.
-pub(crate) const RING: &str =
-    ".class Node\n.super java/lang/Object\n.field v I\n.field next LNode;\n\
-    .method <init> (ILNode;)V 2 3\naload_0\ninvokespecial java/lang/Object <init> ()V\n\
-    aload_0\niload_1\nputfield Node v I\naload_0\naload_2\nputfield Node next LNode;\nreturn\n.end\n\
-    .class Main\n.super java/lang/Object\n.field head LNode; static root\n\
-    .method main ([Ljava/lang/String;)V 5 4 static\n\
-    getstatic Main head LNode;\nifnonnull WALK\n\
-    new Node\ndup\niconst_1\naconst_null\ninvokespecial Node <init> (ILNode;)V\nastore_1\n\
-    new Node\ndup\niconst_2\naconst_null\ninvokespecial Node <init> (ILNode;)V\nastore_2\n\
-    new Node\ndup\niconst_3\naconst_null\ninvokespecial Node <init> (ILNode;)V\nastore_3\n\
-    aload_1\naload_2\nputfield Node next LNode;\n\
-    aload_2\naload_3\nputfield Node next LNode;\n\
-    aload_3\naload_1\nputfield Node next LNode;\n\
-    aload_1\nputstatic Main head LNode;\nreturn\n\
-    WALK:\ngetstatic Main head LNode;\nastore_1\niconst_3\nistore_2\n\
-    STEP:\ngetstatic java/lang/System out Ljava/io/PrintStream;\naload_1\ngetfield Node v I\n\
-    invokevirtual java/io/PrintStream println (I)V\n\
-    aload_1\ngetfield Node next LNode;\nastore_1\n\
-    iinc 2 -1\niload_2\nifgt STEP\nreturn\n.end\n";
 
 /// `Node a = head; head = null; a.v = 9`.
 const LETS_GO: &str = ".class Node\n.super java/lang/Object\n.field v I\n.field next LNode;\n\
@@ -158,27 +138,6 @@ fn runs_on_one_image(rt: HostRuntime) -> Result<(), Fail> {
     Ok(())
 }
 
-/// Whether a node has this value and this successor.
-fn is_link(node: &Node, value: i32, next: u32) -> bool {
-    let values = [Value::Int(value), Value::Obj(next)];
-    node.shape.name.as_slice() == b"Node".as_slice() && node.values.as_slice() == values.as_slice()
-}
-
-/// Whether a graph is the ring, to which its one root refers.
-pub(crate) fn is_ring(graph: &Graph) -> bool {
-    let is_root = match graph.roots.as_slice() {
-        [root] => root.name.as_slice() == b"Main.head".as_slice() && root.value == Value::Obj(0),
-        _ => false,
-    };
-    let are_nodes = match graph.nodes.as_slice() {
-        [first, second, third] => {
-            is_link(first, 1, 1) && is_link(second, 2, 2) && is_link(third, 3, 0)
-        }
-        _ => false,
-    };
-    is_root && are_nodes
-}
-
 /// Three nodes of two fields take a line each, from the first object line on; 41,154 is twice that.
 #[test]
 fn a_ring_is_left_in_the_image(rt: HostRuntime) -> Result<(), Fail> {
@@ -264,14 +223,6 @@ fn what_was_durable_stays_so(rt: HostRuntime) -> Result<(), Fail> {
     let is_empty = graph.nodes.len() == 0 && stored == Some(9);
     assert!(rt; is_empty && has_null_root(&graph), "a null root");
     Ok(())
-}
-
-/// Whether a graph has one root, which is null.
-pub(crate) fn has_null_root(graph: &Graph) -> bool {
-    match graph.roots.as_slice() {
-        [root] => root.value == Value::Null,
-        _ => false,
-    }
 }
 
 /// `a = new int[7]; b = new int[8]; c = new int[1]`: with their heads 8, 9 and 2 words.

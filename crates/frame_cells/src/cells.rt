@@ -136,20 +136,6 @@ impl<R: Copy + Drop> Cells<R> {
         Did::Next
     }
 
-    /// The whole stack gives way to this cell, and then it goes on so: what a handler begins with.
-    #[inline(always)]
-    pub fn put_alone(&mut self, cell: Cell<R>, did: Did) -> Did
-        ensures did { result ≡ (put (length self.old.own.stack) (cell ∷ []) did self.old.own).did }
-        ensures own { self.new
-            ≡ window_after self.old (put (length self.old.own.stack) (cell ∷ []) did self.old.own) }
-        ensures size { IsAsLarge self.old.own self.new.own }
-    {
-        match self.put(self.depth(), cell) {
-            Did::Next => did,
-            _ => Did::Bad,
-        }
-    }
-
     /// This long comes in place of the top cells.
     #[inline(always)]
     pub fn put_long(&mut self, taken: usize, value: i64) -> Did

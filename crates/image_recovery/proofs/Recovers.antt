@@ -1,6 +1,7 @@
 -- What is found in an image that is recovered, and what stops meanwhile leave.
-use Rattle.std.proofs.Common.{◌≡◌, inl, inr, ⊎_elim, ◌<◌, ◌≤◌, ℕ, nat_le, List, None, Result, Ok, Err, IfOk, OnOk, refl, sym, ◌∙◌, ap, subst, arith}
+use Rattle.std.proofs.Common.{◌≡◌, inl, inr, ⊎_elim, ◌<◌, ◌≤◌, ℕ, nat_le, List, None, Result, Ok, Err, IfOk, IfErr, OnOk, refl, sym, ◌∙◌, ap, subst, arith}
 use Rattle.std.proofs.lemmas.Bool.{and_parts, cases_eq, cases_lt, eq-eqb, leb-true, ne_eqb, true≢false}
+use Rattle.ap_base.specs.Causes.{Rose}
 use Rattle.graph_model.specs.declared.types.Shape.{Shape}
 use Rattle.graph_model.specs.declared.types.Graph.{Graph}
 use Rattle.line_image.specs.Trace.{Outcome}
@@ -18,20 +19,21 @@ use Rattle.image_meaning.proofs.Recovering.{while_emptying}
 use Rattle.image_meaning.proofs.Standing.{opens-standing, standing-sized}
 use Rattle.image_meaning.proofs.Stopped.{logs_pass, opens-still, stopped-stands}
 use Rattle.image_meaning.proofs.Standings.{found-stands, stands-within}
-use Rattle.word_changes.specs.Changes.{Nothing, AllKnown, IsFixed, ChangesTo, StopsLeave, GoesOn}
-use Rattle.word_changes.proofs.Changing.{changes_stops, stops_then, stops_weaker}
-use Rattle.word_changes.proofs.Going.{goes_by_fetch}
+use Rattle.word_changes.specs.Changes.{Nothing, Tells, AllKnown, IsFixed, ChangesTo, StopsLeave, GoesOn}
+use Rattle.word_changes.proofs.Changing.{changes_nowhere, changes_stops, stops_then, stops_weaker, telling_knows}
+use Rattle.word_changes.proofs.Going.{goes_by_fetch, goes_more}
 use Rattle.directories.specs.Formatting.{IsFormatted, IsBlankOrFormatted}
 use Rattle.directories.specs.Kept.{Kept}
 use Rattle.directories.specs.Read as read
 use Rattle.directories.specs.declared.reading.DirectoryFault.{DirectoryFault}
 use Rattle.directories.specs.declared.reading.DirectoryFault.TheVariants as from
-use Rattle.directories.proofs.Formatted.{either_stands}
+use Rattle.directories.proofs.Formatted.{either_stands, formatted_well}
 use Rattle.image_walk.specs.Walking.{Shows, Looks, IsFault, IsFaultOf, directory_with}
 use Rattle.image_walk.specs.declared.fault.RecoverFault.{RecoverFault}
 use Rattle.image_walk.specs.declared.fault.RecoverFault.TheVariants as faults
-use Rattle.image_recovery.specs.Putting.{IsPutBack, IsCleared, AllDurable, PutsBack, IsRecovered, within, IsRecoveringIn}
-use Rattle.image_recovery.specs.Recovered.{IsUsed, FindsImage, IsSameFault, IsBadFault, entries_in}
+use Rattle.image_recovery.specs.Putting.{IsPutBack, IsCleared, AllDurable, AllWritten, PutsBack, IsRecovered, within, IsRecoveringIn}
+use Rattle.image_recovery.specs.Recovered.{IsUsed, FindsImage, FindsNothing, IsSameFault, IsBadFault, entries_in}
+use Rattle.image_recovery.specs.Recoveries.{FailsToRecover, Recovers, StopsKeepTheGraph}
 use Rattle.image_recovery.proofs.PutSteps.{head_in}
 use Rattle.image_recovery.proofs.Stops.{inside, behind, putting_stop, emptying_stop}
 
@@ -283,13 +285,160 @@ sized size words graph stands =
     let parts = and_parts (nat_le min_lines size) (nat_le size max_lines) (standing-sized size words graph stands) in
     (leb-true min_lines size parts.0, leb-true size max_lines parts.1)
 
--- ---- results of which two facts are known
+-- ---- results
 
-pub with_both : {T E : Type 0} (r : Result T E) (P : T → Type 0) (Q : Type 0) (S : T → Type 0) → ((x : T) → P x → Q → S x) → IfOk r P → OnOk r Q
-    → IfOk r S
-with_both (Ok x) P Q S both p q = both x p q
-with_both (Err e) P Q S both p q = tt
+-- what each answer keeps, and each refusal
+pub when_ok : {T E : Type 0} (r : Result T E) (P : T → Type 0) → ((x : T) → r ≡ Ok x → P x) → IfOk r P
+when_ok (Ok x) P f = f x refl
+when_ok (Err e) P f = tt
 
-pub ok_from_both : {T E : Type 0} (r : Result T E) (P : T → Type 0) (Q S : Type 0) → ((x : T) → P x → Q → S) → IfOk r P → OnOk r Q → OnOk r S
-ok_from_both (Ok x) P Q S both p q = both x p q
-ok_from_both (Err e) P Q S both p q = tt
+pub when_err : {T E : Type 0} (r : Result T E) (P : E → Type 0) → ((e : E) → r ≡ Err e → P e) → IfErr r P
+when_err (Ok x) P f = tt
+when_err (Err e) P f = f e refl
+
+pub ok_at : {T E : Type 0} (r : Result T E) (P : T → Type 0) (x : T) → r ≡ Ok x → IfOk r P → P x
+ok_at {T} {E} r P x is holds = let ok : Result T E = Ok x in let at : IfOk ok P = subst (λ (s : Result T E). IfOk s P) is holds in at
+
+pub on_ok_at : {T E : Type 0} (r : Result T E) (A : Type 0) (x : T) → r ≡ Ok x → OnOk r A → A
+on_ok_at {T} {E} r A x is holds = let ok : Result T E = Ok x in let at : OnOk ok A = subst (λ (s : Result T E). OnOk s A) is holds in at
+
+pub err_at : {T E : Type 0} (r : Result T E) (P : E → Type 0) (e : E) → r ≡ Err e → IfErr r P → P e
+err_at {T} {E} r P e is holds = let err : Result T E = Err e in let at : IfErr err P = subst (λ (s : Result T E). IfErr s P) is holds in at
+
+rose_later : (a b c : ℕ) → a ≤ b → Rose b c → Rose a c
+rose_later a b c before rose = omega (arith, before, rose)
+
+-- ---- the superblock isn't read, or fails
+
+pub unread_fails : (first seen : Memory) (fault : RecoverFault) → Looks first seen
+    → (AllKnown first → IsFault (at_super (super_check (shown first 0) first.size)) fault)
+    → (fault ≡ faults.ImageFailed → Rose first.faults seen.faults) → FailsToRecover first seen fault
+unread_fails first seen fault looks fails cause = record {
+  bad = λ known. fails_at_super first.size (shown first) fault (fails known);
+  cause = cause;
+  put_back = λ known bad. changes_nowhere (IsPutBack (shown first)) first seen looks.changes;
+  stops = λ tells durable all graph stands.
+      let range = sized first.size (shown first) graph stands in
+      looking_stops first seen graph range.0 range.1 durable stands looks;
+  recovering = λ tells durable all enough used pass.
+      stops_putting first enough pass durable seen (changes_nowhere (IsPutBack (shown first)) first seen looks.changes);
+  goes_on = goes_by_looks first seen looks;
+  later = looks.later;
+}
+
+-- ---- a blank image was formatted, or not
+
+module _ (first seen new : Memory) (enough : min_lines ≤ first.size) (most : first.size ≤ max_lines) (looks : Looks first seen)
+    (zero : AllKnown first → shown first 0 0 ≡ 0)
+    (formats : Tells seen → IsFixed seen 0 0 0 → StopsLeave seen new (IsBlankOrFormatted seen.size))
+    (goes : GoesOn seen new) (later : seen.faults ≤ new.faults) where
+  blank_stops : StopsKeepTheGraph first new
+  blank_stops tells durable all graph stands =
+      let known = telling_knows first tells in
+      formatting_stops first seen new graph enough most durable stands looks (zero known)
+      (subst (λ (n : ℕ). StopsLeave seen new (IsBlankOrFormatted n)) looks.changes.size
+      (formats (looks.changes.telling tells) (blank_fixed first seen enough known durable looks (zero known))))
+
+  blank_goes : GoesOn first new
+  blank_goes = goes_more first seen new (goes_by_looks first seen looks) goes
+
+  pub blank_recovers : (directory : Kept) (graph : Graph) (lines : List ℕ) (free undone : ℕ)
+      → (AllKnown seen → FindsNothing directory graph lines free undone)
+      → (AllKnown seen → IsFormatted seen.size (shown new))
+      → (Tells seen → AllDurable seen → AllDurable new)
+      → Recovers first new directory graph lines free undone
+  blank_recovers directory graph lines free undone finds formatted durable =
+      let known_seen : AllKnown first → AllKnown seen = looks.changes.known in
+      let same : new.size ≡ seen.size = goes.size in
+      let size : seen.size ≡ first.size = looks.changes.size in
+      record {
+        stands = λ known. subst (λ (g : Graph). StandsFor first.size (shown first) g) (sym (finds (known_seen known)).graph_is)
+            (either_stands first.size (shown first) enough most (inl (zero known)));
+        stands_now = λ known. subst (λ (n : ℕ). StandsFor n (shown new) graph) (sym same)
+            (subst (λ (g : Graph). StandsFor seen.size (shown new) g) (sym (finds (known_seen known)).graph_is)
+            (either_stands seen.size (shown new) (omega (arith, enough, size)) (omega (arith, most, size))
+            (inr (formatted (known_seen known)))));
+        blank = λ known blank. finds (known_seen known);
+        used = λ known used. absurd (used (zero known));
+        formatted = λ known blank. subst (λ (n : ℕ). IsFormatted n (shown new)) size (formatted (known_seen known));
+        recovered = λ known used. absurd (used (zero known));
+        well_formed = λ known. subst (λ (n : ℕ). IsWellFormed n (shown new)) (sym same)
+            (formatted_well seen.size (shown new) (omega (arith, enough, size)) (omega (arith, most, size))
+            (formatted (known_seen known)));
+        empty = λ known. (formatted (known_seen known)).logs;
+        durable = λ tells written before. durable (looks.changes.telling tells)
+            (durable_on first seen (telling_knows first tells) looks before);
+        stops = blank_stops;
+        recovering = λ tells before all used. absurd (used (zero (telling_knows first tells)));
+        goes_on = blank_goes;
+        later = omega (arith, looks.later, later);
+      }
+
+  pub blank_fails : (fault : RecoverFault) → (AllKnown seen → IsBadFault fault → ⊥)
+      → (fault ≡ faults.ImageFailed → Rose seen.faults new.faults) → FailsToRecover first new fault
+  blank_fails fault never cause = record {
+    bad = λ known. untied (meaning first.size (shown first)) fault (never (looks.changes.known known));
+    cause = λ is. let rose = cause is in rose_later first.faults seen.faults new.faults looks.later rose;
+    put_back = λ known bad. absurd (never (looks.changes.known known) bad);
+    stops = blank_stops;
+    recovering = λ tells before all enough used pass. absurd (used (zero (telling_knows first tells)));
+    goes_on = blank_goes;
+    later = omega (arith, looks.later, later);
+  }
+
+-- ---- any other was recovered, or not
+
+module _ (first seen new : Memory) (words : ℕ) (enough : min_lines ≤ first.size) (most : first.size ≤ max_lines) (looks : Looks first seen)
+    (is : AllKnown first → IsUsed first.size (shown first) words)
+    (leaves : Tells first → AllDurable first → AllWritten first → logs_fault first.size (shown first) ≡ None
+    → StopsLeave first new (IsRecoveringIn first.size (shown first)))
+    (goes : GoesOn seen new) (later : seen.faults ≤ new.faults) where
+  used_stops : StopsKeepTheGraph first new
+  used_stops tells durable all graph stands =
+      let used = (is (telling_knows first tells)).begins in
+      let pass = (opens-standing first.size (shown first) graph used stands).1.logs in
+      stops_weaker first new (IsRecoveringIn first.size (shown first)) (λ d. StandsFor first.size d graph) (leaves tells durable all pass)
+      (λ d so. recovering_stands first.size (shown first) d graph enough most used stands so)
+
+  used_goes : GoesOn first new
+  used_goes = goes_more first seen new (goes_by_looks first seen looks) goes
+
+  pub used_recovers : (directory : Kept) (graph : Graph) (lines : List ℕ) (free undone : ℕ)
+      → (AllKnown first → FindsImage first.size (shown first) directory graph lines free undone)
+      → (AllKnown first → IsRecovered first new)
+      → (Tells first → AllWritten first → AllDurable new)
+      → Recovers first new directory graph lines free undone
+  used_recovers directory graph lines free undone finds done durable =
+      let size : new.size ≡ first.size = goes.size ∙ looks.changes.size in
+      let stands : AllKnown first → StandsFor first.size (shown first) graph
+      = λ known. finds_stand first.size (shown first) directory graph lines free undone (finds known) in
+      record {
+        stands = stands;
+        stands_now = λ known. subst (λ (n : ℕ). StandsFor n (shown new) graph) (sym size)
+            (recovered_stands first new graph enough most (is known).begins (stands known) (done known));
+        blank = λ known zero. absurd ((is known).begins zero);
+        used = λ known used. finds known;
+        formatted = λ known zero. absurd ((is known).begins zero);
+        recovered = λ known used. done known;
+        well_formed = λ known. subst (λ (n : ℕ). IsWellFormed n (shown new)) (sym size)
+            (recovered_well first new graph enough most (is known).begins (stands known) (done known));
+        empty = λ known. (done known).empty;
+        durable = λ tells written before. durable tells written;
+        stops = used_stops;
+        recovering = λ tells before all used. leaves tells before all (finds (telling_knows first tells)).finds.opens.logs;
+        goes_on = used_goes;
+        later = omega (arith, looks.later, later);
+      }
+
+  pub used_fails : (fault : RecoverFault) → (AllKnown first → IsFaultOf (meaning first.size (shown first)) fault)
+      → (AllKnown first → IsBadFault fault → ChangesTo (IsPutBack (shown first)) first new)
+      → (fault ≡ faults.ImageFailed → Rose seen.faults new.faults) → FailsToRecover first new fault
+  used_fails fault bad put_back cause = record {
+    bad = bad;
+    cause = λ same. rose_later first.faults seen.faults new.faults looks.later (cause same);
+    put_back = put_back;
+    stops = used_stops;
+    recovering = λ tells before all enough used pass. leaves tells before all pass;
+    goes_on = used_goes;
+    later = omega (arith, looks.later, later);
+  }

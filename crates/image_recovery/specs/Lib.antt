@@ -1,3 +1,4 @@
 pub mod Checked
 pub mod Putting
 pub mod Recovered
+pub mod Recoveries

@@ -18,7 +18,7 @@ use Rattle.machine_forms.specs.Machines.{Opening, doing_of, log_of, memory_of, s
 use Rattle.machine_runs.specs.Frames.{IsReady}
 use Rattle.object_steps.specs.declared.storing.Store.{Store}
 use Rattle.shared_heap.specs.Shared.{Shared}
-use Rattle.shared_heap.specs.Requests.{IsPlannedFor, MayAsk, StepsTo}
+use Rattle.shared_heap.specs.Requests.{IsPlannedFor, MayRequest, StepsTo}
 use Rattle.machine.specs.declared.events.Event.{Event}
 use Rattle.machine.specs.Ended.{ComesTo, HasPlanned, HasSomePlanned, IsOutside, Serves, StoreComesTo, event_of}
 use Rattle.machine.specs.Events.{Comes, HasSinkCause, IsOver, SparesSink}
@@ -49,10 +49,10 @@ module _ (laws : Laws) (set : SetFacts) (s : Shared) (request : Request Ref Item
       (agrees-now laws o first set s es fs request due (subst (λ n. n < 2 ^ 32) is few))
 
   pub may-at : (now : Shared) → now ≡ s → (t : ℕ) → t ≡ 0 → IsDueFor set s request
-      → MayAsk set now.machine t request
+      → MayRequest set now.machine t request
   may-at now same t zero (o, first, es, fs, due) =
-      subst (λ (x : Shared). MayAsk set x.machine t request) (sym same)
-      (subst (λ u. MayAsk set s.machine u request) (sym zero)
+      subst (λ (x : Shared). MayRequest set x.machine t request) (sym same)
+      (subst (λ u. MayRequest set s.machine u request) (sym zero)
       (may-ask laws o first set s es fs request due ready))
 
   -- ---- a store

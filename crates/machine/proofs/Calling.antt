@@ -20,7 +20,7 @@ use Rattle.twin_forms.specs.Table.{Entry}
 use Rattle.machine_forms.specs.declared.doing.Doing.TheVariants.{Nothing, Writing, Fencing}
 use Rattle.machine_forms.specs.Machines.{Opening, doing_of, log_of, memory_of}
 use Rattle.machine_forms.specs.Events.{with_twin, with_write, with_fence}
-use Rattle.shared_heap.specs.Shared.{Shared, Failed, Fences, Writes}
+use Rattle.shared_heap.specs.Shared.{Shared, Failed, TellsFence, Writes}
 use Rattle.machine.specs.declared.events.Event.TheVariants.{Did, Micro, Over}
 use Rattle.machine.specs.Ended.{ComesTo}
 use Rattle.machine.specs.Events.{Comes, IsBroken, answered}
@@ -124,7 +124,7 @@ module _ (laws : Laws) (o : Opening) (first : ℕ) (set : SetFacts) (s : Shared)
 
   -- ---- the fence
 
-  module _ (new : Shared) (f : Fences 0 s new) (room : length s.history.acts < s.history.limit)
+  module _ (new : Shared) (f : TellsFence 0 s new) (room : length s.history.acts < s.history.limit)
       (later : (memory_of s.machine).faults ≤ (memory_of new.machine).faults) where
     abbrev fence_act : Act
     fence_act = record { thread = 0; at = f.twin.memory.calls; op = op.Fenced }
@@ -248,7 +248,7 @@ wrote-comes laws s new w later = record {
   sink = record { acts = inl (ap (λ (h : History). h.acts) w.history); fault = tt };
 }
 
-pub fenced-comes-to : Laws → (s new : Shared) → Fences 0 s new → length s.history.acts < s.history.limit
+pub fenced-comes-to : Laws → (s new : Shared) → TellsFence 0 s new → length s.history.acts < s.history.limit
     → (memory_of s.machine).faults ≤ (memory_of new.machine).faults → ComesTo (Did reply.Done) s new
 fenced-comes-to laws s new f room later = record {
   comes = λ o first set es fs request due. fenced laws o first set s es fs request due new f room later;

@@ -34,14 +34,14 @@ use Rattle.machine_forms.specs.declared.doing.Doing.{Doing}
 use Rattle.machine_forms.specs.declared.doing.Doing.TheVariants.{Nothing, Converting}
 use Rattle.machine_forms.specs.Machines.{Opening, Machine, doing_of, empty_log, known_in, layout_in, log_of, memory_of, shown_in}
 use Rattle.machine_forms.specs.Keeping.{IsDoing}
-use Rattle.machine_forms.specs.Events.{AsksEnd, CallsEnd, ClosesRegion, DoesRequest, EndsPart, EndsRegion, IsFree, LeavesLog, RegionStep, act_in, with_closing, with_logged}
+use Rattle.machine_forms.specs.Events.{AsksEnd, CallsEnd, ClosesRegion, DoesRequest, EndsPart, EndsByAct, IsFree, LeavesLog, RegionStep, act_in, with_closing, with_logged}
 use Rattle.machine_forms.specs.Events as region
 use Rattle.machine_heaps.specs.Laws.{KeepsShared}
 use Rattle.machine_heaps.proofs.Regions.{left_goes_on, over_log}
 use Rattle.machine_runs.specs.Frames.{IsReady}
 use Rattle.shared_heap.specs.Shared.{Shared}
 use Rattle.shared_heap.specs.Regions.{ClosesTo, EndingFailsTo, EndsOnTo, IsEndCall, LeavesTo}
-use Rattle.shared_heap.specs.Requests.{MayAsk, StepsTo}
+use Rattle.shared_heap.specs.Requests.{MayRequest, StepsTo}
 use Rattle.machine.specs.declared.events.Event.{Event}
 use Rattle.machine.specs.declared.events.Event.TheVariants.{Did, Micro, Over}
 use Rattle.machine.specs.Ended.{Serves, event_of}
@@ -335,7 +335,7 @@ module _ (laws : Laws) (o : Opening) (first : ℕ) (set : SetFacts) (s : Shared)
 
     -- ---- and the step of the request is taken
 
-    pub may-end : MayAsk set left_machine 0 request
+    pub may-end : MayRequest set left_machine 0 request
     may-end = record {
       thread = (let alone = due.running.alone in omega (arith, alone));
       fit = regional-fits set (world_of [] (shown_in left_machine) left_machine.rest) 0
@@ -408,7 +408,7 @@ module _ (laws : Laws) (o : Opening) (first : ℕ) (set : SetFacts) (s : Shared)
         acts = machine-acts;
       }
 
-      region-ends : EndsRegion o s.machine new.machine es 0 request reply
+      region-ends : EndsByAct o s.machine new.machine es 0 request reply
       region-ends = record {
         twin = l.twin;
         log = l.log;
@@ -560,8 +560,8 @@ module _ (laws : Laws) (set : SetFacts) (s : Shared) (request : Request Ref Item
         (left-agrees laws due.0 due.1 set s due.2 due.3 request due.4 room ready is_open from is_end between l
         (let same = ap (λ (h : History). length h.acts) l.left.history in omega (arith, few32, is, same)))
 
-    pub left-may : MayAsk set between.machine 0 request
-    left-may = subst (λ (m : Machine). MayAsk set m 0 request) between-is
+    pub left-may : MayRequest set between.machine 0 request
+    left-may = subst (λ (m : Machine). MayRequest set m 0 request) between-is
         (may-end laws due.0 due.1 set s due.2 due.3 request due.4 room ready is_open from is_end between l)
 
     pub left-room : length between.history.acts < between.history.limit

@@ -19,7 +19,7 @@ use Rattle.machine_runs.specs.Frames.{IsReady}
 use Rattle.store_barrier.specs.Barriers.{AgreesWith}
 use Rattle.converter.specs.Stepping.{keys_of}
 use Rattle.shared_heap.specs.Shared.{Shared}
-use Rattle.shared_heap.specs.Requests.{MayAsk}
+use Rattle.shared_heap.specs.Requests.{MayRequest}
 use Rattle.machine.specs.Laws.{Laws}
 use Rattle.machine.specs.Running.{IsDue}
 use Rattle.machine.proofs.Leaving.{asked}
@@ -69,8 +69,8 @@ module _ (laws : Laws) (o : Opening) (first : ℕ) (set : SetFacts) (s : Shared)
         (let same = ap length due.running.acts in omega (arith, few, same));
   }
 
-  pub may-ask : IsReady (doing_of s.machine 0) → MayAsk set s.machine 0 request
+  pub may-ask : IsReady (doing_of s.machine 0) → MayRequest set s.machine 0 request
   may-ask ready =
       let q = asked laws o first set s es fs request due ready in
-      subst (λ (x : SetFacts). MayAsk x s.machine 0 request) (sym due.facts)
+      subst (λ (x : SetFacts). MayRequest x s.machine 0 request) (sym due.facts)
       (record { thread = q.thread; fit = q.fit; known = q.known })

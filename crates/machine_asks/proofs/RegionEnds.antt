@@ -19,7 +19,7 @@ use Rattle.region_log.specs.declared.entry.Underway.TheVariants.{Nothing as Idle
 use Rattle.region_log.specs.Kept.{KeepsLog, KeepsRegion}
 use Rattle.region_log.specs.Log.{Log}
 use Rattle.region_log.specs.Stages.{EndsAtOnce}
-use Rattle.region_log.specs.Steps.{FencesRegion, EndsRegion as EmptiesLog}
+use Rattle.region_log.specs.Steps.{FencesRegion, EndsLog}
 use Rattle.region_events.specs.Guards.{KeepsGuards}
 use Rattle.region_events.specs.Laws.{CallsToEnd}
 use Rattle.region_events.proofs.Acts.{closing_keeps, end_keeps, inner_end_keeps}
@@ -31,7 +31,7 @@ use Rattle.twin_forms.specs.Sights.{Twin}
 use Rattle.two_spaces.specs.Seen.{Spaces}
 use Rattle.machine_forms.specs.Machines.{Opening, Machine, known_in, memory_of, log_of, layout_in}
 use Rattle.machine_forms.specs.Keeping.{KeepsAsked, KeepsRun}
-use Rattle.machine_forms.specs.Events.{ClosesRegion, EndsRegion, LeavesLog, act_in, emptied, at_once, with_closing, with_logged}
+use Rattle.machine_forms.specs.Events.{ClosesRegion, EndsByAct, LeavesLog, act_in, emptied, at_once, with_closing, with_logged}
 use Rattle.machine_asks.proofs.Changes.{whole-same}
 use Rattle.machine_asks.proofs.Keeping.{few-calls}
 use Rattle.machine_asks.proofs.LogCalls.{fence-calls}
@@ -102,7 +102,7 @@ module _ (known : Knowledge) (lay : Layout) (t at : ℕ) (old : Memory) where
   emptied-stands : (depth : ℕ) (entries : List LogEntry) (underway : Underway) (new : Memory) (log' : Log)
       → StandsLog known lay old (log_with t depth entries underway) t
       → CallsToEnd (log_with t depth entries underway) log' old new
-      → EmptiesLog (log_with t depth entries underway) log' old new → Ended new log'
+      → EndsLog (log_with t depth entries underway) log' old new → Ended new log'
   emptied-stands depth entries underway new log' s c made =
       let At : Underway → Type 0 = λ (u : Underway). StandsLog known lay old (log_with t depth entries u) t
       → depth ≡ 1 in
@@ -173,7 +173,7 @@ module _ (o : Opening) (m : Machine) (es : List Entry) (k : KeepsRun o m es) (tw
       StandsLog (known_in o m) (layout_in o es) (memory_of m)
       (log_with v log.depth log.entries log.underway) t
       → CallsToEnd (log_with v log.depth log.entries log.underway) log' (memory_of m) twin.memory
-      → EmptiesLog (log_with v log.depth log.entries log.underway) log' (memory_of m) twin.memory
+      → EndsLog (log_with v log.depth log.entries log.underway) log' (memory_of m) twin.memory
       → Ended (known_in o m) (layout_in o es) t twin.memory.calls (memory_of m) twin.memory log' in
       let there : At t = emptied-stands (known_in o m) (layout_in o es) t twin.memory.calls (memory_of m)
       log.depth log.entries log.underway twin.memory log' in
@@ -195,7 +195,7 @@ module _ (o : Opening) (m : Machine) (es : List Entry) (k : KeepsRun o m es) (tw
       }
 
 module _ (o : Opening) (m : Machine) (es : List Entry) (k : KeepsRun o m es) (m' : Machine) (t : ℕ)
-    (request : Request Ref Item) (r : Reply Ref Item) (ends : EndsRegion o m m' es t request r) where
+    (request : Request Ref Item) (r : Reply Ref Item) (ends : EndsByAct o m m' es t request r) where
   abbrev end : Recorded
   end = act_in (with_logged m ends.twin t ends.log) t op.End []
 

@@ -27,7 +27,7 @@ use Rattle.region_log.specs.declared.entry.Entry.{Entry as LogEntry}
 use Rattle.region_log.specs.Kept.{Counts}
 use Rattle.region_log.specs.Log.{Log}
 use Rattle.machine_forms.specs.Events.{CallsImage, with_twin, act_in, WritesBack, with_write, MakesFence, with_fence, ConvertsOn, FailsOn, BeginsOn, IsNoSeal, Seals, with_joined, AsksFor, with_asked, value_in, ActsBeside, TableAfter, StoresDurably}
-use Rattle.machine_forms.specs.Events.{BeginsRegion, ClosesRegion, EndsRegion, GuardsPlace, RegionStep, StoresLogged, with_logged}
+use Rattle.machine_forms.specs.Events.{BeginsRegion, ClosesRegion, EndsByAct, GuardsPlace, RegionStep, StoresLogged, with_logged}
 
 -- of every machine that keeps its run
 abbrev pub OfRuns : (Opening → Machine → List Entry → Type 0) → Type 0
@@ -100,7 +100,7 @@ pub record RegionActsMayCome : Type 0 where
       → ClosesRegion o m twin t request log'
       → MayCome o m (asked_by m request) (act_in (with_logged m twin t log') t op.Closing []))
   pub end : OfRuns (λ o m es. (m' : Machine) (t : ℕ) (request : Request Ref Item) (r : Reply Ref Item)
-      → (ends : EndsRegion o m m' es t request r)
+      → (ends : EndsByAct o m m' es t request r)
       → MayCome o m (asked_by m request) (act_in (with_logged m ends.twin t ends.log) t op.End []))
 
 -- ---- calls of the image

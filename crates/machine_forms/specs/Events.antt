@@ -47,8 +47,7 @@ use Rattle.region_log.specs.declared.entry.Entry.{Entry as LogEntry}
 use Rattle.region_log.specs.declared.entry.Underway.TheVariants.{Nothing as Idle}
 use Rattle.region_log.specs.Log.{Log}
 use Rattle.region_log.specs.Stages.{EndsAtOnce}
-use Rattle.region_log.specs.Steps.{EndsOn, FailsToEnd, FencesRegion, TouchesToEnd}
-use Rattle.region_log.specs.Steps.{EndsRegion as EmptiesLog}
+use Rattle.region_log.specs.Steps.{EndsLog, EndsOn, FailsToEnd, FencesRegion, TouchesToEnd}
 use Rattle.region_events.specs.Laws.{CallsToEnd, LogsOn, MayBeGuarded, MayBegin, one_deeper, with_entry}
 use Rattle.machine_forms.specs.Machines.{Opening, Machine, known_in, memory_of, shown_in, scene_of, doing_of, log_of, layout_in}
 
@@ -395,7 +394,7 @@ with_closing m twin t log' = with_act (with_logged m twin t log') t op.Closing [
 pub record EmptiesRegion (o : Opening) (m : Machine) (twin : Twin) (t : ℕ) (request : Request Ref Item)
     (log' : Log) : Type 0 where
   pub calls : CallsEnd o m twin t request log'
-  pub empties : EmptiesLog (log_of m t) log' (memory_of m) twin.memory
+  pub empties : EndsLog (log_of m t) log' (memory_of m) twin.memory
 
 -- How the log is left by an End: emptied by a call of the image, or one level less deep, with no call.
 pub data LeavesLog (o : Opening) (m : Machine) (twin : Twin) (t : ℕ) (request : Request Ref Item)
@@ -406,7 +405,7 @@ pub data LeavesLog (o : Opening) (m : Machine) (twin : Twin) (t : ℕ) (request 
       → LeavesLog o m twin t request (record (log_of m t) { depth = (log_of m t).depth - 1 })
 
 -- A region ends, by an act of the thread's request.
-pub record EndsRegion (o : Opening) (m m' : Machine) (es : List Entry) (t : ℕ) (request : Request Ref Item)
+pub record EndsByAct (o : Opening) (m m' : Machine) (es : List Entry) (t : ℕ) (request : Request Ref Item)
     (r : Reply Ref Item) : Type 0 where
   pub twin : Twin
   pub log : Log
@@ -431,4 +430,4 @@ pub data RegionStep (o : Opening) (m : Machine) (es : List Entry) : Machine → 
   closing : (twin : Twin) (t : ℕ) (request : Request Ref Item) (log' : Log)
       → ClosesRegion o m twin t request log' → RegionStep o m es (with_closing m twin t log')
   ended : (m' : Machine) (t : ℕ) (request : Request Ref Item) (r : Reply Ref Item)
-      → EndsRegion o m m' es t request r → RegionStep o m es m'
+      → EndsByAct o m m' es t request r → RegionStep o m es m'

@@ -20,7 +20,7 @@ use Rattle.twin_forms.specs.Sights.{Twin, AllKnown}
 use Rattle.twin_forms.specs.Table.{Entry}
 use Rattle.machine_forms.specs.Machines.{Opening, Machine, log_of, memory_of}
 use Rattle.machine_forms.specs.Keeping.{KeepsLogOf, KeepsRun}
-use Rattle.machine_forms.specs.Events.{BeginsRegion, ClosesRegion, EndsPart, EndsRegion, LeavesLog, LogsWord, OnlyImage, RegionStep, emptied, at_once, begun, guarded, logged, stored, ending, closing, ended, with_log, with_logged, with_twin}
+use Rattle.machine_forms.specs.Events.{BeginsRegion, ClosesRegion, EndsPart, EndsByAct, LeavesLog, LogsWord, OnlyImage, RegionStep, emptied, at_once, begun, guarded, logged, stored, ending, closing, ended, with_log, with_logged, with_twin}
 use Rattle.machine_heaps.specs.Laws.{KeepsShared, RegionsKeepHeaps}
 use Rattle.machine_heaps.proofs.Logging.{GoesOn, logging_goes_on, rests}
 use Rattle.machine_heaps.proofs.Moving.{shared_act, shared_logs}
@@ -125,7 +125,7 @@ module _ (o : Opening) (m : Machine) (es : List Entry) (run : KeepsRun o m es) w
       subst (GoesOn o m es) (sym same) (rests o m es (run.heap, run.world))
 
   shared_ended : (m' : Machine) (t : ℕ) (request : Request Ref Item) (r : Reply Ref Item)
-      → EndsRegion o m m' es t request r → KeepsShared o m' es
+      → EndsByAct o m m' es t request r → KeepsShared o m' es
   shared_ended m' t request r e =
       still o (with_logged m e.twin t e.log) m' es
       (over_log e.twin t e.log (left_goes_on e.twin t request e.leaves).kept) t request op.End r

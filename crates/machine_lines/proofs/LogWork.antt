@@ -21,7 +21,7 @@ use Rattle.region_log.specs.Kept.{FitsUnderway, KeepsLog}
 use Rattle.region_log.specs.Log.{Log}
 use Rattle.region_log.specs.Made.{Touches}
 use Rattle.region_log.specs.Stages.{CanEnd, entry_stage, next_stage, failed_stage, TouchesLine, end_stage, next_end, failed_end, TouchesLineToEnd}
-use Rattle.region_log.specs.Steps.{TouchesFor, AddsOn, AddsEntry, FailsToAdd, TouchesToEnd, EndsOn, FencesRegion, EndsRegion, FailsToEnd}
+use Rattle.region_log.specs.Steps.{TouchesFor, AddsOn, AddsEntry, FailsToAdd, TouchesToEnd, EndsOn, FencesRegion, EndsLog, FailsToEnd}
 use Rattle.region_events.specs.Laws.{LogsOn, CallsToEnd, with_entry}
 use Rattle.region_events.proofs.Places.{head_inside, entry_inside}
 use Rattle.machine_forms.specs.Machines.{empty_log}
@@ -202,7 +202,7 @@ module _ (log log' : Log) (old new : Memory) (c : CallsToEnd log log' old new) w
       ap log_work made.log ∙ failed-end-same (length log.entries) (end_stage log.underway)
       ∙ sym (left-first (some-then _ made.log))
 
-  pub emptied-less : EndsRegion log log' old new → log_work log' + 1 ≤ log_work log
+  pub emptied-less : EndsLog log log' old new → log_work log' + 1 ≤ log_work log
   emptied-less made =
       let now : log_work log' ≡ 0 = ap log_work made.log in
       let was : log_work log ≡ 1 = ap (underway_work log.entries) made.last in

@@ -11,7 +11,7 @@ use Rattle.region_log.specs.Log.{Log}
 use Rattle.region_log.specs.Steps.{TouchesFor, AddsOn, AddsEntry, FailsToAdd, TouchesToEnd, EndsOn, FailsToEnd}
 use Rattle.machine_forms.specs.Machines.{Machine, memory_of, log_of}
 use Rattle.machine_forms.specs.Keeping.{KeepsRun}
-use Rattle.machine_forms.specs.Events.{BeginsRegion, GuardsPlace, with_guarded, LogsWord, with_logged, StoresLogged, EndsPart, ClosesRegion, with_closing, EndsRegion, RegionStep}
+use Rattle.machine_forms.specs.Events.{BeginsRegion, GuardsPlace, with_guarded, LogsWord, with_logged, StoresLogged, EndsPart, ClosesRegion, with_closing, EndsByAct, RegionStep}
 use Rattle.machine_lines.specs.Lines.{TakesLines}
 use Rattle.machine_lines.specs.Laws.{OfTaken}
 use Rattle.machine_lines.specs.Unwritten.{HasUnwritten, OfUnwritten}
@@ -68,4 +68,4 @@ pub record GuardsAddEightToTheMeasure : Type 0 where
       (item : Item) → StoresLogged o m m' es t request place item → KeepsRun o m' es
       → measure m' ≤ measure m)
   pub ended : OfUnwritten (λ o m es. (m' : Machine) (t : ℕ) (request : Request Ref Item) (r : Reply Ref Item)
-      → EndsRegion o m m' es t request r → KeepsRun o m' es → measure m' ≤ measure m)
+      → EndsByAct o m m' es t request r → KeepsRun o m' es → measure m' ≤ measure m)

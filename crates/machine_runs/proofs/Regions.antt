@@ -22,7 +22,7 @@ use Rattle.machine_asks.specs.Laws.{RegionActsMayCome, MayCome, asked_by}
 use Rattle.machine_forms.specs.declared.doing.Doing.TheVariants.{Nothing}
 use Rattle.machine_forms.specs.Machines.{Opening, Machine, shown_in, doing_of}
 use Rattle.machine_forms.specs.Keeping.{KeepsRun}
-use Rattle.machine_forms.specs.Events.{BeginsRegion, ClosesRegion, EndsRegion, GuardsPlace, LeavesLog, StoresLogged, act_in, at_once, emptied, value_in, with_closing, with_guarded, with_logged}
+use Rattle.machine_forms.specs.Events.{BeginsRegion, ClosesRegion, EndsByAct, GuardsPlace, LeavesLog, StoresLogged, act_in, at_once, emptied, value_in, with_closing, with_guarded, with_logged}
 use Rattle.machine_heaps.proofs.Logging.{GoesOn}
 use Rattle.machine_heaps.proofs.Regions.{closing_goes_on, ending_goes_on, left_goes_on, logged_goes_on, over_log}
 use Rattle.machine_runs.specs.Frames.{Asks, IsReady, RegionsGoOnAsPlain, RunsAsPlain, all_acted}
@@ -112,7 +112,7 @@ module _ (may : RegionActsMayCome) (law : ActsGoOn) (same : MovesStandForTheRun)
       reply.Done asks s.does (may.stored o m es run m' t request place item s) Nothing (inl refl) s.doing []
       refl
 
-  ends-answer : (m' : Machine) (r : Reply Ref Item) → EndsRegion o m m' es t request r
+  ends-answer : (m' : Machine) (r : Reply Ref Item) → EndsByAct o m m' es t request r
       → RunsAsPlain o m' (answered_threads o.launch threads t fs r [])
   ends-answer m' r e =
       let over = with_logged m e.twin t e.log in

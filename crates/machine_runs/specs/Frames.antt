@@ -23,7 +23,7 @@ use Rattle.machine_forms.specs.Keeping.{KeepsRun}
 use Rattle.machine_forms.specs.Events.{CallsImage, with_twin, WritesBack, with_write, MakesFence, with_fence, ConvertsOn, FailsOn, BeginsOn, IsNoSeal, Seals, with_joined, AsksFor, with_asked, value_in, ActsBeside, StoresDurably}
 use Rattle.region_log.specs.declared.entry.Entry.{Entry as LogEntry}
 use Rattle.region_log.specs.Log.{Log}
-use Rattle.machine_forms.specs.Events.{BeginsRegion, ClosesRegion, EndsPart, EndsRegion, GuardsPlace, LogsWord, StoresLogged, with_closing, with_guarded, with_logged}
+use Rattle.machine_forms.specs.Events.{BeginsRegion, ClosesRegion, EndsPart, EndsByAct, GuardsPlace, LogsWord, StoresLogged, with_closing, with_guarded, with_logged}
 
 -- ---- frames by the acts
 
@@ -144,7 +144,7 @@ pub record RegionsGoOnAsPlain : Type 0 where
       → RunsAsPlain o m' (answered_threads o.launch threads t fs reply.Done []))
   pub ends : OfPlain (λ o m es threads. (m' : Machine) (t : ℕ) (fs : ThreadFrames)
       (request : Request Ref Item) (r : Reply Ref Item) → Asks o m threads t fs request
-      → EndsRegion o m m' es t request r → RunsAsPlain o m' (answered_threads o.launch threads t fs r []))
+      → EndsByAct o m m' es t request r → RunsAsPlain o m' (answered_threads o.launch threads t fs r []))
 
 -- ---- what threads ask
 

@@ -5,7 +5,7 @@ use Rattle.run_history.specs.declared.act.Op.TheVariants as op
 use Rattle.run_history.specs.Worlds.{depth_of}
 use Rattle.run_history.specs.Knowing.{store_fate}
 use Rattle.stop_invariant.specs.Events.{line_at}
-use Rattle.stop_theorem.specs.Conditions.{IsOutsideRegions}
+use Rattle.stop_theorem.specs.Conditions.{IsSingleUnguarded}
 use Rattle.stop_theorem.specs.Running.{State, with_act, with_memory, SingleStored}
 use Rattle.machine_forms.specs.declared.doing.Doing.TheVariants.{Writing}
 use Rattle.machine_forms.specs.Machines.{known_in, memory_of, layout_in, waits_in, state_in}
@@ -30,7 +30,7 @@ durable_keep o m es r m' t request place item d h told =
     let log = r.asked.regions.each t d.does.thread in
     let depth : depth_of known.world t ≡ 0 = ap (depth_of known.world) (sym log.thread) ∙ sym log.guards.depth
     ∙ d.outside in
-    let outside : IsOutsideRegions known (waits_in m) t place = record {
+    let outside : IsSingleUnguarded known (waits_in m) t place = record {
       single = record {
         owes_none = owes.owes;
         fate = ap (λ b. store_fate t b (depth_of known.world t) (has_number known.closing t)) d.durable

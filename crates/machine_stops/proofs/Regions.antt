@@ -22,7 +22,7 @@ use Rattle.two_spaces.specs.Seen.{Spaces}
 use Rattle.machine_forms.specs.declared.doing.Doing.TheVariants.{Nothing}
 use Rattle.machine_forms.specs.Machines.{Opening, Machine, first_of, known_in, memory_of, log_of, layout_in, waits_in, state_in}
 use Rattle.machine_forms.specs.Keeping.{KeepsHeap, KeepsRun}
-use Rattle.machine_forms.specs.Events.{value_in, BeginsRegion, GuardsPlace, LogsWord, StoresLogged, EndsPart, ClosesRegion, LeavesLog, emptied, at_once, EndsRegion, RegionStep, begun, guarded, logged, stored, ending, closing, ended}
+use Rattle.machine_forms.specs.Events.{value_in, BeginsRegion, GuardsPlace, LogsWord, StoresLogged, EndsPart, ClosesRegion, LeavesLog, emptied, at_once, EndsByAct, RegionStep, begun, guarded, logged, stored, ending, closing, ended}
 use Rattle.machine_stops.specs.Laws.{RegionsKeepStops}
 use Rattle.machine_stops.proofs.Acting.{owes_nothing}
 use Rattle.machine_stops.proofs.Moving.{RunsAt, runs_on, moved}
@@ -155,7 +155,7 @@ module _ (o : Opening) (m : Machine) (es : List Entry) (r : KeepsRun o m es) whe
       (ends_at_once (first_of o) (log_of m t) now (stands_with t below runs) idle asks.is_open ends) runs)
 
   ends : (m' : Machine) (t : ℕ) (request : Request Ref Item) (reply : Reply Ref Item)
-      → EndsRegion o m m' es t request reply → RunsAt o now → RunsAt o (state_in o m' es)
+      → EndsByAct o m m' es t request reply → RunsAt o now → RunsAt o (state_in o m' es)
   ends m' t request reply e runs =
       let twin = e.twin in
       let next : State = with_act (with_memory now twin.memory) t op.End [] in

@@ -2,6 +2,7 @@
 #![tactic(auto)]
 
 mod launches;
+pub mod laws;
 mod numbers;
 mod objects;
 mod roots;

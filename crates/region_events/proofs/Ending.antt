@@ -17,7 +17,7 @@ use Rattle.region_log.specs.Kept.{IsWhole, IsClearing, FitsUnderway, KeepsLog, K
 use Rattle.region_log.specs.Log.{Log}
 use Rattle.region_log.specs.Made.{PutsAll, PutsThenCalls}
 use Rattle.region_log.specs.Stages.{CanEnd, end_stage, failed_end, next_end, words_to_end}
-use Rattle.region_log.specs.Steps.{TouchesToEnd, EndsOn, FailsToEnd, FencesRegion, EndsRegion}
+use Rattle.region_log.specs.Steps.{TouchesToEnd, EndsOn, FailsToEnd, FencesRegion, EndsLog}
 use Rattle.region_events.specs.Guards.{KeepsGuards, StandsWith}
 use Rattle.region_events.specs.Laws.{GoesWith, CallsToEnd, EndingIsEvents, FencesAreClosings, LastCallsAreEnds}
 use Rattle.region_events.proofs.Calls.{one_event, quiet_event, calls_behind, only_calls}
@@ -190,7 +190,7 @@ module _ (first : Knowledge) (s : State) (t depth : ℕ) (entries : List Entry) 
 
   pub last_ends : (w : StandsWith first (log_with t depth entries (Ending Cleared)) s) (log' : Log)
       (new : Memory) → CallsToEnd (log_with t depth entries (Ending Cleared)) log' s.memory new
-      → EndsRegion (log_with t depth entries (Ending Cleared)) log' s.memory new
+      → EndsLog (log_with t depth entries (Ending Cleared)) log' s.memory new
       → GoesWith first log' s (with_act (with_memory s new) t op.End [])
   last_ends w log' new c made =
       subst (λ (l : Log). KeepsLog l new → KeepsRegion l new
@@ -224,7 +224,7 @@ pub last_calls_are_ends : LastCallsAreEnds
 last_calls_are_ends first log s w log' new c made =
     let At : Underway → Type 0 = λ (u : Underway). StandsWith first (record log { underway = u }) s
     → CallsToEnd (record log { underway = u }) log' s.memory new
-    → EndsRegion (record log { underway = u }) log' s.memory new
+    → EndsLog (record log { underway = u }) log' s.memory new
     → GoesWith first log' s (with_act (with_memory s new) log.thread op.End []) in
     let there : At (Ending Cleared) = λ stands calls ends.
     last_ends first s log.thread log.depth log.entries stands log' new calls ends in

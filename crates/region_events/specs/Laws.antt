@@ -21,7 +21,7 @@ use Rattle.region_log.specs.declared.entry.Underway.TheVariants.{Nothing, Adding
 use Rattle.region_log.specs.Log.{Log}
 use Rattle.region_log.specs.Kept.{KeepsRegion}
 use Rattle.region_log.specs.Stages.{CanEnd, EndsAtOnce}
-use Rattle.region_log.specs.Steps.{StepsOn, TouchesFor, AddsOn, AddsEntry, FailsToAdd, TouchesToEnd, EndsOn, FencesRegion, EndsRegion, FailsToEnd}
+use Rattle.region_log.specs.Steps.{StepsOn, TouchesFor, AddsOn, AddsEntry, FailsToAdd, TouchesToEnd, EndsOn, FencesRegion, EndsLog, FailsToEnd}
 use Rattle.region_events.specs.Guards.{IsWordOf, KeepsGuards, StandsWith}
 
 -- Events lead to a state with which this log stands.
@@ -122,7 +122,7 @@ FencesAreClosings = OfLogs (λ first log s. (log' : Log) (new : Memory) → Call
 -- The last call ends the region.
 abbrev pub LastCallsAreEnds : Type 0
 LastCallsAreEnds = OfLogs (λ first log s. (log' : Log) (new : Memory) → CallsToEnd log log' s.memory new
-    → EndsRegion log log' s.memory new
+    → EndsLog log log' s.memory new
     → GoesWith first log' s (with_act (with_memory s new) log.thread op.End []))
 
 -- A region within another, and one that logged nothing, ends at once.

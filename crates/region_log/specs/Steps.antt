@@ -80,7 +80,7 @@ pub record FencesRegion (before after : Log) (old new : Memory) : Type 0 where
   pub made : Fences old new
 
 -- The last call was made: nothing is logged, and no region is open.
-pub record EndsRegion (before after : Log) (old new : Memory) : Type 0 where
+pub record EndsLog (before after : Log) (old new : Memory) : Type 0 where
   pub log : after ≡ record before { depth = 0; entries = []; underway = Nothing }
   pub last : before.underway ≡ Ending Cleared
   pub memory : PutsThenCalls [] old new

@@ -8,7 +8,7 @@ ghost use Rattle.region_log.specs.Log.{Log, IsLogged, entry_of};
 ghost use Rattle.region_log.specs.Kept.{KeepsLog, KeepsRegion};
 ghost use Rattle.region_log.specs.Readers.{added_entry, is_ending, is_cleared};
 ghost use Rattle.region_log.specs.Stages.{CanAdd, CanEnd, EndsAtOnce};
-ghost use Rattle.region_log.specs.Steps.{StepsOn, TouchesFor, AddsOn, AddsEntry, FailsToAdd, TouchesToEnd, EndsOn, FencesRegion, EndsRegion, FailsToEnd};
+ghost use Rattle.region_log.specs.Steps.{StepsOn, TouchesFor, AddsOn, AddsEntry, FailsToAdd, TouchesToEnd, EndsOn, FencesRegion, EndsLog, FailsToEnd};
 
 use crate::calls::{add_call, end_call};
 use crate::entry::{EndStage, Entry, EntryStage, Underway, is_logged};
@@ -228,7 +228,7 @@ impl RegionLog {
         ensures fenced { result ≡ Ok EndStep.AllFenced
             → FencesRegion self.old self.new memory.old memory.new }
         ensures ended { result ≡ Ok EndStep.Ended → ¬ EndsAtOnce self.old
-            → EndsRegion self.old self.new memory.old memory.new }
+            → EndsLog self.old self.new memory.old memory.new }
         ensures failed { OnErr result (FailsToEnd self.old self.new memory.old memory.new) }
 
         ensures one_call { ¬ EndsAtOnce self.old → OneCall memory.old memory.new }

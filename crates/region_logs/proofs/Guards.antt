@@ -23,7 +23,7 @@ use Rattle.region_log.specs.Kept.{FitsUnderway, KeepsLog}
 use Rattle.region_log.specs.Log.{Log, SameWord, IsLogged}
 use Rattle.region_log.specs.Readers.{added_entry, is_cleared}
 use Rattle.region_log.specs.Stages.{CanEnd, EndsAtOnce, entry_stage, next_stage, failed_stage, end_stage, next_end, failed_end, TouchesLineToEnd}
-use Rattle.region_log.specs.Steps.{TouchesFor, AddsOn, AddsEntry, FailsToAdd, TouchesToEnd, EndsOn, FencesRegion, EndsRegion}
+use Rattle.region_log.specs.Steps.{TouchesFor, AddsOn, AddsEntry, FailsToAdd, TouchesToEnd, EndsOn, FencesRegion, EndsLog}
 use Rattle.region_logs.specs.Calls.{LogsPart, EndsPart}
 use Rattle.region_logs.specs.Table.{GuardsStay}
 use Rattle.region_logs.proofs.Tables.{Stays, same-guards}
@@ -242,7 +242,7 @@ end-empties before after old new AllFenced is keeps part =
     let stage : end_stage before.underway ≡ Cleared = ap (λ (u : Underway). end_stage u) is in
     absurd (let wrong : ⊥ = cc in wrong)
 end-empties before after old new Ended is keeps part =
-    let ended : EndsRegion before after old new = part.ended refl (cleared-fits before old is keeps) in record {
+    let ended : EndsLog before after old new = part.ended refl (cleared-fits before old is keeps) in record {
       thread = ap (λ (l : Log). l.thread) ended.log;
       entries = ap (λ (l : Log). l.entries) ended.log;
       underway = ap (λ (l : Log). l.underway) ended.log;

@@ -11,7 +11,7 @@ use Rattle.region_log.specs.declared.log.EndStep.TheVariants.{More as EndMore, A
 use Rattle.region_log.specs.Kept.{KeepsRegion}
 use Rattle.region_log.specs.Log.{Log}
 use Rattle.region_log.specs.Stages.{EndsAtOnce}
-use Rattle.region_log.specs.Steps.{StepsOn, TouchesFor, AddsOn, AddsEntry, FailsToAdd, TouchesToEnd, EndsOn, FencesRegion, EndsRegion, FailsToEnd}
+use Rattle.region_log.specs.Steps.{StepsOn, TouchesFor, AddsOn, AddsEntry, FailsToAdd, TouchesToEnd, EndsOn, FencesRegion, EndsLog, FailsToEnd}
 
 -- a part of the logging of an entry, which is under way
 pub record LogsPart (e : Entry) (before after : Log) (old new : Memory) (result : Result LogStep ImageFailed) : Type 0 where
@@ -27,7 +27,7 @@ pub record EndsPart (before after : Log) (old new : Memory) (result : Result End
   pub at_once : EndsAtOnce before → (result ≡ Ok Ended) × (after ≡ record before { depth = before.depth - 1 }) × (new ≡ old)
   pub more : result ≡ Ok EndMore → TouchesToEnd before after old new ⊎ EndsOn before after old new
   pub fenced : result ≡ Ok AllFenced → FencesRegion before after old new
-  pub ended : result ≡ Ok Ended → ¬ EndsAtOnce before → EndsRegion before after old new
+  pub ended : result ≡ Ok Ended → ¬ EndsAtOnce before → EndsLog before after old new
   pub failed : OnErr result (FailsToEnd before after old new)
   pub one_call : ¬ EndsAtOnce before → OneCall old new
   pub steps : StepsOn before after old new

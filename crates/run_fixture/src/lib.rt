@@ -4,10 +4,12 @@
 
 mod classes;
 mod images;
+mod rings;
 mod runs;
 
 pub use classes::{
     EMPTY, PRINTS, STORES, class_bytes, file, listed, listed_classes, main_class, source,
 };
 pub use images::{LINES, blank, fails_from, line_of, no_fails, recovered, word_of};
+pub use rings::{RING, has_null_root, is_ring};
 pub use runs::{RUN, Run, has_output, run, run_class, run_words, sink, words};

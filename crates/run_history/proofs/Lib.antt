@@ -3,6 +3,7 @@ pub mod CheckedHeaps
 pub mod Grown
 pub mod HeldLaws
 pub mod KeptLists
+pub mod OpenGuards
 pub mod RegionLaws
 pub mod Sizes
 pub mod StoreLaws

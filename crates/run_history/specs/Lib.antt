@@ -1,8 +1,10 @@
+pub mod GuardRows
 pub mod HeldActs
 pub mod Kept
 pub mod Knowing
 pub mod KnowledgeRows
 pub mod Laws
+pub mod OpenGuards
 pub mod Recorded
 pub mod Ring
 pub mod Sizes

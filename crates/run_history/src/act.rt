@@ -87,7 +87,7 @@ pub enum Op {
     },
     /// The objects that stand beside this act became durable.
     Joined,
-    /// The place's entry of its thread's undo log is whole.
+    /// The thread's open region guards the place: its word is logged before the region stores there.
     Guarded {
         place: Place,
     },

@@ -1,17 +1,21 @@
 // The history as a list that takes no memory once its room was reserved.
 ghost use Rattle.std.specs.Prelude.{◌≡◌, ◌<◌, ◌≤◌, ◌+◌, ◌-◌, ◌^◌, ◌↔◌, [], ◌∷◌, ◌++◌, length, OnOk, OnErr, IfErr, IsErr, IfSome, IsNone, All, slice_get, option_copied};
 ghost use Rattle.run_history.specs.Recorded.{History, NamesRightly, with_act, acts_of, named_at};
+ghost use Rattle.run_history.specs.Knowing.{Knowledge, known_after, guard_of};
+ghost use Rattle.run_history.specs.OpenGuards.{IsOutsideRegions};
 ghost use Rattle.run_types.specs.declared.fault.Which.TheVariants.{Acts as ActsLimit};
 
+use crate::open_guard::{first_guard, regions_after};
 use crate::{Act, Op};
+use ap_base::{Place, ThreadNo};
 use run_types::{Full, Which};
 use std::alloc::{AllocError, Global};
 use std::marker::Model;
 
 /// An act, and where its objects stand among those that were named.
 #[derive(Clone, Copy, Debug)]
-struct Held {
-    act: Act,
+pub(crate) struct Held {
+    pub(crate) act: Act,
     from: usize,
     to: usize,
 }
@@ -134,5 +138,15 @@ impl Acts {
         } else {
             None
         }
+    }
+
+    /// The thread whose open region has guarded a place, after these acts, before which there was one thread, outside
+    /// regions. Takes no memory, and time for each act.
+    pub fn guarded_by(&self, place: Place) -> Option<ThreadNo>
+        ensures guarded { (first : Knowledge) → IsOutsideRegions first
+            → result ≡ guard_of (known_after first self.now.acts).guards place }
+    {
+        let regions = regions_after(&self.held);
+        first_guard(&self.held, &regions, place)
     }
 }

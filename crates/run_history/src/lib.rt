@@ -4,6 +4,7 @@
 mod act;
 mod acts;
 pub mod laws;
+mod open_guard;
 mod plain;
 pub mod rows;
 mod watcher;

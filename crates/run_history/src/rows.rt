@@ -1,6 +1,7 @@
 //! What operations do and what is known after acts, by computation.
 ghost use Rattle.run_history.specs.WorldRows.{MonitorsCount, ClassesAreBegunAndDone, ThreadsChange};
 ghost use Rattle.run_history.specs.WorldRows.{MostChangeNothing, HeapsChange, OperationsFit};
+ghost use Rattle.run_history.specs.GuardRows.{AreGuarded};
 ghost use Rattle.run_history.specs.KnowledgeRows.{AreTold, two_threads, publishing};
 
 /// What each operation does to the parts of a world.
@@ -17,4 +18,9 @@ pub fn operations_change_their_part()
 pub fn two_threads_are_known()
     ensures stores { AreTold two_threads }
     ensures publishing { AreTold publishing }
+{}
+
+/// Whose region has guarded a place after each act of two threads, one of which has a region in a region.
+pub fn guards_are_known()
+    ensures guards { AreGuarded }
 {}

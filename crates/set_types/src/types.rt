@@ -10,18 +10,25 @@ use run_types::Known;
 use shared_objects::Types;
 use std::marker::Model;
 
-/// A class set as steps ask it: its classes and array types by their numbers.
+/// A class set as steps ask it: its classes and array types by their numbers. The classes that the
+/// runtime knows are looked up once, since each access to an element asks for them.
 #[derive(Drop)]
 pub struct SetTypes<'a> {
     set: &'a ClassSet,
+    known: Known,
 }
 
 impl<'a> Model for SetTypes<'a> {
+    ghost use Rattle.std.specs.Prelude.{◌≡◌};
+    ghost use Rattle.plain_model.specs.Facts.{known_classes};
+    ghost use Rattle.class_set.specs.Facts.{facts_of};
     ghost use Rattle.class_set.specs.Linked.{Linked};
 
     ghost Value = { Linked };
 
     ghost view = { λ s. s.set.now };
+
+    ghost invariant = { λ s. s.known ≡ known_classes (facts_of s.set.now) };
 }
 
 impl<'a> SetTypes<'a> {
@@ -31,7 +38,10 @@ impl<'a> SetTypes<'a> {
         ensures linked { IsLinked set.now }
     {
         let _shapes = set.shapes();
-        SetTypes { set }
+        SetTypes {
+            set,
+            known: set.known(),
+        }
     }
 }
 
@@ -41,11 +51,11 @@ impl<'a> Types for SetTypes<'a> {
     ghost facts = { λ s. facts_of s };
 
     fn known(&self) -> Known {
-        self.set.known()
+        self.known
     }
 
     fn thrown(&self, which: Throws) -> u32 {
-        self.set.known().throwable - before_throwable(which)
+        self.known.throwable - before_throwable(which)
     }
 
     fn element(&self, class: u32) -> Option<Kind> {

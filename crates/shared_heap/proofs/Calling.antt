@@ -13,7 +13,7 @@ use Rattle.convert_words.specs.Steps.{told_fenced}
 use Rattle.machine_forms.specs.declared.doing.Doing.TheVariants.{Nothing, Fencing, Writing}
 use Rattle.machine_forms.specs.Machines.{Machine, memory_of, doing_of}
 use Rattle.machine_forms.specs.Events.{CallsImage, with_twin, with_doing}
-use Rattle.shared_heap.specs.Shared.{Shared, Failed, Writes, Fences}
+use Rattle.shared_heap.specs.Shared.{Shared, Failed, Writes, TellsFence}
 
 -- each line of each memory is resident
 abbrev pub AreResident : Type 0
@@ -105,7 +105,7 @@ pub fenced_call : (old then : Shared) (after : Memory) (q : Queues) (t n : ℕ) 
     → ((l w : ℕ) → IsWritten (memory_of old.machine) l w → IsDurable after l w)
     → old.machine.acts ≡ old.history.acts → q ≡ told_fenced old.machine.queue
     → Told (fenced_in old after q) then (fence_act t after)
-    → Fences t old (record then { machine = with_doing then.machine n Nothing })
+    → TellsFence t old (record then { machine = with_doing then.machine n Nothing })
 fenced_call old then after q t n c number doing made durable same noted x = record {
   twin = over old.machine after;
   made = record {
@@ -144,8 +144,8 @@ failed_from old now new e x = subst (λ (s : Shared). Failed s new) e x
 pub writes_from : (t : ℕ) (old now new : Shared) → old ≡ now → Writes t old new → Writes t now new
 writes_from t old now new e x = subst (λ (s : Shared). Writes t s new) e x
 
-pub fences_from : (t : ℕ) (old now new : Shared) → old ≡ now → Fences t old new → Fences t now new
-fences_from t old now new e x = subst (λ (s : Shared). Fences t s new) e x
+pub fences_from : (t : ℕ) (old now new : Shared) → old ≡ now → TellsFence t old new → TellsFence t now new
+fences_from t old now new e x = subst (λ (s : Shared). TellsFence t s new) e x
 
 pub told_by : (before told then : Shared) (act : Act) → then ≡ told → Told before told act
     → Told before then act

@@ -30,7 +30,7 @@ use Rattle.two_spaces.specs.Seen.{Spaces, shown_of, static_value}
 use Rattle.two_spaces.specs.Whole.{HasResident, IsHereIn, IsStatic, IsStaticHereIn, IsWhole, Stands, no_static}
 use Rattle.two_spaces.proofs.Finding.{at_number, slot_there}
 use Rattle.machine_forms.specs.Machines.{Machine, memory_of, shown_in}
-use Rattle.shared_heap.specs.Requests.{MayAsk}
+use Rattle.shared_heap.specs.Requests.{MayRequest}
 
 module _ (s : Spaces) (es : List Entry) (h : Stands s es) where
   within : (n : ℕ) → 0 < (entry es n).stage → n < length es
@@ -138,7 +138,7 @@ module _ (s : Spaces) (es : List Entry) (h : Stands s es) where
 
 -- A thread of a whole heap that may ask can ask.
 pub is_askable : (set : SetFacts) (m : Machine) (t : ℕ) (request : Request Ref Item) → IsWhole m.spaces
-    → 33 ≤ (memory_of m).size → Agrees set (shown_in m) m.rest → MayAsk set m t request
+    → 33 ≤ (memory_of m).size → Agrees set (shown_in m) m.rest → MayRequest set m t request
     → IsAskable set (IsHereIn m.spaces) (IsStaticHereIn m.spaces) (shown_in m) m.rest t request
 is_askable set m t request whole long agrees may = record {
   thread = may.thread;

@@ -35,7 +35,7 @@ use Rattle.machine_forms.specs.Machines.{Machine, memory_of, shown_in}
 use Rattle.machine_forms.specs.Events.{NotesStore, act_in}
 use Rattle.store_barrier.specs.Barriers.{IsDurablePlace, spaces_of}
 use Rattle.shared_heap.specs.Shared.{Shared}
-use Rattle.shared_heap.specs.Requests.{IsPlannedFor, MayAsk, StepsTo, StoresTo, doing_stored, told_at, told_by, value_stored}
+use Rattle.shared_heap.specs.Requests.{IsPlannedFor, MayRequest, StepsTo, StoresTo, doing_stored, told_at, told_by, value_stored}
 use Rattle.shared_heap.proofs.Here.{is_askable, value_here}
 use Rattle.shared_heap.proofs.Sounding.{stays_sound}
 use Rattle.shared_heap.proofs.Storing.{names_nothing, stores_so}
@@ -61,7 +61,7 @@ same_spaces before now same = ap spaces_of same
 
 pub asks_from : (set : SetFacts) (old now : Shared) (t : ℕ) (request : Request Ref Item) → old ≡ now
     → IsWhole now.machine.spaces → 33 ≤ (memory_of now.machine).size
-    → Agrees set (shown_in now.machine) now.machine.rest → MayAsk set now.machine t request
+    → Agrees set (shown_in now.machine) now.machine.rest → MayRequest set now.machine t request
     → IsAskable set (IsHereIn old.machine.spaces) (IsStaticHereIn old.machine.spaces) (shown_in old.machine)
     old.machine.rest t request
 asks_from set old now t request e whole long agrees may = subst (λ (s : Shared). IsAskable set

@@ -14,7 +14,7 @@ use Rattle.region_log.specs.declared.log.LogStep.TheVariants as logging
 use Rattle.region_log.specs.declared.log.EndStep.TheVariants as did
 use Rattle.region_log.specs.Log.{Log, entry_of}
 use Rattle.region_log.specs.Stages.{EndsAtOnce}
-use Rattle.region_log.specs.Steps.{AddsEntry, AddsOn, EndsOn, EndsRegion, FailsToAdd, FailsToEnd, FencesRegion, TouchesFor, TouchesToEnd}
+use Rattle.region_log.specs.Steps.{AddsEntry, AddsOn, EndsOn, EndsLog, FailsToAdd, FailsToEnd, FencesRegion, TouchesFor, TouchesToEnd}
 use Rattle.region_events.specs.Laws.{CallsToEnd}
 use Rattle.machine_forms.specs.Machines.{Machine, log_of, memory_of}
 use Rattle.machine_forms.specs.Events.{LogsWord, OnlyImage, with_closing, with_guarded, with_log, with_logged}
@@ -129,7 +129,7 @@ pub record ClosesTo (t : ℕ) (old new : Shared) : Type 0 where
 -- the last call of a region that logged something
 pub record IsEmptied (m : Machine) (twin : Twin) (t : ℕ) (log : Log) : Type 0 where
   pub call : IsEndCall m twin t log
-  pub empties : EndsRegion (log_of m t) log (memory_of m) twin.memory
+  pub empties : EndsLog (log_of m t) log (memory_of m) twin.memory
 
 -- A region within another, or one that logged nothing: the log is one level less deep, with no call.
 pub record IsLeftAtOnce (m : Machine) (twin : Twin) (t : ℕ) (log : Log) : Type 0 where

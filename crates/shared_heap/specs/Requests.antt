@@ -32,7 +32,7 @@ use Rattle.store_barrier.specs.Barriers.{IsDurablePlace, IsReady}
 use Rattle.shared_heap.specs.Shared.{Shared}
 
 -- Thread t was started, the request names what it may, and its references are null or stand for objects.
-pub record MayAsk (set : SetFacts) (m : Machine) (t : ℕ) (request : Request Ref Item) : Type 0 where
+pub record MayRequest (set : SetFacts) (m : Machine) (t : ℕ) (request : Request Ref Item) : Type 0 where
   pub thread : t < length m.rest.threads
   pub fit : IsFit set (world_of [] (shown_in m) m.rest) t (plain_request (shown_in m).number request)
   pub known : KnowsRequest (shown_in m).number request

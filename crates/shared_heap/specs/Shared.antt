@@ -33,7 +33,7 @@ pub record Writes (t : ℕ) (old new : Shared) : Type 0 where
   pub named : new.named ≡ old.named
 
 -- a fence was made, and its act told
-pub record Fences (t : ℕ) (old new : Shared) : Type 0 where
+pub record TellsFence (t : ℕ) (old new : Shared) : Type 0 where
   pub twin : Twin
   pub made : MakesFence old.machine twin t
   pub machine : new.machine ≡ with_fence old.machine twin t

@@ -8,7 +8,7 @@ ghost use Rattle.machine_forms.specs.Machines.{doing_of, memory_of};
 ghost use Rattle.machine_forms.specs.Events.{MakesFence, WritesBack, with_fence, with_write};
 ghost use Rattle.run_history.specs.Recorded.{with_act};
 ghost use Rattle.run_history.specs.declared.act.Op.TheVariants as op;
-ghost use Rattle.shared_heap.specs.Shared.{Failed, Fences, Writes};
+ghost use Rattle.shared_heap.specs.Shared.{Failed, TellsFence, Writes};
 
 use crate::SharedHeap;
 use ap_base::ThreadNo;
@@ -48,7 +48,7 @@ impl<I: Image> SharedHeap<I> {
         requires doing { doing_of self.old.machine t ≡ Fencing }
         requires room { length self.old.history.acts < self.old.history.limit }
         requires long { 33 ≤ (memory_of self.old.machine).size }
-        ensures fenced { OnOk result (Fences t self.old self.new) }
+        ensures fenced { OnOk result (TellsFence t self.old self.new) }
         ensures failed { OnErr result (Failed self.old self.new) }
         ensures cause { HasCause (memory_of self.old.machine).faults
             (memory_of self.new.machine).faults result }

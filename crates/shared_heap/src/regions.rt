@@ -16,7 +16,7 @@ ghost use Rattle.region_events.specs.Laws.{one_deeper, with_entry};
 ghost use Rattle.two_spaces.specs.Whole.{IsWhole};
 ghost use Rattle.machine_forms.specs.Machines.{log_of, memory_of, shown_in};
 ghost use Rattle.shared_heap.specs.Regions.{EndingFailsTo, EndsTo, GuardsTo, LoggingFailsTo, LogsTo, PartTo, with_log_of};
-ghost use Rattle.shared_heap.specs.Requests.{MayAsk};
+ghost use Rattle.shared_heap.specs.Requests.{MayRequest};
 
 use crate::SharedHeap;
 use crate::telling::place_of;

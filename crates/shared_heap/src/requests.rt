@@ -13,7 +13,7 @@ ghost use Rattle.machine_forms.specs.Machines.{memory_of, shown_in};
 ghost use Rattle.store_barrier.specs.Barriers.{AgreesWith, ConvertsFirst, IfConverts, IfFollows, IfLogs, IfNoRace, IfRaces, IfStores, IsReady, MayFollow};
 ghost use Rattle.store_barrier.specs.Regions.{HasLogged, IsApart, IsLineLeft, LogsFirst, Races};
 ghost use Rattle.shared_heap.specs.Plans.{IfEnded, IfPlanned};
-ghost use Rattle.shared_heap.specs.Requests.{AsksTo, IsPlannedFor, MayAsk, StepsTo, StoresTo, value_stored};
+ghost use Rattle.shared_heap.specs.Requests.{AsksTo, IsPlannedFor, MayRequest, StepsTo, StoresTo, value_stored};
 
 use crate::SharedHeap;
 use crate::planning::plan_store;
@@ -48,7 +48,7 @@ impl<I: Image> SharedHeap<I> {
         requires sound { AreSound self.old.machine.rest.monitors }
         requires agrees { Agrees (C.facts set.now) (shown_in self.old.machine)
             self.old.machine.rest }
-        requires may { MayAsk (C.facts set.now) self.old.machine t request.now }
+        requires may { MayRequest (C.facts set.now) self.old.machine t request.now }
         requires room { length self.old.history.acts < self.old.history.limit }
         ensures none { (result ≡ Plan.NoStore) ↔ (given request.now ≡ None) }
         ensures same { result ≡ Plan.NoStore → self.new ≡ self.old }
@@ -83,7 +83,7 @@ impl<I: Image> SharedHeap<I> {
         requires sound { AreSound self.old.machine.rest.monitors }
         requires agrees { Agrees (C.facts set.now) (shown_in self.old.machine)
             self.old.machine.rest }
-        requires may { MayAsk (C.facts set.now) self.old.machine t request.now }
+        requires may { MayRequest (C.facts set.now) self.old.machine t request.now }
         requires room { length self.old.history.acts < self.old.history.limit }
         requires no_store { given request.now ≡ None }
         ensures steps { StepsTo (C.facts set.now) t request.now result self.old self.new }

@@ -32,7 +32,7 @@ use Rattle.two_spaces.specs.Seen.{Spaces, number_in, shown_of}
 use Rattle.two_spaces.specs.Whole.{HasLine, MayStoreIn, NeedsLine, Stands}
 use Rattle.two_spaces.proofs.Numbering.{named_number, number_named}
 use Rattle.two_spaces.proofs.Shifting.{objects_long}
-use Rattle.space_rows.specs.Worlds.{MayAsk, MayRefer}
+use Rattle.space_rows.specs.Worlds.{MayBeAsked, MayRefer}
 
 -- ---- what places keep of items
 
@@ -158,7 +158,7 @@ module _ (set : SetFacts) (s : Spaces) (es : List Entry) (h : Stands s es) (rest
   -- ---- by kind
 
   pub ask_new : (class : ℕ) → IsClass set class → is_made (class_at set class) ≡ true
-      → MayAsk set s rest t (ask.New from class)
+      → MayBeAsked set s rest t (ask.New from class)
   ask_new class there made = record {
     fit = (there, made);
     known = tt;
@@ -166,7 +166,7 @@ module _ (set : SetFacts) (s : Spaces) (es : List Entry) (h : Stands s es) (rest
   }
 
   pub ask_array : (shape : ℕ) (count : ℤ) → IsClass set shape → IsSome (element_of set shape)
-      → shape ≢ string_number set → MayAsk set s rest t (ask.NewArray from shape count)
+      → shape ≢ string_number set → MayBeAsked set s rest t (ask.NewArray from shape count)
   ask_array shape count there some other = record {
     fit = (there, some, other);
     known = tt;
@@ -174,7 +174,7 @@ module _ (set : SetFacts) (s : Spaces) (es : List Entry) (h : Stands s es) (rest
   }
 
   module _ (holder : Ref) (known : IsKnown (shown_of s).number holder) where
-    pub ask_get : (field : FieldAt) → IsInstanceField set field → MayAsk set s rest t (ask.GetField from holder field)
+    pub ask_get : (field : FieldAt) → IsInstanceField set field → MayBeAsked set s rest t (ask.GetField from holder field)
     ask_get field is = record {
       fit = (is, reference holder);
       known = known;
@@ -182,7 +182,7 @@ module _ (set : SetFacts) (s : Spaces) (es : List Entry) (h : Stands s es) (rest
     }
 
     pub ask_put_int : (field : FieldAt) (i : ℤ) → IsInstanceField set field → field.kind ≡ I
-        → MayAsk set s rest t (ask.PutField from holder field (IntItem i))
+        → MayBeAsked set s rest t (ask.PutField from holder field (IntItem i))
     ask_put_int field i is kind = record {
       fit = (is, reference holder, int_of field.kind i kind);
       known = (known, tt);
@@ -191,7 +191,7 @@ module _ (set : SetFacts) (s : Spaces) (es : List Entry) (h : Stands s es) (rest
     }
 
     pub ask_put_long : (field : FieldAt) (i : ℤ) → IsInstanceField set field → field.kind ≡ J
-        → MayAsk set s rest t (ask.PutField from holder field (LongItem i))
+        → MayBeAsked set s rest t (ask.PutField from holder field (LongItem i))
     ask_put_long field i is kind = record {
       fit = (is, reference holder, long_of field.kind i kind);
       known = (known, tt);
@@ -203,7 +203,7 @@ module _ (set : SetFacts) (s : Spaces) (es : List Entry) (h : Stands s es) (rest
     pub ask_put_ref : (field : FieldAt) (r : Ref) → IsInstanceField set field → field.kind ≡ L
         → IsKnown (shown_of s).number r
         → ((es : List Entry) → Stands s es → MayRefer s es holder field.at r)
-        → MayAsk set s rest t (ask.PutField from holder field (RefItem r))
+        → MayBeAsked set s rest t (ask.PutField from holder field (RefItem r))
     ask_put_ref field r is kind known_r may = record {
       fit = (is, reference holder, ref_of field.kind r kind);
       known = (known, known_r);
@@ -218,14 +218,14 @@ module _ (set : SetFacts) (s : Spaces) (es : List Entry) (h : Stands s es) (rest
           ]);
     }
 
-    pub ask_element : (index : ℤ) (kind : Kind) → MayAsk set s rest t (ask.GetElement from holder index kind)
+    pub ask_element : (index : ℤ) (kind : Kind) → MayBeAsked set s rest t (ask.GetElement from holder index kind)
     ask_element index kind = record {
       fit = reference holder;
       known = known;
       may = stores_none set s rest t (ask.GetElement from holder index kind) refl;
     }
 
-    pub ask_put_element : (index : ℤ) (i : ℤ) → MayAsk set s rest t (ask.PutElement from holder index I (IntItem i))
+    pub ask_put_element : (index : ℤ) (i : ℤ) → MayBeAsked set s rest t (ask.PutElement from holder index I (IntItem i))
     ask_put_element index i = record {
       fit = (reference holder, tt);
       known = (known, tt);
@@ -235,7 +235,7 @@ module _ (set : SetFacts) (s : Spaces) (es : List Entry) (h : Stands s es) (rest
 
     pub ask_refer_element : (index : ℤ) (r : Ref) → IsKnown (shown_of s).number r
         → ((es : List Entry) → Stands s es → HasLine es (RefItem r))
-        → MayAsk set s rest t (ask.PutElement from holder index L (RefItem r))
+        → MayBeAsked set s rest t (ask.PutElement from holder index L (RefItem r))
     ask_refer_element index r known_r lines = record {
       fit = (reference holder, reference r);
       known = (known, known_r);
@@ -243,42 +243,42 @@ module _ (set : SetFacts) (s : Spaces) (es : List Entry) (h : Stands s es) (rest
           (λ es' h' k kept narrow. ref_line s es' h' k r kept narrow (lines es' h'));
     }
 
-    pub ask_length : MayAsk set s rest t (ask.Length from holder)
+    pub ask_length : MayBeAsked set s rest t (ask.Length from holder)
     ask_length = record {
       fit = reference holder;
       known = known;
       may = stores_none set s rest t (ask.Length from holder) refl;
     }
 
-    pub ask_class : (within : ℕ) → IsClass set within → MayAsk set s rest t (ask.ClassOf from holder within)
+    pub ask_class : (within : ℕ) → IsClass set within → MayBeAsked set s rest t (ask.ClassOf from holder within)
     ask_class within there = record {
       fit = (there, reference holder);
       known = known;
       may = stores_none set s rest t (ask.ClassOf from holder within) refl;
     }
 
-    pub ask_same : (r : Ref) → IsKnown (shown_of s).number r → MayAsk set s rest t (ask.Same from holder r)
+    pub ask_same : (r : Ref) → IsKnown (shown_of s).number r → MayBeAsked set s rest t (ask.Same from holder r)
     ask_same r known_r = record {
       fit = (reference holder, reference r);
       known = (known, known_r);
       may = stores_none set s rest t (ask.Same from holder r) refl;
     }
 
-    pub ask_enter : MayAsk set s rest t (ask.Enter from (key.Object holder))
+    pub ask_enter : MayBeAsked set s rest t (ask.Enter from (key.Object holder))
     ask_enter = record {
       fit = reference holder;
       known = known;
       may = stores_none set s rest t (ask.Enter from (key.Object holder)) refl;
     }
 
-    pub ask_exit : MayAsk set s rest t (ask.Exit from (key.Object holder))
+    pub ask_exit : MayBeAsked set s rest t (ask.Exit from (key.Object holder))
     ask_exit = record {
       fit = reference holder;
       known = known;
       may = stores_none set s rest t (ask.Exit from (key.Object holder)) refl;
     }
 
-  pub ask_static : (field : FieldAt) → IsStaticField set field → MayAsk set s rest t (ask.GetStatic from field)
+  pub ask_static : (field : FieldAt) → IsStaticField set field → MayBeAsked set s rest t (ask.GetStatic from field)
   ask_static field is = record {
     fit = is;
     known = tt;
@@ -286,7 +286,7 @@ module _ (set : SetFacts) (s : Spaces) (es : List Entry) (h : Stands s es) (rest
   }
 
   pub ask_put_static : (field : FieldAt) (i : ℤ) → IsStaticField set field → field.kind ≡ I
-      → MayAsk set s rest t (ask.PutStatic from field (IntItem i))
+      → MayBeAsked set s rest t (ask.PutStatic from field (IntItem i))
   ask_put_static field i is kind = record {
     fit = (is, int_of field.kind i kind);
     known = tt;
@@ -296,7 +296,7 @@ module _ (set : SetFacts) (s : Spaces) (es : List Entry) (h : Stands s es) (rest
 
   pub ask_refer_static : (field : FieldAt) (r : Ref) → IsStaticField set field → field.kind ≡ L
       → IsKnown (shown_of s).number r → ((es : List Entry) → Stands s es → HasLine es (RefItem r))
-      → MayAsk set s rest t (ask.PutStatic from field (RefItem r))
+      → MayBeAsked set s rest t (ask.PutStatic from field (RefItem r))
   ask_refer_static field r is kind known_r lines = record {
     fit = (is, ref_of field.kind r kind);
     known = known_r;

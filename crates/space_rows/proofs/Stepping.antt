@@ -35,7 +35,7 @@ use Rattle.two_spaces.specs.declared.spaces.Static.{Static}
 use Rattle.two_spaces.specs.declared.spaces.Static.TheVariants.{Beside, Root as RootSlot}
 use Rattle.two_spaces.specs.Seen.{Spaces, shown_of}
 use Rattle.two_spaces.specs.Whole.{Made, MakesIn, Stands, StaticStored, StoredTo, StoresIn, no_static}
-use Rattle.space_rows.specs.Worlds.{HasTable, HoldsOf, KnowsStepped, MayAsk, entries_of}
+use Rattle.space_rows.specs.Worlds.{HasTable, HoldsOf, KnowsStepped, MayBeAsked, entries_of}
 
 -- ---- the heap
 
@@ -162,7 +162,7 @@ module _ (plain : ℕ → Step) (t left : ℕ) (before : PlainWorld) (number : N
 
 module _ (set : SetFacts) (s now : Spaces) (rest rest_now : Rest) (refs refs_now : List Ref)
     (next acts entered_so_far t : ℕ) (request : Request Ref Item) (result : Stepped)
-    (h : HoldsOf set s rest refs next acts entered_so_far) (may : MayAsk set s rest t request)
+    (h : HoldsOf set s rest refs next acts entered_so_far) (may : MayBeAsked set s rest t request)
     (is : IsStep set t request (shown_of s) rest result (shown_of now) rest_now) where
   long_after : length rest_now.monitors ≤ entered_so_far + entries_of result
   long_after =

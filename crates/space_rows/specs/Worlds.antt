@@ -55,7 +55,7 @@ abbrev pub Holds : {I : Type 0} → SetFacts → TwoSpaces I → Rest → List R
 Holds set spaces rest refs next acts entered = HoldsOf set (spaces_of spaces) rest refs next acts entered
 
 -- Thread t may ask this: it names what it may, and what it would store may be stored.
-pub record MayAsk (set : SetFacts) (s : Spaces) (rest : Rest) (t : ℕ) (request : Request Ref Item) : Type 0 where
+pub record MayBeAsked (set : SetFacts) (s : Spaces) (rest : Rest) (t : ℕ) (request : Request Ref Item) : Type 0 where
   pub fit : IsFit set (world_of [] (shown_of s) rest) t (plain_request (shown_of s).number request)
   pub known : KnowsRequest (shown_of s).number request
   pub may : MayBeStored (MayStoreIn s) set (shown_of s) rest t request

@@ -3,7 +3,7 @@
 ghost use Rattle.std.specs.Prelude.{◌≡◌, All, IfSome};
 ghost use Rattle.shared_objects.specs.Plain.{KnowsReply};
 ghost use Rattle.shared_objects.specs.Shown.{IsKnown, Numbers};
-ghost use Rattle.space_rows.specs.Worlds.{Holds, KnowsStepped, MayAsk, entries_of, spaces_of};
+ghost use Rattle.space_rows.specs.Worlds.{Holds, KnowsStepped, MayBeAsked, entries_of, spaces_of};
 
 use crate::world::World;
 use ap_base::{Item, Ref, ThreadNo};
@@ -65,7 +65,7 @@ impl World {
     ) -> Result<Option<Stepped>, AllocError>
         requires holds { Holds (C.facts types.now) self.old.spaces self.old.rest
             self.old.refs.items self.old.next self.old.acts self.old.entered }
-        requires may { MayAsk (C.facts types.now) (spaces_of self.old.spaces) self.old.rest t
+        requires may { MayBeAsked (C.facts types.now) (spaces_of self.old.spaces) self.old.rest t
             request.now }
         ensures holds { Holds (C.facts types.now) self.new.spaces self.new.rest
             self.new.refs.items self.new.next self.new.acts self.new.entered }

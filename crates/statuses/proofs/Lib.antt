@@ -1,4 +1,4 @@
-pub mod Told
+pub mod Shortened
 pub mod Behind
 pub mod Entries
 pub mod Ranges

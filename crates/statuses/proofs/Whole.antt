@@ -27,7 +27,7 @@ use Rattle.class_set.specs.Sets.{IsLinked}
 use Rattle.class_set.proofs.FieldsRead.{class_sound}
 use Rattle.class_set.proofs.PoolTexts.{AreShort}
 use Rattle.class_set.proofs.TextBytes.{class_at_has, class_has, text_has}
-use Rattle.statuses.specs.Names.{class_text, described, entry_text, initialiser, is_lost, is_runnable, main, member_name, member_text, method_text, named_text, run, texts_of, to_string, told, unnamed, unnamed_text}
+use Rattle.statuses.specs.Names.{class_text, described, entry_text, initialiser, is_lost, is_runnable, main, member_name, member_text, method_text, named_text, run, texts_of, to_string, shortened, unnamed, unnamed_text}
 use Rattle.statuses.proofs.Behind.{own_behind}
 
 -- ---- lengths
@@ -41,7 +41,7 @@ AreShortTexts x = IsShort x.0 × IsShort x.1
 nothing : IsShort []
 nothing = omega arith
 
-short_whole : (t : List ℕ) → IsShort t → told t ≡ t
+short_whole : (t : List ℕ) → IsShort t → shortened t ≡ t
 short_whole t h = take_all 196606 t (omega (arith, h))
 
 member_length : (c n d : List ℕ) → length (member_name c n d) ≡ length c + 1 + length n + length d
@@ -49,11 +49,11 @@ member_length c n d =
     length-append (c ++ codes "." ++ n) d
     ∙ ap (λ (k : ℕ). k + length d) (length-append (c ++ codes ".") n ∙ ap (λ (k : ℕ). k + length n) (length-append c (codes ".")))
 
-member_whole : (c : List ℕ) (x : List ℕ × List ℕ) → IsShort c → AreShortTexts x → told (member_name c x.0 x.1) ≡ member_name c x.0 x.1
+member_whole : (c : List ℕ) (x : List ℕ × List ℕ) → IsShort c → AreShortTexts x → shortened (member_name c x.0 x.1) ≡ member_name c x.0 x.1
 member_whole c x hc hx = take_all 196606 (member_name c x.0 x.1) (omega (arith, member_length c x.0 x.1, hc, hx.0, hx.1))
 
 described_whole : (class : List ℕ) (o : Option (List ℕ × List ℕ)) → IsShort class → ((x : List ℕ × List ℕ) → o ≡ Some x → AreShortTexts x)
-    → told (described class o) ≡ described class o
+    → shortened (described class o) ≡ described class o
 described_whole class None hc h = refl
 described_whole class (Some x) hc h = member_whole class x hc (h x refl)
 
@@ -75,13 +75,13 @@ pair_short : (pool : Slots) → AreShort pool → (o : Option Entry) (x : List �
 pair_short pool h (Some (entry.NameAndType n d)) x e = both_short (utf8_at pool n) (utf8_at pool d) x (h n) (h d) e
 pair_short pool h other x e = absurd (cc)
 
-member_text_whole : (pool : Slots) → AreShort pool → (o : Option Member) → told (member_text pool o) ≡ member_text pool o
+member_text_whole : (pool : Slots) → AreShort pool → (o : Option Member) → shortened (member_text pool o) ≡ member_text pool o
 member_text_whole pool h None = refl
 member_text_whole pool h (Some m) =
     described_whole (class_name pool m.class) (name_and_type_at pool m.name_and_type) (class_has IsShort pool nothing h m.class)
     (pair_short pool h (entry_at pool m.name_and_type))
 
-entry_whole : (kind : LinkKind) (pool : Slots) (index : ℕ) → AreShort pool → told (entry_text kind pool index) ≡ entry_text kind pool index
+entry_whole : (kind : LinkKind) (pool : Slots) (index : ℕ) → AreShort pool → shortened (entry_text kind pool index) ≡ entry_text kind pool index
 entry_whole MissingClass pool index h = short_whole (entry_text MissingClass pool index) (class_at_has IsShort pool nothing h index)
 entry_whole MissingField pool index h = member_text_whole pool h (member_at pool index)
 entry_whole MissingMethod pool index h = member_text_whole pool h (member_at pool index)
@@ -93,13 +93,13 @@ file_short : (set : Linked) → IsLinked set → (n : ℕ) (file : ClassFile) �
 file_short set h n file e = (class_sound file (holds_at CanBeRead set.files n file h.readable e)).short
 
 named_of : (kind : LinkKind) (index : ℕ) (o : Option ClassFile) → ((file : ClassFile) → o ≡ Some file → AreShort file.pool)
-    → told (elim o as (λ x. List ℕ) [ None ↦ [] | Some file ↦ entry_text kind file.pool index ])
+    → shortened (elim o as (λ x. List ℕ) [ None ↦ [] | Some file ↦ entry_text kind file.pool index ])
     ≡ elim o as (λ x. List ℕ) [ None ↦ [] | Some file ↦ entry_text kind file.pool index ]
 named_of kind index None h = refl
 named_of kind index (Some file) h = entry_whole kind file.pool index (h file refl)
 
 pub named_whole : (set : Linked) (kind : LinkKind) (class index : ℕ) → IsLinked set
-    → told (named_text set kind class index) ≡ named_text set kind class index
+    → shortened (named_text set kind class index) ≡ named_text set kind class index
 named_whole set kind class index h = named_of kind index (slice_get set.files class) (file_short set h class)
 
 -- ---- classes
@@ -153,7 +153,7 @@ class_short set class h l =
     (All-append IsShortClass program built_in (program_short set.files h.readable) (all_short built_in (built_ins_short (length program))))
     (omega (arith, counted, l))
 
-pub class_whole : (set : Linked) (class : ℕ) → IsLinked set → class < class_count set → told (class_text set class) ≡ class_text set class
+pub class_whole : (set : Linked) (class : ℕ) → IsLinked set → class < class_count set → shortened (class_text set class) ≡ class_text set class
 class_whole set class h l = short_whole (class_text set class) (class_short set class h l)
 
 -- ---- methods by number
@@ -224,11 +224,11 @@ parts set class method m h e = elim (slice_get_cases set.files class).1 [
 ]
 
 method_of : (class : List ℕ) (o : Option MemberFacts) → ((m : MemberFacts) → o ≡ Some m → IsShort class × IsShortMember m)
-    → told (described class (option_map texts_of o)) ≡ described class (option_map texts_of o)
+    → shortened (described class (option_map texts_of o)) ≡ described class (option_map texts_of o)
 method_of class None h = refl
 method_of class (Some m) h = member_whole class (texts_of m) (h m refl).0 (h m refl).1
 
-pub method_whole : (set : Linked) (class method : ℕ) → IsLinked set → told (method_text set class method) ≡ method_text set class method
+pub method_whole : (set : Linked) (class method : ℕ) → IsLinked set → shortened (method_text set class method) ≡ method_text set class method
 method_whole set class method h =
     method_of (class_text set class) (slice_get (own_methods set class) method)
     (λ m e. (let p = parts set class method m h e in (class_short set class h p.0, p.1)))
@@ -242,7 +242,7 @@ one_short false false true = (omega arith, omega arith)
 one_short false false false = (omega arith, omega arith)
 
 pub unnamed_whole : (set : Linked) (kind : LinkKind) (class : ℕ) → IsLinked set → class < class_count set
-    → told (unnamed_text set kind class) ≡ unnamed_text set kind class
+    → shortened (unnamed_text set kind class) ≡ unnamed_text set kind class
 unnamed_whole set kind class h l =
     member_whole (class_text set class) (unnamed set kind class) (class_short set class h l)
     (one_short (is_runnable set class && is_lost set kind class run) (is_lost set kind class to_string) (is_lost set kind class main))

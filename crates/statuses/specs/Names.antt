@@ -28,9 +28,9 @@ abbrev pub member_name : (class name descriptor : List ℕ) → List ℕ
 member_name class name descriptor = class ++ codes "." ++ name ++ descriptor
 
 -- No text of a class file has more than 65,535 bytes (JVMS 4.4.7), so that no name of a member has more than this. A name that is
--- longer, as an array type's with a member may be, is told so far.
-abbrev pub told : List ℕ → List ℕ
-told text = take 196606 text
+-- longer, as an array type's with a member may be, is shortened to so much.
+abbrev pub shortened : List ℕ → List ℕ
+shortened text = take 196606 text
 
 -- the name of a class or an array type by its number; none past the last
 abbrev pub class_text : Linked → ℕ → List ℕ
@@ -121,18 +121,18 @@ fault_text set kind class index =
 
 -- how a run ends by a fault
 abbrev pub fault_status : Linked → RunFault → Status
-fault_status set (fault.BadCode at) = status.BadCode (told (method_text set at.class at.method)) at.pc
+fault_status set (fault.BadCode at) = status.BadCode (shortened (method_text set at.class at.method)) at.pc
 fault_status set (fault.RegionRace thread other place) = status.RegionRace thread other place
 fault_status set (fault.Full full) = status.Full full
 fault_status set fault.SinkFault = status.SinkFault
 fault_status set fault.ImageFault = status.ImageFault
 fault_status set (fault.Stuck waits) = status.Stuck waits
 fault_status set (fault.LinkFault kind class index) =
-    status.LinkFault kind (told (fault_text set kind class index))
+    status.LinkFault kind (shortened (fault_text set kind class index))
 
 -- how it ends where this is the least thread that a throwable ended, of this class
 abbrev pub uncaught_in : Linked → (thread class : ℕ) → Status
-uncaught_in set thread class = status.Uncaught thread (told (class_text set class))
+uncaught_in set thread class = status.Uncaught thread (shortened (class_text set class))
 
 -- how it ends where the main class isn't there, or has no static `main`
 abbrev pub main_text : LinkKind → (class : List ℕ) → List ℕ

@@ -1,6 +1,6 @@
 // The statuses of a run that faults and throwables end.
 ghost use Rattle.std.specs.Prelude.{◌≡◌};
-ghost use Rattle.statuses.specs.Names.{fault_status, main_text, told, uncaught_in};
+ghost use Rattle.statuses.specs.Names.{fault_status, main_text, shortened, uncaught_in};
 ghost use Rattle.statuses.specs.Statuses.{class_name};
 
 use crate::links::{MAIN, fault_name};
@@ -64,7 +64,7 @@ pub fn thrown_status(thread: ThreadNo, which: Throws, room: NameRoom) -> Status
 }
 
 fn main_name(kind: LinkKind, class: &[u8], room: NameRoom) -> Bytes
-    ensures { result ≡ told (main_text kind class.now) }
+    ensures { result ≡ shortened (main_text kind class.now) }
 {
     match kind {
         LinkKind::MissingClass => room.tell(class),
@@ -75,7 +75,7 @@ fn main_name(kind: LinkKind, class: &[u8], room: NameRoom) -> Bytes
 /// The status where the main class isn't there (MissingClass), or its look-up gives no static
 /// `main([Ljava/lang/String;)V` (MissingMethod). Takes no memory.
 pub fn main_status(kind: LinkKind, class: &[u8], room: NameRoom) -> Status
-    ensures status { result ≡ Status.LinkFault kind (told (main_text kind class.now)) }
+    ensures status { result ≡ Status.LinkFault kind (shortened (main_text kind class.now)) }
 {
     Status::LinkFault {
         kind,

@@ -3,18 +3,18 @@ ghost use Rattle.std.specs.Prelude.{◌≡◌, ◌<◌, ℕ};
 ghost use Rattle.run_types.specs.declared.fault.LinkKind.{LinkKind};
 ghost use Rattle.class_set.specs.Linked.{Linked, class_count};
 ghost use Rattle.class_set.specs.Sets.{IsLinked};
-ghost use Rattle.statuses.specs.Names.{class_text, method_text, named_text, told, unnamed_text};
+ghost use Rattle.statuses.specs.Names.{class_text, method_text, named_text, shortened, unnamed_text};
 
 /// The names that a fault of a linked set tells are told whole, but those of array types and of
 /// members that these lack.
 pub fn names_are_whole()
     ensures methods { (set : Linked) (class method : ℕ) → IsLinked set
-        → told (method_text set class method) ≡ method_text set class method }
+        → shortened (method_text set class method) ≡ method_text set class method }
     ensures entries { (set : Linked) (kind : LinkKind) (class index : ℕ) → IsLinked set
-        → told (named_text set kind class index) ≡ named_text set kind class index }
+        → shortened (named_text set kind class index) ≡ named_text set kind class index }
     ensures classes { (set : Linked) (class : ℕ) → IsLinked set → class < class_count set
-        → told (class_text set class) ≡ class_text set class }
+        → shortened (class_text set class) ≡ class_text set class }
     ensures unnamed { (set : Linked) (kind : LinkKind) (class : ℕ) → IsLinked set
         → class < class_count set
-        → told (unnamed_text set kind class) ≡ unnamed_text set kind class }
+        → shortened (unnamed_text set kind class) ≡ unnamed_text set kind class }
 {}

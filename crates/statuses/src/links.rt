@@ -3,7 +3,7 @@ ghost use Rattle.std.specs.Prelude.{◌≡◌, Some};
 ghost use Rattle.const_pool.specs.Pool.{name_and_type_at};
 ghost use Rattle.class_links.specs.Names.{class_name};
 ghost use Rattle.class_set.specs.ArrayTypes.{class_at};
-ghost use Rattle.statuses.specs.Names.{described, entry_text, fault_text, has_code, is_cause, is_lost, is_runnable, lacks_code, member_text, named_text, unnamed, unnamed_text, told};
+ghost use Rattle.statuses.specs.Names.{described, entry_text, fault_text, has_code, is_cause, is_lost, is_runnable, lacks_code, member_text, named_text, unnamed, unnamed_text, shortened};
 
 use crate::NameRoom;
 use crate::names::class_text;
@@ -37,7 +37,7 @@ fn class_at(pool: &Pool, index: u16) -> &[u8]
 }
 
 fn member_name(pool: &Pool, member: Option<Member>, room: NameRoom) -> Bytes
-    ensures { result ≡ told (member_text pool.now member) }
+    ensures { result ≡ shortened (member_text pool.now member) }
 {
     let Some(member) = member else {
         return room.tell(&[]);
@@ -53,7 +53,7 @@ fn member_name(pool: &Pool, member: Option<Member>, room: NameRoom) -> Bytes
 
 /// What an entry names that can't be used.
 fn entry_name(kind: LinkKind, pool: &Pool, index: u16, room: NameRoom) -> Bytes
-    ensures { result ≡ told (entry_text kind pool.now index) }
+    ensures { result ≡ shortened (entry_text kind pool.now index) }
 {
     if let LinkKind::MissingClass = kind {
         return room.tell(class_at(pool, index));
@@ -62,7 +62,7 @@ fn entry_name(kind: LinkKind, pool: &Pool, index: u16, room: NameRoom) -> Bytes
 }
 
 fn entry_of_file(kind: LinkKind, file: &ClassFile, index: u32, room: NameRoom) -> Bytes
-    ensures { result ≡ told (entry_text kind file.now.pool index) }
+    ensures { result ≡ shortened (entry_text kind file.now.pool index) }
 {
     if index < u32::from(file.pool.len()) {
         entry_name(kind, &file.pool, index as u16, room)
@@ -130,13 +130,13 @@ fn unnamed(set: &ClassSet, kind: LinkKind, class: u32) -> Texts<'static>
 }
 
 fn unnamed_member(set: &ClassSet, kind: LinkKind, class: u32, room: NameRoom) -> Bytes
-    ensures { result ≡ told (unnamed_text set.now kind class) }
+    ensures { result ≡ shortened (unnamed_text set.now kind class) }
 {
     room.tell_member(class_text(set, class), Some(unnamed(set, kind, class)))
 }
 
 fn named_member(set: &ClassSet, kind: LinkKind, class: u32, index: u32, room: NameRoom) -> Bytes
-    ensures { result ≡ told (named_text set.now kind class index) }
+    ensures { result ≡ shortened (named_text set.now kind class index) }
 {
     match set.files().get(class as usize) {
         Some(file) => entry_of_file(kind, file, index, room),
@@ -152,7 +152,7 @@ pub(crate) fn fault_name(
     index: u32,
     room: NameRoom,
 ) -> Bytes
-    ensures { result ≡ told (fault_text set.now kind class index) }
+    ensures { result ≡ shortened (fault_text set.now kind class index) }
 {
     if let LinkKind::InitFailed = kind {
         return room.tell(class_text(set, class));

@@ -3,7 +3,7 @@ ghost use Rattle.std.specs.Prelude.{◌≡◌, map, slice_get};
 ghost use Rattle.std.specs.Option.{option_map};
 ghost use Rattle.built_in_table.specs.Members.{built_in_at};
 ghost use Rattle.class_set.specs.Members.{text_at, method_facts, own_methods};
-ghost use Rattle.statuses.specs.Names.{class_text, method_text, texts_of, told};
+ghost use Rattle.statuses.specs.Names.{class_text, method_text, texts_of, shortened};
 
 use crate::NameRoom;
 use crate::room::Texts;
@@ -71,7 +71,7 @@ fn method_at(set: &ClassSet, class: u32, method: u32) -> Option<Texts<'_>>
 
 /// The name of a method by its class's number and its own.
 pub(crate) fn method_name(set: &ClassSet, class: u32, method: u32, room: NameRoom) -> Bytes
-    ensures { result ≡ told (method_text set.now class method) }
+    ensures { result ≡ shortened (method_text set.now class method) }
 {
     room.tell_member(class_text(set, class), method_at(set, class, method))
 }

@@ -1,7 +1,7 @@
 // Room for a name.
 ghost use Rattle.std.specs.Prelude.{◌≡◌, ◌+◌, ◌≤◌, ◌++◌, [], length, take, vec_len, vec_capacity, Option};
 ghost use Rattle.std.specs.Option.{option_map};
-ghost use Rattle.statuses.specs.Names.{described, member_name, told};
+ghost use Rattle.statuses.specs.Names.{described, member_name, shortened};
 
 use ap_base::Bytes;
 use std::alloc::{AllocError, Global};
@@ -36,7 +36,7 @@ fn front(text: &[u8], most: usize) -> &[u8]
 fn put(out: &mut Vec<u8>, text: &[u8])
     requires room { 196606 ≤ vec_capacity out.old }
     requires within { vec_len out.old ≤ 196606 }
-    ensures told { out.new.items ≡ told (out.old.items ++ text.now) }
+    ensures put { out.new.items ≡ shortened (out.old.items ++ text.now) }
     ensures room { 196606 ≤ vec_capacity out.new }
     ensures within { vec_len out.new ≤ 196606 }
 {
@@ -54,7 +54,7 @@ impl NameRoom {
 
     /// A name. Takes no memory.
     pub(crate) fn tell(self, name: &[u8]) -> Bytes
-        ensures { result ≡ told name.now }
+        ensures { result ≡ shortened name.now }
     {
         let NameRoom { mut text } = self;
         put(&mut text, name);
@@ -63,7 +63,7 @@ impl NameRoom {
 
     /// The name of a class's member. Takes no memory.
     fn tell_texts(self, class: &[u8], name: &[u8], descriptor: &[u8]) -> Bytes
-        ensures { result ≡ told (member_name class.now name.now descriptor.now) }
+        ensures { result ≡ shortened (member_name class.now name.now descriptor.now) }
     {
         let NameRoom { mut text } = self;
         put(&mut text, class);
@@ -75,7 +75,7 @@ impl NameRoom {
 
     /// The same, where there is one with this name and descriptor.
     pub(crate) fn tell_member(self, class: &[u8], member: Option<Texts<'_>>) -> Bytes
-        ensures { result ≡ told (described class.now
+        ensures { result ≡ shortened (described class.now
             (option_map (λ texts. (texts.0.now, texts.1.now)) member.entry)) }
     {
         match member {

@@ -41,7 +41,7 @@ pub record StoresAt (known : Knowledge) (lay : Layout) (old new : Memory) (p : P
   pub holds : Holds (Lies lay known) (place_kind known.world.heap p) x v
 
 -- The store is one outside regions, at a place that nobody guards, of a thread that owes no fence.
-pub record IsOutsideRegions (known : Knowledge) (waits : Threads) (t : ℕ) (p : Place) : Type 0 where
+pub record IsSingleUnguarded (known : Knowledge) (waits : Threads) (t : ℕ) (p : Place) : Type 0 where
   pub single : IsSingleStore known t p
   pub unguarded : guard_of known.guards p ≡ None
   pub waits_not : waits t ≡ false

@@ -17,7 +17,7 @@ use Rattle.kept_places.specs.Choices.{with_thread, without_thread}
 use Rattle.stop_invariant.specs.Layouts.{Layout, is_kept_place}
 use Rattle.stop_invariant.specs.Events.{Puts, line_at, word_at, ShowsKnown}
 use Rattle.region_stops.specs.Laws.{number_of}
-use Rattle.stop_theorem.specs.Conditions.{AtEachStop, StoresAt, IsOutsideRegions}
+use Rattle.stop_theorem.specs.Conditions.{AtEachStop, StoresAt, IsSingleUnguarded}
 use Rattle.stop_theorem.specs.WrongOrders.{nodes_known}
 use Rattle.stop_theorem.specs.Running.{State, known_at, with_act, with_memory, Event, Events, Runs, at_start}
 
@@ -55,7 +55,7 @@ abbrev pub FencedStoresAreEvents : Type 0
 FencedStoresAreEvents = (first : Knowledge) (s : State) (stored fenced : Memory) (t : ℕ) (p : Place)
     (v : Value) (x : ℕ)
     → StoresAt (known_at first s) s.layout s.memory stored p v x
-    → IsOutsideRegions (known_at first s) s.waits t p
+    → IsSingleUnguarded (known_at first s) s.waits t p
     → WroteAndFenced (line_at s.layout (known_at first s) p) stored fenced
     → Events first s (with_fenced_store s t p v stored fenced)
 

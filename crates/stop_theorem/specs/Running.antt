@@ -16,7 +16,7 @@ use Rattle.kept_places.specs.Choices.{Threads, NoThread, with_thread, without_th
 use Rattle.stop_invariant.specs.Layouts.{Layout}
 use Rattle.stop_invariant.specs.Stops.{regions_of, IsAfterFence, Stands, IsAllowedImage}
 use Rattle.stop_invariant.specs.Events.{Puts, IsFreeWord}
-use Rattle.stop_theorem.specs.Conditions.{AtEachStop, IsSureAct, StoresAt, IsOutsideRegions, IsWrittenBack, StoresUncounted, RaisesCount, IsInRegion, LowersCount, EndsRegion}
+use Rattle.stop_theorem.specs.Conditions.{AtEachStop, IsSureAct, StoresAt, IsSingleUnguarded, IsWrittenBack, StoresUncounted, RaisesCount, IsInRegion, LowersCount, EndsRegion}
 use Rattle.stop_theorem.specs.Starts.{Starts}
 use Rattle.stop_theorem.specs.Laws.{IsSafeRun}
 use Rattle.store_stops.specs.Events.{Joins}
@@ -66,7 +66,7 @@ pub data Event (first : Knowledge) : State → State → Type 0 where
   -- a durable store outside regions, then its line written back, then fenced
   SingleStored : (s : State) (new : Memory) (t : ℕ) (p : Place) (v : Value) (x : ℕ)
       → StoresAt (known_at first s) s.layout s.memory new p v x
-      → IsOutsideRegions (known_at first s) s.waits t p
+      → IsSingleUnguarded (known_at first s) s.waits t p
       → Event first s (with_act (with_memory s new) t (op.Stored p v) [])
   Written : (s : State) (t : ℕ) (p : Place)
       → IsWrittenBack (known_at first s) s.layout s.memory t p

@@ -5,7 +5,7 @@ use Rattle.line_memory.specs.Memory.{Memory}
 use Rattle.run_types.specs.declared.fault.LinkKind.{LinkKind}
 use Rattle.image_recovery.specs.Recovered.{entries_in}
 use Rattle.durable_launch.specs.Launching.{launch_over, opening_over}
-use Rattle.statuses.specs.Names.{main_text, told}
+use Rattle.statuses.specs.Names.{main_text, shortened}
 use Rattle.statuses.specs.declared.status.Status.TheVariants as status
 use Rattle.autopersist.specs.Began.{RanBy}
 use Rattle.autopersist.specs.Sets.{default_limits}
@@ -26,7 +26,7 @@ returns-in-Err-clause-ran g c = λ start old can.
       none = c.in-Err.none;
       missing = sym c.in-Err.ensures.found;
       is = c.main_status-status.ensures.status
-          ∙ ap (λ (kind : LinkKind). status.LinkFault kind (told (main_text kind name))) c.kind_of.ensures;
+          ∙ ap (λ (kind : LinkKind). status.LinkFault kind (shortened (main_text kind name))) c.kind_of.ensures;
     }))))
 
 pub run_launched-requires-clause-ready : goal.run_launched-requires-clause-ready

@@ -11,7 +11,7 @@ returns-in-Ok-recover-clause-found g c =
     let start : Told = g.I.Image.told c.args.image in
     let before : Memory = c.in-Ok.memory in
     let r = c.in-Ok-recover.recovered in
-    let ok = c.in-Ok-recover.ensures in
+    let ok = c.in-Ok-recover.ensures.recovers in
     let at : IsAttached start before = c.in-Ok.ensures.attached in
     let m : Memory = r.memory in
     let done : IsRecoveredAs before m = record { blank = ok.formatted at.known; used = ok.recovered at.known }
@@ -34,14 +34,14 @@ returns-in-Err-recover-clause-unfound g c =
     let start : Told = g.I.Image.told c.args.image in
     let before : Memory = c.in-Ok.memory in
     let m : Memory = c.in-Err-recover.memory in
-    let err = c.in-Err-recover.ensures in
+    let err = c.in-Err-recover.ensures.fails in
     let at : IsAttached start before = c.in-Ok.ensures.attached in
     inr (record {
       before = before;
       memory = m;
       left = unfound_left start (g.I.Image.told c.into_image.result) before m at c.into_image.ensures.size
           c.into_image.ensures.told
-          err.goes_on_failed err.stops_failed;
+          err.goes_on err.stops;
       cause = recovery_cause before m c.in-Err-recover.fault c.of_recovery.result c.of_recovery.ensures
           (err.bad at.known) (err.put_back at.known);
     })

@@ -1,9 +1,9 @@
 use Rattle.std.proofs.Common.{rules, ◌≡◌, ℕ, ◌-◌, ◌++◌, List, length, take, ap, ◌∙◌, arith, vec_len}
-use Rattle.statuses.proofs.Told.{take_behind}
+use Rattle.statuses.proofs.Shortened.{take_behind}
 use Rattle.statuses.proofs.room.put.Goals as goal
 
-pub returns-clause-told : goal.returns-clause-told
-returns-clause-told c =
+pub returns-clause-put : goal.returns-clause-put
+returns-clause-put c =
     let out = c.args.out.now in
     let text = c.args.text.now in
     let size : vec_len out ≡ length out.items = search rules in

@@ -1,9 +1,9 @@
 // What stops leave of the image of a run that stores an array and one of its elements, and how runs end whose image fails.
-use crate::programs::{RING, has_null_root, is_ring};
 use graph_model::{Graph, Value};
 use line_image::{Fails, MemoryImage};
 use run_fixture::{
-    LINES, PRINTS, Run, STORES, blank, fails_from, has_output, no_fails, recovered, run, run_class,
+    LINES, PRINTS, RING, Run, STORES, blank, fails_from, has_null_root, has_output, is_ring,
+    no_fails, recovered, run, run_class,
 };
 use run_history::Op;
 use std::alloc::{AllocError, Global};

@@ -1,9 +1,10 @@
 // Failure-atomic regions over durable objects: what stops leave, and what the next run finds.
 use crate::stops::next_at;
+use ap_base::Place;
 use graph_model::{Graph, Value};
 use line_image::MemoryImage;
 use run_fixture::{Run, blank, fails_from, has_output, no_fails, recovered, run_class};
-use run_history::Op;
+use run_history::{Acts, Op};
 use std::alloc::{AllocError, Global};
 use std::sync::Wait;
 use std::test::Fail;
@@ -271,6 +272,32 @@ fn a_region_is_left_whole_or_not_at_all(rt: HostRuntime) -> Result<(), Fail> {
     for row in &STOPS {
         let is_left = is_left(&rt, rt.alloc(), &image, listing.as_str(), begin, row)?;
         assert!(rt; is_left, "call {}", row.0);
+    }
+    Ok(())
+}
+
+/// The thread whose open region guards a number of the object behind these acts.
+fn guarding(acts: &Acts, index: u32) -> Option<u8> {
+    let thread = acts.guarded_by(Place::Slot { object: 0, index })?;
+    Some(thread.number())
+}
+
+/// What a run does, and whose region guards the first two numbers behind its last act.
+static GUARDS: [(&[&str], Option<u8>, Option<u8>); 4] = [
+    (&[BEGIN, SETS_A], Some(0), None),
+    (&[BEGIN, SETS_A, BEGIN, SETS_B, END], Some(0), Some(0)),
+    (&[BEGIN, SETS_A, END, BEGIN, SETS_B], None, Some(0)),
+    (&[BEGIN, SETS_A, SETS_B, END], None, None),
+];
+
+#[test]
+fn an_open_region_guards_what_it_stored_to(rt: HostRuntime) -> Result<(), Fail> {
+    let image = made(&rt, rt.alloc())?;
+    for (i, (body, first, second)) in GUARDS.iter().enumerate() {
+        let listing = doing(rt.alloc(), body)?;
+        let acts = whole(&rt, rt.alloc(), &image, listing.as_str())?.acts;
+        let found = (guarding(&acts, 0), guarding(&acts, 1));
+        assert!(rt; found == (*first, *second), "row {i}: {found:?}");
     }
     Ok(())
 }

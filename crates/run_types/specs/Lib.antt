@@ -1,0 +1,2 @@
+pub mod HeldWaits
+pub mod Waits
