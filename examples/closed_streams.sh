@@ -38,5 +38,10 @@ for closed in '0<&-' '1>&-' '2>&-' '0<&- 1>&-' '1>&- 2>&-' '0<&- 2>&-' '0<&- 1>&
     same 15 $? "the status of a refused run with $closed"
     same whole "$(left)" "the image of a refused run with $closed"
 done
+# An image that is also a standard stream takes no printed byte.
+cp "$work/whole" "$work/image"
+"$program" run --image "$work/image" --main Main "$data/stores" 1<>"$work/image" 2>"$work/told"
+same 11 $? "the status of a run whose output is its image"
+same whole "$(left)" "an image that is standard output"
 [ $failed = 0 ] && echo "each run left its image whole"
 exit $failed

@@ -56,7 +56,8 @@ folder
 if command -v flock >/dev/null; then
     flock "$work/image" sleep 5 &
     sleep 1
-    runs "11 autopersist: image fault" "an image that is open elsewhere"
+    runs "11 autopersist: image fault
+autopersist: image $work/image: locked by another process" "an image that is open elsewhere"
     kill $! 2>/dev/null
     wait
 fi

@@ -1,12 +1,14 @@
 -- Values and annotations that a loop reads one after the other.
-use Rattle.std.proofs.Common.{◌≡◌, ℕ, suc, Bool, true, false, ◌||◌, List, ◌∷◌, ◌-◌, ◌+◌, ◌≤◌, ◌<◌, Result, Ok, Err, refl, sym, ◌∙◌, arith}
+use Rattle.std.proofs.Common.{◌≡◌, ℕ, suc, Bool, true, false, ◌||◌, List, ◌∷◌, ◌-◌, ◌+◌, ◌≤◌, ◌<◌, Result, Ok, Err, refl, sym}
+use Rattle.std.proofs.Common.{◌∙◌, arith}
 use Rattle.std.specs.List.{list_any}
 use Rattle.parsing.specs.Results.{◌>>=◌, many_from}
 use Rattle.parsing.specs.Places.{Place}
 use Rattle.annotations.specs.declared.refusal.AnnotationRefusal.{AnnotationRefusal}
 use Rattle.annotations.specs.declared.marks.Marks.{Marks}
 use Rattle.const_pool.specs.Pool.{Slots}
-use Rattle.annotations.specs.Annotations.{Skips, after_many, annotation_at, is_root, is_unrecoverable, with_type, marks_of, marks_from}
+use Rattle.annotations.specs.Annotations.{Skips, after_many, annotation_at, is_root, is_unrecoverable, with_type, marks_of}
+use Rattle.annotations.specs.Annotations.{marks_from}
 
 module _ (one : Skips) (count i : ℕ) (file : Place) (total : Result Place AnnotationRefusal) where
   pub goes_on : (after : Place) → i < count → one file ≡ Ok after
@@ -65,7 +67,11 @@ one_more type r = Ok (type ∷ r.0, r.1)
 -- one annotation more among those before is one less among those that are still read
 regroup : (pool : Slots) (before : Marks) (type : ℕ) (read : Result Types AnnotationRefusal)
     → with_before before (marked pool (read >>= one_more type)) ≡ with_before (with_type pool before type) (marked pool read)
-regroup pool before type (Ok r) = rw (or_assoc before.root (is_root pool type) (list_any (is_root pool) r.0), or_assoc before.unrecoverable (is_unrecoverable pool type) (list_any (is_unrecoverable pool) r.0)) refl
+regroup pool before type (Ok r) = rw (
+  or_assoc before.root (is_root pool type) (list_any (is_root pool) r.0),
+  or_assoc before.unrecoverable
+      (is_unrecoverable pool type) (list_any (is_unrecoverable pool) r.0),
+) refl
 regroup pool before type (Err e) = refl
 
 module _ (pool : Slots) (before : Marks) (count i : ℕ) (file : Place)
@@ -76,7 +82,9 @@ module _ (pool : Slots) (before : Marks) (count i : ℕ) (file : Place)
   unfolding marks_from many_from
   marks_go_on type after lt h so_far =
       let k : count - i ≡ suc (count - (i + 1)) = omega arith in
-      let step : with_before before (marks_from pool (count - i) file) ≡ with_before (with_type pool before type) (marks_from pool (count - (i + 1)) after) = rw (k, h) (regroup pool before type (many_from (annotation_at pool) (count - (i + 1)) after)) in
+      let step : with_before before (marks_from pool (count - i) file) ≡ with_before (with_type pool before type)
+      (marks_from pool (count - (i + 1)) after) = rw (k, h)
+      (regroup pool before type (many_from (annotation_at pool) (count - (i + 1)) after)) in
       sym step ∙ so_far
 
   pub marks_end : (e : AnnotationRefusal) → i < count → annotation_at pool file ≡ Err e

@@ -1,6 +1,7 @@
 -- The content of an attribute of annotations (JVMS 4.7.16, 4.7.17), read from front to back, with the first
 -- fault that is met. A place is the offset from the file's start and the bytes from there on.
-use Rattle.std.specs.Prelude.{ℕ, zero, suc, ◌==◌, Bool, false, List, length, codes, Option, Some, None, Result, Ok, Err, ◌||◌, if◌then◌else◌}
+use Rattle.std.specs.Prelude.{ℕ, zero, suc, ◌==◌, Bool, false, List, length, codes, Option, Some, None, Result, Ok, Err, ◌||◌}
+use Rattle.std.specs.Prelude.{if◌then◌else◌}
 use Rattle.std.specs.List.{list_any}
 use Rattle.std.specs.Str.{bytes_eq}
 use Rattle.parsing.specs.declared.cut.Cut.{Cut}

@@ -1,10 +1,12 @@
 -- The cause of each status, by its stage.
 use Rattle.std.proofs.Common.{◌≡◌, ◌⊎◌, ℕ, List, Option, Some, None, [], Result, Ok, Err, refl, sym, ap, subst, ◌∙◌, inl, inr}
 use Rattle.std.specs.Prelude.{◌≢◌, IsOk, IfOk, IfErr}
+use Rattle.std.proofs.lemmas.Bool.{false≢true}
 use Rattle.ap_base.specs.declared.source.NamedBytes.{NamedBytes}
 use Rattle.graph_model.specs.declared.types.Graph.{Graph}
 use Rattle.line_image.specs.Told.{Told}
 use Rattle.run_history.specs.Recorded.{Recorded}
+use Rattle.run_types.specs.declared.limits.Limits.{Limits}
 use Rattle.run_types.specs.declared.fault.RunFault.{RunFault}
 use Rattle.run_types.specs.declared.fault.RunFault.TheVariants as fault
 use Rattle.plain_model.specs.Ends.{Ending, Fault, Uncaught, Finished}
@@ -24,9 +26,12 @@ use Rattle.autopersist.specs.Files.{Builds, Choice, classes_among, ClassesGive, 
 use Rattle.autopersist.specs.Reading as reading
 use Rattle.autopersist.specs.Reading.{HasNoCause, IsOfFiles, IsOfClasses, IsLeft, LeavesAt}
 use Rattle.autopersist.specs.Sets.{CannotBegin, HasEndedSo, SetEnds, status_of_ending, status_of_unopened}
-use Rattle.autopersist.specs.Stages.{Stage, OfWords, OfSource, OfMemory, OfFile, OfLinking, OfForm, OfOpening, OfRoom, OfNames, OfImage, OfTurns, stage_of, IsFreeStage, IsFilesStage, IsClassesStage, IsEarlyStage, IsRunStage}
-use Rattle.autopersist.specs.TopCall.{ComesTo, IsAsked, OfChoice, IsCauseOf, IsCauseAt, AnswersFor, Over, EndsOver, IsOfRun, IsOfWords}
-use Rattle.autopersist.specs.Words.{main_class, slashed}
+use Rattle.autopersist.specs.Stages.{Stage, OfWords, OfSource, OfMemory, OfFile, OfLinking, OfForm, OfOpening, OfRoom, OfNames}
+use Rattle.autopersist.specs.Stages.{OfImage, OfTurns, stage_of, IsFreeStage, IsFilesStage, IsClassesStage, IsEarlyStage}
+use Rattle.autopersist.specs.Stages.{IsRunStage}
+use Rattle.autopersist.specs.TopCall.{ComesTo, IsAsked, OfChoice, IsCauseOf, IsCauseAt, AnswersFor, Over, EndsOver, IsOfRun}
+use Rattle.autopersist.specs.TopCall.{IsOfWords}
+use Rattle.autopersist.specs.Words.{main_class, slashed, asked_limits}
 use Rattle.autopersist.proofs.SourceFiles.{all_read}
 
 some_same : {A : Type 0} (a b : A) → Some a ≡ Some b → a ≡ b
@@ -193,8 +198,9 @@ unopened_stage unopened.OutOfMemory = tt
 so_staged : (s t : Status) → s ≡ t → IsOfRun t → IsOfRun s
 so_staged s t is of = subst IsOfRun (sym is) of
 
-module _ (set : Linked) (name : List ℕ) (start : Told) (opening : Graph) (acts : List Recorded) (after : Told) (s : Status) where
-  began_stage : CannotBegin set name start s → IsOfRun s
+module _ (set : Linked) (name : List ℕ) (limits : Limits) (start : Told) (opening : Graph) (acts : List Recorded) (after : Told)
+    (s : Status) where
+  began_stage : CannotBegin set name limits start s → IsOfRun s
   began_stage c = elim c.cause [
     | inl lacks ↦ so_staged s (status.Full lacks.full) lacks.is tt
     | inr rest ↦ elim rest [
@@ -203,14 +209,14 @@ module _ (set : Linked) (name : List ℕ) (start : Told) (opening : Graph) (acts
     ]
   ]
 
-  ran_stage : HasEndedSo set name start opening acts s → IsOfRun s
+  ran_stage : HasEndedSo set name limits start opening acts s → IsOfRun s
   ran_stage ran = elim ran.ends [
     | inl ends ↦ so_staged s (status_of_ending ran.of.numbered ends.ending) ends.is (ending_stage ran.of.numbered ends.ending)
     | inr more ↦ so_staged s status.NotBuilt more.is tt
   ]
 
   -- what a call that had something to run came to is one of the statuses of runs
-  pub of_run : SetEnds set name start opening acts after s → IsOfRun s
+  pub of_run : SetEnds set name limits start opening acts after s → IsOfRun s
   of_run (inl (none, inl cannot)) = so_staged s (status_of_unopened cannot.why) cannot.is (unopened_stage cannot.why)
   of_run (inl (none, inr cannot)) = began_stage cannot
   of_run (inr ran) = ran_stage ran
@@ -230,22 +236,23 @@ ending_apart set (Fault f) is = fault_apart set f is
 ending_apart set (Uncaught t class) is = cc
 ending_apart set Finished is = cc
 
-module _ (set : Linked) (name : List ℕ) (start : Told) (opening : Graph) (acts : List Recorded) (after : Told)
+module _ (set : Linked) (name : List ℕ) (limits : Limits) (start : Told) (opening : Graph) (acts : List Recorded) (after : Told)
     (s : Status) (is : s ≡ status.OutOfMemory) where
-  ran_apart : HasEndedSo set name start opening acts s → ⊥
+  ran_apart : HasEndedSo set name limits start opening acts s → ⊥
   ran_apart ran = elim ran.ends [
     | inl ends ↦ ending_apart ran.of.numbered ends.ending (sym ends.is ∙ is)
     | inr more ↦ let no : status.NotBuilt ≡ status.OutOfMemory = sym more.is ∙ is in cc
   ]
 
-  pub memory_early : SetEnds set name start opening acts after s → acts ≡ []
+  pub memory_early : SetEnds set name limits start opening acts after s → acts ≡ []
   memory_early (inl cannot) = cannot.0
   memory_early (inr ran) = absurd (ran_apart ran)
 
 module _ (words : List (List ℕ)) (left : Option (List NamedBytes)) (over : Over) (s : Status) (choice : Choice)
-    (asked : IsAsked words left choice) (ends : EndsOver over s choice) where
+    (asked : IsAsked words left choice) (limits : Limits) (allowed : asked_limits words ≡ Some limits)
+    (ends : EndsOver over s choice limits) where
   so : OfChoice words left (EndsOver over s)
-  so = record { choice = choice; is_asked = asked; holds = ends }
+  so = record { choice = choice; is_asked = asked; limits = limits; are_asked = allowed; holds = ends }
 
   run_at : (stage : Stage) → IsRunStage stage → IsCauseAt stage words left over s
   run_at OfMemory of = tt
@@ -319,14 +326,11 @@ ok choice = Ok choice
 
 -- it isn't built and built at once
 unbuilt : (name : List ℕ) (set : Linked) (choice : Choice) (s : Status) → Builds name set (Ok choice) → Builds name set (Err s) → ⊥
-unbuilt name set choice s one other = elim other.1 [
-  | inl asks ↦ cc
-  | inr same ↦ same one.1
-]
+unbuilt name set choice s one other = false≢true (sym one.0 ∙ other.1)
 
 -- what is built of a set is one answer
 one_built : (name : List ℕ) (set : Linked) (a b : Result Choice Status) → Builds name set a → Builds name set b → a ≡ b
-one_built name set (Ok a) (Ok b) one other = ap ok (one.2 ∙ sym other.2)
+one_built name set (Ok a) (Ok b) one other = ap ok (one.1 ∙ sym other.1)
 one_built name set (Err a) (Err b) one other = ap err (one.0 ∙ sym other.0)
 one_built name set (Ok a) (Err b) one other = absurd (unbuilt name set a b one other)
 one_built name set (Err a) (Ok b) one other = absurd (unbuilt name set b a other one)
@@ -374,9 +378,9 @@ module _ (words : List (List ℕ)) (left : Option (List NamedBytes)) (over : Ove
   same_given : (a b : Result Choice Status) → FilesGive name files a → ComesTo words left b → a ≡ b
   same_given a b give comes = one_given name (classes_among files) a b give (same_answer words left b name files comes asked told)
 
-  not_asked : (s : Status) (P : Choice → Type 0) → FilesGive name files (Err s) → OfChoice words left P → ⊥
-  not_asked s P give of =
-      let other : err s ≡ Ok of.choice = same_given (Err s) (Ok of.choice) give of.is_asked in
+  not_asked : (s : Status) (choice : Choice) → FilesGive name files (Err s) → IsAsked words left choice → ⊥
+  not_asked s choice give asks =
+      let other : err s ≡ Ok choice = same_given (Err s) (Ok choice) give asks in
       cc
 
   same_status : (e s : Status) → FilesGive name files (Err s) → ComesTo words left (Err e) → e ≡ s
@@ -390,9 +394,9 @@ module _ (words : List (List ℕ)) (left : Option (List NamedBytes)) (over : Ove
   refused_at OfFile e s of cause is = inr (same_status e s is cause)
   refused_at OfLinking e s of cause is = inr (same_status e s is cause)
   refused_at OfForm e s of (inl comes) is = inr (same_status e s is comes)
-  refused_at OfForm e s of (inr choice) is = absurd (not_asked s _ is choice)
+  refused_at OfForm e s of (inr of_choice) is = absurd (not_asked s of_choice.choice is of_choice.is_asked)
   refused_at OfRoom e s of (inl comes) is = inr (same_status e s is comes)
-  refused_at OfRoom e s of (inr choice) is = absurd (not_asked s _ is choice)
+  refused_at OfRoom e s of (inr of_choice) is = absurd (not_asked s of_choice.choice is of_choice.is_asked)
   refused_at OfOpening e s of cause is = absurd of
   refused_at OfNames e s of cause is = absurd of
   refused_at OfImage e s of cause is = absurd of
@@ -429,7 +433,6 @@ answers_by_words words left over e of cause = record {
 pub answers_by_run : (words : List (List ℕ)) (left : Option (List NamedBytes)) (over : Over) (choice : Choice) (s : Status)
     → IsAsked words left choice → IsOfRun s → AnswersFor words left s
 answers_by_run words left over choice s asked of = record {
-  refused = λ name files e named told is. absurd (not_asked words left over name files named told e (λ c. c ≡ choice) is
-      (record { choice = choice; is_asked = asked; holds = refl }));
+  refused = λ name files e named told is. absurd (not_asked words left over name files named told e choice is asked);
   runs = λ name files other named told is. inr of;
 }

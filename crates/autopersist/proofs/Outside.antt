@@ -3,13 +3,14 @@ use Rattle.std.proofs.Common.{◌≡◌, ◌≤◌, ℕ, List, [], ◌++◌, Opt
 use Rattle.std.proofs.lemmas.List.{append-nil}
 use Rattle.ap_base.specs.Causes.{Rose}
 use Rattle.ap_base.specs.Sinks.{with_bytes}
-use Rattle.run_types.specs.declared.fault.RunFault.TheVariants as fault
+use Rattle.run_types.specs.declared.fault.StepFault.TheVariants as met
 use Rattle.run_history.specs.Recorded.{Recorded}
 use Rattle.class_set.specs.Linked.{Linked}
-use Rattle.durable_run.specs.Telling.{HasTold, IsCaused, with_all}
-use Rattle.durable_run.specs.Turning.{fault_in}
-use Rattle.durable_run.specs.declared.turns.Turned.{Turned}
-use Rattle.durable_run.specs.declared.turns.Turned.TheVariants.{Acted, Ended, Over, Unbuilt}
+use Rattle.durable_launch.specs.Passed.{HasTold, IsCaused, with_all}
+use Rattle.durable_launch.specs.Passed.{fault_in}
+use Rattle.durable_launch.specs.Passed.{Met, Stuck}
+use Rattle.durable_launch.specs.Passed.{Turned}
+use Rattle.durable_launch.specs.Passed.{Acted, Ended, Over, Unbuilt}
 use Rattle.program_launch.specs.declared.refusals.NoLaunch.{NoLaunch}
 use Rattle.program_launch.specs.declared.refusals.NoLaunch.TheVariants as no_launch
 use Rattle.set_opening.specs.declared.unopened.Unopened.{Unopened}
@@ -49,13 +50,13 @@ module _ (set : Linked) (sink sink' image image' : ℕ) where
   sink_caused (Ended None) caused is = absurd (cc)
   sink_caused (Ended (Some class)) caused is = absurd (cc)
   sink_caused Unbuilt caused is = absurd (cc)
-  sink_caused (Over fault.SinkFault) caused is = caused.0
-  sink_caused (Over fault.ImageFault) caused is = absurd (cc)
-  sink_caused (Over (fault.BadCode at)) caused is = absurd (cc)
-  sink_caused (Over (fault.RegionRace thread other place)) caused is = absurd (cc)
-  sink_caused (Over (fault.Full full)) caused is = absurd (cc)
-  sink_caused (Over (fault.Stuck waits)) caused is = absurd (cc)
-  sink_caused (Over (fault.LinkFault kind class index)) caused is = absurd (cc)
+  sink_caused (Over (Met met.SinkFault)) caused is = caused.0
+  sink_caused (Over (Met met.ImageFault)) caused is = absurd (cc)
+  sink_caused (Over (Met (met.BadCode at))) caused is = absurd (cc)
+  sink_caused (Over (Met (met.RegionRace thread other place))) caused is = absurd (cc)
+  sink_caused (Over (Met (met.Full full))) caused is = absurd (cc)
+  sink_caused (Over (Stuck on)) caused is = absurd (cc)
+  sink_caused (Over (Met (met.LinkFault kind class index))) caused is = absurd (cc)
 
   pub image_caused : (turned : Turned) → IsCaused (fault_in turned) sink sink' image image'
       → status_of_turned set turned ≡ status.ImageFault → Rose image image'
@@ -63,13 +64,13 @@ module _ (set : Linked) (sink sink' image image' : ℕ) where
   image_caused (Ended None) caused is = absurd (cc)
   image_caused (Ended (Some class)) caused is = absurd (cc)
   image_caused Unbuilt caused is = absurd (cc)
-  image_caused (Over fault.SinkFault) caused is = absurd (cc)
-  image_caused (Over fault.ImageFault) caused is = caused.1
-  image_caused (Over (fault.BadCode at)) caused is = absurd (cc)
-  image_caused (Over (fault.RegionRace thread other place)) caused is = absurd (cc)
-  image_caused (Over (fault.Full full)) caused is = absurd (cc)
-  image_caused (Over (fault.Stuck waits)) caused is = absurd (cc)
-  image_caused (Over (fault.LinkFault kind class index)) caused is = absurd (cc)
+  image_caused (Over (Met met.SinkFault)) caused is = absurd (cc)
+  image_caused (Over (Met met.ImageFault)) caused is = caused.1
+  image_caused (Over (Met (met.BadCode at))) caused is = absurd (cc)
+  image_caused (Over (Met (met.RegionRace thread other place))) caused is = absurd (cc)
+  image_caused (Over (Met (met.Full full))) caused is = absurd (cc)
+  image_caused (Over (Stuck on)) caused is = absurd (cc)
+  image_caused (Over (Met (met.LinkFault kind class index))) caused is = absurd (cc)
 
 -- the sink fails in a run alone
 pub never_by_sink : (why : Unopened) → status_of_unopened why ≡ status.SinkFault → ⊥

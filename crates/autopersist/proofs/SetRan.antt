@@ -1,29 +1,27 @@
 -- What a run of a class set over an image comes to, by what opening the image and running on it gave.
-use Rattle.std.proofs.Common.{◌≡◌, ◌⊎◌, inl, inr, ℕ, ◌-◌, true, List, [], ◌∷◌, Some, None, Ok, refl, sym, ap, ◌∙◌, subst}
-use Rattle.std.specs.Prelude.{◌≢◌, AllPairs}
+use Rattle.std.proofs.Common.{◌≡◌, ◌⊎◌, inl, inr, ℕ, ◌-◌, List, [], ◌∷◌, Some, None, Ok, refl, sym, ◌∙◌, subst}
 use Rattle.graph_model.specs.declared.types.Graph.{Graph}
-use Rattle.graph_model.specs.declared.types.Shape.{Shape}
 use Rattle.line_image.specs.Told.{Told}
 use Rattle.line_image.specs.Trace.{Outcome}
 use Rattle.line_memory.specs.Memory.{Memory, IsTelling, CanLeaveAll}
 use Rattle.image_meaning.specs.Meaning.{empty_graph}
+use Rattle.run_types.specs.declared.limits.Limits.{Limits}
 use Rattle.run_history.specs.Recorded.{Recorded}
 use Rattle.plain_model.specs.Ends.{Ending, EndsAs, Fault, Uncaught, Finished}
 use Rattle.plain_model.specs.First.{first_known, first_objects}
-use Rattle.plain_model.specs.Facts.{StaticFacts}
-use Rattle.class_file.specs.declared.class.ClassFile.{ClassFile}
 use Rattle.class_set.specs.Linked.{Linked}
-use Rattle.class_set.specs.Facts.{facts_of, statics_from}
-use Rattle.stop_invariant.specs.Stops.{IsAllowedImage}
+use Rattle.class_set.specs.Facts.{facts_of}
+use Rattle.stop_theorem.specs.Stops.{IsAllowedImage}
 use Rattle.stop_theorem.specs.Laws.{IsSafeRun}
-use Rattle.machine_forms.specs.Machines.{Opening, memory_of, shown_in}
-use Rattle.machine_runs.specs.Keeping.{EachStopIsAllowed}
-use Rattle.machine.specs.Running.{HadNoFault}
+use Rattle.durable_launch.specs.Passed.{Opening, memory_of, shown_in}
+use Rattle.durable_launch.specs.Passed.{EachStopIsAllowed}
+use Rattle.durable_launch.specs.Passed.{HadNoFault}
 use Rattle.run_forms.specs.Standing.{Launch, IsRun, StandsFor as FramesStandFor, plain_code}
 use Rattle.image_recovery.specs.Recovered.{entries_in}
-use Rattle.durable_run.specs.Turning.{EndsBy, HasRun}
-use Rattle.durable_run.specs.declared.turns.Turned.{Turned}
-use Rattle.durable_run.specs.declared.turns.Turned.TheVariants.{Acted, Ended, Over, Unbuilt}
+use Rattle.durable_launch.specs.Passed.{EndsBy, HasRun}
+use Rattle.durable_launch.specs.Passed.{fault_of_halt}
+use Rattle.durable_launch.specs.Passed.{Turned}
+use Rattle.durable_launch.specs.Passed.{Acted, Ended, Over, Unbuilt}
 use Rattle.durable_launch.specs.declared.heaps.OpenedHeap.{OpenedHeap}
 use Rattle.durable_launch.specs.declared.launches.Launched.{Launched}
 use Rattle.durable_launch.specs.Launching.{CanLaunch, IsLaunched, launch_over, opening_over}
@@ -34,17 +32,14 @@ use Rattle.program_launch.specs.declared.refusals.NoLaunch.{NoLaunch}
 use Rattle.program_launch.specs.declared.refusals.NoLaunch.TheVariants as no_launch
 use Rattle.one_space.specs.First.{LacksWords}
 use Rattle.set_opening.specs.declared.unopened.Unopened.{Unopened}
-use Rattle.directories.specs.Kept.{Kept}
-use Rattle.first_spaces.specs.Parts.{RootsDiffer}
-use Rattle.set_opening.specs.Arrays.{with_arrays_of}
-use Rattle.set_opening.proofs.Arrays.{arrays_files}
 use Rattle.set_opening.specs.Attached.{IsSettled}
 use Rattle.set_opening.specs.Opened.{IsOpenedFor}
 use Rattle.set_opening.specs.Unopened.{IsLeft, IsUnopened}
 use Rattle.statuses.specs.declared.status.Status.{Status}
 use Rattle.statuses.specs.declared.status.Status.TheVariants as status
 use Rattle.autopersist.specs.Began.{RanBy, status_of_turned, status_of_unlaunched}
-use Rattle.autopersist.specs.Sets.{AsksMore, Ends, HasEndedSo, HasNoMain, IsOpenedSo, LacksFirstWords, SetRunsOver, StandsAtStops, default_limits, status_of_unopened}
+use Rattle.autopersist.specs.Sets.{AsksMore, Ends, HasEndedSo, HasNoMain, IsOpenedSo, LacksFirstWords, SetRunsOver}
+use Rattle.autopersist.specs.Sets.{StandsAtStops, status_of_unopened}
 use Rattle.autopersist.proofs.SetStops.{stops_opened, stops_run, stops_unattached, stops_without}
 
 -- ---- an image that couldn't be opened
@@ -70,31 +65,14 @@ module _ (set numbered : Linked) (start after : Told) (why : Unopened) where
   unopened_stops (inr (inr (inl u))) opening settled = left_stops u.before u.memory [] u.left opening settled
   unopened_stops (inr (inr (inr u))) opening settled = left_stops u.before u.memory u.added u.left opening settled
 
-  pub unopened_ran : (name : List ℕ) → IsUnopened start after set numbered why
-      → SetRunsOver set name start empty_graph [] after (status_of_unopened why)
-  unopened_ran name unopened = record {
+  pub unopened_ran : (name : List ℕ) (limits : Limits) → IsUnopened start after set numbered why
+      → SetRunsOver set name limits start empty_graph [] after (status_of_unopened why)
+  unopened_ran name limits unopened = record {
     size = unopened_size unopened;
     ends = inl (refl, inl (record { numbered = numbered; why = why; unopened = unopened; is = refl }));
     unbegun = λ none. refl;
     stops = unopened_stops unopened empty_graph;
   }
-
--- ---- the set with the array types of an image
-
-abbrev AllApart : List StaticFacts → Type 0
-AllApart statics = AllPairs (λ (s t : StaticFacts). s.is_root ≡ true → t.is_root ≡ true → s.name ≢ t.name) statics
-
--- they change no static field
-statics_same : (old : Linked) (shapes : List Shape)
-    → (facts_of old).statics ≡ (facts_of (with_arrays_of old shapes)).statics
-statics_same old shapes = ap (λ (files : List ClassFile). statics_from files 0 files) (sym (arrays_files old shapes))
-
-pub still_apart : (old set : Linked) (start : Told) (m : Memory) (directory : Kept) (lines : List ℕ) (graph : Graph)
-    (free : ℕ) → IsOpenedFor start old set m directory lines graph free → RootsDiffer (facts_of old)
-    → RootsDiffer (facts_of set)
-still_apart old set start m directory lines graph free opened apart =
-    subst (λ (s : Linked). RootsDiffer (facts_of s)) (sym opened.set_is)
-    (subst AllApart (statics_same old opened.found.shapes) apart)
 
 -- ---- a run that didn't begin
 
@@ -103,10 +81,10 @@ module _ (set numbered : Linked) (start : Told) (m : Memory) (directory : _) (li
   abbrev pub opened_so : IsOpenedSo set start graph
   opened_so = record { numbered = numbered; memory = m; directory = directory; lines = lines; free = free; opened = opened }
 
-  pub unbegun_ran : (name : List ℕ) (after : Told) (how : Status) → after ≡ m.image → after.size ≡ m.size
-      → LacksFirstWords numbered how ⊎ HasNoMain numbered name graph how ⊎ (how ≡ status.OutOfMemory)
-      → SetRunsOver set name start empty_graph [] after how
-  unbegun_ran name after how same size cause = record {
+  pub unbegun_ran : (name : List ℕ) (limits : Limits) (after : Told) (how : Status) → after ≡ m.image → after.size ≡ m.size
+      → LacksFirstWords numbered limits how ⊎ HasNoMain numbered name limits graph how ⊎ (how ≡ status.OutOfMemory)
+      → SetRunsOver set name limits start empty_graph [] after how
+  unbegun_ran name limits after how same size cause = record {
     size = size ∙ opened.ready.same_size;
     ends = inl (refl, inr (record { graph = graph; of = opened_so; cause = cause }));
     unbegun = λ none. refl;
@@ -115,23 +93,23 @@ module _ (set numbered : Linked) (start : Told) (m : Memory) (directory : _) (li
   }
 
   -- the first heap finds no room, or there is no memory
-  pub unlaunched_ran : (name : List ℕ) (after : Told) (why : NoLaunch) → after ≡ m.image → after.size ≡ m.size
-      → IfFull why (LacksWords default_limits.heap_words (first_objects (facts_of numbered) empty_graph))
-      → SetRunsOver set name start empty_graph [] after (status_of_unlaunched why)
-  unlaunched_ran name after (no_launch.Full full) same size lacks =
-      unbegun_ran name after (status.Full full) same size (inl (record { full = full; is = refl; lacks = lacks }))
-  unlaunched_ran name after no_launch.OutOfMemory same size lacks =
-      unbegun_ran name after status.OutOfMemory same size (inr (inr refl))
+  pub unlaunched_ran : (name : List ℕ) (limits : Limits) (after : Told) (why : NoLaunch) → after ≡ m.image → after.size ≡ m.size
+      → IfFull why (LacksWords limits.heap_words (first_objects (facts_of numbered) empty_graph))
+      → SetRunsOver set name limits start empty_graph [] after (status_of_unlaunched why)
+  unlaunched_ran name limits after (no_launch.Full full) same size lacks =
+      unbegun_ran name limits after (status.Full full) same size (inl (record { full = full; is = refl; lacks = lacks }))
+  unlaunched_ran name limits after no_launch.OutOfMemory same size lacks =
+      unbegun_ran name limits after status.OutOfMemory same size (inr (inr refl))
 
 -- ---- a run
 
-module _ {I : Type 0} (set numbered : Linked) (name : List ℕ) (start : Told) (heap : OpenedHeap I)
-    (can : CanLaunch start set numbered default_limits.heap_words heap) (main : Main)
+module _ {I : Type 0} (set numbered : Linked) (name : List ℕ) (limits : Limits) (start : Told)
+    (heap : OpenedHeap I) (can : CanLaunch start set numbered limits.heap_words heap) (main : Main)
     (found : main_of numbered name ≡ Ok main) (launched : Launched I)
-    (l : IsLaunched start (entries_in can.directory) numbered main default_limits heap launched)
+    (l : IsLaunched start (entries_in can.directory) numbered main limits heap launched)
     (opening : Graph) (acts : List Recorded) (after : Told) (how : Status) where
   abbrev launch : Launch
-  launch = launch_over numbered main default_limits heap.graph l.literals
+  launch = launch_over numbered main limits heap.graph l.literals
 
   abbrev o : Opening
   o = opening_over start heap.spaces.heap.memory (entries_in can.directory) launch
@@ -146,7 +124,7 @@ module _ {I : Type 0} (set numbered : Linked) (name : List ℕ) (start : Told) (
     has_run : (turned : Turned) → EndsBy o heap.free turned ran.shared → HasRun o ran.shared
     has_run Acted ends = absurd ends
     has_run (Ended uncaught) ends = ends.0
-    has_run (Over f) ends = ends.0
+    has_run (Over halt) ends = ends.0
     has_run Unbuilt ends = ends.0
 
     run : HasRun o ran.shared
@@ -177,8 +155,11 @@ module _ {I : Type 0} (set numbered : Linked) (name : List ℕ) (start : Told) (
         inl (record { ending = Finished; ended = ended_by Finished ends.1; is = is })
     turned_ended (Ended (Some class)) is ends =
         inl (record { ending = Uncaught 0 class; ended = ended_by (Uncaught 0 class) ends.1; is = is })
-    turned_ended (Over f) is ends =
-        inl (record { ending = Fault f; ended = ended_by (Fault f) (0, ends.1); is = is })
+    turned_ended (Over halt) is ends = inl (record {
+      ending = Fault (fault_of_halt halt);
+      ended = ended_by (Fault (fault_of_halt halt)) (0, ends.1);
+      is = is;
+    })
     turned_ended Unbuilt is ends = inr (record {
       shown = shown_in ran.shared.machine;
       rest = ran.shared.machine.rest;
@@ -191,7 +172,7 @@ module _ {I : Type 0} (set numbered : Linked) (name : List ℕ) (start : Told) (
       is = is;
     })
 
-    pub has_ended : HasEndedSo set name start opening acts how
+    pub has_ended : HasEndedSo set name limits start opening acts how
     has_ended = record {
       graph = heap.graph;
       of = opened_so set numbered start heap.spaces.heap.memory can.directory can.lines heap.graph heap.free can.opened;
@@ -216,19 +197,21 @@ module _ {I : Type 0} (set numbered : Linked) (name : List ℕ) (start : Told) (
         let m = heap.spaces.heap.memory in
         let s = ran.shared.machine in
         let known = first_known (facts_of numbered) heap.graph in
+        let kept = entries_in can.directory in
         let tells = telling settled in
         let runs = run.keeps.stops tells in
         let now = (law o s run.table run.keeps tells).now in
         subst (λ (t : Told). StandsAtStops set start opening acts t) (sym ran.image)
         (stops_run start settled set numbered m can.directory can.lines heap.graph heap.free can.opened opening acts
         (memory_of s)
-        (subst (λ (made : List Recorded). IsSafeRun known m.size start.calls m made (memory_of s)) machine_acts runs.safe)
+        (subst (λ (made : List Recorded). IsSafeRun known m.size kept start.calls m made (memory_of s))
+        machine_acts runs.safe)
         can.opened.ready.counts
-        (subst (λ (made : List Recorded). (c : Outcome) → CanLeaveAll (memory_of s) c → IsAllowedImage known m.size made c)
+        (subst (λ (made : List Recorded). (c : Outcome) → CanLeaveAll (memory_of s) c → IsAllowedImage known m.size kept made c)
         machine_acts now)
         ran.some size_now)
 
-    pub has_run_over : EachStopIsAllowed → SetRunsOver set name start opening acts after how
+    pub has_run_over : EachStopIsAllowed → SetRunsOver set name limits start opening acts after how
     has_run_over law = record {
       size = size_after;
       ends = inr has_ended;

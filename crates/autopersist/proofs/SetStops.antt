@@ -1,6 +1,7 @@
 -- What a stop leaves of an image that is attached, opened for a class set, and then run on.
 use Rattle.std.proofs.Math.Path.{fun_ext}
-use Rattle.std.proofs.Common.{◌≡◌, inl, inr, ⊎_elim, ℕ, ◌<◌, ◌≤◌, ◌+◌, ◌-◌, ◌^◌, List, [], ◌∷◌, Option, Some, None, Ok, Result, refl, sym, ◌∙◌, subst, arith}
+use Rattle.std.proofs.Common.{◌≡◌, inl, inr, ⊎_elim, ℕ, ◌<◌, ◌≤◌, ◌+◌, ◌-◌, ◌^◌, List, [], ◌∷◌, Option, Some, None, Ok, Result}
+use Rattle.std.proofs.Common.{refl, sym, ◌∙◌, subst, arith}
 use Rattle.std.specs.Prelude.{◌≢◌, All, take}
 use Rattle.std.proofs.lemmas.Bool.{cases_lt, le-ltb}
 use Rattle.std.proofs.lemmas.List.Elements.{All-head, All-tail}
@@ -13,8 +14,10 @@ use Rattle.line_memory.proofs.Chain.{goes_on}
 use Rattle.image_meaning.specs.Appending.{with_all_too}
 use Rattle.image_meaning.specs.Checks.{Words, Bad}
 use Rattle.image_meaning.specs.Entries.{DirectoryEntry}
+use Rattle.image_meaning.specs.Laws.{Opens}
 use Rattle.image_meaning.specs.Meaning.{StandsFor, meaning}
 use Rattle.image_meaning.proofs.Standings.{stands-within}
+use Rattle.image_recovery.specs.Recovered.{entries_in}
 use Rattle.word_changes.specs.Changes.{StopsLeave}
 use Rattle.directories.specs.Planning.{lacking}
 use Rattle.run_history.specs.Recorded.{Recorded}
@@ -22,7 +25,7 @@ use Rattle.run_history.specs.Kept.{acts_before}
 use Rattle.plain_model.specs.First.{first_known}
 use Rattle.class_set.specs.Linked.{Linked}
 use Rattle.class_set.specs.Facts.{facts_of}
-use Rattle.stop_invariant.specs.Stops.{IsAllowedImage}
+use Rattle.stop_theorem.specs.Stops.{IsAllowedImage}
 use Rattle.stop_theorem.specs.Laws.{IsSafeRun}
 use Rattle.set_opening.specs.Attached.{AreRead, IsAttached, IsSettled}
 use Rattle.set_opening.specs.Opened.{IsOpenedFor, StandsWithFirst}
@@ -129,20 +132,24 @@ module _ (start : Told) (settled : IsSettled start) (set numbered : Linked) (m :
   -- ---- and on which a run went on
 
   module _ (opening : Graph) (acts : List Recorded) (end : Memory)
-      (safe : IsSafeRun (first_known (facts_of numbered) graph) m.size start.calls m acts end)
+      (safe : IsSafeRun (first_known (facts_of numbered) graph) m.size (entries_in directory) start.calls m acts end)
       (counts : CountsFrom start.calls m)
-      (now : (c : Outcome) → CanLeaveAll end c → IsAllowedImage (first_known (facts_of numbered) graph) m.size acts c)
+      (now : (c : Outcome) → CanLeaveAll end c
+      → IsAllowedImage (first_known (facts_of numbered) graph) m.size (entries_in directory) acts c)
       (from : acts ≢ [] → opening ≡ graph) (size : m.size ≡ start.size) where
     abbrev of : IsOpenedSo set start graph
     of = record { numbered = numbered; memory = m; directory = directory; lines = lines; free = free; opened = opened }
 
-    allowed : (some : List Recorded) (c : Outcome) → IsAllowedImage (first_known (facts_of numbered) graph) m.size some c
+    allowed : (some : List Recorded) (c : Outcome)
+        → IsAllowedImage (first_known (facts_of numbered) graph) m.size (entries_in directory) some c
         → StandsAllowed set start opening acts some c
     allowed some c is = record {
       graph = graph;
       of = of;
       from = from;
-      allowed = subst (λ (n : ℕ). IsAllowedImage (first_known (facts_of numbered) graph) n some c) size is;
+      opens = subst (λ (n : ℕ). Opens n c (entries_in directory)) size is.opens;
+      allowed = subst (λ (n : ℕ). IsAllowedImage (first_known (facts_of numbered) graph) n (entries_in directory) some c)
+          size is;
     }
 
     all_late : (n : ℕ) → n ≤ m.calls → All (λ (a : Recorded). n ≤ a.act.at) acts

@@ -1,5 +1,6 @@
 -- The files of a source, one by one.
-use Rattle.std.proofs.Common.{◌≡◌, ◌⊎◌, inl, inr, ℕ, zero, suc, ◌+◌, ◌<◌, ◌≤◌, List, [], ◌∷◌, ◌++◌, length, take, drop, nat_lt, true, false, Option, Some, None, Result, Ok, Err, refl, sym, ap, ◌∙◌, append_assoc, arith, subst}
+use Rattle.std.proofs.Common.{◌≡◌, ◌⊎◌, inl, inr, ℕ, zero, suc, ◌+◌, ◌<◌, ◌≤◌, List, [], ◌∷◌, ◌++◌, length, take, drop, nat_lt}
+use Rattle.std.proofs.Common.{true, false, Option, Some, None, Result, Ok, Err, refl, sym, ap, ◌∙◌, append_assoc, arith, subst}
 use Rattle.std.specs.Prelude.{◌≢◌, IsOk}
 use Rattle.std.proofs.Math.Seq.{take-append-add}
 use Rattle.std.proofs.lemmas.Bool.{le-ltb, lt-ltb}
@@ -12,8 +13,10 @@ use Rattle.statuses.specs.declared.status.Status.{Status}
 use Rattle.statuses.specs.declared.status.Status.TheVariants as status
 use Rattle.parsing.specs.Results.{◌>>=◌}
 use Rattle.autopersist.specs.Files.{most_files, class_of, classes_in, classes_among}
-use Rattle.autopersist.specs.Reading.{HadLeft, FilesComeTo, HasNoCause, IsOfFiles, FailsUnrefused, StopsAtRefused, StopsAnywhere, IsLeft, LeavesAt}
-use Rattle.autopersist.specs.Stages.{Stage, OfWords, OfSource, OfMemory, OfFile, OfLinking, OfForm, OfOpening, OfRoom, OfNames, OfImage, OfTurns, stage_of, IsFreeStage, IsFilesStage}
+use Rattle.autopersist.specs.Reading.{HadLeft, FilesComeTo, HasNoCause, IsOfFiles, FailsUnrefused, StopsAtRefused}
+use Rattle.autopersist.specs.Reading.{StopsAnywhere, IsLeft, LeavesAt}
+use Rattle.autopersist.specs.Stages.{Stage, OfWords, OfSource, OfMemory, OfFile, OfLinking, OfForm, OfOpening, OfRoom, OfNames}
+use Rattle.autopersist.specs.Stages.{OfImage, OfTurns, stage_of, IsFreeStage, IsFilesStage}
 
 -- these files were read of a source, and this is left
 abbrev pub behind : List NamedBytes → Option (List NamedBytes) → Option (List NamedBytes)

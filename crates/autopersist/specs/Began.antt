@@ -5,11 +5,12 @@ use Rattle.line_image.specs.Told.{Told}
 use Rattle.image_meaning.specs.Meaning.{empty_graph}
 use Rattle.run_history.specs.Recorded.{Recorded}
 use Rattle.class_set.specs.Linked.{Linked}
-use Rattle.machine_forms.specs.Machines.{Opening, memory_of}
-use Rattle.shared_heap.specs.Shared.{Shared}
-use Rattle.durable_run.specs.Turning.{EndsBy}
-use Rattle.durable_run.specs.declared.turns.Turned.{Turned}
-use Rattle.durable_run.specs.declared.turns.Turned.TheVariants.{Acted, Ended, Over, Unbuilt}
+use Rattle.durable_launch.specs.Passed.{Opening, memory_of}
+use Rattle.durable_launch.specs.Passed.{Shared}
+use Rattle.durable_launch.specs.Passed.{fault_of_halt}
+use Rattle.durable_launch.specs.Passed.{EndsBy}
+use Rattle.durable_launch.specs.Passed.{Turned}
+use Rattle.durable_launch.specs.Passed.{Acted, Ended, Over, Unbuilt}
 use Rattle.program_launch.specs.declared.refusals.NoLaunch.{NoLaunch}
 use Rattle.program_launch.specs.declared.refusals.NoLaunch.TheVariants as no_launch
 use Rattle.statuses.specs.Names.{fault_status, uncaught_in}
@@ -24,7 +25,7 @@ status_of_unlaunched no_launch.OutOfMemory = status.OutOfMemory
 abbrev pub status_of_turned : Linked → Turned → Status
 status_of_turned set (Ended None) = status.Ok
 status_of_turned set (Ended (Some class)) = uncaught_in set 0 class
-status_of_turned set (Over fault) = fault_status set fault
+status_of_turned set (Over halt) = fault_status set (fault_of_halt halt)
 status_of_turned set Unbuilt = status.NotBuilt
 status_of_turned set Acted = status.NotBuilt
 

@@ -1,5 +1,6 @@
 -- What the files of a source are, and what is to run of them.
-use Rattle.std.specs.Prelude.{◌≡◌, ◌≢◌, ◌⊎◌, ℕ, nat_lt, true, false, List, [], ◌∷◌, length, take, Result, Ok, Err, if◌then◌else◌}
+use Rattle.std.specs.Prelude.{◌≡◌, ◌≢◌, ◌⊎◌, ℕ, nat_lt, true, false, List, [], ◌∷◌, length, take, Result, Ok, Err}
+use Rattle.std.specs.Prelude.{if◌then◌else◌}
 use Rattle.ap_base.specs.declared.source.NamedBytes.{NamedBytes}
 use Rattle.run_types.specs.declared.fault.Which.TheVariants.{Files, FileBytes}
 use Rattle.class_file.specs.declared.class.ClassFile.{ClassFile}
@@ -11,12 +12,10 @@ use Rattle.class_links.specs.Kept.{kept_files}
 use Rattle.class_links.specs.Links.{Links, IsBroken}
 use Rattle.class_set.specs.Linked.{Linked}
 use Rattle.class_set.specs.ArrayTypes.{linked_from}
-use Rattle.class_set.specs.Facts.{facts_of}
 use Rattle.set_demands.specs.Demands.{asks}
 use Rattle.parsing.specs.Results.{◌>>=◌}
 use Rattle.statuses.specs.declared.status.Status.{Status}
 use Rattle.statuses.specs.declared.status.Status.TheVariants as status
-use Rattle.first_spaces.specs.Parts.{RootsDiffer}
 use Rattle.autopersist.specs.Words.{slashed}
 
 -- a source has at most so many files, and a file at most so many bytes
@@ -63,11 +62,10 @@ pub record Choice : Type 0 where
   pub set : Linked
   pub main : List ℕ
 
--- What is built of a class set: each whose code asks for no threads, and no two of whose durable roots have one name.
+-- What is built of a class set: each whose code asks for no threads.
 abbrev pub Builds : List ℕ → Linked → Result Choice Status → Type 0
-Builds name set (Ok choice) =
-    (asks set ≡ false) × RootsDiffer (facts_of set) × (choice ≡ record { set = set; main = name })
-Builds name set (Err s) = (s ≡ status.NotBuilt) × ((asks set ≡ true) ⊎ (RootsDiffer (facts_of set) → ⊥))
+Builds name set (Ok choice) = (asks set ≡ false) × (choice ≡ record { set = set; main = name })
+Builds name set (Err s) = (s ≡ status.NotBuilt) × (asks set ≡ true)
 
 -- the classes break a condition of linking, the first as the refusal says
 abbrev pub IsRefused : List ClassFile → LinkRefusal → Type 0

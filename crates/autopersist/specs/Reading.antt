@@ -6,7 +6,8 @@ use Rattle.parsing.specs.Results as parsing
 use Rattle.statuses.specs.declared.status.Status.{Status}
 use Rattle.statuses.specs.declared.status.Status.TheVariants as status
 use Rattle.autopersist.specs.Files.{IsRefused, classes_among}
-use Rattle.autopersist.specs.Stages.{Stage, OfWords, OfSource, OfMemory, OfFile, OfRoom, stage_of, IsFreeStage, IsFilesStage, IsClassesStage}
+use Rattle.autopersist.specs.Stages.{Stage, OfWords, OfSource, OfMemory, OfFile, OfRoom, stage_of, IsFreeStage, IsFilesStage}
+use Rattle.autopersist.specs.Stages.{IsClassesStage}
 
 -- what a call gave is what the definition gives, unless memory ran out
 abbrev pub IsReadAs : {A B : Type 0} → (A → B) → Result A Status → Result B Status → Type 0

@@ -9,7 +9,9 @@ use Rattle.line_memory.specs.Memory.{Memory}
 use Rattle.image_meaning.specs.Appending.{with_all_too}
 use Rattle.image_meaning.specs.Checks.{Words}
 use Rattle.image_meaning.specs.Entries.{DirectoryEntry}
+use Rattle.image_meaning.specs.Laws.{Opens}
 use Rattle.image_meaning.specs.Meaning.{StandsFor, empty_graph}
+use Rattle.image_recovery.specs.Recovered.{entries_in}
 use Rattle.run_types.specs.declared.fault.Full.{Full}
 use Rattle.run_types.specs.declared.fault.LinkKind.{LinkKind}
 use Rattle.run_types.specs.declared.fault.LinkKind.TheVariants.{MissingClass, MissingMethod}
@@ -28,9 +30,9 @@ use Rattle.shared_objects.specs.declared.rest.Rest.{Rest}
 use Rattle.shared_objects.specs.Shown.{Shown}
 use Rattle.run_forms.specs.Views.{ThreadFrames}
 use Rattle.run_forms.specs.Standing.{Launch, IsAsking, IsRun, StandsFor as FramesStandFor, plain_code}
-use Rattle.stop_invariant.specs.Stops.{IsAllowedImage}
-use Rattle.machine.specs.Running.{HadNoFault}
-use Rattle.durable_run.specs.Turning.{is_built}
+use Rattle.stop_theorem.specs.Stops.{IsAllowedImage}
+use Rattle.durable_launch.specs.Passed.{HadNoFault}
+use Rattle.durable_launch.specs.Passed.{is_built}
 use Rattle.durable_launch.specs.Launching.{launch_over}
 use Rattle.program_launch.specs.declared.mains.Main.{Main}
 use Rattle.program_launch.specs.declared.mains.NoMain.{NoMain}
@@ -44,10 +46,6 @@ use Rattle.set_opening.specs.Unopened.{IsUnopened}
 use Rattle.statuses.specs.Names.{fault_status, main_text, shortened, uncaught_in}
 use Rattle.statuses.specs.declared.status.Status.{Status}
 use Rattle.statuses.specs.declared.status.Status.TheVariants as status
-
--- the limits of a run for which the words ask no others
-abbrev pub default_limits : Limits
-default_limits = record { heap_words = 8388608; acts = 1048576 }
 
 -- ---- the image is opened
 
@@ -78,28 +76,29 @@ pub record CannotOpen (set : Linked) (start after : Told) (how : Status) : Type 
 
 -- ---- the run doesn't begin
 
--- the first objects of the set take more words than there are, and the status tells it of the first that finds too few
-pub record LacksFirstWords (set : Linked) (how : Status) : Type 0 where
+-- the first objects of the set take more words than the limits allow, and the status tells it of the first that finds
+-- too few
+pub record LacksFirstWords (set : Linked) (limits : Limits) (how : Status) : Type 0 where
   pub full : Full
   pub is : how ≡ status.Full full
-  pub lacks : LacksWords default_limits.heap_words (first_objects (facts_of set) empty_graph) full
+  pub lacks : LacksWords limits.heap_words (first_objects (facts_of set) empty_graph) full
 
 abbrev pub kind_of : NoMain → LinkKind
 kind_of Class = MissingClass
 kind_of Method = MissingMethod
 
 -- The first objects find room, and the set has no class of this name, or it finds no static `main` from it on.
-pub record HasNoMain (set : Linked) (name : List ℕ) (graph : Graph) (how : Status) : Type 0 where
-  pub fits : words_taken graph (first_heap (facts_of set) graph) ≤ default_limits.heap_words
+pub record HasNoMain (set : Linked) (name : List ℕ) (limits : Limits) (graph : Graph) (how : Status) : Type 0 where
+  pub fits : words_taken graph (first_heap (facts_of set) graph) ≤ limits.heap_words
   pub none : NoMain
   pub missing : main_of set name ≡ Err none
   pub is : how ≡ status.LinkFault (kind_of none) (shortened (main_text (kind_of none) name))
 
 -- Once the image was opened, the first words were looked for, and then `main`; memory may run out before the first turn.
-pub record CannotBegin (set : Linked) (name : List ℕ) (start : Told) (how : Status) : Type 0 where
+pub record CannotBegin (set : Linked) (name : List ℕ) (limits : Limits) (start : Told) (how : Status) : Type 0 where
   pub graph : Graph
   pub of : IsOpenedSo set start graph
-  pub cause : LacksFirstWords of.numbered how ⊎ HasNoMain of.numbered name graph how ⊎ (how ≡ status.OutOfMemory)
+  pub cause : LacksFirstWords of.numbered limits how ⊎ HasNoMain of.numbered name limits graph how ⊎ (how ≡ status.OutOfMemory)
 
 -- ---- how the run ends
 
@@ -127,27 +126,27 @@ pub record AsksMore (launch : Launch) (acts : List Recorded) (how : Status) : Ty
   pub is : how ≡ status.NotBuilt
 
 -- The image was opened, `main` of the class of this name is there, and the acts are a plain run of the set from
--- there, with the code of its files, which kept its limits and ended as the status says.
-pub record HasEndedSo (set : Linked) (name : List ℕ) (start : Told) (opening : Graph) (acts : List Recorded)
+-- there, with the code of its files, which kept these limits and ended as the status says.
+pub record HasEndedSo (set : Linked) (name : List ℕ) (limits : Limits) (start : Told) (opening : Graph) (acts : List Recorded)
     (how : Status) : Type 0 where
   pub graph : Graph
   pub of : IsOpenedSo set start graph
   pub main : Main
   pub found : main_of of.numbered name ≡ Ok main
   pub literals : List Ref
-  pub run : IsRun (launch_over of.numbered main default_limits graph literals) acts
-  pub within : HadNoFault (launch_over of.numbered main default_limits graph literals) acts
-  pub ends : Ends of.numbered (launch_over of.numbered main default_limits graph literals)
+  pub run : IsRun (launch_over of.numbered main limits graph literals) acts
+  pub within : HadNoFault (launch_over of.numbered main limits graph literals) acts
+  pub ends : Ends of.numbered (launch_over of.numbered main limits graph literals)
       (start.size - of.free) acts how
-      ⊎ AsksMore (launch_over of.numbered main default_limits graph literals) acts how
+      ⊎ AsksMore (launch_over of.numbered main limits graph literals) acts how
   -- the opening graph, where there is an act
   pub from : acts ≢ [] → opening ≡ graph
 
 -- What the call came to.
-abbrev pub SetEnds : Linked → (name : List ℕ) → Told → Graph → List Recorded → Told → Status → Type 0
-SetEnds set name start opening acts after how =
-    ((acts ≡ []) × (CannotOpen set start after how ⊎ CannotBegin set name start how))
-    ⊎ HasEndedSo set name start opening acts how
+abbrev pub SetEnds : Linked → (name : List ℕ) → Limits → Told → Graph → List Recorded → Told → Status → Type 0
+SetEnds set name limits start opening acts after how =
+    ((acts ≡ []) × (CannotOpen set start after how ⊎ CannotBegin set name limits start how))
+    ⊎ HasEndedSo set name limits start opening acts how
 
 -- ---- stops
 
@@ -156,13 +155,16 @@ abbrev pub StandsAsBefore : (size : ℕ) → (before : Words) → Outcome → Ty
 StandsAsBefore size before words = (graph : Graph) → StandsFor size before graph
     → (entries : List DirectoryEntry) × StandsFor size words (with_all_too graph entries)
 
--- They stand for a graph that these acts of all allow, from the graph with which the image was opened.
+-- They open with the directory with which the image was opened, and stand for a graph that these acts of all allow from
+-- the graph with which it was.
 pub record StandsAllowed (set : Linked) (start : Told) (opening : Graph) (all acts : List Recorded) (words : Outcome)
     : Type 0 where
   pub graph : Graph
   pub of : IsOpenedSo set start graph
   pub from : all ≢ [] → opening ≡ graph
-  pub allowed : IsAllowedImage (first_known (facts_of of.numbered) graph) start.size acts words
+  -- the image has the directory of the opening
+  pub opens : Opens start.size words (entries_in of.directory)
+  pub allowed : IsAllowedImage (first_known (facts_of of.numbered) graph) start.size (entries_in of.directory) acts words
 
 -- So they do; or, where there are no acts yet, they stand as before.
 abbrev pub StandsRightly : Linked → Told → Graph → (all acts : List Recorded) → (before : Words) → Outcome → Type 0
@@ -182,13 +184,13 @@ pub record StandsAtStops (set : Linked) (start : Told) (opening : Graph) (acts :
 
 -- ---- the whole
 
--- What a run of the set over an image comes to, whose main class has this name.
-pub record SetRunsOver (set : Linked) (name : List ℕ) (start : Told) (opening : Graph) (acts : List Recorded)
+-- What a run of the set over an image comes to, whose main class has this name, within these limits.
+pub record SetRunsOver (set : Linked) (name : List ℕ) (limits : Limits) (start : Told) (opening : Graph) (acts : List Recorded)
     (after : Told) (how : Status) : Type 0 where
   -- the image keeps its size
   pub size : after.size ≡ start.size
   -- how it ended, and why
-  pub ends : SetEnds set name start opening acts after how
+  pub ends : SetEnds set name limits start opening acts after how
   -- where there are no acts, the opening graph has no roots and nodes
   pub unbegun : acts ≡ [] → opening ≡ empty_graph
   -- The persistence theorem: a stop within any image call, or after the last one, leaves only images that

@@ -4,15 +4,17 @@ use Rattle.ap_base.specs.Sinks.{with_bytes}
 use Rattle.ap_base.specs.declared.source.NamedBytes.{NamedBytes}
 use Rattle.graph_model.specs.declared.types.Graph.{Graph}
 use Rattle.line_image.specs.Told.{Told}
+use Rattle.run_types.specs.declared.limits.Limits.{Limits}
 use Rattle.run_history.specs.Recorded.{Recorded}
 use Rattle.plain_model.specs.Runs.{output_of}
-use Rattle.durable_run.specs.Telling.{with_all}
+use Rattle.durable_launch.specs.Passed.{with_all}
 use Rattle.statuses.specs.declared.status.Status.{Status}
 use Rattle.autopersist.specs.Files.{Choice, FilesGive}
 use Rattle.autopersist.specs.Reading.{HadLeft, HasNoCause}
 use Rattle.autopersist.specs.Sets.{SetEnds, SetRunsOver}
-use Rattle.autopersist.specs.Stages.{Stage, OfWords, OfSource, OfMemory, OfFile, OfLinking, OfForm, OfOpening, OfRoom, OfNames, OfImage, OfTurns, stage_of, IsRunStage, IsEarlyStage}
-use Rattle.autopersist.specs.Words.{main_class}
+use Rattle.autopersist.specs.Stages.{Stage, OfWords, OfSource, OfMemory, OfFile, OfLinking, OfForm, OfOpening, OfRoom, OfNames}
+use Rattle.autopersist.specs.Stages.{OfImage, OfTurns, stage_of, IsRunStage, IsEarlyStage}
+use Rattle.autopersist.specs.Words.{main_class, asked_limits}
 
 -- The words and the files that a source had come to this: what is to run, or why nothing is.
 pub record ComesTo (words : List (List ℕ)) (files_told : Option (List NamedBytes))
@@ -27,12 +29,14 @@ pub record ComesTo (words : List (List ℕ)) (files_told : Option (List NamedByt
 abbrev pub IsAsked : List (List ℕ) → Option (List NamedBytes) → Choice → Type 0
 IsAsked words files_told choice = ComesTo words files_told (Ok choice)
 
--- so it is with what is asked for
-pub record OfChoice (words : List (List ℕ)) (files_told : Option (List NamedBytes)) (P : Choice → Type 0)
+-- so it is with what is asked for, within the limits that are asked for
+pub record OfChoice (words : List (List ℕ)) (files_told : Option (List NamedBytes)) (P : Choice → Limits → Type 0)
     : Type 0 where
   pub choice : Choice
   pub is_asked : IsAsked words files_told choice
-  pub holds : P choice
+  pub limits : Limits
+  pub are_asked : asked_limits words ≡ Some limits
+  pub holds : P choice limits
 
 -- ---- causes
 
@@ -46,13 +50,13 @@ pub record Over : Type 0 where
 abbrev pub over : Told → Graph → List Recorded → Told → Over
 over start opening acts after = record { start = start; opening = opening; acts = acts; after = after }
 
-abbrev pub EndsOver : Over → Status → Choice → Type 0
-EndsOver over how choice =
-    SetEnds choice.set choice.main over.start over.opening over.acts over.after how
+abbrev pub EndsOver : Over → Status → Choice → Limits → Type 0
+EndsOver over how choice limits =
+    SetEnds choice.set choice.main limits over.start over.opening over.acts over.after how
 
-abbrev pub RunsAs : Over → Status → Choice → Type 0
-RunsAs over how choice =
-    SetRunsOver choice.set choice.main over.start over.opening over.acts over.after how
+abbrev pub RunsAs : Over → Status → Choice → Limits → Type 0
+RunsAs over how choice limits =
+    SetRunsOver choice.set choice.main limits over.start over.opening over.acts over.after how
 
 -- What a status says of the words, the files, the image and the acts, by its stage. Want of memory says nothing, nor does
 -- a fault of the source, whose count has then risen.

@@ -1,17 +1,15 @@
 // What is to run.
-ghost use Rattle.std.specs.Prelude.{◌≡◌, List, [], length, ◌⊎◌, ◌≤◌, ◌↔◌, All, Some, None, Ok, Err, OnOk, IfOk, IfErr, IsErrOf, IsTrue, IsFalse, ℕ};
+ghost use Rattle.std.specs.Prelude.{◌≡◌, List, [], length, ◌⊎◌, ◌≤◌, ◌↔◌, All, Some, None, Ok, Err, OnOk, IfOk, IfErr, IsErrOf};
 ghost use Rattle.ap_base.specs.Causes.{Rose};
 ghost use Rattle.ap_base.specs.declared.source.NamedBytes.{NamedBytes as File};
 ghost use Rattle.class_file.specs.Classes.{CanBeRead};
 ghost use Rattle.class_links.specs.Kept.{kept_files};
 ghost use Rattle.class_links.specs.Links.{Links};
 ghost use Rattle.class_set.specs.ArrayTypes.{linked_from};
-ghost use Rattle.class_set.specs.Facts.{facts_of};
-ghost use Rattle.first_spaces.specs.Parts.{RootsDiffer};
-ghost use Rattle.autopersist.specs.Files.{Builds, ClassesGive};
+ghost use Rattle.autopersist.specs.Files.{ClassesGive};
 ghost use Rattle.autopersist.specs.Reading.{IsLeft, IsOfClasses, IsOfLinking};
 ghost use Rattle.autopersist.specs.TopCall.{IsAsked, IsCauseOf, IsOfWords, Over};
-ghost use Rattle.autopersist.specs.Words.{main_class, texts};
+ghost use Rattle.autopersist.specs.Words.{asked_limits, main_class, texts};
 
 use crate::files::read_files;
 use crate::words::{internal_name, read_words};
@@ -19,17 +17,18 @@ use ap_base::ClassSource;
 use class_file::ClassFile;
 use class_links::LinkRefusal;
 use class_set::ClassSet;
+use run_types::Limits;
 use set_demands::asks_for_threads;
-use set_spaces::roots_differ;
 use statuses::{NameRoom, Status};
-use std::alloc::{AllocError, Global};
+use std::alloc::Global;
 
-/// What is to run: a class set, from its class of this name on; and room for the names in the status
-/// that it ends by.
+/// What is to run: a class set, from its class of this name on, within these limits; and room for the
+/// names in the status that it ends by.
 #[derive(Drop)]
 pub(crate) struct Found {
     pub(crate) set: ClassSet,
     pub(crate) main: Vec<u8>,
+    pub(crate) limits: Limits,
     pub(crate) room: NameRoom,
 }
 
@@ -41,7 +40,7 @@ pub(crate) fn find_choice<C: ClassSource>(
 ) -> Result<Found, Status>
     ensures found { IfOk result (λ found. IsAsked (texts words.now) (C.left source.old)
         (record { set = found.set; main = found.main.items })) }
-    ensures differ { IfOk result (λ found. RootsDiffer (facts_of found.set)) }
+    ensures limits { IfOk result (λ found. asked_limits (texts words.now) ≡ Some found.limits) }
     ensures cause { IfErr result (λ s. (over : Over)
         → IsCauseOf (texts words.now) (C.left source.old) over s) }
     ensures usage { IsErrOf result Status.Usage ↔ (main_class (texts words.now) ≡ None) }
@@ -59,7 +58,7 @@ pub(crate) fn find_choice<C: ClassSource>(
         return Err(Status::Usage);
     };
     let classes = read_files(alloc, source)?;
-    choose(alloc, command.main, classes)
+    choose(alloc, command.main, command.limits, classes)
 }
 
 // The class set of these files, where they link.
@@ -77,13 +76,18 @@ fn link(alloc: Global, classes: Vec<ClassFile>) -> Result<ClassSet, Status>
     }
 }
 
-// What is to run of these classes, where the main class has this name.
-fn choose(alloc: Global, class: &str, classes: Vec<ClassFile>) -> Result<Found, Status>
+// What is to run of these classes, where the main class has this name, within these limits.
+fn choose(
+    alloc: Global,
+    class: &str,
+    limits: Limits,
+    classes: Vec<ClassFile>,
+) -> Result<Found, Status>
     requires few { length classes.items ≤ 4096 }
     requires readable { All CanBeRead classes.items }
     ensures found { IfOk result (λ found. ClassesGive class.now (kept_files classes.items)
         (Ok (record { set = found.set; main = found.main.items }))) }
-    ensures differ { IfOk result (λ found. RootsDiffer (facts_of found.set)) }
+    ensures limits { IfOk result (λ found. found.limits ≡ limits) }
     ensures refused { IfErr result (λ s. (s ≡ Status.OutOfMemory)
         ⊎ ClassesGive class.now (kept_files classes.items) (Err s)) }
     ensures of_classes { IfErr result IsOfClasses }
@@ -95,23 +99,13 @@ fn choose(alloc: Global, class: &str, classes: Vec<ClassFile>) -> Result<Found, 
     let Ok(room) = NameRoom::reserve(alloc) else {
         return Err(Status::OutOfMemory);
     };
-    match is_built(alloc, &set) {
-        Ok(true) => Ok(Found { set, main, room }),
-        Ok(false) => Err(Status::NotBuilt),
-        Err(_) => Err(Status::OutOfMemory),
+    if asks_for_threads(&set) {
+        return Err(Status::NotBuilt);
     }
-}
-
-// Whether a class set's runs are built: its code asks for no threads, and no two of its durable roots
-// have one name.
-fn is_built(alloc: Global, set: &ClassSet) -> Result<bool, AllocError>
-    ensures built { IfOk result (λ built. IsTrue built → (name : List ℕ)
-        → Builds name set.now (Ok (record { set = set.now; main = name }))) }
-    ensures other { IfOk result (λ built. IsFalse built
-        → (name : List ℕ) → Builds name set.now (Err Status.NotBuilt)) }
-{
-    if asks_for_threads(set) {
-        return Ok(false);
-    }
-    roots_differ(alloc, set)
+    Ok(Found {
+        set,
+        main,
+        limits,
+        room,
+    })
 }

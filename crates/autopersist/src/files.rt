@@ -1,5 +1,6 @@
 // The files of a source, read and checked one by one.
-ghost use Rattle.std.specs.Prelude.{◌≡◌, ◌≢◌, ◌⊎◌, ◌≤◌, All, List, [], length, Some, OnOk, OnErr, IfOk, IfErr, IsErrOf, Ok, Err};
+ghost use Rattle.std.specs.Prelude.{◌≡◌, ◌≢◌, ◌⊎◌, ◌≤◌, All, List, [], length, Some, OnOk, OnErr, IfOk, IfErr, IsErrOf, Ok};
+ghost use Rattle.std.specs.Prelude.{Err};
 ghost use Rattle.ap_base.specs.Causes.{Rose};
 ghost use Rattle.ap_base.specs.Sources as given;
 ghost use Rattle.ap_base.specs.declared.source.NamedBytes.{NamedBytes as File};

@@ -5,24 +5,23 @@ ghost use Rattle.line_image.specs.Told.{Told};
 ghost use Rattle.image_meaning.specs.Meaning.{empty_graph};
 ghost use Rattle.class_set.specs.Linked.{Linked};
 ghost use Rattle.class_set.specs.Facts.{facts_of};
-ghost use Rattle.first_spaces.specs.Parts.{RootsDiffer};
 ghost use Rattle.set_opening.specs.Opened.{IsOpenedFor};
 ghost use Rattle.durable_launch.specs.Launching.{CanLaunch};
-ghost use Rattle.durable_run.specs.Turning.{IsReady};
-ghost use Rattle.machine_forms.specs.Machines.{Opening, memory_of};
+ghost use Rattle.durable_launch.specs.Passed.{IsReady};
+ghost use Rattle.durable_launch.specs.Passed.{Opening, memory_of};
 ghost use Rattle.program_host.specs.Hosts.{setting_in};
-ghost use Rattle.autopersist.specs.Sets.{SetRunsOver, default_limits, kind_of, status_of_unopened};
+ghost use Rattle.autopersist.specs.Sets.{SetRunsOver, kind_of, status_of_unopened};
 ghost use Rattle.autopersist.specs.Began.{RanBy, status_of_turned, status_of_unlaunched};
 ghost use Rattle.autopersist.specs.TopCall.{Tells};
 
 use crate::ran::{Ran, no_graph, unbegun};
 use ap_base::{Gate, Sink, ThreadNo};
 use class_set::ClassSet;
-use durable_launch::{Launched, OpenedHeap, launch, open_heap};
-use durable_run::{Run, Turned, run_thread};
+use durable_launch::{
+    Launched, OpenedHeap, Run, Turned, each_stop_is_allowed, launch, open_heap, run_thread,
+};
 use graph_model::Graph;
 use line_image::Image;
-use machine_runs::each_stop_is_allowed;
 use program_launch::{NoLaunch, NoMain, find_main};
 use run_history::{Acts, Watcher};
 use run_types::{Limits, LinkKind};
@@ -30,12 +29,6 @@ use set_opening::{OpenedImage, Unopened, open_for};
 use set_types::SetTypes;
 use statuses::{NameRoom, Status, main_status, status_of_fault, uncaught_status};
 use std::alloc::Global;
-
-// The limits of a run for which the words ask no others.
-const LIMITS: Limits = Limits {
-    heap_words: 8_388_608,
-    acts: 1_048_576,
-};
 
 fn kind_of(none: NoMain) -> LinkKind
     ensures { result ≡ kind_of none }
@@ -74,7 +67,7 @@ fn of_turned(set: &ClassSet, turned: Turned, room: NameRoom) -> Status
     match turned {
         Turned::Ended(None) => Status::Ok,
         Turned::Ended(Some(class)) => uncaught_status(set, ThreadNo::main(), class, room),
-        Turned::Over(fault) => status_of_fault(set, &fault, room),
+        Turned::Over(halt) => status_of_fault(set, &halt.of_run(), room),
         Turned::Unbuilt | Turned::Acted => Status::NotBuilt,
     }
 }
@@ -91,19 +84,19 @@ fn opening_of(alloc: Global, acts: &Acts, graph: Graph) -> Graph
     }
 }
 
-/// Opens an image for a class set and runs the set, from its class of this name on.
+/// Opens an image for a class set and runs the set, from its class of this name on, within these limits.
 pub(crate) fn run_set<I: Image, S: Sink, G: Gate, W: Watcher>(
     alloc: Global,
     mut set: ClassSet,
     class: &[u8],
+    limits: &Limits,
     room: NameRoom,
     image: I,
     sink: S,
     gate: &G,
     watcher: W,
 ) -> Ran<I, S, W>
-    requires differ { RootsDiffer (facts_of set) }
-    ensures ran { SetRunsOver set class.now (I.told image) result.opening result.acts.acts
+    ensures ran { SetRunsOver set class.now limits.now (I.told image) result.opening result.acts.acts
         (I.told result.image) result.status }
     ensures told { Tells result.acts.acts (W.seen watcher) (W.seen result.watcher)
         (S.taken sink) (S.taken result.sink) }
@@ -113,7 +106,9 @@ pub(crate) fn run_set<I: Image, S: Sink, G: Gate, W: Watcher>(
         → Rose (I.faults image) (I.faults result.image) }
 {
     match open_for(alloc, &mut set, image) {
-        Ok(opened) => run_opened(alloc, &set, class, room, opened, sink, gate, watcher),
+        Ok(opened) => run_opened(
+            alloc, &set, class, limits, room, opened, sink, gate, watcher,
+        ),
         Err((why, image)) => unbegun(alloc, of_unopened(why), image, sink, watcher),
     }
 }
@@ -123,6 +118,7 @@ fn run_opened<I: Image, S: Sink, G: Gate, W: Watcher>(
     alloc: Global,
     set: &ClassSet,
     class: &[u8],
+    limits: &Limits,
     room: NameRoom,
     opened: OpenedImage<I>,
     sink: S,
@@ -131,10 +127,9 @@ fn run_opened<I: Image, S: Sink, G: Gate, W: Watcher>(
 ) -> Ran<I, S, W>
     requires opened { (start : Told) × (old : Linked) × IsOpenedFor start old set.now
         opened.memory opened.directory opened.lines opened.graph opened.free }
-    requires differ { RootsDiffer (facts_of set.now) }
     ensures ran { (start : Told) (old : Linked) → IsOpenedFor start old set.now
         opened.memory opened.directory opened.lines opened.graph opened.free
-        → SetRunsOver old class.now start result.opening result.acts.acts
+        → SetRunsOver old class.now limits.now start result.opening result.acts.acts
         (I.told result.image) result.status }
     ensures told { Tells result.acts.acts (W.seen watcher) (W.seen result.watcher)
         (S.taken sink) (S.taken result.sink) }
@@ -143,8 +138,8 @@ fn run_opened<I: Image, S: Sink, G: Gate, W: Watcher>(
     ensures image_fault { result.status ≡ Status.ImageFault
         → Rose opened.memory.faults (I.faults result.image) }
 {
-    match open_heap(alloc, set, opened, LIMITS.heap_words) {
-        Ok(heap) => run_heap(alloc, set, class, room, heap, sink, gate, watcher),
+    match open_heap(alloc, set, opened, limits.heap_words) {
+        Ok(heap) => run_heap(alloc, set, class, limits, room, heap, sink, gate, watcher),
         Err((why, memory)) => {
             unbegun(
                 alloc,
@@ -162,6 +157,7 @@ fn run_heap<I: Image, S: Sink, G: Gate, W: Watcher>(
     alloc: Global,
     set: &ClassSet,
     class: &[u8],
+    limits: &Limits,
     room: NameRoom,
     heap: OpenedHeap<I>,
     sink: S,
@@ -169,10 +165,10 @@ fn run_heap<I: Image, S: Sink, G: Gate, W: Watcher>(
     watcher: W,
 ) -> Ran<I, S, W>
     requires can { (start : Told) × (old : Linked)
-        × CanLaunch start old set.now default_limits.heap_words heap }
+        × CanLaunch start old set.now limits.now.heap_words heap }
     ensures ran { (start : Told) (old : Linked)
-        → CanLaunch start old set.now default_limits.heap_words heap
-        → SetRunsOver old class.now start result.opening result.acts.acts
+        → CanLaunch start old set.now limits.now.heap_words heap
+        → SetRunsOver old class.now limits.now start result.opening result.acts.acts
         (I.told result.image) result.status }
     ensures told { Tells result.acts.acts (W.seen watcher) (W.seen result.watcher)
         (S.taken sink) (S.taken result.sink) }
@@ -190,7 +186,7 @@ fn run_heap<I: Image, S: Sink, G: Gate, W: Watcher>(
             return unbegun(alloc, status, image, sink, watcher);
         }
     };
-    match launch(alloc, set, &main, heap, &LIMITS) {
+    match launch(alloc, set, &main, heap, limits) {
         Ok(launched) => run_launched(alloc, set, room, launched, sink, gate, watcher),
         Err(memory) => unbegun(
             alloc,

@@ -90,11 +90,19 @@ where
         (S.taken sink) (S.taken result.sink) }
 {
     match find_choice(alloc, words.as_slice(), &mut source) {
-        Ok(Found { set, main, room }) => {
+        Ok(
+            Found {
+                set,
+                main,
+                limits,
+                room,
+            },
+        ) => {
             let ran = run_set(
                 alloc,
                 set,
                 main.as_slice(),
+                &limits,
                 room,
                 image,
                 sink,

@@ -3,14 +3,23 @@ ghost use Rattle.std.specs.Prelude.{◌≡◌, List, ℕ, map, IfOk};
 ghost use Rattle.std.specs.Option.{option_map};
 ghost use Rattle.autopersist.specs.Words.{Asked, asked_by, slashed, texts};
 
+use run_types::Limits;
 use std::alloc::{AllocError, Global};
 
-/// What the words ask for: the class `main` of a folder's class files is to be run on the image in a file.
+// The limits of a run for which the words ask no others.
+const DEFAULT_LIMITS: Limits = Limits {
+    heap_words: 8_388_608,
+    acts: 1_048_576,
+};
+
+/// What the words ask for: the class `main` of a folder's class files is to be run on the image in a file, within
+/// these limits.
 #[derive(Clone, Copy)]
 pub struct Command<'a> {
     pub image: &'a str,
     pub main: &'a str,
     pub folder: &'a str,
+    pub limits: Limits,
 }
 
 /// What the words ask for: `None` exactly where they aren't `run --image F --main C DIR` behind the program's name.
@@ -19,6 +28,7 @@ pub fn read_words(words: &[String]) -> Option<Command<'_>>
       image = command.image.now;
       main = command.main.now;
       folder = command.folder.now;
+      limits = command.limits;
     }) result ≡ asked_by (texts words.now) }
 {
     match words {
@@ -28,6 +38,7 @@ pub fn read_words(words: &[String]) -> Option<Command<'_>>
                     image: file.as_str(),
                     main: class.as_str(),
                     folder: folder.as_str(),
+                    limits: DEFAULT_LIMITS,
                 })
             } else {
                 None

@@ -1,5 +1,7 @@
 -- What calls find is filled up class by class.
-use Rattle.std.proofs.Common.{true, false, ◌≡◌, inl, inr, ℕ, suc, ◌<◌, ◌≤◌, List, [], ◌∷◌, ◌++◌, Option, Some, None, length, get_or, set, take, refl, ap, sym, ◌∙◌, if◌then◌else◌, eq-eqb, arith, get_or-set_other, get_or-set_same}
+use Rattle.std.proofs.Common.{true, false, ◌≡◌, inl, inr, ℕ, suc, ◌<◌, ◌≤◌, List, [], ◌∷◌, ◌++◌, Option, Some, None, length}
+use Rattle.std.proofs.Common.{get_or, set, take, refl, ap, sym, ◌∙◌, if◌then◌else◌, eq-eqb, arith, get_or-set_other}
+use Rattle.std.proofs.Common.{get_or-set_same}
 use Rattle.std.specs.Prelude.{Bool, is_some}
 use Rattle.std.proofs.Math.Seq.{take-append_seam}
 use Rattle.std.proofs.lemmas.Bool.{false≢true, ne_eqb, cases_eq}

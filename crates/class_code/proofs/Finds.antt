@@ -1,5 +1,6 @@
 -- What calls find by the numbers of signatures is what their look-up by name finds.
-use Rattle.std.proofs.Common.{true, false, ◌≡◌, ℕ, suc, ◌+◌, ◌<◌, ◌≤◌, List, [], ◌∷◌, ◌++◌, Option, Some, None, map, length, get_or, refl, ap, sym, ◌∙◌, if◌then◌else◌, eq-eqb, subst, arith}
+use Rattle.std.proofs.Common.{true, false, ◌≡◌, ℕ, suc, ◌+◌, ◌<◌, ◌≤◌, List, [], ◌∷◌, ◌++◌, Option, Some, None, map, length}
+use Rattle.std.proofs.Common.{get_or, refl, ap, sym, ◌∙◌, if◌then◌else◌, eq-eqb, subst, arith}
 use Rattle.std.specs.Prelude.{Bool, nat_eq, nat_lt, is_some}
 use Rattle.std.specs.Option.{option_map}
 use Rattle.std.specs.Str.{bytes_eq}
@@ -23,7 +24,8 @@ use Rattle.frames.specs.declared.program.Dispatch.{Dispatch}
 use Rattle.frames.specs.declared.program.Target.{Target}
 use Rattle.class_code.specs.Classes.{dispatch_from, dispatch_to}
 use Rattle.class_code.specs.Declarations.{declared_from, dispatch_in, found_along, found_among, has_signature, target_at}
-use Rattle.class_code.specs.Entries.{Signature, is_same, place_from, rows_of, run_signature, signature_rows, signatures_of, to_string_signature}
+use Rattle.class_code.specs.Entries.{Signature, is_same, place_from, rows_of, run_signature, signature_rows, signatures_of}
+use Rattle.class_code.specs.Entries.{to_string_signature}
 use Rattle.class_code.specs.Signatures.{signature_texts, text_of}
 use Rattle.class_code.proofs.Signed.{placed, same_text, texts_with}
 
@@ -97,7 +99,8 @@ same_place : (n k : ℕ) (texts : List (List ℕ)) (a b : List ℕ) → text_fro
 same_place n k [] a b e f = let no : ⊥ = cc in absurd no
 same_place n k (t ∷ ts) a b e f = one (λ x y. same_place (n + 1) k ts a b x y) (bytes_eq t a) refl (bytes_eq t b) refl e f
   where
-    one : (text_from (n + 1) ts a ≡ Some k → text_from (n + 1) ts b ≡ Some k → a ≡ b) → (p : Bool) → bytes_eq t a ≡ p → (q : Bool) → bytes_eq t b ≡ q → (if p then Some n else text_from (n + 1) ts a) ≡ Some k
+    one : (text_from (n + 1) ts a ≡ Some k → text_from (n + 1) ts b ≡ Some k → a ≡ b) → (p : Bool) → bytes_eq t a ≡ p →
+        (q : Bool) → bytes_eq t b ≡ q → (if p then Some n else text_from (n + 1) ts a) ≡ Some k
         → (if q then Some n else text_from (n + 1) ts b) ≡ Some k → a ≡ b
     one next true x true y e f = sym (same_bytes t a x) ∙ same_bytes t b y
     one next true x false y e f =

@@ -1,5 +1,6 @@
 -- Look-ups go on in the superclass.
-use Rattle.std.proofs.Common.{true, false, ◌≡◌, ◌⊎◌, inl, inr, ℕ, zero, suc, ◌+◌, ◌<◌, ◌≤◌, List, [], ◌∷◌, Option, Some, None, map, length, slice_index_or, refl, ap, sym, ◌∙◌, if◌then◌else◌, subst, arith}
+use Rattle.std.proofs.Common.{true, false, ◌≡◌, ◌⊎◌, inl, inr, ℕ, zero, suc, ◌+◌, ◌<◌, ◌≤◌, List, [], ◌∷◌, Option, Some, None}
+use Rattle.std.proofs.Common.{map, length, slice_index_or, refl, ap, sym, ◌∙◌, if◌then◌else◌, subst, arith}
 use Rattle.std.specs.Prelude.{Bool, nat_lt, codes, All, IfSome, Ok, Err}
 use Rattle.std.proofs.lemmas.Bool.{cases_lt}
 use Rattle.std.proofs.lemmas.Bool.Decides.{nat_tests}

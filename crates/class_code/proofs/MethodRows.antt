@@ -1,5 +1,6 @@
 -- The rows of methods: those of one class behind another's, each by its number in its class.
-use Rattle.std.proofs.Common.{inl, inr, true, false, ◌≡◌, ℕ, zero, suc, ◌+◌, ◌-◌, ◌<◌, ◌≤◌, Bool, List, [], ◌∷◌, ◌++◌, Option, Some, None, length, map, get_or, refl, ap, sym, ◌∙◌, append_assoc, arith}
+use Rattle.std.proofs.Common.{inl, inr, true, false, ◌≡◌, ℕ, zero, suc, ◌+◌, ◌-◌, ◌<◌, ◌≤◌, Bool, List, [], ◌∷◌, ◌++◌, Option}
+use Rattle.std.proofs.Common.{Some, None, length, map, get_or, refl, ap, sym, ◌∙◌, append_assoc, arith}
 use Rattle.std.specs.Prelude.{nat_lt, slice_get, sum, if◌then◌else◌}
 use Rattle.std.specs.List.{flat_map, range_with_len}
 use Rattle.std.proofs.lemmas.Bool.{cases_lt}
@@ -18,8 +19,10 @@ use Rattle.class_set.proofs.Above.{get_or-map_all}
 use Rattle.class_set.proofs.Declared.{members_counted}
 use Rattle.frames.specs.Tables.{method_at, no_method}
 use Rattle.frames.specs.declared.program.Method.{Method}
-use Rattle.class_code.specs.Codes.{Start, along, along_all, behind, built_in_from, built_ins_from, first_start, method_of, methods_of}
-use Rattle.class_code.specs.Methods.{Site, first_method, method_count, method_number, parameters_of, sites_from, sites_in, sites_of}
+use Rattle.class_code.specs.Codes.{Start, along, along_all, behind, built_in_from, built_ins_from, first_start, method_of}
+use Rattle.class_code.specs.Codes.{methods_of}
+use Rattle.class_code.specs.Methods.{Site, first_method, method_count, method_number, parameters_of, sites_from, sites_in}
+use Rattle.class_code.specs.Methods.{sites_of}
 use Rattle.class_code.specs.Programs.{program_of}
 use Rattle.class_code.proofs.Along.{StandFrom}
 use Rattle.class_code.proofs.FirstMethods.{element, past_all}

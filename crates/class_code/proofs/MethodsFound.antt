@@ -1,5 +1,6 @@
 -- The methods that look-ups find have rows, of the same sort.
-use Rattle.std.proofs.Common.{true, false, ◌≡◌, ℕ, suc, zero, ◌+◌, ◌<◌, Bool, List, [], ◌∷◌, Option, Some, None, length, get_or, refl, ap, sym, ◌∙◌, subst, arith}
+use Rattle.std.proofs.Common.{true, false, ◌≡◌, ℕ, suc, zero, ◌+◌, ◌<◌, Bool, List, [], ◌∷◌, Option, Some, None, length, get_or}
+use Rattle.std.proofs.Common.{refl, ap, sym, ◌∙◌, subst, arith}
 use Rattle.std.specs.Prelude.{◌&&◌, All, codes, IfSome, nat_lt, Result, Ok, Err, if◌then◌else◌}
 use Rattle.std.specs.Str.{bytes_eq}
 use Rattle.std.proofs.lemmas.Bool.{false≢true}
@@ -9,7 +10,8 @@ use Rattle.run_types.specs.declared.fault.LinkKind.{LinkKind}
 use Rattle.run_types.specs.declared.fault.LinkKind.TheVariants.{MissingMethod, NoCode, StaticMismatch}
 use Rattle.run_types.specs.declared.resolved.MethodAt.{MethodAt}
 use Rattle.parsing.specs.Results.{◌>>=◌}
-use Rattle.const_pool.specs.Parsing.{descriptor_at, method_at, result_at, only_field, parameters_at, field_at, brackets, element_at, base_at, class_at, after_front, name_len}
+use Rattle.const_pool.specs.Parsing.{descriptor_at, method_at, result_at, only_field, parameters_at, field_at, brackets}
+use Rattle.const_pool.specs.Parsing.{element_at, base_at, class_at, after_front, name_len}
 use Rattle.const_pool.specs.Pool.{Slots}
 use Rattle.const_pool.specs.Utf8.{bad_place, char_len}
 use Rattle.plain_model.specs.Facts.{superclasses_of}
@@ -25,7 +27,8 @@ use Rattle.frames.specs.declared.program.Target.{Target}
 use Rattle.frames.specs.declared.program.Target.TheVariants as target
 use Rattle.plain_frames.specs.Tables.{IsInitialiserOf, IsInstanceMethod, IsOwnTarget, IsStaticMethod, IsTarget}
 use Rattle.class_code.specs.Classes.{dispatch_from, dispatch_to, target_of}
-use Rattle.class_code.specs.Entries.{MemberName, Signature, called_method, class_called, found_or, method_from, method_name, special_of_entry, special_start, static_of_entry}
+use Rattle.class_code.specs.Entries.{MemberName, Signature, called_method, class_called, found_or, method_from, method_name}
+use Rattle.class_code.specs.Entries.{special_of_entry, special_start, static_of_entry}
 use Rattle.class_code.specs.Methods.{can_run, method_count, method_number, parameters_of}
 use Rattle.class_code.specs.Programs.{program_of}
 use Rattle.class_code.proofs.Found.{first_there}

@@ -1,12 +1,14 @@
 -- Signatures are found by their texts.
-use Rattle.std.proofs.Common.{true, false, ◌≡◌, ℕ, ◌+◌, List, [], ◌∷◌, ◌++◌, Option, Some, None, map, length, refl, ap, sym, ◌∙◌, if◌then◌else◌}
+use Rattle.std.proofs.Common.{true, false, ◌≡◌, ℕ, ◌+◌, List, [], ◌∷◌, ◌++◌, Option, Some, None, map, length, refl, ap, sym}
+use Rattle.std.proofs.Common.{◌∙◌, if◌then◌else◌}
 use Rattle.std.specs.Prelude.{Bool, ◌&&◌, ◌==◌, is_some}
 use Rattle.std.specs.Str.{bytes_eq}
 use Rattle.std.proofs.lemmas.List.{length-map, map-append}
 use Rattle.class_file.specs.declared.class.ClassFile.{ClassFile}
 use Rattle.text_table.specs.Texts.{with_text, with_texts}
 use Rattle.text_table.specs.Texts.{place_from as text_from}
-use Rattle.class_code.specs.Entries.{Signature, is_same, place_from, run_signature, signature_number, signatures_of, to_string_signature, with_signatures}
+use Rattle.class_code.specs.Entries.{Signature, is_same, place_from, run_signature, signature_number, signatures_of}
+use Rattle.class_code.specs.Entries.{to_string_signature, with_signatures}
 use Rattle.class_code.specs.Signatures.{signature_texts, text_of}
 
 both : (a b c : Bool) → ((a && b) && c) ≡ (a && (b && c))

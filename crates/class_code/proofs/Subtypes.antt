@@ -1,5 +1,6 @@
 -- The row of a class's supertypes says of which classes it is a subtype.
-use Rattle.std.proofs.Common.{inl, inr, true, false, ◌≡◌, ℕ, zero, suc, ◌+◌, ◌-◌, ◌<◌, ◌≤◌, Bool, List, [], ◌∷◌, ◌++◌, Some, None, length, map, get_or, refl, ap, sym, ◌∙◌, arith}
+use Rattle.std.proofs.Common.{inl, inr, true, false, ◌≡◌, ℕ, zero, suc, ◌+◌, ◌-◌, ◌<◌, ◌≤◌, Bool, List, [], ◌∷◌, ◌++◌, Some}
+use Rattle.std.proofs.Common.{None, length, map, get_or, refl, ap, sym, ◌∙◌, arith}
 use Rattle.std.specs.Prelude.{All, nat_eq, nat_lt, ◌&&◌, ◌||◌, filter, slice_get, if◌then◌else◌}
 use Rattle.std.specs.List.{list_any, range_with_len}
 use Rattle.std.proofs.lemmas.Bool.{cases_lt}

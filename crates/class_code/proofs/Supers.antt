@@ -1,5 +1,6 @@
 -- The superclasses of a class, one after the other.
-use Rattle.std.proofs.Common.{true, ◌≡◌, ℕ, zero, suc, List, [], ◌∷◌, Option, Some, None, drop, slice_index_or, refl, ap, ◌∙◌, eq-eqb}
+use Rattle.std.proofs.Common.{true, ◌≡◌, ℕ, zero, suc, List, [], ◌∷◌, Option, Some, None, drop, slice_index_or, refl, ap, ◌∙◌}
+use Rattle.std.proofs.Common.{eq-eqb}
 use Rattle.std.specs.Prelude.{◌||◌}
 use Rattle.std.proofs.lemmas.Bool.{ne_eqb}
 use Rattle.graph_model.specs.Heaps.{has_number}

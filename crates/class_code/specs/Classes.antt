@@ -1,6 +1,7 @@
 -- What frames ask of each class of a set: what is above it, which methods its instances have, and its
 -- initialiser (JVMS 2.9, 5.4.3.3, 5.5).
-use Rattle.std.specs.Prelude.{ℕ, suc, nat_lt, false, List, [], ◌∷◌, ◌++◌, map, filter, codes, length, Option, Some, None, Result, Ok, Err, if◌then◌else◌}
+use Rattle.std.specs.Prelude.{ℕ, suc, nat_lt, false, List, [], ◌∷◌, ◌++◌, map, filter, codes, length, Option, Some, None}
+use Rattle.std.specs.Prelude.{Result, Ok, Err, if◌then◌else◌}
 use Rattle.std.specs.List.{range_with_len}
 use Rattle.run_types.specs.declared.fault.LinkKind.{LinkKind}
 use Rattle.run_types.specs.declared.resolved.MethodAt.{MethodAt}

@@ -1,5 +1,6 @@
 -- What calls find in classes, by the numbers of signatures.
-use Rattle.std.specs.Prelude.{◌≡◌, ℕ, suc, ◌+◌, ◌<◌, nat_eq, false, Bool, List, [], ◌∷◌, map, length, slice_index_or, Option, Some, None, if◌then◌else◌}
+use Rattle.std.specs.Prelude.{◌≡◌, ℕ, suc, ◌+◌, ◌<◌, nat_eq, false, Bool, List, [], ◌∷◌, map, length, slice_index_or, Option}
+use Rattle.std.specs.Prelude.{Some, None, if◌then◌else◌}
 use Rattle.std.specs.List.{range_with_len}
 use Rattle.run_types.specs.declared.resolved.MethodAt.{MethodAt}
 use Rattle.built_in_table.specs.Members.{MemberFacts}

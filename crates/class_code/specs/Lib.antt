@@ -5,6 +5,7 @@ pub mod Codes
 pub mod Classes
 pub mod Programs
 pub mod Rows
+pub mod FormRows
 pub mod Indices
 pub mod Named
 pub mod Operands

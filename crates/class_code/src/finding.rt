@@ -3,7 +3,8 @@
 ghost use Rattle.std.specs.Prelude.{◌≡◌, ℕ, ◌<◌, ◌^◌, [], ◌∷◌, None, length, slice_index_or, IfOk};
 ghost use Rattle.plain_model.specs.Facts.{superclasses_of};
 ghost use Rattle.class_set.specs.Facts.{facts_of};
-ghost use Rattle.class_code.specs.Declarations.{IsFilled, all_declared, declared_by, dispatch_in, found_along, found_among, has_signature};
+ghost use Rattle.class_code.specs.Declarations.{IsFilled, all_declared, declared_by, dispatch_in, found_along, found_among};
+ghost use Rattle.class_code.specs.Declarations.{has_signature};
 
 use crate::declared::Declared;
 use ap_base::ListOf;

@@ -6,6 +6,7 @@ ghost use Rattle.class_code.specs.Methods.{Site};
 ghost use Rattle.class_code.specs.Codes.{Start};
 ghost use Rattle.class_code.specs.Dispatched.{IsTold};
 ghost use Rattle.class_code.specs.Entries.{pool_of};
+ghost use Rattle.class_code.specs.FormRows.{FormsAreDecoded};
 ghost use Rattle.class_code.specs.RowLaws.{LeadsToItsRows};
 ghost use Rattle.class_code.specs.Programs.{program_of};
 ghost use Rattle.class_code.specs.Rows.{SmallSetIsDecoded};
@@ -15,6 +16,12 @@ ghost use Rattle.class_code.specs.Targets.{JumpsLead, StandsThere, placements};
 /// worked out by hand.
 pub fn a_small_set_is_decoded()
     ensures { SmallSetIsDecoded }
+{}
+
+/// Each form of instruction is decoded to what it does (JVMS 6.5): worked out by hand in a class of the
+/// small set.
+pub fn instructions_are_decoded()
+    ensures { FormsAreDecoded }
 {}
 
 /// The jumps and the exception entries of each method lead to the instructions of the same method

@@ -34,8 +34,9 @@ pub use class_laws::{
     calls_find_own_methods_first, programs_are_their_sets, programs_name_what_is_there,
 };
 pub use laws::{
-    a_small_set_is_decoded, classes_are_those_of_the_set, jumps_lead_where_the_file_says,
-    methods_stand_where_their_code_does, numbers_lead_to_their_rows,
+    a_small_set_is_decoded, classes_are_those_of_the_set, instructions_are_decoded,
+    jumps_lead_where_the_file_says, methods_stand_where_their_code_does,
+    numbers_lead_to_their_rows,
 };
 pub use native_methods::NativeMethods;
 pub use program::decode;

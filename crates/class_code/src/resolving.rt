@@ -6,7 +6,8 @@ ghost use Rattle.graph_model.specs.Heaps.{has_number};
 ghost use Rattle.plain_model.specs.Facts.{superclasses_of};
 ghost use Rattle.class_set.specs.Facts.{facts_of};
 ghost use Rattle.class_code.specs.Methods.{has_code, can_run, method_count};
-ghost use Rattle.class_code.specs.Entries.{class_called, class_of_entry, called_method, method_from, static_of_entry, special_start, special_of_entry};
+ghost use Rattle.class_code.specs.Entries.{class_called, class_of_entry, called_method, method_from, static_of_entry};
+ghost use Rattle.class_code.specs.Entries.{special_start, special_of_entry};
 ghost use Rattle.class_code.specs.Named.{name_of};
 
 use crate::names::{Named, method_name};

@@ -4,7 +4,8 @@ ghost use Rattle.std.specs.Prelude.{◌≡◌, ℕ, ◌++◌, [], ◌∷◌, Lis
 ghost use Rattle.std.specs.List.{flat_map};
 ghost use Rattle.class_file.specs.declared.class.ClassFile.{ClassFile as File};
 ghost use Rattle.text_table.specs.Texts.{place_of, with_text, with_texts};
-ghost use Rattle.class_code.specs.Entries.{run_signature, to_string_signature, rows_in, signature_number, signature_of, signature_rows};
+ghost use Rattle.class_code.specs.Entries.{run_signature, to_string_signature, rows_in, signature_number, signature_of};
+ghost use Rattle.class_code.specs.Entries.{signature_rows};
 ghost use Rattle.class_code.specs.Named.{name_of};
 ghost use Rattle.class_code.specs.Signatures.{marked, signature_texts, text_of};
 

@@ -1,5 +1,6 @@
 -- The attributes of a field, that a loop reads one after the other.
-use Rattle.std.proofs.Common.{◌≡◌, ℕ, suc, ◌-◌, ◌+◌, ◌≤◌, ◌<◌, List, [], ◌∷◌, ◌++◌, Result, Ok, Err, refl, sym, ap, ◌∙◌, ◌⊎◌, inl, inr, append_assoc, arith}
+use Rattle.std.proofs.Common.{◌≡◌, ℕ, suc, ◌-◌, ◌+◌, ◌≤◌, ◌<◌, List, [], ◌∷◌, ◌++◌, Result, Ok, Err, refl, sym, ap, ◌∙◌, ◌⊎◌}
+use Rattle.std.proofs.Common.{inl, inr, append_assoc, arith}
 use Rattle.std.proofs.lemmas.List.{append-nil}
 use Rattle.const_pool.specs.Pool.{Slots}
 use Rattle.parsing.specs.Places.{Place}
@@ -78,5 +79,6 @@ module _ (pool : Slots) (front : List Attribute) (count i : ℕ) (facts : Facts)
   unfolding field_attributes_from
   is_done le so_far =
       let k : count - i ≡ 0 = omega arith in
-      let one : with_front front (field_attributes_from pool (count - i) facts file) ≡ Ok ((front, facts), file) = rw k (ap (λ (xs : List Attribute). done ClassRefusal ((xs, facts), file)) (append-nil front)) in
+      let one : with_front front (field_attributes_from pool (count - i) facts file) ≡ Ok ((front, facts), file) = rw k
+      (ap (λ (xs : List Attribute). done ClassRefusal ((xs, facts), file)) (append-nil front)) in
       sym so_far ∙ one

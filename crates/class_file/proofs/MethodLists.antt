@@ -1,5 +1,6 @@
 -- Methods and their attributes, that a loop reads one after the other.
-use Rattle.std.proofs.Common.{◌≡◌, ℕ, suc, Bool, ◌||◌, ◌-◌, ◌+◌, ◌≤◌, ◌<◌, List, [], ◌∷◌, ◌++◌, Result, Ok, Err, refl, sym, ap, ◌∙◌, ◌⊎◌, inl, inr, arith}
+use Rattle.std.proofs.Common.{◌≡◌, ℕ, suc, Bool, ◌||◌, ◌-◌, ◌+◌, ◌≤◌, ◌<◌, List, [], ◌∷◌, ◌++◌, Result, Ok, Err, refl, sym, ap}
+use Rattle.std.proofs.Common.{◌∙◌, ◌⊎◌, inl, inr, arith}
 use Rattle.std.proofs.lemmas.List.{append-nil}
 use Rattle.const_pool.specs.Pool.{Slots}
 use Rattle.parsing.specs.Places.{Place}
@@ -28,7 +29,8 @@ module _ (pool : Slots) (method : ℕ) (front : List MethodAttribute) (count i :
   unfolding method_attributes_from
   goes_on a after lt h so_far =
       let k : count - i ≡ suc (count - (i + 1)) = omega arith in
-      let one : with_front front (method_attributes_from pool method bare (count - i) file) ≡ with_front (front ++ a ∷ []) (method_attributes_from pool method (bare || is_code a) (count - (i + 1)) after) =
+      let one : with_front front (method_attributes_from pool method bare (count - i) file) ≡ with_front (front ++ a ∷ [])
+      (method_attributes_from pool method (bare || is_code a) (count - (i + 1)) after) =
       rw (k, h) (regroup front a (method_attributes_from pool method (bare || is_code a) (count - (i + 1)) after)) in
       sym one ∙ so_far
 

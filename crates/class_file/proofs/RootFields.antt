@@ -1,5 +1,6 @@
 -- A field may be read as if no durable root stood before, and its name be judged last.
-use Rattle.std.proofs.Common.{◌≡◌, ℕ, Bool, true, false, cond, not, ◌&&◌, ◌||◌, List, [], Option, None, Some, Result, Ok, Err, refl, sym, ◌∙◌}
+use Rattle.std.proofs.Common.{◌≡◌, ℕ, Bool, true, false, cond, not, ◌&&◌, ◌||◌, List, [], Option, None, Some, Result, Ok, Err}
+use Rattle.std.proofs.Common.{refl, sym, ◌∙◌}
 use Rattle.const_pool.specs.declared.entry.Tag.TheVariants.{Utf8}
 use Rattle.const_pool.specs.Pool.{Slots, utf8_at}
 use Rattle.parsing.specs.Places.{Place}
@@ -9,7 +10,8 @@ use Rattle.parsing.specs.Results.{◌>>=◌, unless}
 use Rattle.class_file.specs.declared.field.Field.{Field}
 use Rattle.class_file.specs.declared.refusal.ClassRefusal.{ClassRefusal}
 use Rattle.class_file.specs.declared.refusal.ClassRefusal.TheVariants as refusal
-use Rattle.class_file.specs.Members.{Facts, number, index, has_byte, is_barred, is_static, is_reference, is_field, is_among, constant_of, no_facts, field_attributes_from, judged, field_at}
+use Rattle.class_file.specs.Members.{Facts, number, index, has_byte, is_barred, is_static, is_reference, is_field, is_among}
+use Rattle.class_file.specs.Members.{constant_of, no_facts, field_attributes_from, judged, field_at}
 use Rattle.class_file.proofs.FieldHeads.{assoc_by}
 
 none_found : (found : Option (List ℕ)) → elim found [ None ↦ false | Some text ↦ false ] ≡ false
@@ -48,7 +50,10 @@ judged_last : (pool : Slots) (roots : List ℕ) (field access name descriptor : 
     → ((judged pool [] field access name descriptor facts >>= made pool roots field access name descriptor attributes facts.unrecoverable after facts.root) >>= noted pool roots field)
     ≡ (judged pool roots field access name descriptor facts >>= made pool roots field access name descriptor attributes facts.unrecoverable after facts.root)
 judged_last pool roots field access name descriptor attributes facts after =
-    rw (none_among pool name) (last pool roots field access name descriptor attributes facts.unrecoverable after facts.root (is_static access) (is_reference (kind_at pool descriptor)) (is_among pool roots name) (constant_of pool access descriptor facts.constant) refl)
+    rw (none_among pool name)
+    (last pool roots field access name descriptor attributes facts.unrecoverable after facts.root (is_static access)
+    (is_reference (kind_at pool descriptor)) (is_among pool roots name)
+    (constant_of pool access descriptor facts.constant) refl)
 
 name_last : (pool : Slots) (roots : List ℕ) (field : ℕ) (file : Place)
     → (field_at pool [] field file >>= noted pool roots field) ≡ field_at pool roots field file

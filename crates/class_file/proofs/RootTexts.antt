@@ -1,5 +1,6 @@
 -- The texts of the names of durable roots, with one more.
-use Rattle.std.proofs.Common.{◌≡◌, ℕ, Bool, true, false, cond, ◌||◌, List, [], ◌∷◌, ◌++◌, Option, None, Some, refl, ap, bytes_eq, is_eq}
+use Rattle.std.proofs.Common.{◌≡◌, ℕ, Bool, true, false, cond, ◌||◌, List, [], ◌∷◌, ◌++◌, Option, None, Some, refl, ap}
+use Rattle.std.proofs.Common.{bytes_eq, is_eq}
 use Rattle.std.specs.Borrow.{Bor}
 use Rattle.std.specs.List.{list_any}
 use Rattle.std.specs.Ordering.{nat_cmp}
@@ -25,4 +26,10 @@ one_more pool roots index key before after is updates are text =
     let same : is_text pool index text ≡ bytes_eq key.now text = ap (λ (o : Option (List ℕ)). elim o [ None ↦ false | Some found ↦ bytes_eq found text ]) is in
     let inserted : contains_by (λ k. slice_cmp nat_cmp text k.now) after ≡ cond (is_eq (slice_cmp nat_cmp key.now text)) true (contains_by (λ k. slice_cmp nat_cmp text k.now) before) = updates.0 q in
     let others = are text in
-    rw (inserted, is_eq-slice_cmp key.now text, others, list_any-append (λ i. is_text pool i text) roots (index ∷ []), same) (either (bytes_eq key.now text) (list_any (λ i. is_text pool i text) roots))
+    rw (
+      inserted,
+      is_eq-slice_cmp key.now text,
+      others,
+      list_any-append (λ i. is_text pool i text) roots (index ∷ []),
+      same,
+    ) (either (bytes_eq key.now text) (list_any (λ i. is_text pool i text) roots))

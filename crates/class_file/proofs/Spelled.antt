@@ -1,5 +1,6 @@
 -- A class file that is read is spelled so, each byte of it.
-use Rattle.std.proofs.Common.{◌≡◌, ℕ, ◌≤◌, not, ltb, false, ◌&&◌, List, [], ◌++◌, length, drop, Ok, refl, sym, ap, ◌∙◌, append_assoc, arith}
+use Rattle.std.proofs.Common.{◌≡◌, ℕ, ◌≤◌, not, ltb, false, ◌&&◌, List, [], ◌++◌, length, drop, Ok, refl, sym, ap, ◌∙◌}
+use Rattle.std.proofs.Common.{append_assoc, arith}
 use Rattle.std.specs.Prelude.{◌==◌}
 use Rattle.std.specs.List.{flat_map}
 use Rattle.std.proofs.lemmas.Bool.{ltb-false}
@@ -24,9 +25,11 @@ use Rattle.class_file.specs.declared.class.ClassFile.{ClassFile}
 use Rattle.class_file.specs.declared.refusal.ClassRefusal.TheVariants as refusal
 use Rattle.class_file.specs.Refusals.{of_item, of_pool}
 use Rattle.class_file.specs.Members.{number, index, fields_at, methods_at, field_bytes, method_bytes}
-use Rattle.class_file.specs.Classes.{magic, head_at, is_misnamed, this_at, interfaces_at, behind_at, class_in, head_bytes, class_bytes}
+use Rattle.class_file.specs.Classes.{magic, head_at, is_misnamed, this_at, interfaces_at, behind_at, class_in, head_bytes}
+use Rattle.class_file.specs.Classes.{class_bytes}
 use Rattle.class_file.specs.Fits.{Fits}
-use Rattle.class_file.proofs.SpelledFields.{bind_then, ok_then, number_spelled, index_spelled, member_head, Counted, counted, all_fields_spelled}
+use Rattle.class_file.proofs.SpelledFields.{bind_then, ok_then, number_spelled, index_spelled, member_head, Counted, counted}
+use Rattle.class_file.proofs.SpelledFields.{all_fields_spelled}
 use Rattle.class_file.proofs.SpelledMethods.{all_methods_spelled}
 
 -- ---- the head
@@ -45,7 +48,8 @@ unfolding interfaces_at
 interfaces_spelled pool file x fits e =
     bind_then (number 2 file) _ x e (λ count is_count ends.
     let p = number_spelled 2 file count fits is_count in
-    let one : (left : Place) (y : ℕ × Place) → IsBytes left.1 → index pool Class left ≡ Ok y → Takes left (big_bytes 2 y.0) y.1 × Unit {0} = λ left y are_bytes given. (index_spelled pool Class left y are_bytes given, tt) in
+    let one : (left : Place) (y : ℕ × Place) → IsBytes left.1 → index pool Class left ≡ Ok y → Takes left (big_bytes 2 y.0)
+    y.1 × Unit {0} = λ left y are_bytes given. (index_spelled pool Class left y are_bytes given, tt) in
     counted (λ i. Unit {0}) (big_bytes 2) file count x p (many_taken (λ i. Unit {0}) (big_bytes 2) (index pool Class) one count.0 count.1 x p.0.rest_fits ends))
 
 is_equal : (a b : ℕ) → not (a == b) ≡ false → a ≡ b

@@ -1,5 +1,6 @@
 -- A field that is read is the field that stands there.
-use Rattle.std.proofs.Common.{◌≡◌, ℕ, zero, suc, ◌+◌, ◌^◌, not, ◌<◌, List, [], ◌∷◌, ◌++◌, length, Result, Ok, Err, refl, sym, ap, subst, arith}
+use Rattle.std.proofs.Common.{◌≡◌, ℕ, zero, suc, ◌+◌, ◌^◌, not, ◌<◌, List, [], ◌∷◌, ◌++◌, length, Result, Ok, Err, refl, sym}
+use Rattle.std.proofs.Common.{ap, subst, arith}
 use Rattle.std.specs.Prelude.{All}
 use Rattle.std.specs.List.{flat_map}
 use Rattle.std.proofs.lemmas.List.Concat.{flat_map-cons}
@@ -23,7 +24,8 @@ use Rattle.class_file.specs.declared.field.Field.{Field}
 use Rattle.class_file.specs.declared.refusal.ClassRefusal.{ClassRefusal}
 use Rattle.class_file.specs.declared.refusal.ClassRefusal.TheVariants as refusal
 use Rattle.class_file.specs.Refusals.{of_cut, of_item}
-use Rattle.class_file.specs.Members.{Facts, no_facts, fact_of, with_fact, number, index, has_byte, is_barred, is_field, judged, field_attributes_from, field_at, with_root, fields_from, fields_at, field_bytes}
+use Rattle.class_file.specs.Members.{Facts, no_facts, fact_of, with_fact, number, index, has_byte, is_barred, is_field, judged}
+use Rattle.class_file.specs.Members.{field_attributes_from, field_at, with_root, fields_from, fields_at, field_bytes}
 use Rattle.class_file.specs.Fits.{IsShort, FieldFits}
 
 -- ---- numbers, indices and attributes

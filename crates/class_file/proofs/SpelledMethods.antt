@@ -1,5 +1,6 @@
 -- A method that is read is the method that stands there.
-use Rattle.std.proofs.Common.{◌≡◌, ℕ, zero, suc, ◌+◌, not, Bool, true, false, cond, ◌||◌, List, [], ◌∷◌, ◌++◌, length, Ok, refl, ap, subst, arith}
+use Rattle.std.proofs.Common.{◌≡◌, ℕ, zero, suc, ◌+◌, not, Bool, true, false, cond, ◌||◌, List, [], ◌∷◌, ◌++◌, length, Ok, refl}
+use Rattle.std.proofs.Common.{ap, subst, arith}
 use Rattle.std.specs.Prelude.{codes}
 use Rattle.std.specs.List.{flat_map, list_any}
 use Rattle.byteorder.specs.Endian.{big_bytes}
@@ -24,9 +25,12 @@ use Rattle.class_file.specs.declared.method.MethodAttribute.{MethodAttribute}
 use Rattle.class_file.specs.declared.method.MethodAttribute.TheVariants as attribute
 use Rattle.class_file.specs.declared.refusal.ClassRefusal.TheVariants as refusal
 use Rattle.class_file.specs.Refusals.{of_item, of_code}
-use Rattle.class_file.specs.Members.{number, index, is_text, is_method, has_no_code, is_code, code_at, looked_into, method_attribute_at, method_attributes_from, method_at, methods_from, methods_at, method_attribute_bytes, method_bytes}
+use Rattle.class_file.specs.Members.{number, index, is_text, is_method, has_no_code, is_code, code_at, looked_into}
+use Rattle.class_file.specs.Members.{method_attribute_at, method_attributes_from, method_at, methods_from, methods_at}
+use Rattle.class_file.specs.Members.{method_attribute_bytes, method_bytes}
 use Rattle.class_file.specs.Fits.{IsShort, MethodAttributeFits, MethodFits}
-use Rattle.class_file.proofs.SpelledFields.{bind_then, ok_then, number_spelled, index_spelled, attribute_spelled, none_spelled, one_more, Counted, counted, member_head}
+use Rattle.class_file.proofs.SpelledFields.{bind_then, ok_then, number_spelled, index_spelled, attribute_spelled, none_spelled}
+use Rattle.class_file.proofs.SpelledFields.{one_more, Counted, counted, member_head}
 
 -- ---- the content of an attribute is bytes
 
@@ -115,7 +119,8 @@ method_spelled pool method file x fits e =
     let s = number_spelled 2 descriptor.1 count r.rest_fits is_count in
     let t = method_attributes_spelled pool method count.0 (has_no_code access.0) count.1 attributes s.0.rest_fits is_attributes in
     let u = counted MethodAttributeFits method_attribute_bytes descriptor.1 count attributes s t in
-    let v = member_head file access.1 name.1 descriptor.1 attributes.1 access.0 name.0 descriptor.0 (big_bytes 2 (length attributes.0) ++ flat_map method_attribute_bytes attributes.0) p.0 q r u.takes in
+    let v = member_head file access.1 name.1 descriptor.1 attributes.1 access.0 name.0 descriptor.0
+    (big_bytes 2 (length attributes.0) ++ flat_map method_attribute_bytes attributes.0) p.0 q r u.takes in
     ok_then (MethodTaken file) _ x ends (v, record { count = u.count; contents = u.each }))))))))
 
 methods_spelled : (pool : Slots) (count : ℕ) (method : ℕ) (file : Place) (x : List Method × Place)

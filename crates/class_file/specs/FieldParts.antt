@@ -13,7 +13,8 @@ use Rattle.class_file.specs.declared.fields.Head.{Head}
 use Rattle.class_file.specs.declared.refusal.ClassRefusal.{ClassRefusal}
 use Rattle.class_file.specs.declared.refusal.ClassRefusal.TheVariants as refusal
 use Rattle.class_file.specs.Refusals.{of_item}
-use Rattle.class_file.specs.Members.{number, index, has_byte, is_barred, is_field, fact_of, no_facts, field_attributes_from, judged}
+use Rattle.class_file.specs.Members.{number, index, has_byte, is_barred, is_field, fact_of, no_facts, field_attributes_from}
+use Rattle.class_file.specs.Members.{judged}
 
 -- an attribute of a field, and what it says of it
 unfoldable pub field_attribute_at : Slots → Place → Result ((Attribute × Fact) × Place) ClassRefusal

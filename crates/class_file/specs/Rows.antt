@@ -6,7 +6,8 @@ use Rattle.class_file.specs.declared.class.ClassFile.{ClassFile}
 use Rattle.class_file.specs.declared.field.Field.{Field}
 use Rattle.class_file.specs.declared.method.Method.{Method}
 use Rattle.class_file.specs.declared.refusal.ClassRefusal.{ClassRefusal}
-use Rattle.class_file.specs.declared.refusal.ClassRefusal.TheVariants.{BadMagic, BadVersion, BadIndex, BadDescriptor, BadAttribute, TrailingBytes}
+use Rattle.class_file.specs.declared.refusal.ClassRefusal.TheVariants.{BadMagic, BadVersion, BadIndex, BadDescriptor}
+use Rattle.class_file.specs.declared.refusal.ClassRefusal.TheVariants.{BadAttribute, TrailingBytes}
 use Rattle.class_file.specs.Classes.{class_in}
 
 abbrev pub AreAnswers : List (List ℕ × Result ClassFile ClassRefusal) → Type 0

@@ -5,7 +5,9 @@ ghost use Rattle.std.specs.List.{list_any};
 ghost use Rattle.class_items.specs.Kinds.{AreKindsOf};
 ghost use Rattle.class_file.specs.Refusals.{Gives};
 ghost use Rattle.class_file.specs.FieldParts.{field_attribute_at, field_head_at, field_behind_at};
-ghost use Rattle.class_file.specs.Members.{is_static, has_byte, is_barred, no_facts, field_attributes_from, constant_tag, is_constant, constant_of, is_reference, is_field, is_no_root, judged, field_at, fields_from, fields_at};
+ghost use Rattle.class_file.specs.Members.{is_static, has_byte, is_barred, no_facts, field_attributes_from, constant_tag};
+ghost use Rattle.class_file.specs.Members.{is_constant, constant_of, is_reference, is_field, is_no_root, judged, field_at};
+ghost use Rattle.class_file.specs.Members.{fields_from, fields_at};
 
 use crate::facts::{Fact, Facts, fact_of};
 use crate::field::Field;

@@ -6,7 +6,8 @@ ghost use Rattle.class_items.specs.Kinds.{AreKindsOf};
 ghost use Rattle.parsing.specs.Results.{placed};
 ghost use Rattle.code_attribute.specs.Code.{code_attribute_at};
 ghost use Rattle.class_file.specs.Refusals.{Gives, of_code};
-ghost use Rattle.class_file.specs.Members.{is_method, has_no_code, code_at, looked_into, method_attribute_at, is_code, method_attributes_from, method_at, methods_from, methods_at};
+ghost use Rattle.class_file.specs.Members.{is_method, has_no_code, code_at, looked_into, method_attribute_at, is_code};
+ghost use Rattle.class_file.specs.Members.{method_attributes_from, method_at, methods_from, methods_at};
 
 use crate::method::{Method, MethodAttribute};
 use crate::refusal::ClassRefusal;

@@ -9,7 +9,8 @@ ghost use Rattle.class_items.specs.Kinds.{AreKindsOf};
 ghost use Rattle.parsing.specs.Results.{placed, many_from};
 ghost use Rattle.class_file.specs.Refusals.{Gives, of_pool};
 ghost use Rattle.class_file.specs.Members.{index};
-ghost use Rattle.class_file.specs.Classes.{CanBeRead, class_in, class_bytes, head_at, is_barred, is_misnamed, this_at, interfaces_at, behind_at};
+ghost use Rattle.class_file.specs.Classes.{CanBeRead, class_in, class_bytes, head_at, is_barred, is_misnamed, this_at};
+ghost use Rattle.class_file.specs.Classes.{interfaces_at, behind_at};
 
 use crate::class::ClassFile;
 use crate::fields::fields;

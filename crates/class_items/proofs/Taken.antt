@@ -17,7 +17,8 @@ use Rattle.const_pool.specs.Pool.{Slots, Names, entry_at, is_tagged}
 use Rattle.class_items.specs.declared.attribute.Attribute.{Attribute}
 use Rattle.class_items.specs.declared.refusal.ItemRefusal.{ItemRefusal}
 use Rattle.class_items.specs.declared.refusal.ItemRefusal.TheVariants.{BadIndex}
-use Rattle.class_items.specs.Items.{of_cut, field_at, number_at, index_at, attribute_at, attributes_at, attribute_bytes, attributes_bytes}
+use Rattle.class_items.specs.Items.{of_cut, field_at, number_at, index_at, attribute_at, attributes_at, attribute_bytes}
+use Rattle.class_items.specs.Items.{attributes_bytes}
 
 -- ---- fields, numbers and indices
 

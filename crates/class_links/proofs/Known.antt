@@ -1,5 +1,6 @@
 -- What is known of classes by their names.
-use Rattle.std.proofs.Common.{◌≡◌, ℕ, suc, ◌+◌, ◌<◌, rules, Bool, true, false, List, [], ◌∷◌, ◌++◌, Some, map, length, slice_index_or, arith, refl, ap, sym, ◌∙◌, cond, if◌then◌else◌}
+use Rattle.std.proofs.Common.{◌≡◌, ℕ, suc, ◌+◌, ◌<◌, rules, Bool, true, false, List, [], ◌∷◌, ◌++◌, Some, map, length}
+use Rattle.std.proofs.Common.{slice_index_or, arith, refl, ap, sym, ◌∙◌, cond, if◌then◌else◌}
 use Rattle.std.specs.Borrow.{Bor}
 use Rattle.std.specs.Option.{option_map, option_to_list}
 use Rattle.std.specs.Ordering.{nat_cmp}
@@ -9,7 +10,8 @@ use Rattle.std.specs.BTreeMap.{BTreeMap, get_by, Updates}
 use Rattle.std.proofs.lemmas.Map.Text.{is_eq-slice_cmp}
 use Rattle.std.proofs.lemmas.Slice.Eq.{bytes_eq-Decides}
 use Rattle.class_file.specs.declared.class.ClassFile.{ClassFile}
-use Rattle.class_links.specs.Names.{NamedClass, name_of, is_interface, is_final, known_of, built_in, known_classes, find_known, file_from}
+use Rattle.class_links.specs.Names.{NamedClass, name_of, is_interface, is_final, known_of, built_in, known_classes, find_known}
+use Rattle.class_links.specs.Names.{file_from}
 use Rattle.class_links.specs.Found.{flags_of, AreNumbers}
 
 -- where a first file has a class of the name, that class is known by it

@@ -1,6 +1,7 @@
 -- Which class files link, and the first condition that others break: the conditions in order, and of each the first class that breaks it
 -- (JVMS 4.1, 5.3.5). An interface has no code but that of its initialiser.
-use Rattle.std.specs.Prelude.{◌≡◌, ℕ, ◌&&◌, not, Bool, true, false, List, [], ◌∷◌, map, codes, Option, Some, None, if◌then◌else◌, slice_get}
+use Rattle.std.specs.Prelude.{◌≡◌, ℕ, ◌&&◌, not, Bool, true, false, List, [], ◌∷◌, map, codes, Option, Some, None}
+use Rattle.std.specs.Prelude.{if◌then◌else◌, slice_get}
 use Rattle.std.specs.List.{list_any}
 use Rattle.std.specs.Option.{is_some}
 use Rattle.const_pool.specs.Pool.{Slots}
@@ -9,7 +10,8 @@ use Rattle.class_file.specs.declared.method.Method.{Method}
 use Rattle.class_file.specs.Members.{is_text, code_in}
 use Rattle.class_links.specs.declared.refusal.LinkRefusal.{LinkRefusal}
 use Rattle.class_links.specs.declared.refusal.LinkRefusal.TheVariants as refusal
-use Rattle.class_links.specs.Names.{NamedClass, name_of, super_of, interfaces_of, supers_of, is_interface, has_name, built_in, known_classes, find_known, super_files}
+use Rattle.class_links.specs.Names.{NamedClass, name_of, super_of, interfaces_of, supers_of, is_interface, has_name, built_in}
+use Rattle.class_links.specs.Names.{known_classes, find_known, super_files}
 use Rattle.graph_walks.specs.Circles.{HasNoCircle, IsFirstOnCircle}
 
 -- ---- two classes of one name

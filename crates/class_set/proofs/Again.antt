@@ -1,5 +1,6 @@
 -- Array types that are listed again leave those that are listed as they are.
-use Rattle.std.proofs.Common.{◌≡◌, ◌≢◌, ℕ, Bool, true, false, List, [], ◌∷◌, Some, slice_index_or, refl, ap, sym, ◌∙◌, arith, subst, Ordering, Less, Equal, Greater, inl, inr}
+use Rattle.std.proofs.Common.{◌≡◌, ◌≢◌, ℕ, Bool, true, false, List, [], ◌∷◌, Some, slice_index_or, refl, ap, sym, ◌∙◌, arith}
+use Rattle.std.proofs.Common.{subst, Ordering, Less, Equal, Greater, inl, inr}
 use Rattle.std.proofs.Common.{Result, Ok, Err}
 use Rattle.std.specs.Prelude.{filter, OnOk}
 use Rattle.std.specs.Global.{Vec}

@@ -1,5 +1,6 @@
 -- The layouts of the built-in classes, and that a class begins with the fields of its superclass.
-use Rattle.std.proofs.Common.{◌≡◌, ℕ, zero, suc, ◌+◌, ◌-◌, ◌<◌, List, [], ◌∷◌, ◌++◌, Option, Some, None, map, length, take, slice_index_or, refl, ap, sym, ◌∙◌, arith, inl, inr}
+use Rattle.std.proofs.Common.{◌≡◌, ℕ, zero, suc, ◌+◌, ◌-◌, ◌<◌, List, [], ◌∷◌, ◌++◌, Option, Some, None, map, length, take}
+use Rattle.std.proofs.Common.{slice_index_or, refl, ap, sym, ◌∙◌, arith, inl, inr}
 use Rattle.std.proofs.lemmas.Bool.{cases_lt}
 use Rattle.std.proofs.lemmas.List.{get_or-map, get_or_append_left, get_or_default, length-map}
 use Rattle.std.proofs.Math.Seq.{take-append_seam}
@@ -12,7 +13,8 @@ use Rattle.plain_model.specs.BuiltIn.{built_in_classes, array_class}
 use Rattle.plain_model.specs.Facts.{class_at}
 use Rattle.built_in_table.specs.Members.{MemberFacts, built_in_at, built_in_members, built_in_supers}
 use Rattle.class_set.specs.Linked.{Linked}
-use Rattle.class_set.specs.Members.{field_facts, layout_above, layout_of, layout_of_fields, layout_of_file, own_layout, super_number, supers_of}
+use Rattle.class_set.specs.Members.{field_facts, layout_above, layout_of, layout_of_fields, layout_of_file, own_layout}
+use Rattle.class_set.specs.Members.{super_number, supers_of}
 use Rattle.class_set.specs.ArrayTypes.{array_type}
 use Rattle.class_set.specs.Facts.{class_facts, facts_of, named_classes}
 use Rattle.class_set.specs.Lookups.{class_edges}
@@ -191,7 +193,11 @@ module _ (files : List ClassFile) (none : HasNoCircle (class_edges files)) where
   built_in_layout (suc (suc (suc (suc (suc (suc (suc (suc (suc (suc (suc (suc (suc (suc (suc (suc (suc (suc (suc (suc (suc (suc (suc (suc (suc zero))))))))))))))))))))))))) l = at_25
   built_in_layout (suc (suc (suc (suc (suc (suc (suc (suc (suc (suc (suc (suc (suc (suc (suc (suc (suc (suc (suc (suc (suc (suc (suc (suc (suc (suc zero)))))))))))))))))))))))))) l = at_26
   built_in_layout (suc (suc (suc (suc (suc (suc (suc (suc (suc (suc (suc (suc (suc (suc (suc (suc (suc (suc (suc (suc (suc (suc (suc (suc (suc (suc (suc zero))))))))))))))))))))))))))) l = at_27
-  built_in_layout (suc (suc (suc (suc (suc (suc (suc (suc (suc (suc (suc (suc (suc (suc (suc (suc (suc (suc (suc (suc (suc (suc (suc (suc (suc (suc (suc (suc more)))))))))))))))))))))))))))) l = absurd (omega (arith, l))
+  built_in_layout (suc (suc
+      (suc (suc (suc (suc (suc (suc
+      (suc (suc (suc (suc (suc (suc
+      (suc (suc (suc (suc (suc (suc (suc (suc (suc (suc (suc (suc (suc (suc more)))))))))))))))))))))))))))) l = absurd
+      (omega (arith, l))
 
 -- ---- the fields of each class
 

@@ -1,5 +1,6 @@
 -- The set of files that can be read and link is consistent, and so is each one with more array types.
-use Rattle.std.proofs.Common.{◌≡◌, ◌≢◌, ℕ, ◌<◌, true, false, List, [], ◌∷◌, ◌++◌, Option, Some, None, arith, map, subst, sym, refl, append_assoc, if◌then◌else◌}
+use Rattle.std.proofs.Common.{◌≡◌, ◌≢◌, ℕ, ◌<◌, true, false, List, [], ◌∷◌, ◌++◌, Option, Some, None, arith, map, subst, sym}
+use Rattle.std.proofs.Common.{refl, append_assoc, if◌then◌else◌}
 use Rattle.std.specs.Prelude.{All, AllPairs, Contains, codes, is_some}
 use Rattle.std.proofs.lemmas.List.Elements.{All-contains, All-contains_itself, All-push, All-weaker, Contains-append_left}
 use Rattle.std.proofs.lemmas.List.Quantifiers.{all_pairs_push}

@@ -1,5 +1,7 @@
 -- Array types are what their descriptors say.
-use Rattle.std.proofs.Common.{◌≡◌, ◌≢◌, ℕ, zero, suc, ◌+◌, ◌<◌, ◌≤◌, Bool, true, false, nat_lt, replicate, List, [], ◌∷◌, ◌++◌, Option, Some, None, map, length, take, slice_index_or, refl, ap, sym, ◌∙◌, arith, subst, if◌then◌else◌}
+use Rattle.std.proofs.Common.{◌≡◌, ◌≢◌, ℕ, zero, suc, ◌+◌, ◌<◌, ◌≤◌, Bool, true, false, nat_lt, replicate, List, [], ◌∷◌, ◌++◌}
+use Rattle.std.proofs.Common.{Option, Some, None, map, length, take, slice_index_or, refl, ap, sym, ◌∙◌, arith, subst}
+use Rattle.std.proofs.Common.{if◌then◌else◌}
 use Rattle.std.specs.Prelude.{All}
 use Rattle.std.specs.Option.{is_none}
 use Rattle.std.specs.Str.{bytes_eq}
@@ -26,7 +28,8 @@ use Rattle.plain_model.specs.Facts.{class_at, class_count, classes_of}
 use Rattle.plain_model.specs.Consistent.{IsArrayType, IsInnermost, innermost_descriptor, kind_letter}
 use Rattle.text_table.specs.Texts.{place_from, place_of}
 use Rattle.class_set.specs.Linked.{Linked, class_names}
-use Rattle.class_set.specs.ArrayTypes.{array_type, described_array, innermost_of, is_array_type, is_some_array, kind_of_base, typed_array}
+use Rattle.class_set.specs.ArrayTypes.{array_type, described_array, innermost_of, is_array_type, is_some_array, kind_of_base}
+use Rattle.class_set.specs.ArrayTypes.{typed_array}
 use Rattle.class_set.specs.Facts.{facts_of}
 use Rattle.class_set.proofs.Above.{class_names_counted, get_or-map_all}
 use Rattle.class_set.proofs.Differ.{name, names_listed, or_no_array}

@@ -1,5 +1,6 @@
 -- The names of linked classes and array types differ.
-use Rattle.std.proofs.Common.{◌≡◌, ◌≢◌, ℕ, zero, suc, ◌<◌, Bool, true, false, List, [], ◌∷◌, ◌++◌, Option, Some, None, map, length, slice_index_or, refl, ap, sym, ◌∙◌, arith, subst, ◌||◌, nat_lt, if◌then◌else◌, inl, inr}
+use Rattle.std.proofs.Common.{◌≡◌, ◌≢◌, ℕ, zero, suc, ◌<◌, Bool, true, false, List, [], ◌∷◌, ◌++◌, Option, Some, None, map}
+use Rattle.std.proofs.Common.{length, slice_index_or, refl, ap, sym, ◌∙◌, arith, subst, ◌||◌, nat_lt, if◌then◌else◌, inl, inr}
 use Rattle.std.specs.Prelude.{All, AllPairs, is_some, filter, not, ◌&&◌}
 use Rattle.std.specs.Str.{bytes_eq}
 use Rattle.std.proofs.lemmas.List.Elements.{All-head, All-tail, All-nil, filter_passes}
@@ -23,7 +24,8 @@ use Rattle.class_links.specs.Links.{doubled}
 use Rattle.class_set.specs.Linked.{Linked, class_names, names_of}
 use Rattle.class_set.specs.declared.arrays.Listed.{Listed}
 use Rattle.class_set.specs.declared.arrays.Listed.TheVariants.{Needed}
-use Rattle.class_set.specs.ArrayTypes.{all_listed, array_type, begins_with_bracket, described_array, is_array_type, linked_from, listed_arrays, no_array, typed_array}
+use Rattle.class_set.specs.ArrayTypes.{all_listed, array_type, begins_with_bracket, described_array, is_array_type, linked_from}
+use Rattle.class_set.specs.ArrayTypes.{listed_arrays, no_array, typed_array}
 use Rattle.class_set.specs.Facts.{class_facts, facts_of}
 use Rattle.class_set.specs.Tables.{IsSmall}
 use Rattle.class_set.proofs.Above.{get_or-map_all}

@@ -1,5 +1,6 @@
 -- A walk comes to the same vertices in the same order where each edge is listed once.
-use Rattle.std.proofs.Common.{◌≡◌, ℕ, zero, suc, ◌+◌, ◌<◌, Bool, true, false, List, [], ◌∷◌, ◌++◌, map, length, refl, ap, sym, ◌∙◌, subst, if◌then◌else◌, nat_eq, not, filter, ◌||◌, Option, add-one, inl, inr}
+use Rattle.std.proofs.Common.{◌≡◌, ℕ, zero, suc, ◌+◌, ◌<◌, Bool, true, false, List, [], ◌∷◌, ◌++◌, map, length, refl, ap, sym}
+use Rattle.std.proofs.Common.{◌∙◌, subst, if◌then◌else◌, nat_eq, not, filter, ◌||◌, Option, add-one, inl, inr}
 use Rattle.std.specs.Prelude.{All, Contains}
 use Rattle.std.specs.List.{flat_map}
 use Rattle.std.proofs.lemmas.Bool.{eqb-true, or_cases, or_left, or_right, false≢true}
@@ -14,7 +15,8 @@ use Rattle.class_set.specs.Tables.{alone, reached_above}
 use Rattle.graph_walks.proofs.Firsts.{firsts_of}
 use Rattle.graph_walks.proofs.Lists.{Contains-nil}
 use Rattle.graph_walks.proofs.Paths.{Leads-same}
-use Rattle.graph_walks.proofs.Vertices.{Contains-from_has_vertex, has_vertex-from_Contains, has_vertex-push, with_vertex, with_vertices, with_vertices-append, with_vertices-none}
+use Rattle.graph_walks.proofs.Vertices.{Contains-from_has_vertex, has_vertex-from_Contains, has_vertex-push, with_vertex}
+use Rattle.graph_walks.proofs.Vertices.{with_vertices, with_vertices-append, with_vertices-none}
 
 -- ---- what vertices more leave and bring
 

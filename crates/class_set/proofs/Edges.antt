@@ -1,12 +1,14 @@
 -- From each class to those right above it.
-use Rattle.std.proofs.Common.{◌≡◌, ℕ, zero, suc, ◌+◌, ◌<◌, Bool, true, false, nat_lt, ◌&&◌, List, [], ◌∷◌, ◌++◌, Option, Some, None, map, length, slice_index_or, refl, ap, sym, ◌∙◌, arith, subst}
+use Rattle.std.proofs.Common.{◌≡◌, ℕ, zero, suc, ◌+◌, ◌<◌, Bool, true, false, nat_lt, ◌&&◌, List, [], ◌∷◌, ◌++◌, Option, Some}
+use Rattle.std.proofs.Common.{None, map, length, slice_index_or, refl, ap, sym, ◌∙◌, arith, subst}
 use Rattle.std.specs.Prelude.{All, Contains}
 use Rattle.std.specs.List.{flat_map, list_all}
 use Rattle.std.specs.Option.{option_to_list}
 use Rattle.std.proofs.lemmas.Bool.{false≢true}
 use Rattle.std.proofs.lemmas.Bool.Decides.{nat_tests}
 use Rattle.std.proofs.lemmas.List.{length-map, length-append, map-append}
-use Rattle.std.proofs.lemmas.List.Elements.{Contains-append_left, Contains-append_right, All-append, All-cons, All-head, All-nil, All-tail}
+use Rattle.std.proofs.lemmas.List.Elements.{Contains-append_left, Contains-append_right, All-append, All-cons, All-head}
+use Rattle.std.proofs.lemmas.List.Elements.{All-nil, All-tail}
 use Rattle.class_file.specs.declared.class.ClassFile.{ClassFile}
 use Rattle.plain_model.specs.BuiltIn.{built_in_classes}
 use Rattle.plain_model.specs.Consistent.{super_list}
@@ -156,7 +158,8 @@ supers_within files =
 
 pub interfaces_within : (files : List ClassFile) → All (λ next. All (λ (v : ℕ). v < length (interface_edges files)) next) (interface_edges files)
 interfaces_within files =
-    subst (λ n. All (λ next. All (λ (v : ℕ). v < n) next) (interface_edges files)) (sym (interfaces_counted files)) (interfaces_of_edges (length files + 28) (interface_edges files) (supers_of files) (same_count files)
+    subst (λ n. All (λ next. All (λ (v : ℕ). v < n) next) (interface_edges files)) (sym (interfaces_counted files))
+    (interfaces_of_edges (length files + 28) (interface_edges files) (supers_of files) (same_count files)
     (subst (All (AreOf (length files + 28))) (sym (edges_apart files)) (edges_below files)))
 
 pub edges_within : (files : List ClassFile) → All (λ next. All (λ (v : ℕ). v < length (class_edges files)) next) (class_edges files)

@@ -1,5 +1,6 @@
 -- No class has many fields.
-use Rattle.std.proofs.Common.{◌≡◌, ◌⊎◌, inl, inr, ℕ, zero, suc, ◌<◌, ◌≤◌, ◌^◌, true, Bool, ◌&&◌, nat_lt, List, [], ◌∷◌, ◌++◌, length, map, refl, sym, subst, arith, length-append, slice_index_or}
+use Rattle.std.proofs.Common.{◌≡◌, ◌⊎◌, inl, inr, ℕ, zero, suc, ◌<◌, ◌≤◌, ◌^◌, true, Bool, ◌&&◌, nat_lt, List, [], ◌∷◌, ◌++◌}
+use Rattle.std.proofs.Common.{length, map, refl, sym, subst, arith, length-append, slice_index_or}
 use Rattle.std.specs.Prelude.{All, Some, None, slice_get}
 use Rattle.graph_model.specs.declared.types.Shape.{Shape}
 use Rattle.std.proofs.lemmas.Bool.Decides.{nat_tests}

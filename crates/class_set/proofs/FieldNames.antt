@@ -1,5 +1,6 @@
 -- The names of fields are of bytes, and their kinds are those of fields.
-use Rattle.std.proofs.Common.{◌≡◌, ℕ, zero, suc, ◌-◌, ◌<◌, Bool, true, ◌&&◌, nat_lt, List, [], ◌∷◌, Option, Some, None, map, filter, length, slice_index_or, refl, subst, reverse, arith}
+use Rattle.std.proofs.Common.{◌≡◌, ℕ, zero, suc, ◌-◌, ◌<◌, Bool, true, ◌&&◌, nat_lt, List, [], ◌∷◌, Option, Some, None, map}
+use Rattle.std.proofs.Common.{filter, length, slice_index_or, refl, subst, reverse, arith}
 use Rattle.std.specs.Prelude.{All, slice_get}
 use Rattle.std.specs.List.{flat_map}
 use Rattle.std.proofs.lemmas.Bool.Decides.{nat_tests}
@@ -11,7 +12,8 @@ use Rattle.class_file.specs.Classes.{CanBeRead}
 use Rattle.plain_model.specs.Consistent.{IsFieldKind}
 use Rattle.image_meaning.specs.Entries.{AreBytes, IsField}
 use Rattle.built_in_table.specs.Members.{BuiltInClass, MemberFacts, built_in_at, built_in_members, with_methods}
-use Rattle.class_set.specs.Members.{field_facts, is_of_instance, kind_of, layout_above, layout_field, layout_of_fields, layout_of_file, own_fields, own_layout, super_number, superclasses_of}
+use Rattle.class_set.specs.Members.{field_facts, is_of_instance, kind_of, layout_above, layout_field, layout_of_fields}
+use Rattle.class_set.specs.Members.{layout_of_file, own_fields, own_layout, super_number, superclasses_of}
 use Rattle.class_set.proofs.FieldPlaces.{both_true}
 use Rattle.class_set.proofs.FieldsRead.{IsSound, class_sound}
 use Rattle.class_set.proofs.Program.{field_kind}

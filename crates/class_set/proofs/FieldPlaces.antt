@@ -1,5 +1,7 @@
 -- The slots and the numbers of fields.
-use Rattle.std.proofs.Common.{◌≡◌, ℕ, zero, suc, ◌+◌, ◌-◌, ◌*◌, ◌<◌, ◌≤◌, Bool, true, false, ◌&&◌, nat_lt, List, [], ◌∷◌, Option, Some, None, map, length, filter, take, slice_index_or, refl, ap, sym, ◌∙◌, arith, subst, reverse, if◌then◌else◌}
+use Rattle.std.proofs.Common.{◌≡◌, ℕ, zero, suc, ◌+◌, ◌-◌, ◌*◌, ◌<◌, ◌≤◌, Bool, true, false, ◌&&◌, nat_lt, List, [], ◌∷◌}
+use Rattle.std.proofs.Common.{Option, Some, None, map, length, filter, take, slice_index_or, refl, ap, sym, ◌∙◌, arith, subst}
+use Rattle.std.proofs.Common.{reverse, if◌then◌else◌}
 use Rattle.std.specs.Prelude.{All, slice_get, sum_by}
 use Rattle.std.specs.List.{flat_map}
 use Rattle.std.specs.Str.{bytes_eq}
@@ -17,7 +19,9 @@ use Rattle.class_file.specs.declared.field.Field.{Field as FileField}
 use Rattle.plain_model.specs.BuiltIn.{built_in_count}
 use Rattle.built_in_table.specs.Members.{BuiltInClass, MemberFacts, built_in_at, built_in_members, with_methods}
 use Rattle.class_set.specs.declared.members.Found.{Found}
-use Rattle.class_set.specs.Members.{count_statics, field_facts, first_static, is_of_instance, is_static_member, kind_of, layout_above, layout_field, layout_of_fields, layout_of_file, own_fields, own_layout, super_number, superclasses_of, supers_of}
+use Rattle.class_set.specs.Members.{count_statics, field_facts, first_static, is_of_instance, is_static_member, kind_of}
+use Rattle.class_set.specs.Members.{layout_above, layout_field, layout_of_fields, layout_of_file, own_fields, own_layout}
+use Rattle.class_set.specs.Members.{super_number, superclasses_of, supers_of}
 use Rattle.class_set.specs.Lookups.{field_at, find_member, first_own_slot, first_own_static, is_named, member_from, slot_for}
 use Rattle.class_set.specs.Tables.{IsSmall, found_of, placed_field}
 use Rattle.class_set.proofs.Chains.{chain_length}

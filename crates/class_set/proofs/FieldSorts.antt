@@ -1,5 +1,6 @@
 -- The kind of a field is of the sort that its descriptor tells, and its constant and its mark as a durable root are of that kind.
-use Rattle.std.proofs.Common.{◌≡◌, ℕ, zero, suc, ℤ, ◌==◌, Bool, true, false, replicate, List, [], ◌++◌, Option, Some, None, refl, sym, arith, subst, if◌then◌else◌}
+use Rattle.std.proofs.Common.{◌≡◌, ℕ, zero, suc, ℤ, ◌==◌, Bool, true, false, replicate, List, [], ◌++◌, Option, Some, None}
+use Rattle.std.proofs.Common.{refl, sym, arith, subst, if◌then◌else◌}
 use Rattle.std.specs.Prelude.{codes}
 use Rattle.std.specs.Option.{option_map}
 use Rattle.std.proofs.lemmas.Bool.{eqb-true, false≢true}

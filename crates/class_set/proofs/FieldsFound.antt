@@ -1,5 +1,7 @@
 -- The slots and the numbers that are found for fields are those of the fields with their names and kinds.
-use Rattle.std.proofs.Common.{◌≡◌, ℕ, zero, suc, ◌+◌, ◌-◌, ◌<◌, ◌≤◌, Bool, true, false, ◌&&◌, ◌||◌, ◌==◌, not, List, [], ◌∷◌, ◌++◌, Option, Some, None, map, filter, take, length, slice_index_or, refl, ap, sym, ◌∙◌, arith, subst, append_assoc, if◌then◌else◌, inl, inr}
+use Rattle.std.proofs.Common.{◌≡◌, ℕ, zero, suc, ◌+◌, ◌-◌, ◌<◌, ◌≤◌, Bool, true, false, ◌&&◌, ◌||◌, ◌==◌, not, List, [], ◌∷◌}
+use Rattle.std.proofs.Common.{◌++◌, Option, Some, None, map, filter, take, length, slice_index_or, refl, ap, sym, ◌∙◌, arith}
+use Rattle.std.proofs.Common.{subst, append_assoc, if◌then◌else◌, inl, inr}
 use Rattle.std.specs.Prelude.{codes, slice_get, sum_by, ◌⊎◌}
 use Rattle.std.specs.List.{list_all}
 use Rattle.std.specs.Option.{option_map}
@@ -22,9 +24,11 @@ use Rattle.run_types.specs.declared.resolved.FieldAt.{FieldAt}
 use Rattle.built_in_table.specs.Members.{BuiltInClass, MemberFacts, built_in_at, built_in_members, with_methods}
 use Rattle.class_links.specs.Names.{name_of}
 use Rattle.class_set.specs.Linked.{Linked}
-use Rattle.class_set.specs.Members.{count_statics, field_facts, first_static, is_of_instance, is_static_member, kind_of, layout_above, layout_field, layout_of_fields, own_fields, super_number, text_at}
+use Rattle.class_set.specs.Members.{count_statics, field_facts, first_static, is_of_instance, is_static_member, kind_of}
+use Rattle.class_set.specs.Members.{layout_above, layout_field, layout_of_fields, own_fields, super_number, text_at}
 use Rattle.class_set.specs.Facts.{class_facts, facts_of, named_classes, static_facts, statics_from, statics_of_fields}
-use Rattle.class_set.specs.Lookups.{class_edges, field_at, find_field, find_member, first_own_slot, first_own_static, first_some, is_named, member_from, own_field, slot_for}
+use Rattle.class_set.specs.Lookups.{class_edges, field_at, find_field, find_member, first_own_slot, first_own_static}
+use Rattle.class_set.specs.Lookups.{first_some, is_named, member_from, own_field, slot_for}
 use Rattle.class_set.specs.FoundFields.{IsFieldFound, IsStaticNumber, IsStream}
 use Rattle.class_set.proofs.BuiltInFields.{found_in, own_behind}
 use Rattle.class_set.proofs.Declared.{members_counted}

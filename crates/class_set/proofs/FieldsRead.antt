@@ -1,6 +1,7 @@
 -- What a class file that was read keeps of its pool and its fields: a durable root is a reference, and a constant has the tag that
 -- the field's descriptor wants.
-use Rattle.std.proofs.Common.{◌≡◌, ℕ, zero, suc, ◌+◌, Bool, true, false, List, [], ◌∷◌, Option, Some, None, Ok, Err, refl, sym, subst, not, length, drop, ltb, ◌||◌, if◌then◌else◌}
+use Rattle.std.proofs.Common.{◌≡◌, ℕ, zero, suc, ◌+◌, Bool, true, false, List, [], ◌∷◌, Option, Some, None, Ok, Err, refl, sym}
+use Rattle.std.proofs.Common.{subst, not, length, drop, ltb, ◌||◌, if◌then◌else◌}
 use Rattle.std.specs.Prelude.{All}
 use Rattle.std.proofs.lemmas.Bool.{false≢true}
 use Rattle.std.proofs.lemmas.List.Elements.{All-cons, All-nil}
@@ -17,7 +18,9 @@ use Rattle.class_file.specs.declared.class.ClassFile.{ClassFile}
 use Rattle.class_file.specs.declared.field.Field.{Field}
 use Rattle.class_file.specs.declared.refusal.ClassRefusal.TheVariants as refusal
 use Rattle.class_file.specs.Refusals.{of_item, of_pool}
-use Rattle.class_file.specs.Members.{number, index, has_byte, is_barred, is_field, is_static, is_reference, is_among, is_no_root, is_constant, constant_tag, constant_of, judged, no_facts, field_attributes_from, field_at, fields_from, fields_at, with_root, methods_at}
+use Rattle.class_file.specs.Members.{number, index, has_byte, is_barred, is_field, is_static, is_reference, is_among}
+use Rattle.class_file.specs.Members.{is_no_root, is_constant, constant_tag, constant_of, judged, no_facts}
+use Rattle.class_file.specs.Members.{field_attributes_from, field_at, fields_from, fields_at, with_root, methods_at}
 use Rattle.class_file.specs.Classes.{CanBeRead, class_in, behind_at, head_at, interfaces_at, this_at}
 use Rattle.class_file.proofs.SpelledFields.{bind_then, ok_then}
 use Rattle.class_set.proofs.PoolTexts.{AreShort, HasTexts, are_short, has_texts}

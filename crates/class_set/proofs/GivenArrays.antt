@@ -1,5 +1,6 @@
 -- The array types that every class set has.
-use Rattle.std.proofs.Common.{◌≡◌, ℕ, ◌+◌, true, List, [], ◌∷◌, Option, Some, None, map, length, filter, refl, ap, sym, ◌∙◌, arith, subst, Less, Equal, Greater, inl, inr}
+use Rattle.std.proofs.Common.{◌≡◌, ℕ, ◌+◌, true, List, [], ◌∷◌, Option, Some, None, map, length, filter, refl, ap, sym, ◌∙◌}
+use Rattle.std.proofs.Common.{arith, subst, Less, Equal, Greater, inl, inr}
 use Rattle.std.specs.Prelude.{Contains, codes}
 use Rattle.std.specs.List.{flat_map}
 use Rattle.std.specs.Ordering.{is_eq, match_ordering, nat_cmp}
@@ -7,7 +8,8 @@ use Rattle.std.specs.Cmp.Lexicographic.{slice_cmp}
 use Rattle.std.proofs.lemmas.List.{length-map}
 use Rattle.std.proofs.lemmas.Map.Text.{is_eq-slice_cmp}
 use Rattle.std.proofs.lemmas.Slice.Eq.{bytes_eq-Decides}
-use Rattle.const_pool.specs.Parsing.{descriptor_at, method_at, result_at, only_field, parameters_at, field_at, brackets, element_at, base_at, class_at, after_front, name_len}
+use Rattle.const_pool.specs.Parsing.{descriptor_at, method_at, result_at, only_field, parameters_at, field_at, brackets}
+use Rattle.const_pool.specs.Parsing.{element_at, base_at, class_at, after_front, name_len}
 use Rattle.const_pool.specs.Utf8.{bad_place, char_len}
 use Rattle.class_file.specs.declared.class.ClassFile.{ClassFile}
 use Rattle.graph_walks.proofs.Lists.{Contains-cons_cases, Contains-head, Contains-tail}

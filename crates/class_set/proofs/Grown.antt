@@ -1,5 +1,6 @@
 -- A class set after a call that adds an array type, or leaves it as it was.
-use Rattle.std.proofs.Common.{◌≡◌, ℕ, false, List, [], ◌∷◌, ◌++◌, map, ap, sym, ◌∙◌, append_assoc, subst, Result, Ok, Err, true, if◌then◌else◌}
+use Rattle.std.proofs.Common.{◌≡◌, ℕ, false, List, [], ◌∷◌, ◌++◌, map, ap, sym, ◌∙◌, append_assoc, subst, Result, Ok, Err, true}
+use Rattle.std.proofs.Common.{if◌then◌else◌}
 use Rattle.std.specs.Prelude.{is_some, OnErr, OnOk}
 use Rattle.std.proofs.lemmas.List.{map-append}
 use Rattle.graph_model.specs.declared.types.Shape.{Shape}

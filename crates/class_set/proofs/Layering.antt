@@ -1,5 +1,6 @@
 -- The fields of a class begin with those of its superclass.
-use Rattle.std.proofs.Common.{◌≡◌, ℕ, zero, suc, ◌+◌, ◌<◌, List, [], ◌∷◌, ◌++◌, Option, Some, None, map, length, slice_index_or, refl, ap, sym, ◌∙◌, arith, subst, reverse}
+use Rattle.std.proofs.Common.{◌≡◌, ℕ, zero, suc, ◌+◌, ◌<◌, List, [], ◌∷◌, ◌++◌, Option, Some, None, map, length, slice_index_or}
+use Rattle.std.proofs.Common.{refl, ap, sym, ◌∙◌, arith, subst, reverse}
 use Rattle.std.specs.Prelude.{Contains}
 use Rattle.std.specs.List.{flat_map}
 use Rattle.std.proofs.lemmas.List.{reverse-append, length-map, append-nil}

@@ -52,3 +52,5 @@ pub mod FieldsFound
 pub mod FirstWords
 pub mod FieldCounts
 pub mod ShortLiterals
+pub mod RootsRead
+pub mod RootsApart

@@ -1,11 +1,14 @@
 -- The array types that code makes: the set has each, their descriptors are short, and they are found by their descriptors.
-use Rattle.std.proofs.Common.{◌≡◌, ℕ, ◌<◌, ◌^◌, Bool, true, false, ◌||◌, List, [], ◌∷◌, ◌++◌, Option, Some, None, map, filter, length, slice_index_or, refl, ap, sym, ◌∙◌, arith, subst, if◌then◌else◌, inl, inr}
+use Rattle.std.proofs.Common.{◌≡◌, ℕ, ◌<◌, ◌^◌, Bool, true, false, ◌||◌, List, [], ◌∷◌, ◌++◌, Option, Some, None, map, filter}
+use Rattle.std.proofs.Common.{length, slice_index_or, refl, ap, sym, ◌∙◌, arith, subst, if◌then◌else◌, inl, inr}
 use Rattle.std.specs.Prelude.{All, Contains, codes, ◌↔◌}
 use Rattle.std.specs.List.{flat_map}
 use Rattle.std.specs.Str.{bytes_eq}
 use Rattle.std.proofs.lemmas.Bool.{false≢true}
 use Rattle.std.proofs.lemmas.List.{length-append, length-map}
-use Rattle.std.proofs.lemmas.List.Elements.{All-append, All-cons, All-contains, All-contains_itself, All-filter, All-head, All-nil, All-tail, All-weaker, Contains-append_left, Contains-append_right, filter_passes}
+use Rattle.std.proofs.lemmas.List.Elements.{All-append, All-cons, All-contains, All-contains_itself, All-filter, All-head}
+use Rattle.std.proofs.lemmas.List.Elements.{All-nil, All-tail, All-weaker, Contains-append_left, Contains-append_right}
+use Rattle.std.proofs.lemmas.List.Elements.{filter_passes}
 use Rattle.std.proofs.lemmas.Option.{slice_get-get_or}
 use Rattle.std.proofs.lemmas.Slice.Eq.{bytes_eq-Decides}
 use Rattle.const_pool.specs.Pool.{Slots}
@@ -26,7 +29,9 @@ use Rattle.text_table.specs.Sorted.{has_text, insert_text, insert_texts}
 use Rattle.class_links.specs.Names.{class_name}
 use Rattle.class_set.specs.declared.arrays.Listed.TheVariants.{Made, Needed}
 use Rattle.class_set.specs.Linked.{Linked, names_of}
-use Rattle.class_set.specs.ArrayTypes.{all_listed, array_of, array_type, begins_with_bracket, class_at as class_named_at, descriptor_of_class, is_array_type, listed_arrays, listed_by, listed_by_class, listed_by_code, makes, named, primitive_letter}
+use Rattle.class_set.specs.ArrayTypes.{all_listed, array_of, array_type, begins_with_bracket, class_at as class_named_at}
+use Rattle.class_set.specs.ArrayTypes.{descriptor_of_class, is_array_type, listed_arrays, listed_by, listed_by_class}
+use Rattle.class_set.specs.ArrayTypes.{listed_by_code, makes, named, primitive_letter}
 use Rattle.class_set.specs.Facts.{facts_of}
 use Rattle.class_set.specs.Sets.{IsLinked, made_of}
 use Rattle.class_set.proofs.Above.{get_or-map_all}

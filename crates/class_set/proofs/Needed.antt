@@ -1,5 +1,6 @@
 -- The array types that files need, numbered one after the other.
-use Rattle.std.proofs.Common.{◌≡◌, ℕ, zero, suc, replicate, nat_lt, ◌<◌, ◌+◌, Bool, true, false, List, [], ◌∷◌, ◌++◌, Option, Some, None, drop, length, slice_index_or, refl, ap, sym, ◌∙◌, if◌then◌else◌}
+use Rattle.std.proofs.Common.{◌≡◌, ℕ, zero, suc, replicate, nat_lt, ◌<◌, ◌+◌, Bool, true, false, List, [], ◌∷◌, ◌++◌, Option}
+use Rattle.std.proofs.Common.{Some, None, drop, length, slice_index_or, refl, ap, sym, ◌∙◌, if◌then◌else◌}
 use Rattle.std.specs.Prelude.{filter}
 use Rattle.std.specs.List.{flat_map}
 use Rattle.std.specs.Option.{is_none}
@@ -15,7 +16,8 @@ use Rattle.const_pool.proofs.Grammar.{descriptor_takes}
 use Rattle.const_pool.proofs.Texts.{good_has_none, none_is_good}
 use Rattle.text_table.specs.Sorted.{insert_text, insert_texts}
 use Rattle.text_table.specs.Texts.{with_texts}
-use Rattle.class_set.specs.ArrayTypes.{begins_with_bracket, is_array_type, is_some_array, described_array, typed_array, with_arrays}
+use Rattle.class_set.specs.ArrayTypes.{begins_with_bracket, is_array_type, is_some_array, described_array, typed_array}
+use Rattle.class_set.specs.ArrayTypes.{with_arrays}
 use Rattle.class_set.proofs.Numbers.{with_texts-append}
 
 pub of_good_text : (text : List ℕ) → IsModifiedUtf8 text → is_array_type text ≡ is_some_array (described_array [] text (descriptor_at text))

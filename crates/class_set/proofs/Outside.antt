@@ -1,5 +1,6 @@
 -- Numbers of no class, and classes that aren't above one.
-use Rattle.std.proofs.Common.{◌≡◌, ℕ, zero, suc, ◌+◌, ◌-◌, ◌<◌, ◌≤◌, true, false, nat_eq, List, [], ◌∷◌, ◌++◌, Some, None, map, length, slice_index_or, refl, ap, sym, ◌∙◌, arith, inl, inr}
+use Rattle.std.proofs.Common.{◌≡◌, ℕ, zero, suc, ◌+◌, ◌-◌, ◌<◌, ◌≤◌, true, false, nat_eq, List, [], ◌∷◌, ◌++◌, Some, None, map}
+use Rattle.std.proofs.Common.{length, slice_index_or, refl, ap, sym, ◌∙◌, arith, inl, inr}
 use Rattle.std.specs.Prelude.{All, slice_get}
 use Rattle.std.specs.List.{flat_map}
 use Rattle.std.proofs.lemmas.Cmp.{nat_eq_equiv}
@@ -10,7 +11,8 @@ use Rattle.graph_walks.specs.Paths.{next_of, Leads, Directly, Along}
 use Rattle.graph_walks.proofs.Paths.{Leads-within}
 use Rattle.plain_model.specs.Classes.{ClassFacts, no_class}
 use Rattle.plain_model.specs.BuiltIn.{array_class}
-use Rattle.plain_model.specs.Facts.{array_at, classes_of, class_count, interfaces_from, interfaces_of, is_subclass, superclasses_from}
+use Rattle.plain_model.specs.Facts.{array_at, classes_of, class_count, interfaces_from, interfaces_of, is_subclass}
+use Rattle.plain_model.specs.Facts.{superclasses_from}
 use Rattle.class_set.specs.Linked.{Linked}
 use Rattle.class_set.specs.ArrayTypes.{array_type}
 use Rattle.class_set.specs.Facts.{facts_of, named_classes}

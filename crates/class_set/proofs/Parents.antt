@@ -1,5 +1,6 @@
 -- The superclass and the superinterfaces of a class are there, and of the right sort.
-use Rattle.std.proofs.Common.{◌≡◌, ℕ, suc, ◌+◌, ◌<◌, Bool, true, false, not, List, [], ◌∷◌, ◌++◌, Option, Some, None, map, length, slice_index_or, refl, ap, sym, ◌∙◌, arith, subst, if◌then◌else◌}
+use Rattle.std.proofs.Common.{◌≡◌, ℕ, suc, ◌+◌, ◌<◌, Bool, true, false, not, List, [], ◌∷◌, ◌++◌, Option, Some, None, map}
+use Rattle.std.proofs.Common.{length, slice_index_or, refl, ap, sym, ◌∙◌, arith, subst, if◌then◌else◌}
 use Rattle.std.specs.Prelude.{All}
 use Rattle.std.specs.List.{flat_map}
 use Rattle.std.specs.Option.{option_to_list}
@@ -12,7 +13,8 @@ use Rattle.plain_model.specs.Classes.{no_class}
 use Rattle.plain_model.specs.BuiltIn.{built_in_classes, array_class}
 use Rattle.plain_model.specs.Facts.{class_at}
 use Rattle.built_in_table.specs.Members.{built_in_names}
-use Rattle.class_links.specs.Names.{NamedClass, name_of, super_of, interfaces_of, supers_of, known_of, known_built_in, built_in, known_classes, find_known}
+use Rattle.class_links.specs.Names.{NamedClass, name_of, super_of, interfaces_of, supers_of, known_of, known_built_in, built_in}
+use Rattle.class_links.specs.Names.{known_classes, find_known}
 use Rattle.class_links.specs.Links.{of_class, first_name, first_with, missing_of, misplaced_of, final_of}
 use Rattle.text_table.specs.Texts.{place_from, place_of}
 use Rattle.class_set.specs.Linked.{Linked, class_names}

@@ -1,5 +1,6 @@
 -- Each class of the program is one that links.
-use Rattle.std.proofs.Common.{◌≡◌, ℕ, Bool, true, false, List, [], ◌∷◌, Option, Some, None, map, filter, slice_index_or, refl, arith, ◌==◌, if◌then◌else◌, reverse}
+use Rattle.std.proofs.Common.{◌≡◌, ℕ, Bool, true, false, List, [], ◌∷◌, Option, Some, None, map, filter, slice_index_or, refl}
+use Rattle.std.proofs.Common.{arith, ◌==◌, if◌then◌else◌, reverse}
 use Rattle.std.specs.Prelude.{All}
 use Rattle.std.specs.List.{flat_map}
 use Rattle.std.proofs.lemmas.List.Elements.{All-append, All-cons, All-head, All-map, All-nil, All-tail}
@@ -13,7 +14,8 @@ use Rattle.built_in_table.specs.Members.{MemberFacts}
 use Rattle.class_links.specs.Names.{known_classes}
 use Rattle.class_links.specs.Links.{Links, missing_of, misplaced_of, final_of}
 use Rattle.class_set.specs.Linked.{Linked}
-use Rattle.class_set.specs.Members.{field_facts, is_of_instance, kind_of, kind_of_letter, layout_above, layout_field, layout_of_fields, layout_of_file, own_fields, own_layout, super_number, superclasses_of}
+use Rattle.class_set.specs.Members.{field_facts, is_of_instance, kind_of, kind_of_letter, layout_above, layout_field}
+use Rattle.class_set.specs.Members.{layout_of_fields, layout_of_file, own_fields, own_layout, super_number, superclasses_of}
 use Rattle.class_set.specs.Facts.{class_facts, facts_of}
 use Rattle.class_set.specs.Lookups.{class_edges}
 use Rattle.class_set.proofs.Begins.{begins_with}

@@ -1,5 +1,6 @@
 -- The name of a class that can be read is no descriptor of an array type.
-use Rattle.std.proofs.Common.{◌≡◌, ℕ, Bool, true, false, List, [], ◌∷◌, Option, Some, None, Ok, refl, sym, ◌∙◌, drop, length, ltb, ◌==◌, ◌||◌}
+use Rattle.std.proofs.Common.{◌≡◌, ℕ, Bool, true, false, List, [], ◌∷◌, Option, Some, None, Ok, refl, sym, ◌∙◌, drop, length}
+use Rattle.std.proofs.Common.{ltb, ◌==◌, ◌||◌}
 use Rattle.std.specs.List.{list_any}
 use Rattle.std.proofs.lemmas.Bool.{false≢true}
 use Rattle.const_pool.specs.declared.entry.Tag.TheVariants.{Class}
@@ -39,7 +40,7 @@ behind_plain pool file c e =
     bind_then (unless (ltb 0 (length attributes.1.1)) (refusal.TrailingBytes attributes.1.0)) _ c then_attributes (λ ended is_ended ends.
     ok_then (λ (d : ClassFile). is_misnamed (class_name_at d.pool d.this_class) ≡ false) _ c ends (this_plain pool access.1 this is_this)))))))))
 
-class_plain : (bytes : List ℕ) (c : ClassFile) → class_in bytes ≡ Ok c → is_misnamed (class_name_at c.pool c.this_class) ≡ false
+pub class_plain : (bytes : List ℕ) (c : ClassFile) → class_in bytes ≡ Ok c → is_misnamed (class_name_at c.pool c.this_class) ≡ false
 unfolding class_in
 class_plain bytes c e =
     bind_then (head_at (0, bytes)) _ c e (λ head is_head then_head.

@@ -1,5 +1,6 @@
 -- Static fields, one after another.
-use Rattle.std.proofs.Common.{◌≡◌, ℕ, suc, ◌+◌, ◌<◌, Bool, true, false, List, [], ◌∷◌, ◌++◌, Option, Some, None, map, length, filter, take, drop, slice_index_or, refl, ap, sym, ◌∙◌, arith, if◌then◌else◌}
+use Rattle.std.proofs.Common.{◌≡◌, ℕ, suc, ◌+◌, ◌<◌, Bool, true, false, List, [], ◌∷◌, ◌++◌, Option, Some, None, map, length}
+use Rattle.std.proofs.Common.{filter, take, drop, slice_index_or, refl, ap, sym, ◌∙◌, arith, if◌then◌else◌}
 use Rattle.std.specs.Prelude.{codes, slice_get, sum_by}
 use Rattle.std.specs.Option.{option_map}
 use Rattle.std.proofs.lemmas.List.Sums.{sum_by_more}

@@ -1,5 +1,6 @@
 -- Texts that were added already are there still.
-use Rattle.std.proofs.Common.{◌≡◌, ◌≢◌, ℕ, zero, suc, Bool, true, false, List, [], ◌∷◌, ◌++◌, Option, Some, None, slice_index_or, replicate, refl, ap, sym, ◌∙◌, arith, if◌then◌else◌, ◌||◌, inl, inr}
+use Rattle.std.proofs.Common.{◌≡◌, ◌≢◌, ℕ, zero, suc, Bool, true, false, List, [], ◌∷◌, ◌++◌, Option, Some, None}
+use Rattle.std.proofs.Common.{slice_index_or, replicate, refl, ap, sym, ◌∙◌, arith, if◌then◌else◌, ◌||◌, inl, inr}
 use Rattle.std.specs.Prelude.{is_some}
 use Rattle.std.specs.Option.{option_to_list}
 use Rattle.std.specs.Cmp.Lexicographic.{nat_list_eq_equiv}

@@ -1,5 +1,7 @@
 -- What a walk finds first, and which types stand above a class.
-use Rattle.std.proofs.Common.{◌≡◌, ℕ, zero, suc, ◌+◌, ◌<◌, Bool, true, false, nat_eq, not, ◌||◌, List, [], ◌∷◌, ◌++◌, Option, Some, None, map, length, filter, slice_index_or, refl, ap, sym, ◌∙◌, arith, if◌then◌else◌, inl, inr}
+use Rattle.std.proofs.Common.{◌≡◌, ℕ, zero, suc, ◌+◌, ◌<◌, Bool, true, false, nat_eq, not, ◌||◌, List, [], ◌∷◌, ◌++◌, Option}
+use Rattle.std.proofs.Common.{Some, None, map, length, filter, slice_index_or, refl, ap, sym, ◌∙◌, arith, if◌then◌else◌, inl}
+use Rattle.std.proofs.Common.{inr}
 use Rattle.std.specs.List.{flat_map}
 use Rattle.std.proofs.lemmas.Bool.{eqb-true, cases_lt}
 use Rattle.std.proofs.lemmas.Cmp.{nat_eq_equiv}

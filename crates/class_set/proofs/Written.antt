@@ -1,12 +1,15 @@
 -- An image can have the shapes and the names of a class set.
-use Rattle.std.proofs.Common.{◌≡◌, ℕ, zero, suc, ◌<◌, ◌^◌, Bool, true, false, ◌&&◌, ◌||◌, not, nat_lt, replicate, List, [], ◌∷◌, ◌++◌, Option, Some, None, map, drop, length, slice_index_or, refl, ap, sym, ◌∙◌, arith, subst, if◌then◌else◌}
+use Rattle.std.proofs.Common.{◌≡◌, ℕ, zero, suc, ◌<◌, ◌^◌, Bool, true, false, ◌&&◌, ◌||◌, not, nat_lt, replicate, List, [], ◌∷◌}
+use Rattle.std.proofs.Common.{◌++◌, Option, Some, None, map, drop, length, slice_index_or, refl, ap, sym, ◌∙◌, arith, subst}
+use Rattle.std.proofs.Common.{if◌then◌else◌}
 use Rattle.std.specs.Prelude.{All, Contains, codes}
 use Rattle.std.specs.Option.{is_none, is_some}
 use Rattle.std.specs.Str.{bytes_eq}
 use Rattle.std.proofs.lemmas.Bool.{false≢true}
 use Rattle.std.proofs.lemmas.Bool.Decides.{nat_tests}
 use Rattle.std.proofs.lemmas.List.{length-map}
-use Rattle.std.proofs.lemmas.List.Elements.{All-append, All-cons, All-contains, All-head, All-map, All-nil, All-tail, recursion_from_All}
+use Rattle.std.proofs.lemmas.List.Elements.{All-append, All-cons, All-contains, All-head, All-map, All-nil, All-tail}
+use Rattle.std.proofs.lemmas.List.Elements.{recursion_from_All}
 use Rattle.ap_base.specs.declared.kind.Kind.{Kind}
 use Rattle.ap_base.specs.declared.kind.Kind.TheVariants.{Z, B, C, S, I, J, L, Text}
 use Rattle.graph_model.specs.declared.types.Field.{Field}
@@ -23,7 +26,8 @@ use Rattle.plain_model.specs.Classes.{ClassFacts, ArrayType, Innermost, Numbers,
 use Rattle.plain_model.specs.BuiltIn.{built_in_classes}
 use Rattle.plain_model.specs.Facts.{SetFacts, StaticFacts}
 use Rattle.plain_model.specs.Consistent.{IsArrayType, IsInnermost, IsNumberKind, innermost_descriptor, kind_letter}
-use Rattle.image_meaning.specs.Entries.{AreBytes, IsField, IsShape, component_kind, element_of, is_array_name, is_descriptor, is_nil, is_shape, is_string_name, kind_of_letter}
+use Rattle.image_meaning.specs.Entries.{AreBytes, IsField, IsShape, component_kind, element_of, is_array_name, is_descriptor}
+use Rattle.image_meaning.specs.Entries.{is_nil, is_shape, is_string_name, kind_of_letter}
 use Rattle.built_in_table.specs.Members.{built_in_names}
 use Rattle.class_links.specs.Names.{has_name, name_of}
 use Rattle.class_links.specs.Links.{doubled}

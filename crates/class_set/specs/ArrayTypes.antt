@@ -1,6 +1,7 @@
 -- Array types by their descriptors, those that the code of class files makes, and those that it needs: its instructions and exception
 -- entries name some as a class (JVMS 4.3.2, 4.4.1, 4.7.3, 6.5).
-use Rattle.std.specs.Prelude.{ℕ, ◌==◌, nat_lt, Bool, true, false, List, [], ◌∷◌, ◌++◌, filter, codes, slice_get, Option, Some, None, if◌then◌else◌}
+use Rattle.std.specs.Prelude.{ℕ, ◌==◌, nat_lt, Bool, true, false, List, [], ◌∷◌, ◌++◌, filter, codes, slice_get, Option, Some}
+use Rattle.std.specs.Prelude.{None, if◌then◌else◌}
 use Rattle.std.specs.List.{flat_map}
 use Rattle.std.specs.Option.{is_none}
 use Rattle.ap_base.specs.declared.kind.Kind.{Kind}

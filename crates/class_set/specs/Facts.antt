@@ -1,5 +1,6 @@
 -- What a class set tells as plain data.
-use Rattle.std.specs.Prelude.{ℕ, suc, ◌==◌, Bool, not, bit_and, List, [], ◌∷◌, ◌++◌, map, length, codes, Option, Some, None, if◌then◌else◌}
+use Rattle.std.specs.Prelude.{ℕ, suc, ◌==◌, Bool, not, bit_and, List, [], ◌∷◌, ◌++◌, map, length, codes, Option, Some, None}
+use Rattle.std.specs.Prelude.{if◌then◌else◌}
 use Rattle.std.specs.Option.{option_map}
 use Rattle.graph_model.specs.declared.types.Root.{Root}
 use Rattle.const_pool.specs.declared.entry.Entry.{Entry}

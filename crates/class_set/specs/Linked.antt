@@ -1,7 +1,8 @@
 -- A class set: the class files that were linked, in the order in which they were read, and its array types by their descriptors
 -- (JVMS 4.3.2, 4.4.1). Classes are numbered from 0: those of the files, the built-in ones by their names' bytes, the array types that the
 -- files need by their descriptors' bytes, and others behind them.
-use Rattle.std.specs.Prelude.{ℕ, ◌+◌, ◌-◌, nat_lt, List, [], ◌∷◌, ◌++◌, map, length, slice_get, Option, Some, None, if◌then◌else◌}
+use Rattle.std.specs.Prelude.{ℕ, ◌+◌, ◌-◌, nat_lt, List, [], ◌∷◌, ◌++◌, map, length, slice_get, Option, Some, None}
+use Rattle.std.specs.Prelude.{if◌then◌else◌}
 use Rattle.std.specs.Option.{is_some}
 use Rattle.class_file.specs.declared.class.ClassFile.{ClassFile}
 use Rattle.plain_model.specs.BuiltIn.{built_in_count}

@@ -1,6 +1,7 @@
 -- The string literals of a class set: the distinct ones, classes in the order of their files, each in pool order (JVMS 4.4.3, 4.4.7, 5.1).
 -- A text has one spelling in modified UTF-8, so that texts differ where their bytes do.
-use Rattle.std.specs.Prelude.{ℕ, ◌+◌, ◌*◌, ◌%◌, ◌^◌, nat_lt, slice_get, List, [], ◌∷◌, map, length, sum_by, take, Option, Some, None, if◌then◌else◌}
+use Rattle.std.specs.Prelude.{ℕ, ◌+◌, ◌*◌, ◌%◌, ◌^◌, nat_lt, slice_get, List, [], ◌∷◌, map, length, sum_by, take, Option, Some}
+use Rattle.std.specs.Prelude.{None, if◌then◌else◌}
 use Rattle.std.specs.List.{flat_map}
 use Rattle.std.specs.Option.{option_map, option_to_list}
 use Rattle.ap_base.specs.declared.reference.Ref.{Ref}

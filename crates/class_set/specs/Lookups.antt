@@ -1,5 +1,6 @@
 -- How members are found (JVMS 5.4.3.2, 5.4.3.3; of methods those of superclasses alone).
-use Rattle.std.specs.Prelude.{ℕ, ◌+◌, Bool, ◌&&◌, List, [], ◌∷◌, ◌++◌, length, map, filter, take, slice_get, Option, Some, None, if◌then◌else◌}
+use Rattle.std.specs.Prelude.{ℕ, ◌+◌, Bool, ◌&&◌, List, [], ◌∷◌, ◌++◌, length, map, filter, take, slice_get, Option, Some, None}
+use Rattle.std.specs.Prelude.{if◌then◌else◌}
 use Rattle.std.specs.Str.{bytes_eq}
 use Rattle.run_types.specs.declared.resolved.FieldAt.{FieldAt}
 use Rattle.run_types.specs.declared.resolved.MethodAt.{MethodAt}
@@ -10,7 +11,8 @@ use Rattle.plain_model.specs.Facts.{superclasses_of}
 use Rattle.plain_model.specs.Consistent.{super_list}
 use Rattle.class_set.specs.Linked.{Linked}
 use Rattle.built_in_table.specs.Members.{MemberFacts}
-use Rattle.class_set.specs.Members.{own_fields, own_methods, kind_of, is_of_instance, count_statics, first_static, layout_above, super_number}
+use Rattle.class_set.specs.Members.{own_fields, own_methods, kind_of, is_of_instance, count_statics, first_static, layout_above}
+use Rattle.class_set.specs.Members.{super_number}
 use Rattle.class_set.specs.Facts.{facts_of, named_classes}
 
 abbrev pub is_named : List ℕ → List ℕ → MemberFacts → Bool

@@ -1,6 +1,7 @@
 -- The members of each class by number: its superclass, its superinterfaces, its own fields and methods, and the layout of its objects
 -- (JVMS 2.4, 4.5, 4.6).
-use Rattle.std.specs.Prelude.{ℕ, zero, suc, ◌+◌, ◌-◌, ◌==◌, Bool, not, bit_and, List, [], ◌∷◌, ◌++◌, map, length, filter, reverse, take, slice_get, slice_index_or, sum_by, true, Option, Some, None, if◌then◌else◌}
+use Rattle.std.specs.Prelude.{ℕ, zero, suc, ◌+◌, ◌-◌, ◌==◌, Bool, not, bit_and, List, [], ◌∷◌, ◌++◌, map, length, filter}
+use Rattle.std.specs.Prelude.{reverse, take, slice_get, slice_index_or, sum_by, true, Option, Some, None, if◌then◌else◌}
 use Rattle.std.specs.List.{flat_map}
 use Rattle.std.specs.Option.{option_to_list}
 use Rattle.ap_base.specs.declared.kind.Kind.{Kind}

@@ -1,5 +1,6 @@
 -- What a class set keeps, also where more array types have got numbers; and what a directory of shapes asks of it.
-use Rattle.std.specs.Prelude.{◌≢◌, ℕ, Bool, true, false, List, [], ◌∷◌, ◌++◌, length, Option, Some, None, All, AllPairs, Contains, ◌≡◌, if◌then◌else◌}
+use Rattle.std.specs.Prelude.{◌≢◌, ℕ, Bool, true, false, List, [], ◌∷◌, ◌++◌, length, Option, Some, None, All, AllPairs}
+use Rattle.std.specs.Prelude.{Contains, ◌≡◌, if◌then◌else◌}
 use Rattle.std.specs.Str.{bytes_eq}
 use Rattle.graph_model.specs.declared.types.Shape.{Shape}
 use Rattle.class_file.specs.Classes.{CanBeRead}

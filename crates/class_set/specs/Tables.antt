@@ -1,5 +1,6 @@
 -- The tables of a class set: what is looked up at once, by number.
-use Rattle.std.specs.Prelude.{◌≡◌, ◌≤◌, ◌<◌, ◌^◌, ℕ, ◌+◌, ◌-◌, false, List, [], ◌∷◌, ◌++◌, map, drop, replicate, length, codes, slice_get, Option, Some, None, All}
+use Rattle.std.specs.Prelude.{◌≡◌, ◌≤◌, ◌<◌, ◌^◌, ℕ, ◌+◌, ◌-◌, false, List, [], ◌∷◌, ◌++◌, map, drop, replicate, length, codes}
+use Rattle.std.specs.Prelude.{slice_get, Option, Some, None, All}
 use Rattle.std.specs.Option.{option_map}
 use Rattle.graph_model.specs.declared.types.Shape.{Shape}
 use Rattle.class_file.specs.declared.class.ClassFile.{ClassFile}
@@ -8,7 +9,8 @@ use Rattle.graph_walks.specs.Order.{visits, visits_from}
 use Rattle.graph_walks.specs.Reached.{Vertices}
 use Rattle.plain_model.specs.Classes.{ArrayType, Innermost, Numbers, Objects, Missing}
 use Rattle.plain_model.specs.BuiltIn.{built_in_count, array_class}
-use Rattle.plain_model.specs.Facts.{StaticFacts, Constant, IntConstant, LongConstant, LiteralConstant, SetFacts, array_at, shapes_of}
+use Rattle.plain_model.specs.Facts.{StaticFacts, Constant, IntConstant, LongConstant, LiteralConstant, SetFacts, array_at}
+use Rattle.plain_model.specs.Facts.{shapes_of}
 use Rattle.plain_model.specs.Consistent.{super_list}
 use Rattle.plain_model.specs.First.{numbers_to}
 use Rattle.built_in_table.specs.Members.{MemberFacts}

@@ -1,6 +1,7 @@
 //! What class files that link keep.
 
-ghost use Rattle.std.specs.Prelude.{◌≡◌, ◌≢◌, ◌<◌, ◌↔◌, ◌+◌, ℕ, true, false, drop, length, sum_by, take, List, Some, All, AllPairs, Contains};
+ghost use Rattle.std.specs.Prelude.{◌≡◌, ◌≢◌, ◌<◌, ◌↔◌, ◌+◌, ℕ, true, false, drop, length, sum_by, take, List, Some, All};
+ghost use Rattle.std.specs.Prelude.{AllPairs, Contains};
 ghost use Rattle.class_file.specs.Classes.{CanBeRead};
 ghost use Rattle.class_file.specs.declared.class.ClassFile.{ClassFile};
 ghost use Rattle.class_links.specs.Links.{Links};
@@ -85,6 +86,15 @@ pub fn shapes_can_be_written()
         → All (λ (a : ArrayType). Contains (made_of set) a.descriptor → IsShape (array_shape a)) (facts_of set).arrays }
     ensures names { (set : Linked) → IsLinked set
         → All (λ (s : StaticFacts). AreBytes s.name) (facts_of set).statics }
+{}
+
+/// No two durable roots of a linked set have one name. A root's name is its class's with a dot and the
+/// field's behind it; no name of a class has a dot (JVMS 4.2.1), and no class file has two durable roots
+/// of one name.
+pub fn roots_of_linked_sets_differ()
+    ensures { (set : Linked) → IsLinked set → AllPairs
+        (λ (s t : StaticFacts). s.is_root ≡ true → t.is_root ≡ true → s.name ≢ t.name)
+        (facts_of set).statics }
 {}
 
 /// Among the array types that the code of a linked set makes are always those of chars and of

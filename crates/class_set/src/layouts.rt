@@ -5,7 +5,8 @@ ghost use Rattle.class_file.specs.declared.class.ClassFile.{ClassFile as File};
 ghost use Rattle.plain_model.specs.Classes.{ClassFacts};
 ghost use Rattle.plain_model.specs.BuiltIn.{built_in_classes as built_in_facts};
 ghost use Rattle.built_in_table.specs.Rows.{member_facts, row_shape, slot_field};
-ghost use Rattle.class_set.specs.Members.{kind_of, field_of, own_layout, layout_above, layout_of, layout_of_fields, field_facts, super_number, supers_of};
+ghost use Rattle.class_set.specs.Members.{kind_of, field_of, own_layout, layout_above, layout_of, layout_of_fields};
+ghost use Rattle.class_set.specs.Members.{field_facts, super_number, supers_of};
 ghost use Rattle.class_set.specs.Facts.{class_facts, named_classes};
 
 use crate::members::{is_static, text_at};

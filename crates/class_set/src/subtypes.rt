@@ -2,7 +2,8 @@
 
 ghost use Rattle.std.specs.Prelude.{◌≡◌, None};
 ghost use Rattle.std.specs.Option.{option_copied, option_map};
-ghost use Rattle.plain_model.specs.Facts.{array_at, dimensions_of, innermost_of, is_above_arrays, is_same_kind, is_sub, is_sub_innermost, is_subclass};
+ghost use Rattle.plain_model.specs.Facts.{array_at, dimensions_of, innermost_of, is_above_arrays, is_same_kind, is_sub};
+ghost use Rattle.plain_model.specs.Facts.{is_sub_innermost, is_subclass};
 ghost use Rattle.class_set.specs.Facts.{facts_of};
 ghost use Rattle.class_set.specs.Tables.{AreElements, array_now, elements_now};
 

@@ -1,10 +1,12 @@
 //! Array types: how many dimensions they have, and what their innermost elements are.
 
-ghost use Rattle.std.specs.Prelude.{◌≡◌, ◌≤◌, ◌<◌, ◌^◌, ◌++◌, ◌∷◌, List, [], map, drop, length, true, Some, All, IfOk, OnErr, OnOk};
+ghost use Rattle.std.specs.Prelude.{◌≡◌, ◌≤◌, ◌<◌, ◌^◌, ◌++◌, ◌∷◌, List, [], map, drop, length, true, Some, All, IfOk, OnErr};
+ghost use Rattle.std.specs.Prelude.{OnOk};
 ghost use Rattle.class_file.specs.declared.class.ClassFile.{ClassFile as File};
 ghost use Rattle.plain_model.specs.Classes.{element_kind};
 ghost use Rattle.const_pool.specs.Parsing.{descriptor_at};
-ghost use Rattle.class_set.specs.ArrayTypes.{array_type, class_or_missing, described_array, innermost_of, is_array_type, is_some_array, kind_of_base};
+ghost use Rattle.class_set.specs.ArrayTypes.{array_type, class_or_missing, described_array, innermost_of, is_array_type};
+ghost use Rattle.class_set.specs.ArrayTypes.{is_some_array, kind_of_base};
 ghost use Rattle.plain_model.specs.Facts.{shapes_of};
 ghost use Rattle.text_table.specs.Texts.{place_of, with_text};
 ghost use Rattle.class_set.specs.Linked.{class_names, names_of};

@@ -1,5 +1,6 @@
 -- A Code attribute that is read is spelled so, each byte of it.
-use Rattle.std.proofs.Common.{◌≡◌, ℕ, ◌^◌, ◌<◌, ◌≤◌, not, ltb, List, [], ◌++◌, length, Result, Ok, Err, sym, ap, subst, ◌∙◌, arith}
+use Rattle.std.proofs.Common.{◌≡◌, ℕ, ◌^◌, ◌<◌, ◌≤◌, not, ltb, List, [], ◌++◌, length, Result, Ok, Err, sym, ap, subst, ◌∙◌}
+use Rattle.std.proofs.Common.{arith}
 use Rattle.std.specs.Prelude.{IfOk, Some}
 use Rattle.std.specs.List.{flat_map}
 use Rattle.std.proofs.lemmas.Bool.{ltb-false}
@@ -21,7 +22,9 @@ use Rattle.code_attribute.specs.declared.code.Handler.{Handler}
 use Rattle.code_attribute.specs.declared.fault.CodeFault.{CodeFault}
 use Rattle.code_attribute.specs.declared.fault.CodeFault.TheVariants as fault
 use Rattle.code_attribute.specs.Operands.{first_wrong_operand}
-use Rattle.code_attribute.specs.Code.{Fits, of_cut, of_item, of_code, number, is_wrong_size, is_handled, catch_at, handler_at, handlers_at, code_bytes_at, code_attribute_at, handler_bytes, handlers_bytes, code_attribute_bytes}
+use Rattle.code_attribute.specs.Code.{Fits, of_cut, of_item, of_code, number, is_wrong_size, is_handled, catch_at, handler_at}
+use Rattle.code_attribute.specs.Code.{handlers_at, code_bytes_at, code_attribute_at, handler_bytes, handlers_bytes}
+use Rattle.code_attribute.specs.Code.{code_attribute_bytes}
 
 number_read : (n : ℕ) (file : Place) (x : ℕ × Place) → IsBytes file.1 → number n file ≡ Ok x
     → Takes file (big_bytes n x.0) x.1 × (x.0 < 256 ^ n)

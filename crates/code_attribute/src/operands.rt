@@ -5,7 +5,8 @@ ghost use Rattle.std.specs.List.{list_any};
 ghost use Rattle.std.specs.Option.{option_map};
 ghost use Rattle.const_pool.specs.Pool.{entry_at, is_tagged};
 ghost use Rattle.class_items.specs.Kinds.{AreKindsOf, kind_at};
-ghost use Rattle.code_attribute.specs.Operands.{tags_of, operand_of, descriptor_in, is_field, is_method, unless_right, wrong_descriptor, wrong_operand, first_wrong_operand};
+ghost use Rattle.code_attribute.specs.Operands.{tags_of, operand_of, descriptor_in, is_field, is_method, unless_right};
+ghost use Rattle.code_attribute.specs.Operands.{wrong_descriptor, wrong_operand, first_wrong_operand};
 
 use crate::fault::CodeFault;
 use class_items::{DescriptorKind, DescriptorKinds, is_tagged};

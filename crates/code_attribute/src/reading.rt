@@ -6,7 +6,8 @@ ghost use Rattle.parsing.specs.Results.{Gives, placed};
 ghost use Rattle.code_form.specs.declared.ins.Placed.{Placed as OnePlaced};
 ghost use Rattle.code_form.specs.Reading.{code_of};
 ghost use Rattle.code_attribute.specs.declared.fault.CodeFault.TheVariants.{OutOfMemory};
-ghost use Rattle.code_attribute.specs.Code.{Fits, of_code, is_wrong_size, code_bytes_at, handlers_at, code_attribute_at, code_attribute_bytes};
+ghost use Rattle.code_attribute.specs.Code.{Fits, of_code, is_wrong_size, code_bytes_at, handlers_at, code_attribute_at};
+ghost use Rattle.code_attribute.specs.Code.{code_attribute_bytes};
 
 use crate::code::{Code, Handler};
 use crate::fault::CodeFault;

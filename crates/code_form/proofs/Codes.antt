@@ -1,5 +1,7 @@
 -- The laws of a whole code: what is read is a code and is spelled so, and what is spelled so is read.
-use Rattle.std.proofs.Common.{◌≡◌, ℕ, zero, suc, ◌+◌, ◌-◌, ◌<◌, ◌≤◌, Bool, true, false, not, cond, eqb, ltb, List, [], ◌∷◌, ◌++◌, length, replicate, All, Option, Some, None, Result, Ok, Err, refl, sym, ap, subst, ◌∙◌, inl, inr, arith, length-append}
+use Rattle.std.proofs.Common.{◌≡◌, ℕ, zero, suc, ◌+◌, ◌-◌, ◌<◌, ◌≤◌, Bool, true, false, not, cond, eqb, ltb, List, [], ◌∷◌}
+use Rattle.std.proofs.Common.{◌++◌, length, replicate, All, Option, Some, None, Result, Ok, Err, refl, sym, ap, subst, ◌∙◌, inl}
+use Rattle.std.proofs.Common.{inr, arith, length-append}
 use Rattle.std.specs.Prelude.{IfOk, IsErr, IsTrue}
 use Rattle.std.specs.Global.{Vec}
 use Rattle.std.specs.List.{find, list_all, list_any, flat_map, AllByRecursion}
@@ -17,7 +19,8 @@ use Rattle.code_form.specs.declared.ins.Local.TheVariants as locals
 use Rattle.code_form.specs.declared.ins.Ins.{Ins}
 use Rattle.code_form.specs.declared.ins.Ins.TheVariants as ins
 use Rattle.code_form.specs.declared.ins.Placed.{Placed}
-use Rattle.code_form.specs.Spelling.{longest, signed, offset, case_bytes, bytes_of, idle_count, zeroed, written, Spells, Fits, FollowFrom, targets_of, Reached, IsWritable, is_start, jumps_to_starts, IsCode}
+use Rattle.code_form.specs.Spelling.{longest, signed, offset, case_bytes, bytes_of, idle_count, zeroed, written, Spells, Fits}
+use Rattle.code_form.specs.Spelling.{FollowFrom, targets_of, Reached, IsWritable, is_start, jumps_to_starts, IsCode}
 use Rattle.code_form.specs.Reading.{unsigned_at, ins_at, placed_at, first_astray, unless_astray, front_of, code_of}
 use Rattle.code_form.proofs.Numbers.{guard_ok}
 use Rattle.code_form.proofs.Shrinking.{ins_shorter}

@@ -1,5 +1,6 @@
 -- The table of starts, and the jumps that it is asked about.
-use Rattle.std.proofs.Common.{◌≡◌, ℕ, zero, suc, ◌+◌, ◌<◌, true, false, not, List, ◌∷◌, length, get_or, drop, replicate, map, Option, Some, refl, sym, ap, ◌∙◌}
+use Rattle.std.proofs.Common.{◌≡◌, ℕ, zero, suc, ◌+◌, ◌<◌, true, false, not, List, ◌∷◌, length, get_or, drop, replicate, map}
+use Rattle.std.proofs.Common.{Option, Some, refl, sym, ap, ◌∙◌}
 use Rattle.std.specs.List.{list_all, find}
 use Rattle.std.proofs.lemmas.List.{drop_more}
 use Rattle.std.proofs.lemmas.List.Folds.{list_all-map}

@@ -1,5 +1,7 @@
 -- An instruction that is read is spelled by what was read, and what is spelled is read again.
-use Rattle.std.proofs.Common.{◌≡◌, ℕ, zero, suc, ◌+◌, ◌^◌, ◌<◌, ◌≤◌, Bool, true, false, cond, eqb, ltb, List, [], ◌∷◌, ◌++◌, length, map, Option, Some, None, Result, Ok, Err, refl, sym, ap, subst, ◌∙◌, append_assoc, arith, ℤ, pos, negsuc, ◌<ℤ◌, ◌+ℤ◌, ◌-ℤ◌, ◌≤ℤ◌}
+use Rattle.std.proofs.Common.{◌≡◌, ℕ, zero, suc, ◌+◌, ◌^◌, ◌<◌, ◌≤◌, Bool, true, false, cond, eqb, ltb, List, [], ◌∷◌, ◌++◌}
+use Rattle.std.proofs.Common.{length, map, Option, Some, None, Result, Ok, Err, refl, sym, ap, subst, ◌∙◌, append_assoc, arith}
+use Rattle.std.proofs.Common.{ℤ, pos, negsuc, ◌<ℤ◌, ◌+ℤ◌, ◌-ℤ◌, ◌≤ℤ◌}
 use Rattle.std.specs.Prelude.{FitsSigned, int_lt, unsigned_abs, ⊤, ◌||◌}
 use Rattle.std.specs.List.{flat_map, AllByRecursion}
 use Rattle.std.specs.Int.{Width, w8, w16, w32}
@@ -21,9 +23,13 @@ use Rattle.code_form.specs.declared.ins.Ins.{Ins}
 use Rattle.code_form.specs.declared.ins.Ins.TheVariants as ins
 use Rattle.code_form.specs.Opcodes.{variable_opcode, pool_opcode, branch_opcode, primitive_code}
 use Rattle.code_form.specs.Spelling.{signed, offset, padding, case_bytes, bytes_of, idle_count, Fits, Reached}
-use Rattle.code_form.specs.Reading.{opcode_of, form_of, primitive_of, bytes_at, unsigned_at, signed_at, target_at, known_form, known_primitive, interface_at, new_array_at, increment_at, widened_at, wide_at, case_at, table_at, lookup_at, operands_at, ins_at}
+use Rattle.code_form.specs.Reading.{opcode_of, form_of, primitive_of, bytes_at, unsigned_at, signed_at, target_at, known_form}
+use Rattle.code_form.specs.Reading.{known_primitive, interface_at, new_array_at, increment_at, widened_at, wide_at, case_at}
+use Rattle.code_form.specs.Reading.{table_at, lookup_at, operands_at, ins_at}
 use Rattle.code_form.proofs.Forms.{form_opcode, form_again, primitive_is, primitive_again}
-use Rattle.code_form.proofs.Numbers.{Takes, Takes-then, bytes_take, bytes_again, unsigned_takes, unsigned_again, byte_again, one_byte, byte_takes, guard_ok, IsWhole, whole8, whole16, whole32, signed_takes, signed_again, offset_fits, target_takes, target_again}
+use Rattle.code_form.proofs.Numbers.{Takes, Takes-then, bytes_take, bytes_again, unsigned_takes, unsigned_again, byte_again}
+use Rattle.code_form.proofs.Numbers.{one_byte, byte_takes, guard_ok, IsWhole, whole8, whole16, whole32, signed_takes}
+use Rattle.code_form.proofs.Numbers.{signed_again, offset_fits, target_takes, target_again}
 
 -- the bytes begin with the instruction's
 pub record Spelled (bytes : List ℕ) (pc : ℕ) (i : Ins) (rest : List ℕ) : Type 0 where

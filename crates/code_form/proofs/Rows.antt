@@ -2,8 +2,11 @@
 use Rattle.std.proofs.Common.{◌≡◌, Ok, refl}
 use Rattle.parsing.specs.Results.{many_from}
 use Rattle.code_form.specs.Spelling.{written}
-use Rattle.code_form.specs.Reading.{code_of, placed_at, ins_at, operands_at, wide_at, widened_at, interface_at, new_array_at, increment_at, table_at, lookup_at, case_at, target_at, signed_at, unsigned_at, form_of, primitive_of, front_of}
-use Rattle.code_form.specs.Rows.{AreCodes, AreRefused, loads, stores, arithmetic, jumps, objects, refusals, whole_bytes, whole_code, whole_written}
+use Rattle.code_form.specs.Reading.{code_of, placed_at, ins_at, operands_at, wide_at, widened_at, interface_at, new_array_at}
+use Rattle.code_form.specs.Reading.{increment_at, table_at, lookup_at, case_at, target_at, signed_at, unsigned_at, form_of}
+use Rattle.code_form.specs.Reading.{primitive_of, front_of}
+use Rattle.code_form.specs.Rows.{AreCodes, AreRefused, loads, stores, arithmetic, jumps, objects, refusals, whole_bytes}
+use Rattle.code_form.specs.Rows.{whole_code, whole_written}
 
 pub loads_are_read : AreCodes loads
 unfolding code_of placed_at ins_at operands_at wide_at widened_at interface_at new_array_at increment_at

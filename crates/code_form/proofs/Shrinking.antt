@@ -1,5 +1,6 @@
 -- Reading goes forward: what is left is no longer than what was there.
-use Rattle.std.proofs.Common.{◌≡◌, ℕ, zero, suc, ◌+◌, ◌^◌, ◌≤◌, ◌<◌, Bool, true, false, cond, ltb, List, [], ◌∷◌, length, Option, Some, Result, Ok, Err, subst, arith, length-drop}
+use Rattle.std.proofs.Common.{◌≡◌, ℕ, zero, suc, ◌+◌, ◌^◌, ◌≤◌, ◌<◌, Bool, true, false, cond, ltb, List, [], ◌∷◌, length}
+use Rattle.std.proofs.Common.{Option, Some, Result, Ok, Err, subst, arith, length-drop}
 use Rattle.std.specs.Prelude.{IfOk, int_lt, unsigned_abs, ◌-ℤ◌}
 use Rattle.std.specs.Int.{Width, w8, w16, w32, byte_len}
 use Rattle.parsing.specs.Results.{◌>>=◌, many_from}
@@ -9,7 +10,9 @@ use Rattle.code_form.specs.declared.table.Form.TheVariants as forms
 use Rattle.code_form.specs.declared.ins.Ins.{Ins}
 use Rattle.code_form.specs.Spelling.{padding}
 use Rattle.code_form.proofs.Numbers.{byte_again}
-use Rattle.code_form.specs.Reading.{bytes_at, unsigned_at, signed_at, target_at, known_form, known_primitive, form_of, primitive_of, interface_at, new_array_at, increment_at, widened_at, wide_at, case_at, table_at, lookup_at, operands_at, ins_at}
+use Rattle.code_form.specs.Reading.{bytes_at, unsigned_at, signed_at, target_at, known_form, known_primitive, form_of}
+use Rattle.code_form.specs.Reading.{primitive_of, interface_at, new_array_at, increment_at, widened_at, wide_at, case_at}
+use Rattle.code_form.specs.Reading.{table_at, lookup_at, operands_at, ins_at}
 
 -- where a step succeeds, at most so many bytes are left
 abbrev pub Leaves : {X : Type 0} → Result (X × List ℕ) CodeRefusal → ℕ → Type 0

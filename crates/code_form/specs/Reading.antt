@@ -1,5 +1,6 @@
 -- Reading a code from front to back, with the first fault that is met.
-use Rattle.std.specs.Prelude.{◌+◌, ◌-◌, ◌%◌, ◌^◌, ℕ, zero, suc, ℤ, ◌-ℤ◌, unsigned_abs, int_lt, not, ◌==◌, ◌||◌, nat_lt, if◌then◌else◌, List, [], ◌∷◌, ◌++◌, length, take, drop, map, Option, Some, None, Result, Ok, Err}
+use Rattle.std.specs.Prelude.{◌+◌, ◌-◌, ◌%◌, ◌^◌, ℕ, zero, suc, ℤ, ◌-ℤ◌, unsigned_abs, int_lt, not, ◌==◌, ◌||◌, nat_lt}
+use Rattle.std.specs.Prelude.{if◌then◌else◌, List, [], ◌∷◌, ◌++◌, length, take, drop, map, Option, Some, None, Result, Ok, Err}
 use Rattle.std.specs.List.{find, flat_map}
 use Rattle.std.specs.Int.{Width, w8, w16, w32, byte_len, cast_signed, cast_unsigned}
 use Rattle.byteorder.specs.Endian.{big_number}

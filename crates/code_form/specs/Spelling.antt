@@ -1,5 +1,6 @@
 -- The bytes of instructions, and which lists of instructions are a code (JVMS 4.7.3, 4.9.1, 6.5).
-use Rattle.std.specs.Prelude.{◌≡◌, ◌≤◌, ◌<◌, ◌^◌, ◌+◌, ◌-◌, ◌%◌, ℕ, ℤ, pos, ◌+ℤ◌, ◌-ℤ◌, ◌≤ℤ◌, Bool, ◌==◌, IsTrue, List, [], ◌∷◌, ◌++◌, length, map, replicate, FitsSigned, ⊤}
+use Rattle.std.specs.Prelude.{◌≡◌, ◌≤◌, ◌<◌, ◌^◌, ◌+◌, ◌-◌, ◌%◌, ℕ, ℤ, pos, ◌+ℤ◌, ◌-ℤ◌, ◌≤ℤ◌, Bool, ◌==◌, IsTrue, List, [], ◌∷◌}
+use Rattle.std.specs.Prelude.{◌++◌, length, map, replicate, FitsSigned, ⊤}
 use Rattle.std.specs.List.{flat_map, AllByRecursion, list_any, list_all}
 use Rattle.std.specs.Int.{Width, w8, w16, w32, byte_len, cast_unsigned}
 use Rattle.byteorder.specs.Endian.{big_bytes}

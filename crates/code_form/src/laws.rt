@@ -3,7 +3,8 @@
 ghost use Rattle.std.specs.Prelude.{◌≡◌, Ok};
 ghost use Rattle.code_form.specs.Spelling.{written};
 ghost use Rattle.code_form.specs.Reading.{code_of};
-ghost use Rattle.code_form.specs.Rows.{AreCodes, AreRefused, loads, stores, arithmetic, jumps, objects, refusals, whole_bytes, whole_code, whole_written};
+ghost use Rattle.code_form.specs.Rows.{AreCodes, AreRefused, loads, stores, arithmetic, jumps, objects, refusals, whole_bytes};
+ghost use Rattle.code_form.specs.Rows.{whole_code, whole_written};
 
 /// Each opcode alone, as its section of JVMS 6.5 spells it, is its instruction.
 pub fn each_instruction_is_read()

@@ -1,7 +1,10 @@
 //! The opcodes of the families, for writing (JVMS 6.5, 7).
 
 ghost use Rattle.std.specs.Prelude.{◌≡◌, ◌≤◌};
-ghost use Rattle.code_form.specs.Opcodes.{number_place, sort_place, element_place, slot_place, constant_opcode, variable_opcode, short_opcode, element_opcode, stack_opcode, binary_opcode, shift_opcode, conversion_opcode, plain_opcode, condition_place, equality_place, branch_opcode, pool_opcode, primitive_code};
+ghost use Rattle.code_form.specs.Opcodes.{number_place, sort_place, element_place, slot_place, constant_opcode};
+ghost use Rattle.code_form.specs.Opcodes.{variable_opcode, short_opcode, element_opcode, stack_opcode, binary_opcode};
+ghost use Rattle.code_form.specs.Opcodes.{shift_opcode, conversion_opcode, plain_opcode, condition_place, equality_place};
+ghost use Rattle.code_form.specs.Opcodes.{branch_opcode, pool_opcode, primitive_code};
 
 use crate::ins::{
     Access, Binary, Branch, Condition, Constant, Conversion, Element, Equality, IntConstant,

@@ -6,7 +6,9 @@ ghost use Rattle.code_form.specs.declared.ins.Placed.{Placed as OnePlaced};
 ghost use Rattle.code_form.specs.Spelling.{longest, IsCode, Spells};
 ghost use Rattle.parsing.specs.Results.{Gives, many_from};
 ghost use Rattle.code_form.specs.declared.refusal.CodeRefusal.TheVariants.{OutOfMemory};
-ghost use Rattle.code_form.specs.Reading.{known_form, known_primitive, form_of, primitive_of, target_at, interface_at, new_array_at, increment_at, widened_at, wide_at, case_at, table_at, lookup_at, operands_at, ins_at, placed_at, front_of, code_of};
+ghost use Rattle.code_form.specs.Reading.{known_form, known_primitive, form_of, primitive_of, target_at, interface_at};
+ghost use Rattle.code_form.specs.Reading.{new_array_at, increment_at, widened_at, wide_at, case_at, table_at, lookup_at};
+ghost use Rattle.code_form.specs.Reading.{operands_at, ins_at, placed_at, front_of, code_of};
 
 use crate::fields::{
     bytes_at, far_target_at, i8_at, i16_at, i32_at, near_target_at, padding, u8_at, u16_at, u32_at,

@@ -5,7 +5,8 @@ ghost use Rattle.std.specs.List.{flat_map, AllByRecursion};
 ghost use Rattle.std.specs.Int.{w8, w16, w32};
 ghost use Rattle.byteorder.specs.Endian.{big_bytes};
 ghost use Rattle.code_form.specs.Opcodes.{branch_opcode};
-ghost use Rattle.code_form.specs.Spelling.{longest, IsCode, Spells, IsWritable, signed, offset, padding, case_bytes, variable_bytes, table_bytes, lookup_bytes, zeroed, written};
+ghost use Rattle.code_form.specs.Spelling.{longest, IsCode, Spells, IsWritable, signed, offset, padding, case_bytes};
+ghost use Rattle.code_form.specs.Spelling.{variable_bytes, table_bytes, lookup_bytes, zeroed, written};
 
 use crate::fields::padding;
 use crate::ins::{Access, Branch, Case, Ins, Local, Placed, Sort};

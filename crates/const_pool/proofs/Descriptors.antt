@@ -1,5 +1,7 @@
 -- Reading a descriptor from its front: the loops.
-use Rattle.std.proofs.Common.{◌≡◌, ◌≢◌, ℕ, zero, suc, ◌+◌, ◌-◌, ◌≤◌, ◌<◌, Bool, true, false, cond, eqb, List, [], ◌∷◌, ◌++◌, length, get_or, drop, Option, Some, None, Result, Ok, Err, refl, sym, ap, subst, ◌∙◌, ◌⊎◌, inl, inr, arith}
+use Rattle.std.proofs.Common.{◌≡◌, ◌≢◌, ℕ, zero, suc, ◌+◌, ◌-◌, ◌≤◌, ◌<◌, Bool, true, false, cond, eqb, List, [], ◌∷◌, ◌++◌}
+use Rattle.std.proofs.Common.{length, get_or, drop, Option, Some, None, Result, Ok, Err, refl, sym, ap, subst, ◌∙◌, ◌⊎◌, inl}
+use Rattle.std.proofs.Common.{inr, arith}
 use Rattle.std.specs.Prelude.{IfOk}
 use Rattle.std.specs.Option.{option_map}
 use Rattle.std.proofs.lemmas.Bool.{cond-false, eq-eqb, ne_eqb}
@@ -13,7 +15,8 @@ use Rattle.const_pool.specs.Utf8.{IsModifiedUtf8}
 use Rattle.const_pool.specs.declared.descriptor.Descriptor.{Descriptor}
 use Rattle.const_pool.specs.Descriptor.{field_bytes, descriptor_bytes, IsDescriptor}
 use Rattle.const_pool.specs.Parsing.{Gives, descriptor_at, after_byte, name_len, after_front, brackets, field_at, parameters_at}
-use Rattle.const_pool.proofs.Grammar.{front_some, parameter_more, field_takes, field_long, Describes, descriptor_takes, descriptor_found}
+use Rattle.const_pool.proofs.Grammar.{front_some, parameter_more, field_takes, field_long, Describes, descriptor_takes}
+use Rattle.const_pool.proofs.Grammar.{descriptor_found}
 
 -- ---- the length of a class name
 
@@ -32,7 +35,8 @@ name_more : (fresh next : Bool) (b : ℕ) (rest : List ℕ) (n : ℕ) → b ≢ 
 unfolding name_len
 name_more fresh next b rest n p e =
     let e1 = cond-false (eqb b 59) (cond fresh None (Some 0)) (after_byte fresh b >>= λ next. option_map suc (name_len next rest)) (ne_eqb b 59 p) in
-    let e2 : (after_byte fresh b >>= λ next. option_map suc (name_len next rest)) ≡ option_map suc (name_len next rest) = ap (λ (o : Option Bool). o >>= λ next. option_map suc (name_len next rest)) e in
+    let e2 : (after_byte fresh b >>= λ next. option_map suc (name_len next rest)) ≡ option_map suc (name_len next rest) =
+    ap (λ (o : Option Bool). o >>= λ next. option_map suc (name_len next rest)) e in
     ap (further n) (e1 ∙ e2) ∙ further-suc n (name_len next rest)
 
 name_barred : (fresh : Bool) (b : ℕ) (rest : List ℕ) (n : ℕ) → b ≢ 59 → after_byte fresh b ≡ None
@@ -142,7 +146,8 @@ pub fails : (e : DescriptorRefusal) (front : List FieldType) (steps : ℕ) (rest
 fails e front steps rest total none (inl free) so_far = inl free
 fails e front steps rest total none (inr f) so_far = inr (sym so_far ∙ ap (with_front front) (nothing_steps steps rest none f))
 
-pub parameter_goes_on : (front : List FieldType) (steps : ℕ) (rest : List ℕ) (t : FieldType) (after : List ℕ) (total : Option (List FieldType × List ℕ)) → length rest ≤ steps → length after < length rest
+pub parameter_goes_on : (front : List FieldType) (steps : ℕ) (rest : List ℕ) (t : FieldType) (after : List ℕ)
+    (total : Option (List FieldType × List ℕ)) → length rest ≤ steps → length after < length rest
     → after_front 41 rest ≡ None → field_at rest ≡ Some (t, after)
     → with_front front (parameters_at steps rest) ≡ total
     → with_front (front ++ t ∷ []) (parameters_at (steps - 1) after) ≡ total

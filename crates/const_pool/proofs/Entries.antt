@@ -1,5 +1,6 @@
 -- An entry that is read is spelled so, and an entry that is spelled is read again.
-use Rattle.std.proofs.Common.{◌≡◌, ◌≢◌, ℕ, ◌+◌, ◌^◌, ◌<◌, true, false, cond, eqb, ◌&&◌, List, [], ◌∷◌, ◌++◌, length, Option, Some, None, Result, Ok, Err, refl, sym, ap, subst, ◌∙◌, inl, inr, arith}
+use Rattle.std.proofs.Common.{◌≡◌, ◌≢◌, ℕ, ◌+◌, ◌^◌, ◌<◌, true, false, cond, eqb, ◌&&◌, List, [], ◌∷◌, ◌++◌, length, Option}
+use Rattle.std.proofs.Common.{Some, None, Result, Ok, Err, refl, sym, ap, subst, ◌∙◌, inl, inr, arith}
 use Rattle.std.specs.Int.{w32, w64, cast_signed, cast_unsigned}
 use Rattle.std.proofs.lemmas.Int.{of_z-to_z, to_z-of_z}
 use Rattle.std.proofs.Math.Facts.{sfits_to_z, Fits-of_z}
@@ -17,8 +18,10 @@ use Rattle.const_pool.specs.declared.entry.Tag.TheVariants as tag
 use Rattle.const_pool.specs.declared.entry.Entry.{Entry}
 use Rattle.const_pool.specs.declared.entry.Entry.TheVariants as entry
 use Rattle.const_pool.specs.Entry.{Fits, tag_byte, tag_with, is_wide, tag_of, index_bytes, body_bytes, entry_bytes}
-use Rattle.const_pool.specs.Reading.{number_from, field_from, name_from, member_from, body_from, or_bad_tag, tag_from, entry_from}
-use Rattle.const_pool.proofs.Fields.{guard_ok, field_takes, field_again, number_takes, number_from-again, name_takes, name_again, member_takes, member_again}
+use Rattle.const_pool.specs.Reading.{number_from, field_from, name_from, member_from, body_from, or_bad_tag, tag_from}
+use Rattle.const_pool.specs.Reading.{entry_from}
+use Rattle.const_pool.proofs.Fields.{guard_ok, field_takes, field_again, number_takes, number_from-again, name_takes}
+use Rattle.const_pool.proofs.Fields.{name_again, member_takes, member_again}
 
 -- ---- bodies
 
@@ -82,7 +85,8 @@ body_takes tag.InvokeDynamic file x fits e = one_field file (field_from 4 file) 
     let f = field_takes 4 file a fits h in record { takes = f.0; fits = f.1 })
 
 -- the entry has the kind that was asked for
-one_tagged : {A : Type 0} (t : Tag) (read : Result (A × Place) PoolRefusal) (make : A → Entry) (x : Entry × Place) → ((a : A) → tag_of (make a) ≡ t) → (read >>= λ a. Ok (make a.0, a.1)) ≡ Ok x → tag_of x.0 ≡ t
+one_tagged : {A : Type 0} (t : Tag) (read : Result (A × Place) PoolRefusal) (make : A → Entry) (x : Entry × Place) →
+    ((a : A) → tag_of (make a) ≡ t) → (read >>= λ a. Ok (make a.0, a.1)) ≡ Ok x → tag_of x.0 ≡ t
 one_tagged {A} t read make x tagged e =
     let a = bind_ok read (λ a. Ok (make a.0, a.1)) x e in
     let made : Entry × Place = (make a.0.0, a.0.1) in
@@ -111,7 +115,8 @@ body_tagged tag.InvokeDynamic file x e = one_tagged tag.InvokeDynamic (field_fro
 abbrev ReadsBody : Entry → Type 0
 ReadsBody e = (at : ℕ) (rest : List ℕ) → body_from (tag_of e) (at, body_bytes e ++ rest) ≡ Ok (e, (at + length (body_bytes e), rest))
 
-bytes_again : (e : Entry) (at n : ℕ) (bytes rest : List ℕ) → length bytes ≡ n → done {A = Entry × Place} PoolRefusal (e, (at + n, rest)) ≡ done {A = Entry × Place} PoolRefusal (e, (at + length bytes, rest))
+bytes_again : (e : Entry) (at n : ℕ) (bytes rest : List ℕ) → length bytes ≡ n → done {A = Entry × Place} PoolRefusal
+    (e, (at + n, rest)) ≡ done {A = Entry × Place} PoolRefusal (e, (at + length bytes, rest))
 bytes_again e at n bytes rest len = same_place PoolRefusal e (at + n) (at + length bytes) rest (omega arith)
 
 pub body_again : (e : Entry) → Fits e → ReadsBody e
@@ -130,7 +135,11 @@ body_again (entry.Methodref m) fits at rest = rw (member_again at m rest fits) r
 body_again (entry.InterfaceMethodref m) fits at rest = rw (member_again at m rest fits) refl
 body_again (entry.NameAndType name descriptor) fits at rest =
     let ends : at + 2 + 2 ≡ at + 4 = omega arith in
-    rw (number_from-again 2 at name (index_bytes descriptor ++ rest) fits.0, number_from-again 2 (at + 2) descriptor rest fits.1) (same_place PoolRefusal (entry.NameAndType name descriptor) _ _ rest ends)
+    rw (
+      number_from-again 2 at name (index_bytes descriptor ++ rest) fits.0,
+      number_from-again 2 (at + 2) descriptor rest
+          fits.1,
+    ) (same_place PoolRefusal (entry.NameAndType name descriptor) _ _ rest ends)
 body_again (entry.MethodHandle bytes) fits at rest = rw (field_again 3 at bytes rest fits.0) (bytes_again (entry.MethodHandle bytes) at 3 bytes rest fits.0)
 body_again (entry.MethodType bytes) fits at rest = rw (field_again 2 at bytes rest fits.0) (bytes_again (entry.MethodType bytes) at 2 bytes rest fits.0)
 body_again (entry.InvokeDynamic bytes) fits at rest = rw (field_again 4 at bytes rest fits.0) (bytes_again (entry.InvokeDynamic bytes) at 4 bytes rest fits.0)

@@ -1,5 +1,7 @@
 -- A descriptor that is read is spelled so, and a descriptor that is spelled is read.
-use Rattle.std.proofs.Common.{◌≡◌, ◌≢◌, ℕ, zero, suc, ◌+◌, ◌-◌, ◌≤◌, ◌<◌, Bool, true, false, cond, eqb, ltb, ◌||◌, List, [], ◌∷◌, ◌++◌, length, get_or, replicate, take, drop, Option, Some, None, refl, sym, ap, subst, ◌∙◌, append_assoc, inl, inr, arith}
+use Rattle.std.proofs.Common.{◌≡◌, ◌≢◌, ℕ, zero, suc, ◌+◌, ◌-◌, ◌≤◌, ◌<◌, Bool, true, false, cond, eqb, ltb, ◌||◌, List, []}
+use Rattle.std.proofs.Common.{◌∷◌, ◌++◌, length, get_or, replicate, take, drop, Option, Some, None, refl, sym, ap, subst, ◌∙◌}
+use Rattle.std.proofs.Common.{append_assoc, inl, inr, arith}
 use Rattle.std.specs.Prelude.{IfSome}
 use Rattle.std.specs.Option.{option_map, option_map_or}
 use Rattle.std.specs.List.{flat_map, join_with_byte, AllByRecursion}
@@ -18,8 +20,10 @@ use Rattle.const_pool.specs.declared.descriptor.FieldType.{FieldType}
 use Rattle.const_pool.specs.declared.descriptor.Descriptor.{Descriptor}
 use Rattle.const_pool.specs.declared.descriptor.Descriptor.TheVariants as descriptor
 use Rattle.const_pool.specs.Utf8.{IsModifiedUtf8}
-use Rattle.const_pool.specs.Descriptor.{IsNameByte, IsUnqualified, IsClassName, base_byte, element_bytes, field_bytes, result_bytes, descriptor_bytes, IsElement, IsFieldType, IsDescriptor}
-use Rattle.const_pool.specs.Parsing.{after_byte, name_len, base_of, class_at, after_front, base_at, element_at, brackets, field_at, parameters_at, only_field, is_void, result_at, method_at, descriptor_at}
+use Rattle.const_pool.specs.Descriptor.{IsNameByte, IsUnqualified, IsClassName, base_byte, element_bytes, field_bytes}
+use Rattle.const_pool.specs.Descriptor.{result_bytes, descriptor_bytes, IsElement, IsFieldType, IsDescriptor}
+use Rattle.const_pool.specs.Parsing.{after_byte, name_len, base_of, class_at, after_front, base_at, element_at, brackets}
+use Rattle.const_pool.specs.Parsing.{field_at, parameters_at, only_field, is_void, result_at, method_at, descriptor_at}
 use Rattle.const_pool.proofs.Plain.{splits_well, after_replicate}
 
 -- ---- steps
@@ -250,7 +254,10 @@ pick b n first t others is_n later e =
 
 base_known : (b : ℕ) (t : BaseType) → base_of b ≡ Some t → b ≡ base_byte t
 base_known b t =
-    pick b 66 base.Byte t _ refl (pick b 67 base.Char t _ refl (pick b 73 base.Int t _ refl (pick b 74 base.Long t _ refl (pick b 83 base.Short t _ refl (pick b 90 base.Boolean t _ refl (λ e. absurd cc))))))
+    pick b 66 base.Byte t _ refl
+    (pick b 67 base.Char t _ refl
+    (pick b 73 base.Int t _ refl (pick b 74 base.Long t _ refl
+    (pick b 83 base.Short t _ refl (pick b 90 base.Boolean t _ refl (λ e. absurd cc))))))
 
 base_low : (t : BaseType) → base_byte t < 128
 base_low base.Byte = omega arith
@@ -448,7 +455,8 @@ pub parameter_more : (steps : ℕ) (bytes : List ℕ) → after_front 41 bytes �
 unfolding parameters_at
 parameter_more steps bytes none = rw none refl
 
-closing_takes : (bytes rest : List ℕ) (x : List FieldType × List ℕ) → IsModifiedUtf8 bytes → after_front 41 bytes ≡ Some rest → some {A = List FieldType × List ℕ} ([], rest) ≡ Some x → AreParameters bytes x
+closing_takes : (bytes rest : List ℕ) (x : List FieldType × List ℕ) → IsModifiedUtf8 bytes → after_front 41 bytes ≡ Some
+    rest → some {A = List FieldType × List ℕ} ([], rest) ≡ Some x → AreParameters bytes x
 closing_takes bytes rest x good is e =
     subst (λ (y : List FieldType × List ℕ). AreParameters bytes y) (some_is ([], rest) x e)
     (record { parts = front_some 41 bytes rest is; are = tt; good = front_good 41 bytes rest (omega arith) is good })
@@ -472,7 +480,9 @@ more_take bytes x read good later e =
 
 parameters_by_front : (bytes : List ℕ) (x : List FieldType × List ℕ) (read : List ℕ → Option (List FieldType × List ℕ)) (front : Option (List ℕ)) → IsModifiedUtf8 bytes
     → ((after : List ℕ) (y : List FieldType × List ℕ) → IsModifiedUtf8 after → read after ≡ Some y → AreParameters after y) → after_front 41 bytes ≡ front
-    → option_map_or (λ rest. some {A = List FieldType × List ℕ} ([], rest)) front (field_at bytes >>= λ first. read first.1 >>= λ others. Some (first.0 ∷ others.0, others.1)) ≡ Some x → AreParameters bytes x
+    → option_map_or (λ rest. some {A = List FieldType × List ℕ} ([], rest)) front
+    (field_at bytes >>= λ first. read first.1 >>= λ others. Some (first.0 ∷ others.0, others.1)) ≡ Some x →
+    AreParameters bytes x
 parameters_by_front bytes x read None good later is e = more_take bytes x read good later e
 parameters_by_front bytes x read (Some rest) good later is e = closing_takes bytes rest x good is e
 

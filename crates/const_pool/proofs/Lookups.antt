@@ -1,5 +1,6 @@
 -- What a pool's entries name is there, also after a push.
-use Rattle.std.proofs.Common.{◌≡◌, ℕ, zero, suc, ◌+◌, ◌^◌, ◌<◌, Bool, true, false, cond, List, [], ◌∷◌, ◌++◌, length, get_or, All, Option, Some, None, ◌↔◌, IsTrue, IsSome, refl, sym, ap, subst, inl, inr, arith}
+use Rattle.std.proofs.Common.{◌≡◌, ℕ, zero, suc, ◌+◌, ◌^◌, ◌<◌, Bool, true, false, cond, List, [], ◌∷◌, ◌++◌, length, get_or}
+use Rattle.std.proofs.Common.{All, Option, Some, None, ◌↔◌, IsTrue, IsSome, refl, sym, ap, subst, inl, inr, arith}
 use Rattle.std.specs.List.{AllByRecursion}
 use Rattle.std.proofs.lemmas.Bool.{cases_lt}
 use Rattle.std.proofs.lemmas.List.Elements.{All-from_recursion}
@@ -9,7 +10,9 @@ use Rattle.const_pool.specs.declared.entry.Tag.TheVariants as tag
 use Rattle.const_pool.specs.declared.entry.Entry.{Entry}
 use Rattle.const_pool.specs.declared.entry.Entry.TheVariants as entry
 use Rattle.const_pool.specs.Entry.{Fits, is_wide, tag_of}
-use Rattle.const_pool.specs.Pool.{Slots, slots_of, AreSlots, entry_at, is_tagged, Names, references_in, Refers, IsPool, FitsSlot, text_of, utf8_at, class_name_of, class_name_at, string_of, string_at, both, name_and_type_of, name_and_type_at}
+use Rattle.const_pool.specs.Pool.{Slots, slots_of, AreSlots, entry_at, is_tagged, Names, references_in, Refers, IsPool}
+use Rattle.const_pool.specs.Pool.{FitsSlot, text_of, utf8_at, class_name_of, class_name_at, string_of, string_at, both}
+use Rattle.const_pool.specs.Pool.{name_and_type_of, name_and_type_at}
 
 -- ---- what is named is there
 

@@ -1,5 +1,6 @@
 -- A pool that is read is spelled so, and a pool that is spelled is read again.
-use Rattle.std.proofs.Common.{◌≡◌, ℕ, zero, suc, ◌+◌, true, List, [], ◌∷◌, ◌++◌, length, drop, Result, Ok, Err, refl, sym, ap, subst, ◌∙◌, append_assoc, arith}
+use Rattle.std.proofs.Common.{◌≡◌, ℕ, zero, suc, ◌+◌, true, List, [], ◌∷◌, ◌++◌, length, drop, Result, Ok, Err, refl, sym, ap}
+use Rattle.std.proofs.Common.{subst, ◌∙◌, append_assoc, arith}
 use Rattle.std.specs.Prelude.{IfOk}
 use Rattle.std.specs.List.{flat_map}
 use Rattle.std.proofs.lemmas.List.{drop-drop, drop_at}
@@ -33,7 +34,9 @@ pub pool_stands : (bytes : List ℕ) (x : Slots × ℕ) → IsBytes bytes → po
 unfolding pool_in
 pool_stands bytes x fits e =
     let start : Place = (8, drop 8 bytes) in
-    let a = bind_ok (number_from 2 start) (λ count. counted_slots count.0 count.1 >>= λ slots. unless_found (wrong_from slots.0 0 slots.0) (λ w. BadIndex w.0 w.1) >>= λ good. Ok (slots.0, slots.1.0)) x e in
+    let a = bind_ok (number_from 2 start)
+    (λ count. counted_slots count.0 count.1 >>= λ slots. unless_found (wrong_from slots.0 0 slots.0)
+    (λ w. BadIndex w.0 w.1) >>= λ good. Ok (slots.0, slots.1.0)) x e in
     let b = bind_ok (counted_slots a.0.0 a.0.1) (λ slots. unless_found (wrong_from slots.0 0 slots.0) (λ w. BadIndex w.0 w.1) >>= λ good. Ok (slots.0, slots.1.0)) x a.2 in
     let c = bind_ok (unless_found (wrong_from b.0.0 0 b.0.0) (λ w. BadIndex w.0 w.1)) (λ good. Ok (b.0.0, b.0.1.0)) x b.2 in
     let t = number_takes 2 start a.0 (IsBytes-drop 8 bytes fits) a.1 in

@@ -1,5 +1,7 @@
 -- The slots of a pool: read one entry after the other, as they are spelled, and with what they name.
-use Rattle.std.proofs.Common.{◌≡◌, ◌≢◌, ℕ, zero, suc, ◌+◌, ◌-◌, ◌≤◌, ◌<◌, Bool, true, false, List, [], ◌∷◌, ◌++◌, length, get_or, drop, Option, Some, None, Result, Ok, Err, refl, sym, ap, subst, ◌∙◌, ◌⊎◌, append_assoc, inl, inr, arith}
+use Rattle.std.proofs.Common.{◌≡◌, ◌≢◌, ℕ, zero, suc, ◌+◌, ◌-◌, ◌≤◌, ◌<◌, Bool, true, false, List, [], ◌∷◌, ◌++◌, length}
+use Rattle.std.proofs.Common.{get_or, drop, Option, Some, None, Result, Ok, Err, refl, sym, ap, subst, ◌∙◌, ◌⊎◌, append_assoc}
+use Rattle.std.proofs.Common.{inl, inr, arith}
 use Rattle.std.specs.List.{flat_map, AllByRecursion}
 use Rattle.std.proofs.lemmas.Bool.{cases_Bool}
 use Rattle.std.proofs.lemmas.List.{append-nil, length-append, at_drop_more, at_drop_all}
@@ -31,7 +33,9 @@ unfolding slots_from
 taken_slot left count file = refl
 
 free_slot : (left count : ℕ) (file : Place)
-    → slots_from false (suc left) count file ≡ (entry_from (count - suc left) count file >>= λ first. slots_from (is_wide (tag_of first.0)) left count first.1 >>= λ others. Ok (Some first.0 ∷ others.0, others.1))
+    → slots_from false (suc left) count file ≡
+    (entry_from (count - suc left) count file >>= λ first. slots_from (is_wide (tag_of first.0)) left count first.1 >>=
+    λ others. Ok (Some first.0 ∷ others.0, others.1))
 unfolding slots_from
 free_slot left count file = refl
 
@@ -138,7 +142,9 @@ slots_take true (suc left) count file x fits le room e =
     let made : Slots × Place = (None ∷ a.0.0, a.0.1) in
     subst (λ (y : Slots × Place). IsRead true (suc left) file y) (ok_is PoolRefusal made x a.2) (record { takes = r.takes; count = ap suc r.count; slots = r.slots })
 slots_take false (suc left) count file x fits le room e =
-    let a = bind_ok (entry_from (count - suc left) count file) (λ first. slots_from (is_wide (tag_of first.0)) left count first.1 >>= λ others. Ok (Some first.0 ∷ others.0, others.1)) x (sym (free_slot left count file) ∙ e) in
+    let a = bind_ok (entry_from (count - suc left) count file)
+    (λ first. slots_from (is_wide (tag_of first.0)) left count first.1 >>= λ others. Ok
+    (Some first.0 ∷ others.0, others.1)) x (sym (free_slot left count file) ∙ e) in
     let b = bind_ok (slots_from (is_wide (tag_of a.0.0)) left count a.0.1) (λ others. Ok (Some a.0.0 ∷ others.0, others.1)) x a.2 in
     let first = entry_takes (count - suc left) count file a.0 fits a.1 in
     let r = slots_take (is_wide (tag_of a.0.0)) left count a.0.1 b.0 first.takes.rest_fits (omega arith) (λ wide none. entry_room (count - suc left) count file a.0 a.1 wide (omega arith)) b.1 in

@@ -1,12 +1,16 @@
 -- Modified UTF-8: what stands at the front is one unit's bytes exactly where the ranges say so, and the
 -- first bad place is what a walk over the units finds.
-use Rattle.std.proofs.Common.{◌≡◌, ℕ, zero, suc, ◌+◌, ◌-◌, ◌*◌, ◌/◌, ◌%◌, ◌^◌, ◌<◌, ◌≤◌, ◌⊎◌, Bool, true, false, cond, eqb, leb, ◌&&◌, ◌||◌, List, [], ◌∷◌, ◌++◌, length, drop, Option, Some, None, refl, sym, ap, subst, ◌∙◌, inl, inr, arith, add-zero}
+use Rattle.std.proofs.Common.{◌≡◌, ℕ, zero, suc, ◌+◌, ◌-◌, ◌*◌, ◌/◌, ◌%◌, ◌^◌, ◌<◌, ◌≤◌, ◌⊎◌, Bool, true, false, cond, eqb, leb}
+use Rattle.std.proofs.Common.{◌&&◌, ◌||◌, List, [], ◌∷◌, ◌++◌, length, drop, Option, Some, None, refl, sym, ap, subst, ◌∙◌, inl}
+use Rattle.std.proofs.Common.{inr, arith, add-zero}
 use Rattle.std.specs.List.{AllByRecursion}
-use Rattle.std.proofs.lemmas.Bool.{and_parts, and_from, and_left, or_cases, or_from, or_left, or_right, leb-true, eqb-true, lt-ltb, le-ltb, eq-eqb, ne_eqb, cases_lt, cases_eq}
+use Rattle.std.proofs.lemmas.Bool.{and_parts, and_from, and_left, or_cases, or_from, or_left, or_right, leb-true, eqb-true}
+use Rattle.std.proofs.lemmas.Bool.{lt-ltb, le-ltb, eq-eqb, ne_eqb, cases_lt, cases_eq}
 use Rattle.std.proofs.lemmas.Bool.Decides.{nat_tests}
 use Rattle.std.proofs.lemmas.List.{drop_at, length-drop}
 use Rattle.std.proofs.lemmas.List.Concat.{flat_map-cons}
-use Rattle.const_pool.specs.Utf8.{unit_bytes, IsUnit, units_bytes, IsModifiedUtf8, is_within, begins_one, begins_two, begins_three, char_len, bad_place}
+use Rattle.const_pool.specs.Utf8.{unit_bytes, IsUnit, units_bytes, IsModifiedUtf8, is_within, begins_one, begins_two}
+use Rattle.const_pool.specs.Utf8.{begins_three, char_len, bad_place}
 
 -- ---- the three forms of a unit
 

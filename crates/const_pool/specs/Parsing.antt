@@ -1,5 +1,6 @@
 -- Reading a descriptor from its front.
-use Rattle.std.specs.Prelude.{ℕ, zero, suc, ◌+◌, List, [], ◌∷◌, length, take, drop, Option, Some, None, Result, Bool, true, false, ◌||◌, ◌==◌, nat_lt, if◌then◌else◌}
+use Rattle.std.specs.Prelude.{ℕ, zero, suc, ◌+◌, List, [], ◌∷◌, length, take, drop, Option, Some, None, Result, Bool, true}
+use Rattle.std.specs.Prelude.{false, ◌||◌, ◌==◌, nat_lt, if◌then◌else◌}
 use Rattle.std.specs.Option.{option_map, option_map_or}
 use Rattle.parsing.specs.Options as options
 use Rattle.parsing.specs.Options.{◌>>=◌}

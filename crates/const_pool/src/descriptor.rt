@@ -6,7 +6,8 @@ ghost use Rattle.const_pool.specs.declared.descriptor.Descriptor.{Descriptor};
 ghost use Rattle.const_pool.specs.declared.descriptor.DescriptorRefusal.TheVariants.{OutOfMemory};
 ghost use Rattle.const_pool.specs.Utf8.{IsModifiedUtf8};
 ghost use Rattle.const_pool.specs.Descriptor.{IsDescriptor, descriptor_bytes};
-ghost use Rattle.const_pool.specs.Parsing.{Gives, after_byte, name_len, base_of, class_at, after_front, base_at, element_at, brackets, field_at, parameters_at, only_field, result_at, method_at, descriptor_at};
+ghost use Rattle.const_pool.specs.Parsing.{Gives, after_byte, name_len, base_of, class_at, after_front, base_at, element_at};
+ghost use Rattle.const_pool.specs.Parsing.{brackets, field_at, parameters_at, only_field, result_at, method_at, descriptor_at};
 
 use crate::Name;
 use std::alloc::{AllocError, AllocFailed, Global};

@@ -1,6 +1,7 @@
 //! Names and other texts of a class file, in modified UTF-8 (JVMS 4.4.7).
 
-ghost use Rattle.std.specs.Prelude.{◌≡◌, ◌↔◌, ◌<◌, ◌≤◌, ◌∷◌, [], length, take, drop, IsTrue, IsSome, IfOk, IfSome, IfNone, OnSome, Some, None};
+ghost use Rattle.std.specs.Prelude.{◌≡◌, ◌↔◌, ◌<◌, ◌≤◌, ◌∷◌, [], length, take, drop, IsTrue, IsSome, IfOk, IfSome, IfNone};
+ghost use Rattle.std.specs.Prelude.{OnSome, Some, None};
 ghost use Rattle.const_pool.specs.Utf8.{IsModifiedUtf8, bad_place, char_len, begins_one, begins_two, begins_three};
 
 use std::alloc::{AllocError, Global};

@@ -1,10 +1,12 @@
 //! A constant pool (JVMS 4.4).
 
-ghost use Rattle.std.specs.Prelude.{◌≡◌, ℕ, ◌+◌, ◌^◌, ◌<◌, ◌≤◌, ◌++◌, [], ◌∷◌, ◌↔◌, length, vec_len, None, Some, IsTrue, IsSome, IfOk, OnOk, OnErr, IsErrOf};
+ghost use Rattle.std.specs.Prelude.{◌≡◌, ℕ, ◌+◌, ◌^◌, ◌<◌, ◌≤◌, ◌++◌, [], ◌∷◌, ◌↔◌, length, vec_len, None, Some, IsTrue};
+ghost use Rattle.std.specs.Prelude.{IsSome, IfOk, OnOk, OnErr, IsErrOf};
 ghost use Rattle.std.specs.Option.{is_some, option_copied, option_map};
 ghost use Rattle.const_pool.specs.declared.entry.Tag.{Tag};
 ghost use Rattle.const_pool.specs.Entry.{tag_of, Fits};
-ghost use Rattle.const_pool.specs.Pool.{IsPool, Names, Refers, entry_at, is_tagged, slots_of, utf8_at, class_name_at, string_at, name_and_type_at, member_at};
+ghost use Rattle.const_pool.specs.Pool.{IsPool, Names, Refers, entry_at, is_tagged, slots_of, utf8_at, class_name_at};
+ghost use Rattle.const_pool.specs.Pool.{string_at, name_and_type_at, member_at};
 
 use crate::refusal::PushRefusal;
 use crate::{Entry, Member, Name, Tag};

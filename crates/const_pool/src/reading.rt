@@ -1,7 +1,8 @@
 //! Reading a pool from a file's bytes.
 
 ghost use Rattle.std.specs.Prelude.{◌≡◌, ℕ, ◌+◌, ◌^◌, ◌<◌, List, [], ◌∷◌, ◌++◌, length, drop, vec_len, IfOk, Ok};
-ghost use Rattle.const_pool.specs.Reading.{Gives, name_from, member_from, body_from, tag_from, entry_from, counted_slots, first_wrong, wrong_from, pool_in};
+ghost use Rattle.const_pool.specs.Reading.{Gives, name_from, member_from, body_from, tag_from, entry_from, counted_slots};
+ghost use Rattle.const_pool.specs.Reading.{first_wrong, wrong_from, pool_in};
 ghost use Rattle.const_pool.specs.Entry.{references, member_references};
 ghost use Rattle.const_pool.specs.Pool.{Slots, IsPool, spelling, entry_at, is_tagged, references_in};
 

@@ -4,7 +4,8 @@ use Rattle.std.specs.Prelude.{if◌then◌else◌}
 use Rattle.std.proofs.lemmas.Bool.{eq-eqb, ne_eqb, cases_eq, cases_lt}
 use Rattle.convert_queue.specs.declared.queue_lists.Chain.{Chain}
 use Rattle.convert_queue.specs.Chains.{nth_from, entry_of, longer, AreChains}
-use Rattle.convert_queue.proofs.Rechained.{Link, kept, added, left, Freed, stays, freed, moved, Origin, rechained, links_apart, freed_apart}
+use Rattle.convert_queue.proofs.Rechained.{Link, kept, added, left, Freed, stays, freed, moved, Origin, rechained, links_apart}
+use Rattle.convert_queue.proofs.Rechained.{freed_apart}
 
 pub nth_same : (next next' : ℕ → ℕ) (n i : ℕ) → ((k : ℕ) → k < n → next' (nth_from next k i) ≡ next (nth_from next k i)) → nth_from next' n i ≡ nth_from next n i
 nth_same next next' zero i h = refl

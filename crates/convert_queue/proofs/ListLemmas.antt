@@ -1,16 +1,21 @@
 -- What a put and a release leave of the queues.
-use Rattle.std.proofs.Common.{◌≡◌, ◌≢◌, inl, inr, ℕ, zero, suc, ◌+◌, ◌-◌, ◌<◌, ◌≤◌, ◌^◌, List, [], ◌∷◌, ◌++◌, length, map, refl, sym, ◌∙◌, ap, subst, arith, slice_set, get_or, sum_by, Bool, replicate}
+use Rattle.std.proofs.Common.{◌≡◌, ◌≢◌, inl, inr, ℕ, zero, suc, ◌+◌, ◌-◌, ◌<◌, ◌≤◌, ◌^◌, List, [], ◌∷◌, ◌++◌, length, map, refl}
+use Rattle.std.proofs.Common.{sym, ◌∙◌, ap, subst, arith, slice_set, get_or, sum_by, Bool, replicate}
 use Rattle.std.specs.Prelude.{if◌then◌else◌, slice_get, Some, None}
 use Rattle.std.proofs.Math.Seq.{map-set_same}
 use Rattle.std.proofs.lemmas.Bool.{eq-eqb, ne_eqb, cases_eq}
-use Rattle.std.proofs.lemmas.List.{ext_get_or, get_or_default, get_or-map, set-get_or, length-set, length-map, get_or-set_same, get_or-set_other, get_or_past, get_or-replicate, length-replicate}
+use Rattle.std.proofs.lemmas.List.{ext_get_or, get_or_default, get_or-map, set-get_or, length-set, length-map, get_or-set_same}
+use Rattle.std.proofs.lemmas.List.{get_or-set_other, get_or_past, get_or-replicate, length-replicate}
 use Rattle.std.proofs.lemmas.List.Sums.{sum_by-set, sum_by-cons}
 use Rattle.convert_queue.specs.declared.queue_lists.Entry.{Entry}
 use Rattle.convert_queue.specs.declared.queue_lists.Chain.{Chain}
-use Rattle.convert_queue.specs.Chains.{no_entry, next_in, queued_in, nth_from, entry_of, walk, queue_from, linked, longer, chain_at, AreChains, AreLists, Lists}
+use Rattle.convert_queue.specs.Chains.{no_entry, next_in, queued_in, nth_from, entry_of, walk, queue_from, linked, longer}
+use Rattle.convert_queue.specs.Chains.{chain_at, AreChains, AreLists, Lists}
 use Rattle.convert_queue.specs.Queues.{total}
-use Rattle.convert_queue.proofs.ChainLemmas.{nth_last, Puts, put_same, put_front, put_new, put_chains, not_first, last_is, Releases, release_same, release_chains}
-use Rattle.convert_queue.proofs.WalkLemmas.{length-walk, walk_same, walk_more, next_here, next_other, queued_here, queued_other, queued_same}
+use Rattle.convert_queue.proofs.ChainLemmas.{nth_last, Puts, put_same, put_front, put_new, put_chains, not_first, last_is}
+use Rattle.convert_queue.proofs.ChainLemmas.{Releases, release_same, release_chains}
+use Rattle.convert_queue.proofs.WalkLemmas.{length-walk, walk_same, walk_more, next_here, next_other, queued_here, queued_other}
+use Rattle.convert_queue.proofs.WalkLemmas.{queued_same}
 
 pub linked_none : (entries : List Entry) (chain : Chain) (n : ℕ) → chain.count ≡ 0 → linked entries chain n ≡ entries
 linked_none entries chain n e =

@@ -1,14 +1,18 @@
 -- Notes of lines, the marks that they are, and what a store, a write and a fence make of them.
-use Rattle.std.proofs.Common.{◌≡◌, ◌≢◌, inl, inr, ℕ, zero, suc, ◌+◌, ◌-◌, ◌*◌, ◌^◌, ◌<◌, ◌≤◌, ◌==◌, Bool, true, false, List, [], ◌∷◌, length, map, refl, sym, ◌∙◌, ap, subst, arith, slice_set, nat_eq, replicate}
+use Rattle.std.proofs.Common.{◌≡◌, ◌≢◌, inl, inr, ℕ, zero, suc, ◌+◌, ◌-◌, ◌*◌, ◌^◌, ◌<◌, ◌≤◌, ◌==◌, Bool, true, false, List, []}
+use Rattle.std.proofs.Common.{◌∷◌, length, map, refl, sym, ◌∙◌, ap, subst, arith, slice_set, nat_eq, replicate}
 use Rattle.std.specs.Prelude.{if◌then◌else◌}
 use Rattle.std.specs.Int.{bit_at}
 use Rattle.std.proofs.Math.ListN.{get_or-map}
 use Rattle.std.proofs.lemmas.Bool.{eq-eqb, ne_eqb, eqb-true, cases_lt, cases_eq, both_ways}
-use Rattle.std.proofs.lemmas.List.{length-set, length-map, length-replicate, map-set, get_or-set_same, get_or-set_other, get_or-replicate, get_or_past}
+use Rattle.std.proofs.lemmas.List.{length-set, length-map, length-replicate, map-set, get_or-set_same, get_or-set_other}
+use Rattle.std.proofs.lemmas.List.{get_or-replicate, get_or_past}
 use Rattle.convert_queue.specs.declared.line_marks.Note.{Note}
 use Rattle.convert_queue.specs.declared.line_marks.Note.TheVariants.{Clean, Stored, Written}
-use Rattle.convert_queue.specs.Marks.{Mark, clean, stored, written, mark_at, MayNote, after_write, after_fence, with_write, with_fence, IsStored, IsWritten, IsClean}
-use Rattle.convert_queue.specs.Notes.{mark_of, marks_of, note_at, has_stored, IsBefore, IsTree, IsLeastStored, AreNotes, without_write, node_has}
+use Rattle.convert_queue.specs.Marks.{Mark, clean, stored, written, mark_at, MayNote, after_write, after_fence, with_write}
+use Rattle.convert_queue.specs.Marks.{with_fence, IsStored, IsWritten, IsClean}
+use Rattle.convert_queue.specs.Notes.{mark_of, marks_of, note_at, has_stored, IsBefore, IsTree, IsLeastStored, AreNotes}
+use Rattle.convert_queue.specs.Notes.{without_write, node_has}
 use Rattle.convert_queue.specs.Threads.{has}
 use Rattle.convert_queue.proofs.Sets.{has_none, has_one, or_same}
 use Rattle.convert_queue.proofs.TreeLemmas.{same_stores, node_inner, node_leaf}

@@ -1,5 +1,6 @@
 -- The bits of a set.
-use Rattle.std.proofs.Common.{◌≡◌, ◌≢◌, ◌⊎◌, inl, inr, ℕ, ◌-◌, min, bit_and, ◌<◌, ◌≤◌, ◌==◌, ◌||◌, ◌^◌, Bool, true, false, List, length, refl, sym, ◌∙◌, ap, subst, arith, bit_or, w64}
+use Rattle.std.proofs.Common.{◌≡◌, ◌≢◌, ◌⊎◌, inl, inr, ℕ, ◌-◌, min, bit_and, ◌<◌, ◌≤◌, ◌==◌, ◌||◌, ◌^◌, Bool, true, false, List}
+use Rattle.std.proofs.Common.{length, refl, sym, ◌∙◌, ap, subst, arith, bit_or, w64}
 use Rattle.std.specs.Int.{bit_at}
 use Rattle.std.specs.Prelude.{slice_index}
 use Rattle.std.proofs.lemmas.Grind.{common_steps}
@@ -98,7 +99,9 @@ above_none set u small le = has_none (bit_at set u) (bit_at_above set 64 u small
 pub without_other : (a b u : ℕ) → a < 2 ^ 64 → b < 2 ^ 64 → has b u ≡ false → has (bit_and a (bit_not w64 b)) u ≡ has a u
 without_other a b u small_a small h = elim (lt_or u) [
   | inl lt ↦ without_same a b u small lt h
-  | inr le ↦ has_none (bit_at (bit_and a (bit_not w64 b)) u) (low (bit_at a u) (bit_at (bit_not w64 b) u) (bit_at (bit_and a (bit_not w64 b)) u) (bit_at_above a 64 u small_a le) (bit_at_and a (bit_not w64 b) u)) ∙ sym (above_none a u small_a le)
+  | inr le ↦ has_none (bit_at (bit_and a (bit_not w64 b)) u)
+      (low (bit_at a u) (bit_at (bit_not w64 b) u) (bit_at (bit_and a (bit_not w64 b)) u) (bit_at_above a 64 u small_a le)
+      (bit_at_and a (bit_not w64 b) u)) ∙ sym (above_none a u small_a le)
 ]
   where
     lt_or : (u : ℕ) → (u < 64) ⊎ (64 ≤ u)

@@ -1,10 +1,12 @@
 -- By how much each step lowers or raises the work that is left.
-use Rattle.std.proofs.Common.{◌≡◌, ◌≢◌, inl, inr, ℕ, zero, suc, ◌+◌, ◌*◌, ◌<◌, ◌≤◌, List, [], ◌∷◌, ◌++◌, length, get_or, take, drop, refl, sym, ◌∙◌, ap, arith}
+use Rattle.std.proofs.Common.{◌≡◌, ◌≢◌, inl, inr, ℕ, zero, suc, ◌+◌, ◌*◌, ◌<◌, ◌≤◌, List, [], ◌∷◌, ◌++◌, length, get_or, take}
+use Rattle.std.proofs.Common.{drop, refl, sym, ◌∙◌, ap, arith}
 use Rattle.std.proofs.lemmas.Bool.{cases_eq}
 use Rattle.std.proofs.lemmas.List.{take-append-le, drop-append-le, take_more, drop_more, take_all, drop_all}
 use Rattle.std.proofs.lemmas.List.Sums.{sum_by-set, sum_by-cons, sum_by-append}
 use Rattle.convert_queue.specs.declared.phase.Phase.TheVariants.{Copy, Repair}
-use Rattle.convert_queue.specs.Marks.{Mark, clean, stored, written, mark_at, with_store, with_write, with_fence, after_write, after_fence, IsStored, IsWritten}
+use Rattle.convert_queue.specs.Marks.{Mark, clean, stored, written, mark_at, with_store, with_write, with_fence, after_write}
+use Rattle.convert_queue.specs.Marks.{after_fence, IsStored, IsWritten}
 use Rattle.convert_queue.specs.Queues.{Queued}
 use Rattle.convert_queue.specs.Work.{weight, line_work, whole_work, lines_in, uncopied_in, thread_work, sum_below}
 

@@ -1,5 +1,6 @@
 -- Queues as chains of entries: each entry names the next one of its chain. Entries of no queue are in a chain of their own.
-use Rattle.std.specs.Prelude.{◌≡◌, ℕ, zero, suc, ◌+◌, ◌<◌, ◌≤◌, ◌^◌, nat_eq, List, [], ◌∷◌, length, sum_by, get_or, slice_set as set, if◌then◌else◌}
+use Rattle.std.specs.Prelude.{◌≡◌, ℕ, zero, suc, ◌+◌, ◌<◌, ◌≤◌, ◌^◌, nat_eq, List, [], ◌∷◌, length, sum_by, get_or}
+use Rattle.std.specs.Prelude.{slice_set as set, if◌then◌else◌}
 use Rattle.convert_queue.specs.declared.queue_lists.Entry.{Entry}
 use Rattle.convert_queue.specs.declared.queue_lists.Chain.{Chain}
 

@@ -1,5 +1,6 @@
 -- What is kept of each line, and a tree over the lines from whose nodes the least one that a thread has to write is found.
-use Rattle.std.specs.Prelude.{◌≡◌, ◌≢◌, ℕ, ◌+◌, ◌-◌, ◌*◌, ◌^◌, ◌<◌, ◌≤◌, ◌||◌, ◌==◌, Bool, true, false, ltb, nat_eq, List, map, length, slice_index, slice_index_or, if◌then◌else◌}
+use Rattle.std.specs.Prelude.{◌≡◌, ◌≢◌, ℕ, ◌+◌, ◌-◌, ◌*◌, ◌^◌, ◌<◌, ◌≤◌, ◌||◌, ◌==◌, Bool, true, false, ltb, nat_eq, List, map}
+use Rattle.std.specs.Prelude.{length, slice_index, slice_index_or, if◌then◌else◌}
 use Rattle.convert_queue.specs.declared.line_marks.Note.{Note}
 use Rattle.convert_queue.specs.declared.line_marks.Note.TheVariants.{Clean, Stored, Written}
 use Rattle.convert_queue.specs.Marks.{Mark, clean, stored, written, IsClean, IsWritten}

@@ -1,5 +1,6 @@
 // What threads that convert objects have claimed, and how far each has come.
-ghost use Rattle.std.specs.Prelude.{◌≡◌, ◌≢◌, ◌⊎◌, ◌<◌, ◌+◌, ◌++◌, ◌∷◌, ◌↔◌, [], ℕ, true, false, length, replicate, slice_get, slice_index, slice_set, IfOk, IfErr, IfSome, IsNone, IsTrue};
+ghost use Rattle.std.specs.Prelude.{◌≡◌, ◌≢◌, ◌⊎◌, ◌<◌, ◌+◌, ◌++◌, ◌∷◌, ◌↔◌, [], ℕ, true, false, length, replicate, slice_get};
+ghost use Rattle.std.specs.Prelude.{slice_index, slice_set, IfOk, IfErr, IfSome, IsNone, IsTrue};
 ghost use Rattle.convert_queue.specs.Marks.{clean, with_fence, with_store, with_write, mark_at, IsClean, IsStored, MayNote};
 ghost use Rattle.convert_queue.specs.Queues.{phase_of, place_of, queue_of, total, AllSettled, IsLeastUnsettled, IsSettled};
 ghost use Rattle.convert_queue.specs.Threads.{has, needs_of, IsGroupOf};

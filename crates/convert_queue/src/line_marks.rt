@@ -1,5 +1,6 @@
 // How the lines of copies stand to their image.
-ghost use Rattle.std.specs.Prelude.{◌≡◌, ◌≢◌, ◌<◌, ◌≤◌, ◌+◌, ◌*◌, ◌^◌, ◌↔◌, ℕ, replicate, length, map, slice_set, true, false, IfOk, IfSome, IsNone, IsTrue};
+ghost use Rattle.std.specs.Prelude.{◌≡◌, ◌≢◌, ◌<◌, ◌≤◌, ◌+◌, ◌*◌, ◌^◌, ◌↔◌, ℕ, replicate, length, map, slice_set, true, false};
+ghost use Rattle.std.specs.Prelude.{IfOk, IfSome, IsNone, IsTrue};
 ghost use Rattle.convert_queue.specs.Marks.{clean, IsClean, IsStored, MayNote, mark_at, with_fence, with_store, with_write};
 ghost use Rattle.convert_queue.specs.Notes.{note_at, without_write, IsTree};
 

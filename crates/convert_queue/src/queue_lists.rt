@@ -1,5 +1,6 @@
 // The queues of all threads, as chains through one list of entries.
-ghost use Rattle.std.specs.Prelude.{◌≡◌, ◌≢◌, ◌<◌, ◌≤◌, ◌+◌, ◌-◌, ◌++◌, ◌∷◌, ◌^◌, [], ℕ, replicate, length, slice_get, slice_set, get_or, IfOk, true, false, nat_eq, if◌then◌else◌};
+ghost use Rattle.std.specs.Prelude.{◌≡◌, ◌≢◌, ◌<◌, ◌≤◌, ◌+◌, ◌-◌, ◌++◌, ◌∷◌, ◌^◌, [], ℕ, replicate, length, slice_get};
+ghost use Rattle.std.specs.Prelude.{slice_set, get_or, IfOk, true, false, nat_eq, if◌then◌else◌};
 ghost use Rattle.convert_queue.specs.Chains.{linked, longer, next_in, no_entry, nth_from};
 ghost use Rattle.convert_queue.specs.Queues.{queue_in, total};
 ghost use Rattle.convert_queue.specs.Threads.{has};

@@ -1,17 +1,20 @@
 -- What keeps a world.
-use Rattle.std.proofs.Common.{◌≡◌, ◌⊎◌, inl, inr, ℕ, ◌+◌, ◌*◌, ◌<◌, ◌≤◌, ◌++◌, true, false, List, [], ◌∷◌, length, refl, sym, ◌∙◌, ap, subst, arith}
+use Rattle.std.proofs.Common.{◌≡◌, ◌⊎◌, inl, inr, ℕ, ◌+◌, ◌*◌, ◌<◌, ◌≤◌, ◌++◌, true, false, List, [], ◌∷◌, length, refl, sym}
+use Rattle.std.proofs.Common.{◌∙◌, ap, subst, arith}
 use Rattle.std.specs.Prelude.{slice_index, slice_index_or, replicate, zero, suc, ◌==◌}
 use Rattle.ap_base.specs.declared.reference.Ref.{Ref}
 use Rattle.ap_base.specs.declared.reference.Ref.TheVariants.{Null, Persistent, Volatile}
 use Rattle.std.proofs.lemmas.Bool.{false≢true}
-use Rattle.std.proofs.lemmas.List.{get_or-append-add, get_or_append_left, get_or-replicate, get_or_past, length-append, length-replicate}
+use Rattle.std.proofs.lemmas.List.{get_or-append-add, get_or_append_left, get_or-replicate, get_or_past, length-append}
+use Rattle.std.proofs.lemmas.List.{length-replicate}
 use Rattle.std.proofs.lemmas.Nat.Bits.{bit_at-zero}
 use Rattle.line_memory.specs.Memory.{Memory}
 use Rattle.volatile_space.specs.Spaces.{Space}
 use Rattle.persist_space.specs.Lines.{Lines}
 use Rattle.monitors.specs.declared.monitor.Monitor.{Monitor}
 use Rattle.monitors.specs.Indexed.{AreSound}
-use Rattle.twin_forms.specs.Table.{Entry, no_entry, entry, View, Names, Lies, IsRef, IsClaimed, InP, HasCopied, refers, line_of, lines_of}
+use Rattle.twin_forms.specs.Table.{Entry, no_entry, entry, View, Names, Lies, IsRef, IsClaimed, InP, HasCopied, refers, line_of}
+use Rattle.twin_forms.specs.Table.{lines_of}
 use Rattle.twin_forms.specs.Moves.{LiesAt, SameHeap, Added, MayStore, Stored, ChangesLine, fresh}
 use Rattle.twin_forms.specs.Sights.{Twin, Marks, AllKnown, view_of, held_of, written_of}
 use Rattle.twin_forms.proofs.Led.{odd_old, below_or_not}
@@ -210,8 +213,10 @@ line_noted s es t i n k line a is lk here =
     )
 
 -- a store of an int to a slot of a queued object whose line is copied, and of which the queue is told
-pub copied_world : (h h1 h' : Twin) (q q' : Queues) (l : Lines) (ms : List Monitor) (objects : List ℕ) (t n k word line : ℕ) → (w : World h q l ms objects) → h1 ≡ h → IsClaimed w.table t n → k < (entry w.table n).slots →
-    HasCopied (entry w.table n) (line_of k) → line ≡ (entry w.table n).line + line_of k → refers (view_of h) (entry w.table n) k ≡ false → Stored (view_of h1) (view_of h') w.table n k word → h'.marks ≡ h1.marks →
+pub copied_world : (h h1 h' : Twin) (q q' : Queues) (l : Lines) (ms : List Monitor) (objects : List ℕ)
+    (t n k word line : ℕ) → (w : World h q l ms objects) → h1 ≡ h → IsClaimed w.table t n → k < (entry w.table n).slots →
+    HasCopied (entry w.table n) (line_of k) → line ≡ (entry w.table n).line + line_of k → refers (view_of h)
+    (entry w.table n) k ≡ false → Stored (view_of h1) (view_of h') w.table n k word → h'.marks ≡ h1.marks →
     ChangesLine ((entry w.table n).line + line_of k) h1.memory h'.memory → q' ≡ record q { marks = with_store q.marks t line } → World h' q' l ms objects
 copied_world h h1 h' q q' l ms objects t n k word line w same owner lk has here plain stored marks changes noted =
     let s : Scene = scene_of h q l ms in

@@ -1,7 +1,9 @@
 -- A new object.
-use Rattle.std.proofs.Common.{◌≡◌, ◌⊎◌, inl, inr, ℕ, ◌+◌, ◌%◌, ◌<◌, ◌≤◌, ◌++◌, [], ◌∷◌, true, List, length, refl, sym, ◌∙◌, ap, subst, arith}
+use Rattle.std.proofs.Common.{◌≡◌, ◌⊎◌, inl, inr, ℕ, ◌+◌, ◌%◌, ◌<◌, ◌≤◌, ◌++◌, [], ◌∷◌, true, List, length, sym, ◌∙◌, ap, subst}
+use Rattle.std.proofs.Common.{arith}
 use Rattle.std.proofs.lemmas.List.{get_or-append-add, get_or_append_left, length-append}
-use Rattle.twin_forms.specs.Table.{Entry, no_entry, entry, View, word_of, Names, refers, value_of, shows, lines_of, line_of, HasCopied, IsClaimed}
+use Rattle.twin_forms.specs.Table.{Entry, no_entry, entry, View, word_of, Names, refers, value_of, shows, lines_of, line_of}
+use Rattle.twin_forms.specs.Table.{HasCopied, IsClaimed}
 use Rattle.twin_forms.specs.Moves.{Added, fresh}
 use Rattle.twin_forms.proofs.Led.{number_is}
 use Rattle.twin_forms.proofs.Elsewhere.{positive, value_obj, value_null}
@@ -10,7 +12,7 @@ use Rattle.convert_queue.specs.Queues.{Queues, place_of, phase_of}
 use Rattle.convert_queue.specs.Threads.{needs_of}
 use Rattle.convert_words.specs.Agreeing.{Is, Met, Keeps, current_word, OnItsWay, Agrees}
 use Rattle.convert_words.specs.Steps.{IsQuiet}
-use Rattle.convert_words.proofs.Basics.{room_of, word_kept, same_kind, number_plus}
+use Rattle.convert_words.proofs.Basics.{room_of, kept_back, keeps_back, word_kept, same_kind, number_plus}
 use Rattle.convert_words.proofs.Tied.{tied_kept}
 use Rattle.convert_words.proofs.Moves.{mended_two}
 
@@ -38,12 +40,15 @@ agrees_added v v' held held' back back' q free keys es shape slots added quiet a
           far = s.reaches.far;
           met = λ k m ref kept lk hc closed lm na.
               let b = leads n k ln lk ref m lm na in
-              met_on t m b.0 (s.reaches.met k m (sym (kinds n k ln lk) ∙ ref) kept lk hc closed b.0 b.1);
+              met_on t m b.0 (s.reaches.met k m (sym (kinds n k ln lk) ∙ ref) (kept_back v v' e k quiet.kept kept) lk hc closed b.0 b.1);
           mended = λ k ref kept lk is_mended.
               let two = mended_two (phase_of q t) (place_of q t).0 (place_of q t).1 i (line_of k) e s.reaches.far is_mended in
-              ap (λ x. x % 2) (word_kept (λ _. ⊥) v v' held held' back back' e k quiet two lk room (λ x. x)) ∙ s.reaches.mended k (sym (kinds n k ln lk) ∙ ref) kept lk is_mended;
+              ap (λ x. x % 2) (word_kept (λ _. ⊥) v v' held held' back back' e k quiet two lk room (λ x. x)) ∙
+              s.reaches.mended k (sym (kinds n k ln lk) ∙ ref) (kept_back v v' e k quiet.kept kept) lk is_mended;
         };
-        tied = λ c lc hc. tied_kept (λ _. ⊥) v v' held held' back back' (Keeps v e) (Keeps v' e) t (e.line + c) (mark_at q.marks (e.line + c)) quiet (omega (arith, room, lc)) (λ x. x) (λ w kp. λ k eq lk. refl) (s.tied c lc hc);
+        tied = λ c lc hc. tied_kept (λ _. ⊥) v v' held held' back back' (Keeps v e) (Keeps v' e) t (e.line + c)
+            (mark_at q.marks (e.line + c)) quiet (omega (arith, room, lc)) (λ x. x)
+            (λ w kp. keeps_back v v' e w quiet.kept kp) (s.tied c lc hc);
       });
   noted = λ t l noted.
       let x = a.noted t l noted in
@@ -115,15 +120,20 @@ agrees_added v v' held held' back back' q free keys es shape slots added quiet a
     kinds : (n k : ℕ) → n < length es → k < (entry es n).slots → refers v' (entry es n) k ≡ refers v (entry es n) k
     kinds n k ln lk = same_kind v' v (refers v' (entry es n) k) (refers v (entry es n) k) (word_of v' (entry es n) k) (word_of v (entry es n) k) (shown_same n k ln lk)
 
-    leads : (n k : ℕ) → n < length es → k < (entry es n).slots → refers v' (entry es n) k ≡ true → (m : ℕ) → m < length es' → Names (entry es' m) (word_of v' (entry es n) k) → (m < length es) × Names (entry es m) (word_of v (entry es n) k)
+    leads : (n k : ℕ) → n < length es → k < (entry es n).slots → refers v' (entry es n) k ≡ true → (m : ℕ) → m < length es'
+        → Names (entry es' m) (word_of v' (entry es n) k) → (m < length es) × Names (entry es m) (word_of v (entry es n) k)
     leads n k ln lk ref m lm na =
         let w = word_of v (entry es n) k in
         let w' = word_of v' (entry es n) k in
         let old : refers v (entry es n) k ≡ true = sym (kinds n k ln lk) ∙ ref in
-        let after : number_plus (value_of v' (refers v' (entry es n) k) w') ≡ m + 1 = ap number_plus (value_obj v' (refers v' (entry es n) k) w' ref (positive (entry es' m) w' na)) ∙ ap (λ x. x + 1) (number_is v' es' m w' added.lies lm na) in
+        let after : number_plus (value_of v' (refers v' (entry es n) k) w') ≡ m + 1 = ap number_plus
+        (value_obj v' (refers v' (entry es n) k) w' ref (positive (entry es' m) w' na)) ∙ ap (λ x. x + 1)
+        (number_is v' es' m w' added.lies lm na) in
         let before : number_plus (shows v es n k) ≡ m + 1 = ap number_plus (sym (shown_same n k ln lk)) ∙ after in
         elim (a.lies.refs n k ln old lk) [
           | inl z ↦ absurd (let x : number_plus (shows v es n k) ≡ 0 = ap number_plus (value_null v (refers v (entry es n) k) w old z) in omega (arith, x, before))
-          | inr x ↦ (let o : number_plus (shows v es n k) ≡ x.0 + 1 = ap number_plus (value_obj v (refers v (entry es n) k) w old (positive (entry es x.0) w x.2)) ∙ ap (λ y. y + 1) (number_is v es x.0 w a.lies x.1 x.2) in
+          | inr x ↦ (let o : number_plus (shows v es n k) ≡ x.0 + 1 = ap number_plus
+              (value_obj v (refers v (entry es n) k) w old (positive (entry es x.0) w x.2)) ∙ ap (λ y. y + 1)
+              (number_is v es x.0 w a.lies x.1 x.2) in
               let eq : x.0 ≡ m = omega (arith, o, before) in (subst (λ y. y < length es) eq x.1, subst (λ y. Names (entry es y) w) eq x.2))
         ]

@@ -1,11 +1,13 @@
 -- What the parts of an agreement say of one object.
-use Rattle.std.proofs.Common.{◌≡◌, ◌≢◌, inl, inr, ℕ, ◌+◌, ◌*◌, ◌%◌, ◌<◌, ◌≤◌, Bool, true, false, List, length, refl, sym, ◌∙◌, ap, subst, arith}
-use Rattle.twin_forms.specs.Table.{Entry, entry, View, word_of, Names, refers, Value, Plain, Null, Obj, value_of, shows, Lies, lines_of, line_of, IsClaimed}
+use Rattle.std.proofs.Common.{◌≡◌, ◌≢◌, inl, inr, ℕ, ◌+◌, ◌*◌, ◌%◌, ◌<◌, ◌≤◌, Bool, true, false, List, length, refl, sym, ◌∙◌}
+use Rattle.std.proofs.Common.{ap, subst, arith}
+use Rattle.twin_forms.specs.Table.{Entry, entry, View, word_of, Names, refers, kept_at, Value, Plain, Null, Obj, value_of}
+use Rattle.twin_forms.specs.Table.{shows, Lies, lines_of, line_of, IsClaimed}
 use Rattle.twin_forms.specs.Moves.{Moved}
 use Rattle.twin_forms.proofs.Led.{same_or_not, number_is, word_moved}
 use Rattle.twin_forms.proofs.Elsewhere.{positive, value_obj, value_null}
 use Rattle.convert_queue.specs.Queues.{Queues}
-use Rattle.convert_words.specs.Agreeing.{Is, Queueing}
+use Rattle.convert_words.specs.Agreeing.{Is, Queueing, Keeps}
 use Rattle.convert_words.specs.Steps.{Changes}
 
 -- ---- where an object lies
@@ -101,15 +103,28 @@ leads_moved v v' es es' n k h moved ln lk one' m lm na =
     let w = word_of v (entry es n) k in
     let w' = word_of v' (entry es' n) k in
     let one : refers v (entry es n) k ≡ true = sym (refers_moved v v' es es' n k moved ln lk) ∙ one' in
-    let after : number_plus (shows v' es' n k) ≡ m + 1 = ap number_plus (value_obj v' (refers v' (entry es' n) k) w' one' (positive (entry es' m) w' na)) ∙ ap (λ x. x + 1) (number_is v' es' m w' moved.lies (omega (arith, moved.same.long, lm)) na) in
+    let after : number_plus (shows v' es' n k) ≡ m + 1 = ap number_plus
+    (value_obj v' (refers v' (entry es' n) k) w' one' (positive (entry es' m) w' na)) ∙ ap (λ x. x + 1)
+    (number_is v' es' m w' moved.lies (omega (arith, moved.same.long, lm)) na) in
     let before : number_plus (shows v es n k) ≡ m + 1 = ap number_plus (sym (moved.same.same n k ln lk)) ∙ after in (
       one,
       elim (h.refs n k ln one lk) [
         | inl z ↦ absurd (let x : number_plus (shows v es n k) ≡ 0 = ap number_plus (value_null v (refers v (entry es n) k) w one z) in omega (arith, x, before))
-        | inr x ↦ (let o : number_plus (shows v es n k) ≡ x.0 + 1 = ap number_plus (value_obj v (refers v (entry es n) k) w one (positive (entry es x.0) w x.2)) ∙ ap (λ y. y + 1) (number_is v es x.0 w h x.1 x.2) in
+        | inr x ↦ (let o : number_plus (shows v es n k) ≡ x.0 + 1 = ap number_plus
+            (value_obj v (refers v (entry es n) k) w one (positive (entry es x.0) w x.2)) ∙ ap (λ y. y + 1)
+            (number_is v es x.0 w h x.1 x.2) in
             let eq : x.0 ≡ m = omega (arith, o, before) in subst (λ y. Names (entry es y) w) eq x.2)
       ],
     )
+
+-- ---- slots that are kept
+
+-- where the same slots are kept, a slot that is kept after a step was kept before it
+pub kept_back : (v v' : View) (e : Entry) (k : ℕ) → v'.kept ≡ v.kept → kept_at v' e k ≡ true → kept_at v e k ≡ true
+kept_back v v' e k same kept = ap (λ (f : ℕ → ℕ → Bool). f e.shape k) (sym same) ∙ kept
+
+pub keeps_back : (v v' : View) (e : Entry) (p : ℕ) → v'.kept ≡ v.kept → Keeps v' e p → Keeps v e p
+keeps_back v v' e p same keeps = λ k eq lk. kept_back v v' e k same (keeps k eq lk)
 
 -- ---- words of lines that don't change
 

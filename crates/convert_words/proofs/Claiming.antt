@@ -1,5 +1,6 @@
 -- An ordinary object is claimed: it takes the first lines that are left, and stands at the end of the thread's queue.
-use Rattle.std.proofs.Common.{◌≡◌, ◌≢◌, ◌⊎◌, inl, inr, ℕ, ◌+◌, ◌*◌, ◌<◌, ◌≤◌, ◌++◌, [], ◌∷◌, List, length, refl, sym, ◌∙◌, ap, subst, arith, length-set}
+use Rattle.std.proofs.Common.{◌≡◌, ◌≢◌, ◌⊎◌, inl, inr, ℕ, ◌+◌, ◌*◌, ◌<◌, ◌≤◌, ◌++◌, [], ◌∷◌, List, length, refl, sym, ◌∙◌, ap}
+use Rattle.std.proofs.Common.{subst, arith, length-set}
 use Rattle.std.specs.Prelude.{slice_index_or}
 use Rattle.std.proofs.lemmas.Grind.{common_steps}
 use Rattle.std.proofs.lemmas.List.{get_or-append-add, get_or_append_left, length-append, get_or-set_same, get_or-set_other}
@@ -70,7 +71,9 @@ agrees_claimed v v' held held' back back' q free keys es es' t n ln zero_stage n
     | inl eq ↦ (
         let ut = owner_new u m eq is.claimed in
         let top = new_at u i m eq is in
-        subst (λ k. OnItsWay v' es' held' back' q' u i (entry es' k)) (sym eq) (subst (λ k. OnItsWay v' es' held' back' q' k i (entry es' n)) (sym ut) (subst (λ k. OnItsWay v' es' held' back' q' t k (entry es' n)) (sym top) new_way)))
+        subst (λ k. OnItsWay v' es' held' back' q' u i (entry es' k)) (sym eq)
+        (subst (λ k. OnItsWay v' es' held' back' q' k i (entry es' n)) (sym ut)
+        (subst (λ k. OnItsWay v' es' held' back' q' t k (entry es' n)) (sym top) new_way)))
     | inr ne ↦ (
         let o = is_back u i m ne is in
         let s = a.on_way u i m o in
@@ -80,8 +83,12 @@ agrees_claimed v v' held held' back back' q free keys es es' t n ln zero_stage n
   noted = λ u l noted. copied_on u l (a.noted u l noted);
   real = λ u w lu lw need. let y = a.real u w lu lw need in (y.0, claimed_on w y.0 y.1);
   below = λ m lm some. elim (same_or_not m n) [
-    | inl eq ↦ (let l : (entry es' m).line ≡ free = ap (λ k. (entry es' k).line) eq ∙ ap (λ k. k.line) one.here in let s : (entry es' m).slots ≡ e.slots = ap (λ k. (entry es' k).slots) eq ∙ ap (λ k. k.slots) one.here in omega (arith, l, s))
-    | inr ne ↦ (let same = one.others m ne in let long = one.long in let b = a.below m (omega (arith, lm, long)) (subst (λ k. 0 < k.stage) same some) in subst (λ k. k.line + lines_of k ≤ free + lines_of e) (sym same) (omega (arith, b)))
+    | inl eq ↦ (let l : (entry es' m).line ≡ free = ap (λ k. (entry es' k).line) eq ∙ ap (λ k. k.line) one.here in let s :
+        (entry es' m).slots ≡ e.slots = ap (λ k. (entry es' k).slots) eq ∙ ap (λ k. k.slots) one.here in omega
+        (arith, l, s))
+    | inr ne ↦ (let same = one.others m ne in let long = one.long in let b = a.below m (omega (arith, lm, long))
+        (subst (λ k. 0 < k.stage) same some) in subst (λ k. k.line + lines_of k ≤ free + lines_of e) (sym same)
+        (omega (arith, b)))
   ];
   few = let sum = total_more q t e.at free tq in let old = a.few in omega (arith, sum, old);
   resolved = λ w key. resolved_on es es' w one.long
@@ -147,7 +154,9 @@ agrees_claimed v v' held held' back back' q free keys es es' t n ln zero_stage n
     met_on u m lm (inr (inr y)) = inr (inr (y.0, y.1, claimed_on y.0 m y.2))
 
     last : slice_index_or (queue_of q t ++ x ∷ []) (length (queue_of q t)) (0, 0) ≡ x
-    last = ap (λ k. slice_index_or (queue_of q t ++ x ∷ []) k (0, 0)) (let z : length (queue_of q t) ≡ length (queue_of q t) + 0 = omega arith in z) ∙ get_or-append-add (queue_of q t) (x ∷ []) 0 (0, 0)
+    last = ap (λ k. slice_index_or (queue_of q t ++ x ∷ []) k (0, 0))
+        (let z : length (queue_of q t) ≡ length (queue_of q t) + 0 = omega arith in z) ∙ get_or-append-add (queue_of q t)
+        (x ∷ []) 0 (0, 0)
 
     new_item : item_in q'.queues t (length (queue_of q t)) ≡ x
     new_item = ap (λ (k : List Queued). slice_index_or k (length (queue_of q t)) (0, 0)) own_queue ∙ last
@@ -163,7 +172,9 @@ agrees_claimed v v' held held' back back' q free keys es es' t n ln zero_stage n
 
     item_on : (u i : ℕ) → i < length (queue_of q u) → item_in q'.queues u i ≡ item_in q.queues u i
     item_on u i lt = elim (same_or_not u t) [
-      | inl eq ↦ ap (λ k. item_in q'.queues k i) eq ∙ ap (λ (k : List Queued). slice_index_or k i (0, 0)) own_queue ∙ get_or_append_left (queue_of q t) (x ∷ []) (0, 0) i (subst (λ k. i < length (queue_of q k)) eq lt) ∙ ap (λ k. item_in q.queues k i) (sym eq)
+      | inl eq ↦ ap (λ k. item_in q'.queues k i) eq ∙ ap (λ (k : List Queued). slice_index_or k i (0, 0)) own_queue ∙
+          get_or_append_left (queue_of q t) (x ∷ []) (0, 0) i (subst (λ k. i < length (queue_of q k)) eq lt) ∙ ap
+          (λ k. item_in q.queues k i) (sym eq)
       | inr ne ↦ ap (λ (k : List Queued). slice_index_or k i (0, 0)) (queue_other q t u e.at free ne)
     ]
 
@@ -186,7 +197,12 @@ agrees_claimed v v' held held' back back' q free keys es es' t n ln zero_stage n
 
     -- the new object stands at the end alone
     same_at : (u m : ℕ) → IsClaimed es u m → (entry es m).at ≡ e.at → m ≡ n
-    same_at u m c at = elim (same_or_not m n) [ inl eq ↦ eq | inr ne ↦ absurd (elim (a.lies.table.old_apart m n c.0 ln ne (young v es u m a.lies c) (omega (arith, zero_stage))) [ inl z ↦ omega (arith, z, at) | inr z ↦ omega (arith, z, at) ]) ]
+    same_at u m c at = elim (same_or_not m n) [
+      | inl eq ↦ eq
+      | inr ne ↦ absurd
+          (elim (a.lies.table.old_apart m n c.0 ln ne (young v es u m a.lies c) (omega (arith, zero_stage)))
+          [ inl z ↦ omega (arith, z, at) | inr z ↦ omega (arith, z, at) ])
+    ]
 
     before_not : (u i : ℕ) → i < length (queue_of q u) → (item_in q'.queues u i).0 ≡ e.at → ⊥
     before_not u i lt at =

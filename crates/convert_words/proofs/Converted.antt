@@ -1,5 +1,6 @@
 -- Which objects are durable after a step, and a seal as a step of a conversion.
-use Rattle.std.proofs.Common.{◌≡◌, ◌≢◌, inl, inr, ℕ, ◌+◌, ◌*◌, ◌/◌, ◌%◌, ◌<◌, ◌^◌, true, List, length, refl, sym, ◌∙◌, ap, subst, arith, slice_set, length-set}
+use Rattle.std.proofs.Common.{◌≡◌, ◌≢◌, inl, inr, ℕ, ◌+◌, ◌*◌, ◌/◌, ◌%◌, ◌<◌, ◌^◌, true, List, length, refl, sym, ◌∙◌, ap}
+use Rattle.std.proofs.Common.{subst, arith, slice_set, length-set}
 use Rattle.std.specs.Prelude.{◌↔◌}
 use Rattle.std.proofs.lemmas.Bool.{false≢true}
 use Rattle.line_memory.specs.Memory.{Memory, shown, CanLeave}
@@ -16,7 +17,7 @@ use Rattle.convert_words.specs.Sealing.{AreSealed, OfSet, Released}
 use Rattle.convert_words.specs.Steps.{OneBecomes, claimed_at}
 use Rattle.convert_words.specs.Scenes.{Scene, AgreesAt}
 use Rattle.convert_words.specs.Converting.{Converts}
-use Rattle.convert_words.proofs.Basics.{refers_moved}
+use Rattle.convert_words.proofs.Basics.{refers_moved, kept_back, keeps_back}
 use Rattle.convert_words.proofs.StepLaws.{settled_sets_are_closed, seals_keep, seals_make_durable}
 
 -- An object that its thread's step changes isn't durable before or after it.
@@ -59,7 +60,8 @@ all_settled q set small settled t h = elim (below_or_not t 64) [ inl lt ↦ sett
 
 -- The seal of the thread's group, all of whose members are settled, is a step of a conversion.
 pub sealed_converts : (s : Scene) (heap : Twin) (q : Queues) (es es' : List Entry) (t set : ℕ) → set < 2 ^ 64 → IsGroupOf s.queue.needs t set → AllSettled s.queue set →
-    Moved (view_of s.heap) es (view_of heap) es' → AreSealed (OfSet es set) es es' → heap.memory ≡ s.heap.memory → heap.marks.kinds ≡ s.heap.marks.kinds → heap.space.left ≡ s.heap.space.left → Released set s.queue q →
+    Moved (view_of s.heap) es (view_of heap) es' → AreSealed (OfSet es set) es es' → heap.memory ≡ s.heap.memory →
+    heap.marks.kinds ≡ s.heap.marks.kinds → heap.space.left ≡ s.heap.space.left → Released set s.queue q →
     AgreesAt s es → Converts t (step.Sealed set) s (record s { heap = heap; queue = q }) es es'
 sealed_converts s heap q es es' t set small group settled moved those same kinds left released a =
     let all = all_settled s.queue set small settled in
@@ -78,9 +80,11 @@ sealed_converts s heap q es es' t set small group settled moved those same kinds
         settled = settled;
         fenced = record {
           forwarded = closed.forwarded;
-          shown = λ u n j x member c lt kept left. closed.shown u n j x member c lt kept (subst (λ (m : Memory). held_of m (8 * (entry es n).line + j) x) same left)
+          shown = λ u n j x member c lt kept left. closed.shown u n j x member c lt
+              (keeps_back (view_of s.heap) (view_of heap) (entry es n) (8 * (entry es n).line + j) moved.same.kept kept) (subst (λ (m : Memory). held_of m (8 * (entry es n).line + j) x) same left)
               ∙ ap (λ (m : Memory). shown m ((8 * (entry es n).line + j) / 8) ((8 * (entry es n).line + j) % 8)) (sym same);
-          refers = λ u n k x member c ref kept lk left. closed.refers u n k x member c (sym (kind_of u n k member c lk) ∙ ref) kept lk (subst (λ (m : Memory). held_of m (8 * (entry es n).line + 1 + k) x) same left);
+          refers = λ u n k x member c ref kept lk left. closed.refers u n k x member c (sym (kind_of u n k member c lk) ∙ ref)
+              (kept_back (view_of s.heap) (view_of heap) (entry es n) k moved.same.kept kept) lk (subst (λ (m : Memory). held_of m (8 * (entry es n).line + 1 + k) x) same left);
         };
         sealed = those;
         durable = λ n. seals_make_durable s es es' set a all those n;

@@ -1,5 +1,6 @@
 -- A line is copied, an object forwarded, a line repaired.
-use Rattle.std.proofs.Common.{◌≡◌, ◌≢◌, ◌⊎◌, inl, inr, ℕ, ◌+◌, ◌*◌, ◌<◌, ◌≤◌, List, length, refl, sym, ◌∙◌, ap, subst, arith, slice_set, length-set}
+use Rattle.std.proofs.Common.{◌≡◌, ◌≢◌, ◌⊎◌, inl, inr, ℕ, ◌+◌, ◌*◌, ◌<◌, ◌≤◌, List, length, refl, sym, ◌∙◌, ap, subst, arith}
+use Rattle.std.proofs.Common.{slice_set, length-set}
 use Rattle.std.proofs.lemmas.Grind.{common_steps}
 use Rattle.twin_forms.specs.Table.{Entry, entry, View, lines_of, line_of, HasCopied}
 use Rattle.twin_forms.specs.Moves.{Moved, one_more, forwarded}
@@ -10,11 +11,13 @@ use Rattle.convert_queue.specs.declared.phase.Phase.TheVariants.{Copy, Repair}
 use Rattle.convert_queue.specs.Marks.{mark_at, stored}
 use Rattle.convert_queue.specs.Queues.{Queues, place_of, phase_of}
 use Rattle.convert_queue.specs.Threads.{needs_of}
-use Rattle.convert_words.specs.Agreeing.{Is, Far, IsMended, IsOpen, Reaches, Keeps, IsTied, IsCopied, current_word, OnItsWay, Agrees}
+use Rattle.convert_words.specs.Agreeing.{Is, Far, IsMended, IsOpen, Reaches, Keeps, IsTied, IsCopied, current_word, OnItsWay}
+use Rattle.convert_words.specs.Agreeing.{Agrees}
 use Rattle.convert_words.specs.Steps.{IsQuiet, IsOnly, told, GoesTo}
-use Rattle.convert_words.proofs.Basics.{room_of, is_one, LeadsBack, leads_moved, word_kept}
+use Rattle.convert_words.proofs.Basics.{room_of, is_one, LeadsBack, leads_moved, kept_back, keeps_back, word_kept}
 use Rattle.convert_words.proofs.Tied.{IsNoted, stored_here, stored_other, noted_stored, tied_kept, tied_stored}
-use Rattle.convert_words.proofs.Moves.{InPlace, all_still, in_place_set, claimed_on, met_on, copied_on, SameQueues, reaches_kept, follows_moved, agrees_changed, resolved_set, reaches_at}
+use Rattle.convert_words.proofs.Moves.{InPlace, all_still, in_place_set, claimed_on, met_on, copied_on, SameQueues}
+use Rattle.convert_words.proofs.Moves.{reaches_kept, follows_moved, agrees_changed, resolved_set, reaches_at}
 
 pub not_open : (p : Phase) (at l i c : ℕ) → p ≡ Copy → c ≢ l → IsOpen p at l i c → ⊥
 not_open p at l i c eq ne o = ne (subst (λ y. IsOpen y at l i c) eq o).1
@@ -73,7 +76,7 @@ agrees_copied v v' held held' back back' q free keys es t i n is phase at one co
             let hc1 : HasCopied e (line_of k) = elim hc [ inl x ↦ inl x | inr x ↦ inr (one, (let y = x.1 in let ne : line_of k ≢ e.copied = λ eq. c_ne (eq ∙ copied) in omega (arith, y, ne))) ] in
             let leads : LeadsBack v v' es es' e e' k = subst (λ x. LeadsBack v v' es es' e x k) here (leads_moved v v' es es' n k a.lies moved ln lk) in
             let b = leads ref m lm2 na in
-            met_on es es' (needs_of q.needs) t m place lm2 (s.reaches.met k m b.0 kept lk hc1 (not_open (phase_of q t) pl.0 pl.1 i (line_of k) phase c_ne) lm2 b.1);
+            met_on es es' (needs_of q.needs) t m place lm2 (s.reaches.met k m b.0 (kept_back v v' e k only.kept kept) lk hc1 (not_open (phase_of q t) pl.0 pl.1 i (line_of k) phase c_ne) lm2 b.1);
         mended = λ k ref kept lk is_mended. absurd (not_mended (phase_of q t) pl.0 pl.1 i (line_of k) phase is_mended);
       };
       tied = λ c lc hc. elim (same_or_not c e.copied) [
@@ -82,7 +85,9 @@ agrees_copied v v' held held' back back' q free keys es t i n is phase at one co
             let apart : e.line + c ≢ l = λ eq. ne (omega (arith, eq)) in
             let hc1 : HasCopied e c = elim hc [ inl x ↦ inl x | inr x ↦ inr (one, (let y = x.1 in omega (arith, y, ne))) ] in
             subst (IsTied v' held' back' (Keeps v' e') t (e.line + c)) (sym (stored_other q.marks t l (e.line + c) apart))
-            (tied_kept (λ k. k ≡ l) v v' held held' back back' (Keeps v e) (Keeps v' e') t (e.line + c) (mark_at q.marks (e.line + c)) only (omega (arith, room, lc)) apart (λ w kp. λ k eq lk. refl) (s.tied c lc hc1)))
+            (tied_kept (λ k. k ≡ l) v v' held held' back back' (Keeps v e) (Keeps v' e') t (e.line + c)
+            (mark_at q.marks (e.line + c)) only (omega (arith, room, lc)) apart
+            (λ w kp. keeps_back v v' e w only.kept kp) (s.tied c lc hc1)))
       ];
     }))
     (λ u j m x ne. (a.on_way u j m x).reaches)
@@ -148,11 +153,16 @@ agrees_forwarded v v' held held' back back' q q' free keys keys' es t i n is pha
                 let c_lt : line_of k < e.copied = omega (arith, lk, full) in
                 let leads : LeadsBack v v' es es' e e' k = subst (λ x. LeadsBack v v' es es' e x k) here (leads_moved v v' es es' n k a.lies moved ln lk) in
                 let b = leads ref m lm2 na in
-                met_on es es' (needs_of q.needs) t m place lm2 (s.reaches.met k m b.0 kept lk (inr (one, c_lt)) (not_open (phase_of q t) pl.0 pl.1 i (line_of k) phase (λ eq. omega (arith, eq, c_lt, copied))) lm2 b.1);
+                met_on es es' (needs_of q.needs) t m place lm2
+                (s.reaches.met k m b.0 (kept_back v v' e k quiet.kept kept) lk (inr (one, c_lt))
+                (not_open (phase_of q t) pl.0 pl.1 i (line_of k) phase (λ eq. omega (arith, eq, c_lt, copied))) lm2
+                b.1);
             mended = λ k ref kept lk is_mended. absurd is_mended;
           }));
       tied = λ c lc hc. subst (IsTied v' held' back' (Keeps v' e') t (e.line + c)) (sym (mark (e.line + c)))
-          (tied_kept (λ k. ⊥) v v' held held' back back' (Keeps v e) (Keeps v' e') t (e.line + c) (mark_at q.marks (e.line + c)) quiet (omega (arith, room, lc)) (λ x. x) (λ w kp. λ k eq lk. refl) (s.tied c lc (inr (one, omega (arith, lc, full)))));
+          (tied_kept (λ k. ⊥) v v' held held' back back' (Keeps v e) (Keeps v' e') t (e.line + c)
+          (mark_at q.marks (e.line + c)) quiet (omega (arith, room, lc)) (λ x. x)
+          (λ w kp. keeps_back v v' e w quiet.kept kp) (s.tied c lc (inr (one, omega (arith, lc, full)))));
     }))
     (λ u j m x ne. let r = (a.on_way u j m x).reaches in let em = entry es m in elim (same_or_not u t) [
       | inl eq ↦ (
@@ -204,7 +214,7 @@ agrees_repaired v v' held held' back back' q free keys es t i n c0 is phase at a
     (λ k ne. stored_other q.marks t l k ne)
     (λ m lm1 ne. (refl, follows_moved v v' es es m a.lies moved lm1 refl))
     (record {
-      reaches = reaches_kept v v' es es (needs_of q.needs) (needs_of q.needs) (phase_of q t) pl.0 pl.1 t i e refl (λ m lm x. x) follows.leads
+      reaches = reaches_kept v v' es es (needs_of q.needs) (needs_of q.needs) (phase_of q t) pl.0 pl.1 t i e refl only.kept (λ m lm x. x) follows.leads
           (λ k ref lk mended. (
             sym (follows.kinds k lk) ∙ ref,
             word_kept (λ y. y ≡ l) v v' held held' back back' e k only (omega (arith, two)) lk room
@@ -218,7 +228,9 @@ agrees_repaired v v' held held' back back' q free keys es t i n c0 is phase at a
         | inr ne ↦ (
             let apart : e.line + c ≢ l = λ eq. ne (omega (arith, eq)) in
             subst (IsTied v' held' back' (Keeps v' e) t (e.line + c)) (sym (stored_other q.marks t l (e.line + c) apart))
-            (tied_kept (λ k. k ≡ l) v v' held held' back back' (Keeps v e) (Keeps v' e) t (e.line + c) (mark_at q.marks (e.line + c)) only (omega (arith, room, lc)) apart (λ w kp. λ k eq lk. refl) (s.tied c lc hc)))
+            (tied_kept (λ k. k ≡ l) v v' held held' back back' (Keeps v e) (Keeps v' e) t (e.line + c)
+            (mark_at q.marks (e.line + c)) only (omega (arith, room, lc)) apart
+            (λ w kp. keeps_back v v' e w only.kept kp) (s.tied c lc hc)))
       ];
     })
     (λ u j m x ne. (a.on_way u j m x).reaches)

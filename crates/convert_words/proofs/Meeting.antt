@@ -1,5 +1,6 @@
 -- What a reference in a copy leads to, and how places go on.
-use Rattle.std.proofs.Common.{◌≡◌, ◌≢◌, ◌⊎◌, inl, inr, ℕ, zero, suc, ◌+◌, ◌-◌, ◌%◌, ◌<◌, ◌≤◌, ◌==◌, Bool, true, false, List, length, refl, sym, ◌∙◌, ap, subst, arith}
+use Rattle.std.proofs.Common.{◌≡◌, ◌≢◌, ◌⊎◌, inl, inr, ℕ, zero, suc, ◌+◌, ◌-◌, ◌%◌, ◌<◌, ◌≤◌, ◌==◌, Bool, true, false, List}
+use Rattle.std.proofs.Common.{length, refl, sym, ◌∙◌, ap, subst, arith}
 use Rattle.std.specs.Prelude.{ltb}
 use Rattle.std.proofs.lemmas.Grind.{common_steps}
 use Rattle.twin_forms.specs.Table.{Entry, entry, View, word_of, Names, refers, kept_at, Lies, lines_of, line_of, IsClaimed}
@@ -67,7 +68,8 @@ answered_is_met es need t m lm answered =
 
 -- A reference that asks for a claim leads to an ordinary object; one that asks for a need to an object that another
 -- thread has claimed.
-pub asked_is_ordinary : (v : View) (es : List Entry) (t m at : ℕ) → Lies v es → m < length es → asks (entry es m) t ≡ ToClaim at → ((entry es m).stage ≡ 0) × ((entry es m).owner ≡ 0) × ((entry es m).at ≡ at)
+pub asked_is_ordinary : (v : View) (es : List Entry) (t m at : ℕ) → Lies v es → m < length es → asks (entry es m) t ≡
+    ToClaim at → ((entry es m).stage ≡ 0) × ((entry es m).owner ≡ 0) × ((entry es m).at ≡ at)
 asked_is_ordinary v es t m at h lm is =
     let e = entry es m in
     elim (zero_or e.owner) [
@@ -75,7 +77,8 @@ asked_is_ordinary v es t m at h lm is =
         | inl low ↦ (
             let none : e.stage ≢ 1 = λ one. (let o = h.table.copying m lm one in omega (arith, o, z)) in
             (omega (arith, low, none), z, ap asked_of (sym (asks_claim e t z low) ∙ is)))
-        | inr high ↦ absurd (let p : ltb e.stage 2 ≡ false = grind (arith, common_steps) in let n : asks e t ≡ Nothing = rw (z, p) refl in let x : 0 ≡ 1 = sym (ap question n) ∙ ap question is in omega (arith, x))
+        | inr high ↦ absurd (let p : ltb e.stage 2 ≡ false = grind (arith, common_steps) in let n : asks e t ≡ Nothing = rw
+            (z, p) refl in let x : 0 ≡ 1 = sym (ap question n) ∙ ap question is in omega (arith, x))
       ]
       | inr x ↦ absurd (elim (same_or_not x.0 t) [
         | inl eq ↦ (
@@ -89,9 +92,11 @@ asked_is_ordinary v es t m at h lm is =
 -- ---- how places go on
 
 -- The references of the copied line at the place are met: the thread goes on to the next line.
-pub next_line : (v : View) (held : ℕ → ℕ → Type 0) (back : ℕ → Type 0) (q : Queues) (free : ℕ) (keys : ℕ → Type 0) (es : List Entry) (t i0 n0 : ℕ) → Agrees v held back q free keys es → Is q es t i0 n0 →
+pub next_line : (v : View) (held : ℕ → ℕ → Type 0) (back : ℕ → Type 0) (q : Queues) (free : ℕ) (keys : ℕ → Type 0)
+    (es : List Entry) (t i0 n0 : ℕ) → Agrees v held back q free keys es → Is q es t i0 n0 →
     phase_of q t ≡ Copy → (place_of q t).0 ≡ i0 → (entry es n0).copied ≡ (place_of q t).1 + 1 →
-    ((k m : ℕ) → refers v (entry es n0) k ≡ true → kept_at v (entry es n0) k ≡ true → k < (entry es n0).slots → line_of k ≡ (place_of q t).1 → m < length es → Names (entry es m) (word_of v (entry es n0) k) → Met es (needs_of q.needs) t m) →
+    ((k m : ℕ) → refers v (entry es n0) k ≡ true → kept_at v (entry es n0) k ≡ true → k < (entry es n0).slots → line_of k ≡
+    (place_of q t).1 → m < length es → Names (entry es m) (word_of v (entry es n0) k) → Met es (needs_of q.needs) t m) →
     (i n : ℕ) → Is q es t i n → Reaches v es (needs_of q.needs) Copy i0 ((place_of q t).1 + 1) t i (entry es n)
 next_line v held back q free keys es t i0 n0 a is0 copying at copied met i n is =
     let r = (a.on_way t i n is).reaches in
@@ -106,7 +111,9 @@ next_line v held back q free keys es t i0 n0 a is0 copying at copied met i n is 
       );
       met = λ k m ref kept lk hc closed lm na. elim (same_or_not i i0) [
         | inl eq ↦ (let nn = one eq in elim (same_or_not (line_of k) pl.1) [
-          | inl here ↦ met k m (subst (λ y. refers v (entry es y) k ≡ true) nn ref) refl (subst (λ y. k < (entry es y).slots) nn lk) here lm (subst (λ y. Names (entry es m) (word_of v (entry es y) k)) nn na)
+          | inl here ↦ met k m (subst (λ y. refers v (entry es y) k ≡ true) nn ref)
+              (subst (λ y. kept_at v (entry es y) k ≡ true) nn kept) (subst (λ y. k < (entry es y).slots) nn lk) here lm
+              (subst (λ y. Names (entry es m) (word_of v (entry es y) k)) nn na)
           | inr other ↦ r.met k m ref kept lk hc (λ o. other (subst (λ y. IsOpen y pl.0 pl.1 i (line_of k)) copying o).1) lm na
         ])
         | inr ne ↦ r.met k m ref kept lk hc (λ o. ne ((subst (λ y. IsOpen y pl.0 pl.1 i (line_of k)) copying o).0 ∙ at)) lm na
@@ -141,7 +148,8 @@ end_or : (c l : ℕ) → c < l + 1 → (c < l) ⊎ (c ≡ l)
 end_or c l lt = grind arith
 
 -- The line at the place is repaired: repair goes on to the next line.
-pub next_repair : (v : View) (held : ℕ → ℕ → Type 0) (back : ℕ → Type 0) (q : Queues) (free : ℕ) (keys : ℕ → Type 0) (es : List Entry) (t i0 n0 : ℕ) → Agrees v held back q free keys es → Is q es t i0 n0 →
+pub next_repair : (v : View) (held : ℕ → ℕ → Type 0) (back : ℕ → Type 0) (q : Queues) (free : ℕ) (keys : ℕ → Type 0)
+    (es : List Entry) (t i0 n0 : ℕ) → Agrees v held back q free keys es → Is q es t i0 n0 →
     phase_of q t ≡ Repair → (place_of q t).0 ≡ i0 → IsRepaired (place_of q t).1 v es n0 →
     (i n : ℕ) → Is q es t i n → Reaches v es (needs_of q.needs) Repair i0 ((place_of q t).1 + 1) t i (entry es n)
 next_repair v held back q free keys es t i0 n0 a is0 repairing at done i n is =
@@ -157,13 +165,15 @@ next_repair v held back q free keys es t i0 n0 a is0 repairing at done i n is =
           | inl lt ↦ r.mended k ref kept lk (repair_mended p pl.0 pl.1 i (line_of k) repairing (inr (x.0 ∙ sym at, lt)))
           | inr here ↦ (
               let nn : n ≡ n0 = is_one v q es t i0 n n0 a.lies (subst (λ y. Is q es t y n) x.0 is) is0 in
-              ap (λ y. word_of v (entry es y) k % 2) nn ∙ done k (subst (λ y. k < (entry es y).slots) nn lk) here (subst (λ y. refers v (entry es y) k ≡ true) nn ref))
+              ap (λ y. word_of v (entry es y) k % 2) nn ∙ done k (subst (λ y. k < (entry es y).slots) nn lk) here (subst (λ y. refers v (entry es y) k ≡ true) nn ref)
+              (subst (λ y. kept_at v (entry es y) k ≡ true) nn kept))
         ]
       ];
     }
 
 -- All lines of the object at the place are repaired: repair goes on to the next object.
-pub next_repaired_object : (v : View) (held : ℕ → ℕ → Type 0) (back : ℕ → Type 0) (q : Queues) (free : ℕ) (keys : ℕ → Type 0) (es : List Entry) (t i0 n0 : ℕ) → Agrees v held back q free keys es → Is q es t i0 n0 →
+pub next_repaired_object : (v : View) (held : ℕ → ℕ → Type 0) (back : ℕ → Type 0) (q : Queues) (free : ℕ)
+    (keys : ℕ → Type 0) (es : List Entry) (t i0 n0 : ℕ) → Agrees v held back q free keys es → Is q es t i0 n0 →
     phase_of q t ≡ Repair → (place_of q t).0 ≡ i0 → lines_of (entry es n0) ≤ (place_of q t).1 →
     (i n : ℕ) → Is q es t i n → Reaches v es (needs_of q.needs) Repair (i0 + 1) 0 t i (entry es n)
 next_repaired_object v held back q free keys es t i0 n0 a is0 repairing at all i n is =
@@ -202,9 +212,11 @@ to_flush v held back q free keys es t a repairing at i n is =
 -- ---- what a repair needs
 
 -- The line at the place may be repaired, where no object to which it refers is claimed and not forwarded.
-pub may_repair : (v : View) (held : ℕ → ℕ → Type 0) (back : ℕ → Type 0) (q : Queues) (free : ℕ) (keys : ℕ → Type 0) (es : List Entry) (t i n c : ℕ) → Agrees v held back q free keys es → Is q es t i n →
+pub may_repair : (v : View) (held : ℕ → ℕ → Type 0) (back : ℕ → Type 0) (q : Queues) (free : ℕ) (keys : ℕ → Type 0)
+    (es : List Entry) (t i n c : ℕ) → Agrees v held back q free keys es → Is q es t i n →
     phase_of q t ≡ Repair → c < lines_of (entry es n) →
-    ((k m : ℕ) → k < (entry es n).slots → line_of k ≡ c → refers v (entry es n) k ≡ true → m < length es → Names (entry es m) (word_of v (entry es n) k) → (entry es m).stage ≢ 1) →
+    ((k m : ℕ) → k < (entry es n).slots → line_of k ≡ c → refers v (entry es n) k ≡ true → kept_at v (entry es n) k ≡ true
+    → m < length es → Names (entry es m) (word_of v (entry es n) k) → (entry es m).stage ≢ 1) →
     ToRepair (entry es n).at c v es n
 may_repair v held back q free keys es t i n c a is repairing lc unclaimed =
     let e = entry es n in
@@ -215,9 +227,9 @@ may_repair v held back q free keys es t i n c a is repairing lc unclaimed =
       refl,
       two,
       omega (arith, lc),
-      λ k m lk here ref lm w low.
+      λ k m lk here ref kept lm w low.
           let na : Names (entry es m) (word_of v e k) = inl (low, w) in
-          let met = r.met k m ref refl lk (inl (omega (arith, two))) (repair_closed p pl.0 pl.1 i (line_of k) repairing) lm na in
+          let met = r.met k m ref kept lk (inl (omega (arith, two))) (repair_closed p pl.0 pl.1 i (line_of k) repairing) lm na in
           let some : 0 < (entry es m).stage = elim met [
             | inl x ↦ (let y = x.1 in omega (arith, y))
             | inr x ↦ elim x [
@@ -225,6 +237,6 @@ may_repair v held back q free keys es t i n c a is repairing lc unclaimed =
               | inr y ↦ (a.queued.all y.0 m y.2).1.placed
             ]
           ] in
-          let ne = unclaimed k m lk here ref lm na in
+          let ne = unclaimed k m lk here ref kept lm na in
           omega (arith, some, low, ne),
     )

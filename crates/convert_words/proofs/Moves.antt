@@ -1,5 +1,6 @@
 -- Steps that leave the queues as they are and change at most one queued object.
-use Rattle.std.proofs.Common.{◌≡◌, ◌≢◌, inl, inr, ℕ, ◌+◌, ◌%◌, ◌<◌, ◌≤◌, Bool, true, List, length, refl, sym, ◌∙◌, ap, subst, arith, slice_set, length-set}
+use Rattle.std.proofs.Common.{◌≡◌, ◌≢◌, inl, inr, ℕ, ◌+◌, ◌%◌, ◌<◌, ◌≤◌, Bool, true, List, length, refl, sym, ◌∙◌, ap, subst}
+use Rattle.std.proofs.Common.{arith, slice_set, length-set}
 use Rattle.twin_forms.specs.Table.{Entry, entry, View, word_of, refers, Lies, lines_of, line_of, HasCopied, IsClaimed}
 use Rattle.twin_forms.specs.Moves.{Moved}
 use Rattle.twin_forms.proofs.Led.{same_or_not}
@@ -9,9 +10,11 @@ use Rattle.convert_queue.specs.declared.phase.Phase.TheVariants.{Copy, Repair, F
 use Rattle.convert_queue.specs.Marks.{mark_at}
 use Rattle.convert_queue.specs.Queues.{Queues, queue_in, place_of, phase_of, total}
 use Rattle.convert_queue.specs.Threads.{needs_of}
-use Rattle.convert_words.specs.Agreeing.{item_in, Is, Queueing, Far, IsMended, Met, Reaches, Keeps, IsTied, AreTied, IsCopied, current_word, IsResolved, OnItsWay, Agrees}
+use Rattle.convert_words.specs.Agreeing.{item_in, Is, Queueing, Far, IsMended, Met, Reaches, Keeps, IsTied, AreTied, IsCopied}
+use Rattle.convert_words.specs.Agreeing.{current_word, IsResolved, OnItsWay, Agrees}
 use Rattle.convert_words.specs.Steps.{Changes}
-use Rattle.convert_words.proofs.Basics.{room_of, by_object, line_other, LeadsBack, leads_moved, refers_moved, word_kept}
+use Rattle.convert_words.proofs.Basics.{room_of, by_object, line_other, LeadsBack, leads_moved, refers_moved, kept_back}
+use Rattle.convert_words.proofs.Basics.{keeps_back, word_kept}
 use Rattle.convert_words.proofs.Tied.{IsNoted, tied_kept}
 
 -- ---- entries at the same place
@@ -135,18 +138,18 @@ agrees_over v v' held held' back back' q q' free keys keys' es es' lies lines pl
 -- ---- one object over a step
 
 -- An object whose entry stays the same reaches as far, where references lead back and repaired words are kept.
-pub reaches_kept : (v v' : View) (es es' : List Entry) (need need' : ℕ → ℕ → Bool) (p : Phase) (at l t i : ℕ) (e : Entry) → length es' ≡ length es →
+pub reaches_kept : (v v' : View) (es es' : List Entry) (need need' : ℕ → ℕ → Bool) (p : Phase) (at l t i : ℕ) (e : Entry) → length es' ≡ length es → v'.kept ≡ v.kept →
     ((m : ℕ) → m < length es → Met es need t m → Met es' need' t m) →
     ((k : ℕ) → k < e.slots → LeadsBack v v' es es' e e k) →
     ((k : ℕ) → refers v' e k ≡ true → k < e.slots → IsMended p at l i (line_of k) → (refers v e k ≡ true) × (word_of v' e k ≡ word_of v e k)) →
     Reaches v es need p at l t i e → Reaches v' es' need' p at l t i e
-reaches_kept v v' es es' need need' p at l t i e long on leads same r = record {
+reaches_kept v v' es es' need need' p at l t i e long marks on leads same r = record {
   far = r.far;
   met = λ k m one kept lk hc no lm na.
       let lm1 : m < length es = omega (arith, lm, long) in
       let b = leads k lk one m lm1 na in
-      on m lm1 (r.met k m b.0 kept lk hc no lm1 b.1);
-  mended = λ k one kept lk is. let s = same k one lk is in ap (λ x. x % 2) s.1 ∙ r.mended k s.0 kept lk is;
+      on m lm1 (r.met k m b.0 (kept_back v v' e k marks kept) lk hc no lm1 b.1);
+  mended = λ k one kept lk is. let s = same k one lk is in ap (λ x. x % 2) s.1 ∙ r.mended k s.0 (kept_back v v' e k marks kept) lk is;
 }
 
 -- what a repaired line says of its object
@@ -180,7 +183,7 @@ way_kept Line v v' held held' back back' q q' es es' t i n changes h long on is 
     let at = (place_of q' t).0 in
     let l = (place_of q' t).1 in
     subst (OnItsWay v' es' held' back' q' t i) (sym same) (record {
-      reaches = reaches_kept v v' es es' (needs_of q.needs) (needs_of q'.needs) p at l t i e long on follows.leads
+      reaches = reaches_kept v v' es es' (needs_of q.needs) (needs_of q'.needs) p at l t i e long changes.kept on follows.leads
           (λ k one lk mended.
           let two = mended_two p at l i (line_of k) e now.far mended in (
             sym (follows.kinds k lk) ∙ one,
@@ -189,11 +192,13 @@ way_kept Line v v' held held' back back' q q' es es' t i n changes h long on is 
           now;
       tied = λ c lc hc. let x = apart c lc hc in
           subst (IsTied v' held' back' (Keeps v' e) t (e.line + c)) (sym x.1)
-          (tied_kept Line v v' held held' back back' (Keeps v e) (Keeps v' e) t (e.line + c) (mark_at q.marks (e.line + c)) changes (omega (arith, room, lc)) x.0 (λ w kp. λ k eq lk. refl) (tied c lc hc));
+          (tied_kept Line v v' held held' back back' (Keeps v e) (Keeps v' e) t (e.line + c) (mark_at q.marks (e.line + c))
+          changes (omega (arith, room, lc)) x.0 (λ w kp. keeps_back v v' e w changes.kept kp) (tied c lc hc));
     })
 
 -- Any change of one queued object: its lines alone may change, and the others lie as they did.
-pub agrees_changed : (Line : ℕ → Type 0) (v v' : View) (held held' : ℕ → ℕ → Type 0) (back back' : ℕ → Type 0) (q q' : Queues) (free : ℕ) (keys keys' : ℕ → Type 0) (es es' : List Entry) (t0 i0 n0 : ℕ) →
+pub agrees_changed : (Line : ℕ → Type 0) (v v' : View) (held held' : ℕ → ℕ → Type 0) (back back' : ℕ → Type 0)
+    (q q' : Queues) (free : ℕ) (keys keys' : ℕ → Type 0) (es es' : List Entry) (t0 i0 n0 : ℕ) →
     Changes Line v v' held held' back back' → Lies v' es' → AllInPlace es es' → SameQueues q q' → Is q es t0 i0 n0 →
     ((l : ℕ) → Line l → ((entry es n0).line ≤ l) × (l < (entry es n0).line + lines_of (entry es n0))) →
     ((l : ℕ) → (Line l → ⊥) → mark_at q'.marks l ≡ mark_at q.marks l) →
@@ -207,9 +212,12 @@ agrees_changed Line v v' held held' back back' q q' free keys keys' es es' t0 i0
     (by_object q es t0 i0 n0 (λ t i n. OnItsWay v' es' held' back' q' t i (entry es' n)) a.queued is0 here
     (λ t i n is ne.
     let o = others n is.claimed.0 ne in
-    way_kept Line v v' held held' back back' q q' es es' t i n changes a.lies place.0 (λ m lm x. subst (λ y. Met es' (needs_of y) t m) (sym same.needs) (met_on es es' (needs_of q.needs) t m place lm x)) is o.0 o.1
+    way_kept Line v v' held held' back back' q q' es es' t i n changes a.lies place.0
+    (λ m lm x. subst (λ y. Met es' (needs_of y) t m) (sym same.needs)
+    (met_on es es' (needs_of q.needs) t m place lm x)) is o.0 o.1
     (λ c lc hc.
-    let apart : Line ((entry es n).line + c) → ⊥ = λ x. let b = mine ((entry es n).line + c) x in line_other v es n0 n ((entry es n).line + c) c a.lies is0.claimed.0 is.claimed.0 ne is0.placed is.placed b.0 b.1 lc refl in
+    let apart : Line ((entry es n).line + c) → ⊥ = λ x. let b = mine ((entry es n).line + c) x in line_other v es n0 n
+    ((entry es n).line + c) c a.lies is0.claimed.0 is.claimed.0 ne is0.placed is.placed b.0 b.1 lc refl in
     (apart, marks ((entry es n).line + c) apart))
     (now t i n is ne) (a.on_way t i n is).tied))
     noted resolved a
@@ -227,7 +235,8 @@ resolved_set es n e' w ln same x = resolved_on es (slice_set es n e') w (length-
     x
 
 -- a thread at the same place reaches as far
-pub reaches_at : (v : View) (es : List Entry) (need : ℕ → ℕ → Bool) (p p' : Phase) (at at' l l' t i : ℕ) (e : Entry) → p' ≡ p → at' ≡ at → l' ≡ l → Reaches v es need p at l t i e → Reaches v es need p' at' l' t i e
+pub reaches_at : (v : View) (es : List Entry) (need : ℕ → ℕ → Bool) (p p' : Phase) (at at' l l' t i : ℕ) (e : Entry) → p' ≡
+    p → at' ≡ at → l' ≡ l → Reaches v es need p at l t i e → Reaches v es need p' at' l' t i e
 reaches_at v es need p p' at at' l l' t i e ep ea el r =
     subst (λ x. Reaches v es need x at' l' t i e) (sym ep) (subst (λ x. Reaches v es need p x l' t i e) (sym ea) (subst (λ x. Reaches v es need p at x t i e) (sym el) r))
 
@@ -243,5 +252,6 @@ moved_on v1 v2 v3 es1 es2 es3 x y =
         slots = λ n ln. y.same.slots n (omega (arith, ln, long)) ∙ x.same.slots n ln;
         led = λ n w ln na. y.same.led n w (omega (arith, ln, long)) (x.same.led n w ln na);
         same = λ n k ln lk. (let sl = x.same.slots n ln in y.same.same n k (omega (arith, ln, long)) (omega (arith, lk, sl))) ∙ x.same.same n k ln lk;
+        kept = y.same.kept ∙ x.same.kept;
       };
     }

@@ -1,5 +1,6 @@
 -- What a thread may note: places, needs, and stores to the lines of its copies.
-use Rattle.std.proofs.Common.{◌≡◌, ◌≢◌, ◌⊎◌, inl, inr, ℕ, ◌+◌, ◌-◌, ◌<◌, true, List, length, refl, sym, ◌∙◌, ap, subst, arith, slice_set, length-set}
+use Rattle.std.proofs.Common.{◌≡◌, ◌≢◌, ◌⊎◌, inl, inr, ℕ, ◌+◌, ◌-◌, ◌<◌, true, List, length, refl, sym, ◌∙◌, ap, subst, arith}
+use Rattle.std.proofs.Common.{slice_set, length-set}
 use Rattle.std.proofs.lemmas.List.{get_or-set_same, get_or-set_other}
 use Rattle.twin_forms.specs.Table.{Entry, entry, View, Lies, lines_of, HasCopied, IsClaimed}
 use Rattle.twin_forms.proofs.Led.{same_or_not, below_or_not}
@@ -90,7 +91,8 @@ copied_or e c = elim (below_or_not 1 e.stage) [
 ]
 
 -- A line of a queued object that isn't copied yet is clean.
-pub uncopied_clean : (v : View) (held : ℕ → ℕ → Type 0) (back : ℕ → Type 0) (q : Queues) (free : ℕ) (keys : ℕ → Type 0) (es : List Entry) (t i n c : ℕ) → Agrees v held back q free keys es → Is q es t i n →
+pub uncopied_clean : (v : View) (held : ℕ → ℕ → Type 0) (back : ℕ → Type 0) (q : Queues) (free : ℕ) (keys : ℕ → Type 0)
+    (es : List Entry) (t i n c : ℕ) → Agrees v held back q free keys es → Is q es t i n →
     c < lines_of (entry es n) → (HasCopied (entry es n) c → ⊥) → mark_at q.marks ((entry es n).line + c) ≡ clean
 uncopied_clean v held back q free keys es t i n c a is lc fresh =
     let l = (entry es n).line + c in
@@ -108,7 +110,8 @@ uncopied_clean v held back q free keys es t i n c a is lc fresh =
     ]
 
 -- The thread may note a store to each line of its object's copy, and a write of it.
-pub may_note_line : (v : View) (held : ℕ → ℕ → Type 0) (back : ℕ → Type 0) (q : Queues) (free : ℕ) (keys : ℕ → Type 0) (es : List Entry) (t i n c : ℕ) → Agrees v held back q free keys es → Is q es t i n →
+pub may_note_line : (v : View) (held : ℕ → ℕ → Type 0) (back : ℕ → Type 0) (q : Queues) (free : ℕ) (keys : ℕ → Type 0)
+    (es : List Entry) (t i n c : ℕ) → Agrees v held back q free keys es → Is q es t i n →
     c < lines_of (entry es n) → MayNote t (mark_at q.marks ((entry es n).line + c))
 may_note_line v held back q free keys es t i n c a is lc =
     let e = entry es n in

@@ -1,5 +1,6 @@
 -- Touches, write-backs and fences, needs, and how far a thread has come.
-use Rattle.std.proofs.Common.{◌≡◌, inl, inr, ℕ, ◌+◌, ◌*◌, ◌<◌, Bool, true, List, length, refl, sym, ◌∙◌, ap, subst, arith, length-set, ◌⊎◌, ◌≤◌}
+use Rattle.std.proofs.Common.{◌≡◌, inl, inr, ℕ, ◌+◌, ◌*◌, ◌<◌, Bool, true, List, length, refl, sym, ◌∙◌, ap, subst, arith}
+use Rattle.std.proofs.Common.{length-set, ◌⊎◌, ◌≤◌}
 use Rattle.std.proofs.lemmas.List.{length-map}
 use Rattle.twin_forms.specs.Table.{Entry, entry, View, IsClaimed, lines_of}
 use Rattle.twin_forms.specs.Moves.{Moved}
@@ -10,7 +11,8 @@ use Rattle.convert_queue.specs.Queues.{Queues, place_of, phase_of}
 use Rattle.convert_queue.specs.Threads.{needs_of}
 use Rattle.convert_words.specs.Agreeing.{Is, Met, Reaches, Keeps, IsTied, AreTied, Agrees}
 use Rattle.convert_words.specs.Steps.{IsQuiet, told_written, told_fenced, GoesTo, IsOnly}
-use Rattle.convert_words.proofs.Tied.{IsNoted, written_here, written_other, fenced_at, noted_written, noted_fenced, tied_written, tied_fenced}
+use Rattle.convert_words.proofs.Tied.{IsNoted, written_here, written_other, fenced_at, noted_written, noted_fenced}
+use Rattle.convert_words.proofs.Tied.{tied_written, tied_fenced}
 use Rattle.convert_words.proofs.Moves.{all_still, same_queues, agrees_over, way_kept, follows_moved, reaches_at, is_back}
 
 -- A step that changes no word of the image, and nothing that the heap shows.
@@ -47,8 +49,12 @@ agrees_wrote v held back q free keys es l lt reads a =
       tied = λ c lc hc. let k = e.line + c in elim (same_or_not k l) [
         | inr ne ↦ subst (IsTied v held back (Keeps v e) t k) (sym (written_other q.marks l k ne)) (s.tied c lc hc)
         | inl eq ↦ (
-            let is_now : mark_at (with_write q.marks l) k ≡ after_write (mark_at q.marks k) = ap (mark_at (with_write q.marks l)) eq ∙ written_here q.marks l lm ∙ ap (λ x. after_write (mark_at q.marks x)) (sym eq) in
-            subst (IsTied v held back (Keeps v e) t k) (sym is_now) (tied_written v held back (Keeps v e) t k (mark_at q.marks k) (λ w lw. subst (λ x. back (8 * x + w)) (sym eq) (reads w lw)) (s.tied c lc hc)))
+            let is_now : mark_at (with_write q.marks l) k ≡ after_write (mark_at q.marks k) = ap
+            (mark_at (with_write q.marks l)) eq ∙ written_here q.marks l lm ∙ ap (λ x. after_write (mark_at q.marks x))
+            (sym eq) in
+            subst (IsTied v held back (Keeps v e) t k) (sym is_now)
+            (tied_written v held back (Keeps v e) t k (mark_at q.marks k)
+            (λ w lw. subst (λ x. back (8 * x + w)) (sym eq) (reads w lw)) (s.tied c lc hc)))
       ];
     })
     (λ u k noted. a.noted u k (noted_written q.marks l lm u k noted)) a.resolved a
@@ -71,7 +77,8 @@ met_more es need need' t m on (inl x) = inl x
 met_more es need need' t m on (inr (inl x)) = inr (inl x)
 met_more es need need' t m on (inr (inr x)) = inr (inr (x.0, on x.0 x.1, x.2))
 
-pub reaches_more : (v : View) (es : List Entry) (need need' : ℕ → ℕ → Bool) (p : Phase) (at l t i : ℕ) (e : Entry) → ((u : ℕ) → need t u ≡ true → need' t u ≡ true) → Reaches v es need p at l t i e → Reaches v es need' p at l t i e
+pub reaches_more : (v : View) (es : List Entry) (need need' : ℕ → ℕ → Bool) (p : Phase) (at l t i : ℕ) (e : Entry) →
+    ((u : ℕ) → need t u ≡ true → need' t u ≡ true) → Reaches v es need p at l t i e → Reaches v es need' p at l t i e
 reaches_more v es need need' p at l t i e on r = record {
   far = r.far;
   met = λ k m one kept lk hc no lm na. met_more es need need' t m on (r.met k m one kept lk hc no lm na);

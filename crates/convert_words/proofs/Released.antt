@@ -1,5 +1,6 @@
 -- A closed set of settled threads is sealed: its objects one after another, then its queues.
-use Rattle.std.proofs.Common.{◌≡◌, ◌⊎◌, inl, inr, ℕ, zero, suc, ◌+◌, ◌<◌, ◌≤◌, Bool, true, false, List, [], ◌∷◌, length, refl, sym, ◌∙◌, ap, subst, arith, slice_set, length-set}
+use Rattle.std.proofs.Common.{◌≡◌, ◌⊎◌, inl, inr, ℕ, zero, suc, ◌+◌, ◌<◌, ◌≤◌, Bool, true, false, List, [], ◌∷◌, length, refl}
+use Rattle.std.proofs.Common.{sym, ◌∙◌, ap, subst, arith, slice_set, length-set}
 use Rattle.std.specs.Prelude.{slice_index_or}
 use Rattle.std.proofs.lemmas.Bool.{false≢true}
 use Rattle.std.proofs.lemmas.List.Sums.{sum_by-cons}
@@ -34,7 +35,8 @@ pub none_sealed : (es : List Entry) → AreSealed (λ _. ⊥) es es
 none_sealed es = record { long = refl; here = λ n ln no. absurd no; others = λ n ln _. refl }
 
 -- one more
-pub one_sealed : (Those : ℕ → Type 0) (es es' : List Entry) (n : ℕ) → n < length es → AreSealed Those es es' → entry es' n ≡ entry es n → AreSealed (λ m. Those m ⊎ (m ≡ n)) es (slice_set es' n (sealed (entry es' n)))
+pub one_sealed : (Those : ℕ → Type 0) (es es' : List Entry) (n : ℕ) → n < length es → AreSealed Those es es' → entry es' n
+    ≡ entry es n → AreSealed (λ m. Those m ⊎ (m ≡ n)) es (slice_set es' n (sealed (entry es' n)))
 one_sealed Those es es' n ln s same =
     let e' = sealed (entry es' n) in
     let long = s.long in
@@ -48,7 +50,8 @@ one_sealed Those es es' n ln s same =
       others = λ m lm no. entry_other es' n m e' (λ eq. no (inr eq)) ∙ s.others m lm (λ x. no (inl x));
     }
 
-pub sealed_alike : (Those These : ℕ → Type 0) (es es' : List Entry) → ((n : ℕ) → n < length es → Those n → These n) → ((n : ℕ) → n < length es → These n → Those n) → AreSealed Those es es' → AreSealed These es es'
+pub sealed_alike : (Those These : ℕ → Type 0) (es es' : List Entry) → ((n : ℕ) → n < length es → Those n → These n) →
+    ((n : ℕ) → n < length es → These n → Those n) → AreSealed Those es es' → AreSealed These es es'
 sealed_alike Those These es es' on back s = record { long = s.long; here = λ n ln these. s.here n ln (back n ln these); others = λ n ln no. s.others n ln (λ x. no (on n ln x)) }
 
 -- ---- who has claimed what
@@ -60,7 +63,8 @@ outside : (es : List Entry) (set t n : ℕ) → IsClaimed es t n → has set t �
 outside es set t n c out x = let eq : x.0 ≡ t = claimed_once es x.0 t n x.2 c in false≢true (sym out ∙ subst (λ y. has set y ≡ true) eq x.1)
 
 -- an object is sealed, or lies as it did
-one_or : (es es' : List Entry) (set n : ℕ) → AreSealed (OfSet es set) es es' → n < length es → (OfSet es set n × (entry es' n ≡ sealed (entry es n))) ⊎ ((OfSet es set n → ⊥) × (entry es' n ≡ entry es n))
+one_or : (es es' : List Entry) (set n : ℕ) → AreSealed (OfSet es set) es es' → n < length es →
+    (OfSet es set n × (entry es' n ≡ sealed (entry es n))) ⊎ ((OfSet es set n → ⊥) × (entry es' n ≡ entry es n))
 one_or es es' set n s ln = elim (zero_or (entry es n).owner) [
   | inl z ↦ inr (none_of es set n z, s.others n ln (none_of es set n z))
   | inr x ↦ (let c : IsClaimed es x.0 n = (ln, x.1) in elim (yes_or_no (has set x.0)) [
@@ -136,7 +140,8 @@ released_less set q q' r = total_less q'.queues q.queues r.queues
 on_list : (xs ys : List Queued) (P : List Queued → Type 0) → xs ≡ ys → P ys → P xs
 on_list xs ys P e p = subst P (sym e) p
 
-is_back : (es es' : List Entry) (q q' : Queues) (set t i n : ℕ) → AreSealed (OfSet es set) es es' → Released set q q' → Is q' es' t i n → Is q es t i n × (has set t ≡ false) × (entry es' n ≡ entry es n)
+is_back : (es es' : List Entry) (q q' : Queues) (set t i n : ℕ) → AreSealed (OfSet es set) es es' → Released set q q' → Is
+    q' es' t i n → Is q es t i n × (has set t ≡ false) × (entry es' n ≡ entry es n)
 is_back es es' q q' set t i n s r is =
     let b = claimed_back es es' set t n s is.claimed in
     let same = sym (r.kept t b.1) in (
@@ -200,7 +205,9 @@ agrees_sealed v v' held held' back back' q q' free keys es es' set settled moved
       way_kept (λ _. ⊥) v v' held held' back back' q q' es es' t i n quiet a.lies s.long met b.0 b.2 (follows_moved v v' es es' n a.lies moved b.0.claimed.0 b.2)
       (λ c lc hc. (λ x. x, ap (λ y. mark_at y ((entry es n).line + c)) r.marks))
       (reaches_at v es (needs_of q.needs) (phase_of q t) (phase_of q' t) (place_of q t).0 (place_of q' t).0 (place_of q t).1 (place_of q' t).1 t i (entry es n)
-      (ap (λ (y : List Phase). slice_index_or y t Copy) r.phases) (ap (λ (y : List (ℕ × ℕ)). (slice_index_or y t (0, 0)).0) r.places) (ap (λ (y : List (ℕ × ℕ)). (slice_index_or y t (0, 0)).1) r.places) st.reaches)
+      (ap (λ (y : List Phase). slice_index_or y t Copy) r.phases)
+      (ap (λ (y : List (ℕ × ℕ)). (slice_index_or y t (0, 0)).0) r.places)
+      (ap (λ (y : List (ℕ × ℕ)). (slice_index_or y t (0, 0)).1) r.places) st.reaches)
       st.tied;
   noted = λ t l noted.
       let old : IsNoted q.marks t l = subst (λ y. IsNoted y t l) r.marks noted in

@@ -1,5 +1,5 @@
 -- A closed set of settled threads is fenced and closed.
-use Rattle.std.proofs.Common.{◌≡◌, inl, inr, ℕ, ◌+◌, ◌*◌, ◌/◌, ◌%◌, ◌<◌, Bool, true, List, refl, sym, ◌∙◌, ap, subst, arith}
+use Rattle.std.proofs.Common.{◌≡◌, inl, inr, ℕ, ◌+◌, ◌*◌, ◌/◌, ◌%◌, ◌<◌, Bool, true, List, sym, ◌∙◌, ap, subst, arith}
 use Rattle.twin_forms.specs.Table.{Entry, entry, View, word_of, refers, kept_at, lines_of, line_of, IsClaimed}
 use Rattle.twin_forms.proofs.Led.{word_moved}
 use Rattle.convert_queue.specs.declared.phase.Phase.{Phase}
@@ -49,7 +49,8 @@ settled_shown v held back q free keys es t n j x a s c lt kp left =
     let l = e.line + j / 8 in
     let at : 8 * e.line + j ≡ 8 * l + j % 8 = omega arith in
     let tied = (a.on_way t i.0 n i.1).tied (j / 8) (omega (arith, lt)) (inl (omega (arith, two))) in
-    tied_clean v held back (Keeps v e) t l (mark_at q.marks l) tied (s.clean.written l) (s.clean.fenced l) (j % 8) x (omega arith) (subst (Keeps v e) at kp) (subst (λ y. held y x) at left) ∙ ap v.shown (sym at)
+    tied_clean v held back (Keeps v e) t l (mark_at q.marks l) tied (s.clean.written l) (s.clean.fenced l) (j % 8) x
+    (omega arith) (subst (Keeps v e) at kp) (subst (λ y. held y x) at left) ∙ ap v.shown (sym at)
 
 slot_refers : (v : View) (held : ℕ → ℕ → Type 0) (back : ℕ → Type 0) (q : Queues) (free : ℕ) (keys : ℕ → Type 0) (es : List Entry) (set t n k : ℕ) →
     Agrees v held back q free keys es → IsClosed (needs_of q.needs) (has set) → has set t ≡ true → IsSettled q t → IsClaimed es t n →
@@ -80,6 +81,7 @@ fenced_and_closed v held back q free keys es set a g settled = record {
   shown = λ t n j x member c lt kp left. settled_shown v held back q free keys es t n j x a (settled t member) c lt kp left;
   refers = λ t n k x member c ref kept lk left.
       let at : 8 * (entry es n).line + 1 + k ≡ 8 * (entry es n).line + (1 + k) = omega arith in
-      let is = settled_shown v held back q free keys es t n (1 + k) x a (settled t member) c (omega (arith, lk)) (λ j eq lj. refl) (subst (λ y. held y x) at left) in
+      let is = settled_shown v held back q free keys es t n (1 + k) x a (settled t member) c (omega (arith, lk))
+      (λ j eq lj. subst (λ y. kept_at v (entry es n) y ≡ true) (let z : k ≡ j = omega (arith, eq) in z) kept) (subst (λ y. held y x) at left) in
       subst (Refers es (SealedBy es set)) (ap v.shown at ∙ sym is) (slot_refers v held back q free keys es set t n k a g member (settled t member) c ref kept lk);
 }

@@ -1,7 +1,9 @@
 -- Each kind of step as a step of a conversion.
-use Rattle.std.proofs.Common.{◌≡◌, ◌≢◌, ◌⊎◌, inl, inr, ℕ, ◌+◌, ◌-◌, ◌*◌, ◌<◌, ◌≤◌, List, length, refl, sym, ap, subst, arith, slice_set}
+use Rattle.std.proofs.Common.{◌≡◌, ◌≢◌, ◌⊎◌, inl, inr, ℕ, ◌+◌, ◌-◌, ◌*◌, ◌<◌, ◌≤◌, List, length, refl, sym, ap, subst, arith}
+use Rattle.std.proofs.Common.{slice_set}
 use Rattle.volatile_space.specs.Spaces.{Space}
-use Rattle.line_memory.specs.Memory.{Memory, shown, CanLeave, SameImage, SameResident, OneCall, WroteLine, MadeFence, IsResident, IsAwaited, IsWritten, IsDurable}
+use Rattle.line_memory.specs.Memory.{Memory, shown, CanLeave, SameImage, SameResident, OneCall, WroteLine, MadeFence}
+use Rattle.line_memory.specs.Memory.{IsResident, IsAwaited, IsWritten, IsDurable}
 use Rattle.line_memory.specs.Moments.{KeepsShown}
 use Rattle.twin_forms.specs.Table.{Entry, entry, lines_of}
 use Rattle.twin_forms.specs.Moves.{Moved, ChangesLine, IsRepaired, one_more, forwarded}
@@ -18,7 +20,8 @@ use Rattle.convert_words.proofs.Bridges.{moved_of, moved_same}
 use Rattle.convert_words.proofs.Converted.{durable_set, durable_claimed, one_set}
 use Rattle.convert_words.proofs.Noting.{own_forwarded}
 use Rattle.convert_words.proofs.Settled.{settled_forwarded}
-use Rattle.convert_words.proofs.StepLaws.{calls_keep, told_writes_keep, told_fences_keep, claims_keep, copies_keep, forwards_keep, repairs_keep, places_keep, repaired_lines_go_on}
+use Rattle.convert_words.proofs.StepLaws.{calls_keep, told_writes_keep, told_fences_keep, claims_keep, copies_keep}
+use Rattle.convert_words.proofs.StepLaws.{forwards_keep, repairs_keep, places_keep, repaired_lines_go_on}
 
 -- ---- calls of the image
 
@@ -38,7 +41,21 @@ touch_converts s m line es t known known' keeps call own needed missing nearer o
   others = λ l w lt _. still_known s m known known' keeps l w lt;
   leaves = λ l w x _ left. keeps.leaves l w x left;
   calls = call;
-  says = (record { line = line; own = own; needed = needed; keeps = keeps; heap = refl; missing = missing; nearer = nearer; not_twice = once; queue = refl; table = refl }, (λ n. (λ p. p, λ p. p), refl));
+  says = (
+    record {
+      line = line;
+      own = own;
+      needed = needed;
+      keeps = keeps;
+      heap = refl;
+      missing = missing;
+      nearer = nearer;
+      not_twice = once;
+      queue = refl;
+      table = refl;
+    },
+    (λ n. (λ p. p, λ p. p), refl),
+  );
 }
 
 -- A line was written back, and the queue was told of it.
@@ -55,7 +72,22 @@ write_converts s m l es t known known' keeps call flush stored lt wrote written 
   others = λ l w lt _. still_known s m known known' keeps l w lt;
   leaves = λ l w x _ left. keeps.leaves l w x left;
   calls = call;
-  says = (record { line = l; phase = flush; stored = stored; keeps = keeps; wrote = wrote; written = written; resident = resident; heap = refl; queue = refl; table = refl }, (λ n. (λ p. p, λ p. p), refl));
+  says = (
+    record {
+      line = l;
+      phase = flush;
+      stored = stored;
+      keeps = keeps;
+      wrote = wrote;
+      written = written;
+      resident =
+          resident;
+      heap = refl;
+      queue = refl;
+      table = refl;
+    },
+    (λ n. (λ p. p, λ p. p), refl),
+  );
 }
 
 -- A fence was made, and the queue was told of it.
@@ -72,7 +104,22 @@ fence_converts s m l es t known known' keeps call flush none waits made durable 
   others = λ l w lt _. still_known s m known known' keeps l w lt;
   leaves = λ l w x _ left. keeps.leaves l w x left;
   calls = call;
-  says = (record { line = l; phase = flush; all = none; waits = waits; keeps = keeps; made = made; durable = durable; resident = resident; heap = refl; queue = refl; table = refl }, (λ n. (λ p. p, λ p. p), refl));
+  says = (
+    record {
+      line = l;
+      phase = flush;
+      all = none;
+      waits = waits;
+      keeps = keeps;
+      made = made;
+      durable = durable;
+      resident = resident;
+      heap = refl;
+      queue = refl;
+      table = refl;
+    },
+    (λ n. (λ p. p, λ p. p), refl),
+  );
 }
 
 -- A call failed.

@@ -1,15 +1,17 @@
 -- Stores of the program while objects are converted.
-use Rattle.std.proofs.Common.{◌≡◌, ◌≢◌, ◌⊎◌, inl, inr, ℕ, ◌+◌, ◌%◌, ◌<◌, ◌≤◌, true, List, length, refl, sym, ◌∙◌, ap, subst, arith, length-set}
+use Rattle.std.proofs.Common.{◌≡◌, ◌≢◌, ◌⊎◌, inl, inr, ℕ, ◌+◌, ◌%◌, ◌<◌, ◌≤◌, true, List, length, refl, sym, ◌∙◌, ap, subst}
+use Rattle.std.proofs.Common.{arith, length-set}
 use Rattle.ap_base.specs.declared.kind.Kind.{Kind}
 use Rattle.std.specs.Prelude.{Option}
-use Rattle.twin_forms.specs.Table.{Entry, entry, View, word_of, Names, refers, is_reference, lines_of, line_of, HasCopied}
+use Rattle.twin_forms.specs.Table.{Entry, entry, View, word_of, Names, refers, kept_at, is_reference, lines_of, line_of}
+use Rattle.twin_forms.specs.Table.{HasCopied}
 use Rattle.twin_forms.specs.Moves.{Stored}
 use Rattle.twin_forms.proofs.Led.{same_or_not}
 use Rattle.convert_queue.specs.Marks.{mark_at, stored}
 use Rattle.convert_queue.specs.Queues.{Queues, place_of, phase_of}
 use Rattle.convert_words.specs.Agreeing.{Is, Keeps, IsTied, IsCopied, Agrees}
 use Rattle.convert_words.specs.Steps.{Changes, IsQuiet, IsOnly, told, MayHold}
-use Rattle.convert_words.proofs.Basics.{room_of, line_other, LeadsBack}
+use Rattle.convert_words.proofs.Basics.{room_of, line_other, LeadsBack, kept_back, keeps_back}
 use Rattle.convert_words.proofs.Tied.{stored_here, stored_other, noted_stored, tied_kept, tied_stored}
 use Rattle.convert_words.proofs.Moves.{all_still, same_queues, mended_two, Follows, agrees_changed, agrees_over, way_kept}
 
@@ -17,7 +19,8 @@ kind_kept : (v v' : View) (e : Entry) (k : ℕ) → v'.kinds ≡ v.kinds → ref
 kind_kept v v' e k kinds = ap (λ (f : ℕ → ℕ → Option Kind). is_reference (f e.shape k)) kinds
 
 -- a slot to which nothing was stored
-leads_stored : (v v' : View) (es : List Entry) (n k w m j : ℕ) → Stored v v' es n k w → v'.kinds ≡ v.kinds → m < length es → j < (entry es m).slots → (m ≢ n) ⊎ (j ≢ k) → LeadsBack v v' es es (entry es m) (entry es m) j
+leads_stored : (v v' : View) (es : List Entry) (n k w m j : ℕ) → Stored v v' es n k w → v'.kinds ≡ v.kinds → m < length es
+    → j < (entry es m).slots → (m ≢ n) ⊎ (j ≢ k) → LeadsBack v v' es es (entry es m) (entry es m) j
 leads_stored v v' es n k w m j st kinds lm lj other ref y ly na = (sym (kind_kept v v' (entry es m) j kinds) ∙ ref, subst (Names (entry es y)) (st.same m j lm lj other) na)
 
 follows_stored : (v v' : View) (es : List Entry) (n k w m : ℕ) → Stored v v' es n k w → v'.kinds ≡ v.kinds → m < length es → m ≢ n → Follows v v' es es (entry es m)
@@ -50,12 +53,16 @@ agrees_stored v v' held held' back back' q free keys es t i n k w is lk copied s
       reaches = record {
         far = s.reaches.far;
         met = λ j m ref kept lj hc closed lm1 na. elim (same_or_not j k) [
-          | inl eq ↦ inl ((may (subst (λ x. refers v e x ≡ true) eq (sym (kind_kept v v' e j kinds) ∙ ref)) refl).1 m lm1 (subst (Names (entry es m)) (ap (word_of v' e) eq ∙ st.here) na))
-          | inr ne ↦ (let b = leads_stored v v' es n k w n j st kinds ln lj (inr ne) ref m lm1 na in s.reaches.met j m b.0 kept lj hc closed lm1 b.1)
+          | inl eq ↦ inl ((may (subst (λ x. refers v e x ≡ true) eq (sym (kind_kept v v' e j kinds) ∙ ref))
+              (subst (λ x. kept_at v e x ≡ true) eq (kept_back v v' e j only.kept kept))).1 m lm1
+              (subst (Names (entry es m)) (ap (word_of v' e) eq ∙ st.here) na))
+          | inr ne ↦ (let b = leads_stored v v' es n k w n j st kinds ln lj (inr ne) ref m lm1 na in s.reaches.met j m b.0 (kept_back v v' e j only.kept kept) lj hc closed lm1 b.1)
         ];
         mended = λ j ref kept lj is_mended. elim (same_or_not j k) [
-          | inl eq ↦ ap (λ x. x % 2) (ap (word_of v' e) eq ∙ st.here) ∙ (may (subst (λ x. refers v e x ≡ true) eq (sym (kind_kept v v' e j kinds) ∙ ref)) refl).0
-          | inr ne ↦ ap (λ x. x % 2) (st.same n j ln lj (inr ne)) ∙ s.reaches.mended j (sym (kind_kept v v' e j kinds) ∙ ref) kept lj is_mended
+          | inl eq ↦ ap (λ x. x % 2) (ap (word_of v' e) eq ∙ st.here) ∙
+              (may (subst (λ x. refers v e x ≡ true) eq (sym (kind_kept v v' e j kinds) ∙ ref))
+              (subst (λ x. kept_at v e x ≡ true) eq (kept_back v v' e j only.kept kept))).0
+          | inr ne ↦ ap (λ x. x % 2) (st.same n j ln lj (inr ne)) ∙ s.reaches.mended j (sym (kind_kept v v' e j kinds) ∙ ref) (kept_back v v' e j only.kept kept) lj is_mended
         ];
       };
       tied = λ c lc hc. elim (same_or_not c (line_of k)) [
@@ -63,7 +70,9 @@ agrees_stored v v' held held' back back' q free keys es t i n k w is lk copied s
         | inr ne ↦ (
             let apart : e.line + c ≢ l = λ eq. ne (omega (arith, eq)) in
             subst (IsTied v' held' back' (Keeps v' e) t (e.line + c)) (sym (stored_other q.marks t l (e.line + c) apart))
-            (tied_kept (λ x. x ≡ l) v v' held held' back back' (Keeps v e) (Keeps v' e) t (e.line + c) (mark_at q.marks (e.line + c)) only (omega (arith, room, lc)) apart (λ y kp. λ j eq lj. refl) (s.tied c lc hc)))
+            (tied_kept (λ x. x ≡ l) v v' held held' back back' (Keeps v e) (Keeps v' e) t (e.line + c)
+            (mark_at q.marks (e.line + c)) only (omega (arith, room, lc)) apart
+            (λ y kp. keeps_back v v' e y only.kept kp) (s.tied c lc hc)))
       ];
     })
     (λ u j m x ne. (a.on_way u j m x).reaches)
@@ -88,12 +97,15 @@ agrees_stored_old v v' held held' back back' q free keys es t i n k w is fresh s
     (record {
       reaches = record {
         far = s.reaches.far;
-        met = λ j m ref kept lj hc closed lm1 na. let b = leads_stored v v' es n k w n j st kinds ln lj (inr (other j hc)) ref m lm1 na in s.reaches.met j m b.0 kept lj hc closed lm1 b.1;
+        met = λ j m ref kept lj hc closed lm1 na. let b = leads_stored v v' es n k w n j st kinds ln lj (inr (other j hc))
+            ref m lm1 na in s.reaches.met j m b.0 (kept_back v v' e j quiet.kept kept) lj hc closed lm1 b.1;
         mended = λ j ref kept lj is_mended.
             let ne = other j (inl (mended_two (phase_of q t) (place_of q t).0 (place_of q t).1 i (line_of j) e s.reaches.far is_mended)) in
-            ap (λ x. x % 2) (st.same n j ln lj (inr ne)) ∙ s.reaches.mended j (sym (kind_kept v v' e j kinds) ∙ ref) kept lj is_mended;
+            ap (λ x. x % 2) (st.same n j ln lj (inr ne)) ∙ s.reaches.mended j (sym (kind_kept v v' e j kinds) ∙ ref) (kept_back v v' e j quiet.kept kept) lj is_mended;
       };
-      tied = λ c lc hc. tied_kept (λ _. ⊥) v v' held held' back back' (Keeps v e) (Keeps v' e) t (e.line + c) (mark_at q.marks (e.line + c)) quiet (omega (arith, room, lc)) (λ x. x) (λ y kp. λ j eq lj. refl) (s.tied c lc hc);
+      tied = λ c lc hc. tied_kept (λ _. ⊥) v v' held held' back back' (Keeps v e) (Keeps v' e) t (e.line + c)
+          (mark_at q.marks (e.line + c)) quiet (omega (arith, room, lc)) (λ x. x)
+          (λ y kp. keeps_back v v' e y quiet.kept kp) (s.tied c lc hc);
     })
     (λ u j m x ne. (a.on_way u j m x).reaches)
     a.noted a.resolved a

@@ -1,9 +1,11 @@
 -- Marks of lines, and what they say of the words.
-use Rattle.std.proofs.Common.{◌≡◌, ◌≢◌, ◌⊎◌, inl, inr, ℕ, zero, suc, ◌+◌, ◌*◌, ◌<◌, List, [], ◌∷◌, length, refl, sym, ◌∙◌, ap, subst, arith}
+use Rattle.std.proofs.Common.{◌≡◌, ◌≢◌, ◌⊎◌, inl, inr, ℕ, zero, suc, ◌+◌, ◌*◌, ◌<◌, List, [], ◌∷◌, length, refl, sym, ◌∙◌, ap}
+use Rattle.std.proofs.Common.{subst, arith}
 use Rattle.std.proofs.lemmas.List.{get_or-set_same, get_or-set_other}
 use Rattle.twin_forms.specs.Table.{View}
 use Rattle.twin_forms.proofs.Led.{same_or_not}
-use Rattle.convert_queue.specs.Marks.{Mark, clean, stored, written, mark_at, after_write, after_fence, with_store, with_write, with_fence, IsStored, IsWritten}
+use Rattle.convert_queue.specs.Marks.{Mark, clean, stored, written, mark_at, after_write, after_fence, with_store, with_write}
+use Rattle.convert_queue.specs.Marks.{with_fence, IsStored, IsWritten}
 use Rattle.convert_words.specs.Agreeing.{IsTied}
 use Rattle.convert_words.specs.Steps.{Changes}
 
@@ -84,7 +86,8 @@ noted_fenced marks u k noted = was_before (mark_at marks k) u (elim noted [ inl 
 -- A step that leaves the words of a line alone keeps what its mark says.
 pub tied_kept : (Line : ℕ → Type 0) (v v' : View) (held held' : ℕ → ℕ → Type 0) (back back' : ℕ → Type 0) (kept kept' : ℕ → Type 0) (t l : ℕ) (m : Mark) →
     Changes Line v v' held held' back back' → l < v.lines → (Line l → ⊥) → ((p : ℕ) → kept' p → kept p) → IsTied v held back kept t l m → IsTied v' held' back' kept' t l m
-tied_kept Line v v' held held' back back' kept kept' t l clean c lt apart keep tied = λ w x lw kp left. tied w x lw (keep (8 * l + w) kp) (c.leaves l w x lt lw apart left) ∙ sym (c.shown l w lt lw apart)
+tied_kept Line v v' held held' back back' kept kept' t l clean c lt apart keep tied = λ w x lw kp left. tied w x lw
+    (keep (8 * l + w) kp) (c.leaves l w x lt lw apart left) ∙ sym (c.shown l w lt lw apart)
 tied_kept Line v v' held held' back back' kept kept' t l (stored u) c lt apart keep tied = tied
 tied_kept Line v v' held held' back back' kept kept' t l (written u) c lt apart keep tied = (tied.0, λ w lw kp. c.keeps l w lt lw apart (tied.1 w lw (keep (8 * l + w) kp)))
 
@@ -93,13 +96,16 @@ pub tied_stored : (v : View) (held : ℕ → ℕ → Type 0) (back : ℕ → Typ
 tied_stored v held back kept t l m eq = subst (IsTied v held back kept t l) (sym eq) refl
 
 -- a write by the thread: the image reads what the line shows
-pub tied_written : (v : View) (held : ℕ → ℕ → Type 0) (back : ℕ → Type 0) (kept : ℕ → Type 0) (t l : ℕ) (m : Mark) → ((w : ℕ) → w < 8 → back (8 * l + w)) → IsTied v held back kept t l m → IsTied v held back kept t l (after_write m)
+pub tied_written : (v : View) (held : ℕ → ℕ → Type 0) (back : ℕ → Type 0) (kept : ℕ → Type 0) (t l : ℕ) (m : Mark) →
+    ((w : ℕ) → w < 8 → back (8 * l + w)) → IsTied v held back kept t l m → IsTied v held back kept t l (after_write m)
 tied_written v held back kept t l clean reads tied = tied
 tied_written v held back kept t l (stored u) reads tied = (tied, λ w lw _. reads w lw)
 tied_written v held back kept t l (written u) reads tied = tied
 
 -- a fence: a stop leaves what the image reads
-pub tied_fenced : (v : View) (held : ℕ → ℕ → Type 0) (back : ℕ → Type 0) (kept : ℕ → Type 0) (t l : ℕ) (m : Mark) → ((p x : ℕ) → back p → held p x → x ≡ v.shown p) → IsTied v held back kept t l m → IsTied v held back kept t l (after_fence m)
+pub tied_fenced : (v : View) (held : ℕ → ℕ → Type 0) (back : ℕ → Type 0) (kept : ℕ → Type 0) (t l : ℕ) (m : Mark) →
+    ((p x : ℕ) → back p → held p x → x ≡ v.shown p) → IsTied v held back kept t l m → IsTied v held back kept t l
+    (after_fence m)
 tied_fenced v held back kept t l clean fence tied = tied
 tied_fenced v held back kept t l (stored u) fence tied = tied
 tied_fenced v held back kept t l (written u) fence tied = λ w x lw kp left. fence (8 * l + w) x (tied.1 w lw kp) left

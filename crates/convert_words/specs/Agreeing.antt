@@ -7,8 +7,10 @@
 -- held p x: a stop leaves x in word p of the image, now or later, if nothing is stored to it.
 -- back p: the image reads word p as it is shown, so that a fence makes it durable.
 -- keys w: the monitor of the object to which the word w refers is held.
-use Rattle.std.specs.Prelude.{◌≡◌, ◌⊎◌, ℕ, ◌+◌, ◌*◌, ◌%◌, ◌<◌, ◌≤◌, ltb, Bool, true, List, length, slice_index_or, if◌then◌else◌}
-use Rattle.twin_forms.specs.Table.{Entry, entry, View, word_of, Names, refers, kept_at, Lies, lines_of, line_of, HasCopied, IsClaimed, InP}
+use Rattle.std.specs.Prelude.{◌≡◌, ◌⊎◌, ℕ, ◌+◌, ◌*◌, ◌%◌, ◌<◌, ◌≤◌, ltb, Bool, true, List, length, slice_index_or}
+use Rattle.std.specs.Prelude.{if◌then◌else◌}
+use Rattle.twin_forms.specs.Table.{Entry, entry, View, word_of, Names, refers, kept_at, Lies, lines_of, line_of, HasCopied}
+use Rattle.twin_forms.specs.Table.{IsClaimed, InP}
 use Rattle.convert_queue.specs.declared.phase.Phase.{Phase}
 use Rattle.convert_queue.specs.declared.phase.Phase.TheVariants.{Copy, Repair, Flush}
 use Rattle.convert_queue.specs.Marks.{Mark, clean, stored, written, mark_at, IsStored, IsWritten}
@@ -128,7 +130,8 @@ pub record Agrees (v : View) (held : ℕ → ℕ → Type 0) (back : ℕ → Typ
   -- the queues hold exactly the claimed and unsealed objects
   pub queued : Queueing q es
   -- Places and phases say what was copied, forwarded, repaired and written, references in copied lines are met, and the
-  -- queue was told of each store to a copied line and of each fence.
+  -- queue was told of each store to a copied line. No mark is ahead of the image: what it calls written is written back,
+  -- and what it calls clean is durable. It may lag behind a fence; that each fence is told, the steps that make one say.
   pub on_way : (t i n : ℕ) → Is q es t i n → OnItsWay v es held back q t i (entry es n)
   -- it was told of no other stores
   pub noted : (t l : ℕ) → IsStored q.marks t l ⊎ IsWritten q.marks t l → IsCopied es t l

@@ -1,6 +1,7 @@
 -- What one step of a conversion is, and what each of its answers says.
 use Rattle.std.specs.Prelude.{◌≡◌, ◌≢◌, ◌⊎◌, ◌↔◌, ℕ, ◌+◌, ◌-◌, ◌*◌, ◌<◌, ◌≤◌, ◌^◌, true, List, length, slice_set}
-use Rattle.line_memory.specs.Memory.{Memory, shown, CanLeave, SameImage, SameResident, OneCall, WroteLine, MadeFence, IsResident, IsAwaited, IsDurable, IsWritten as IsWrittenBack}
+use Rattle.line_memory.specs.Memory.{Memory, shown, CanLeave, SameImage, SameResident, OneCall, WroteLine, MadeFence}
+use Rattle.line_memory.specs.Memory.{IsResident, IsAwaited, IsDurable, IsWritten as IsWrittenBack}
 use Rattle.line_memory.specs.Moments.{KeepsShown}
 use Rattle.twin_forms.specs.Table.{Entry, entry, word_of, refers, kept_at, Names, lines_of, line_of, HasCopied, IsClaimed, InP}
 use Rattle.twin_forms.specs.Moves.{SameHeap, Moved, ChangesLine, one_more, forwarded, IsRepaired}

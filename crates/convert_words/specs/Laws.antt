@@ -3,7 +3,8 @@ use Rattle.convert_queue.specs.Marks.{mark_at, clean}
 use Rattle.std.specs.Prelude.{◌≡◌, ◌≢◌, ◌⊎◌, ◌↔◌, ℕ, ◌+◌, ◌*◌, ◌<◌, ◌≤◌, true, List, length, slice_set, [], ◌∷◌, ◌++◌, false}
 use Rattle.line_memory.specs.Memory.{Memory, IsWritten, IsDurable}
 use Rattle.line_memory.specs.Moments.{KeepsShown}
-use Rattle.twin_forms.specs.Table.{Entry, entry, word_of, refers, kept_at, Names, lines_of, line_of, HasCopied, IsClaimed, InP, Lies}
+use Rattle.twin_forms.specs.Table.{Entry, entry, word_of, refers, kept_at, Names, lines_of, line_of, HasCopied, IsClaimed, InP}
+use Rattle.twin_forms.specs.Table.{Lies}
 use Rattle.twin_forms.specs.Moves.{Moved, Stored, ChangesLine, one_more, forwarded, IsRepaired, Added, fresh}
 use Rattle.twin_forms.specs.Sights.{Twin, view_of, held_of, AllKnown}
 use Rattle.convert_queue.specs.declared.phase.Phase.{Phase}
@@ -13,7 +14,8 @@ use Rattle.convert_queue.specs.Threads.{has, needs_of, IsClosed}
 use Rattle.convert_words.specs.Agreeing.{Is, Met, Reaches, HaveSizes}
 use Rattle.convert_words.specs.Scenes.{Scene, IsKey, AgreesAt}
 use Rattle.convert_words.specs.Sealing.{SealedBy, FencedAndClosed, AreSealed, OfSet, Released}
-use Rattle.convert_words.specs.Steps.{told, told_written, told_fenced, with_object, GoesTo, OneBecomes, claimed_at, MayHold, IsAnswered}
+use Rattle.convert_words.specs.Steps.{told, told_written, told_fenced, with_object, GoesTo, OneBecomes, claimed_at, MayHold}
+use Rattle.convert_words.specs.Steps.{IsAnswered}
 
 -- ---- the start
 

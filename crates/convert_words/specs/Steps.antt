@@ -1,5 +1,6 @@
 -- What one step of a conversion does to the words, and to the queues.
-use Rattle.std.specs.Prelude.{◌≡◌, ◌≢◌, ◌⊎◌, ℕ, ◌+◌, ◌-◌, ◌*◌, ◌%◌, ◌<◌, ◌==◌, ltb, Bool, true, List, [], ◌∷◌, ◌++◌, length, slice_set, if◌then◌else◌}
+use Rattle.std.specs.Prelude.{◌≡◌, ◌≢◌, ◌⊎◌, ℕ, ◌+◌, ◌-◌, ◌*◌, ◌%◌, ◌<◌, ◌==◌, ltb, Bool, true, List, [], ◌∷◌, ◌++◌, length}
+use Rattle.std.specs.Prelude.{slice_set, if◌then◌else◌}
 use Rattle.twin_forms.specs.Table.{Entry, entry, View, Names, refers, kept_at, InP}
 use Rattle.twin_forms.specs.Moves.{owned, placed}
 use Rattle.convert_queue.specs.declared.phase.Phase.{Phase}
@@ -8,9 +9,10 @@ use Rattle.convert_queue.specs.Queues.{Queues, queue_of, place_of, phase_of}
 
 -- ---- words of the image
 
--- The words of these lines alone may be shown otherwise, and a stop may leave more of them alone.
+-- The words of these lines alone may be shown otherwise, and a stop may leave more of them alone. The same slots are kept.
 pub record Changes (Line : ℕ → Type 0) (v v' : View) (held held' : ℕ → ℕ → Type 0) (back back' : ℕ → Type 0) : Type 0 where
   pub lines : v'.lines ≡ v.lines
+  pub kept : v'.kept ≡ v.kept
   pub shown : (l w : ℕ) → l < v.lines → w < 8 → (Line l → ⊥) → v'.shown (8 * l + w) ≡ v.shown (8 * l + w)
   pub leaves : (l w x : ℕ) → l < v.lines → w < 8 → (Line l → ⊥) → held' (8 * l + w) x → held (8 * l + w) x
   pub keeps : (l w : ℕ) → l < v.lines → w < 8 → (Line l → ⊥) → back (8 * l + w) → back' (8 * l + w)

@@ -1,6 +1,10 @@
 //! Laws of conversions. Each function states some in its contract, and does nothing.
 ghost use Rattle.convert_words.specs.Converting.{ClaimedStepsMakeNoneDurable, ClaimsMakeNoneDurable, SealsConvert};
-ghost use Rattle.convert_words.specs.Laws.{StartsAgree, CallsKeep, ToldWritesKeep, ToldFencesKeep, NeedsKeep, PlacesKeep, ClaimsKeep, CopiesKeep, ForwardsKeep, RepairsKeep, SettledSetsAreClosed, SealsKeep, SealsMakeDurable, CopiedStoresKeep, OldStoresKeep, OrdinaryStoresKeep, DurableStoresKeep, OtherStoresKeep, NewObjectsKeep, AnsweredIsMet, MetLinesGoOn, ForwardedQueuesRepair, RepairedLinesGoOn, RepairedObjectsGoOn, RepairedQueuesFlush};
+ghost use Rattle.convert_words.specs.Laws.{StartsAgree, CallsKeep, ToldWritesKeep, ToldFencesKeep, NeedsKeep, PlacesKeep};
+ghost use Rattle.convert_words.specs.Laws.{ClaimsKeep, CopiesKeep, ForwardsKeep, RepairsKeep, SettledSetsAreClosed, SealsKeep};
+ghost use Rattle.convert_words.specs.Laws.{SealsMakeDurable, CopiedStoresKeep, OldStoresKeep, OrdinaryStoresKeep};
+ghost use Rattle.convert_words.specs.Laws.{DurableStoresKeep, OtherStoresKeep, NewObjectsKeep, AnsweredIsMet, MetLinesGoOn};
+ghost use Rattle.convert_words.specs.Laws.{ForwardedQueuesRepair, RepairedLinesGoOn, RepairedObjectsGoOn, RepairedQueuesFlush};
 
 /// Touches, write-backs and fences, and what the queue is told of them.
 pub fn calls_of_the_image_keep_agreement()

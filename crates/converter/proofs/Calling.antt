@@ -1,5 +1,6 @@
 -- What each call of a heap and a queue gives for a step.
-use Rattle.std.proofs.Common.{◌≡◌, ◌≢◌, ◌⊎◌, inl, inr, ℕ, zero, suc, ◌+◌, ◌*◌, ◌/◌, ◌<◌, ◌≤◌, true, false, List, [], ◌∷◌, ◌++◌, length, refl, sym, ◌∙◌, ap, subst, arith, slice_set}
+use Rattle.std.proofs.Common.{◌≡◌, ◌≢◌, ◌⊎◌, inl, inr, ℕ, zero, suc, ◌+◌, ◌*◌, ◌/◌, ◌<◌, ◌≤◌, true, false, List, [], ◌∷◌, ◌++◌}
+use Rattle.std.proofs.Common.{length, refl, sym, ◌∙◌, ap, subst, arith, slice_set}
 use Rattle.std.specs.Prelude.{None, Some, ltb, nat_eq, if◌then◌else◌}
 use Rattle.std.proofs.Common.{eq-eqb, length-set}
 use Rattle.std.proofs.lemmas.Bool.{cases_Bool, eqb-true, false≢true, false_from_ne_true}
@@ -177,13 +178,17 @@ pub rekeyed_keys : (ms : List Monitor) (at line w : ℕ) → AreSound ms → IsK
 rekeyed_keys [] at line w sound x = absurd (let lt = x.1 in omega (arith, lt))
 rekeyed_keys (m ∷ ms) at line w sound x = elim (cases_Bool (is_key m.key (Object (Volatile at)))) [
   | inl e ↦ (
-      let y : IsKey (2 * line ∷ keys_of ms) w = subst (λ b. IsKey (keys_of (if b then record m { key = Object (Persistent line) } ∷ ms else m ∷ rekeyed ms (Object (Volatile at)) (Object (Persistent line)))) w) e x in
+      let y : IsKey (2 * line ∷ keys_of ms) w = subst
+      (λ b. IsKey (keys_of (if b then record m { key = Object (Persistent line) } ∷ ms else m ∷ rekeyed ms
+      (Object (Volatile at)) (Object (Persistent line)))) w) e x in
       elim (key_cons (2 * line) (keys_of ms) w y) [
         | inl eq ↦ inr (sym eq)
         | inr k ↦ inl (key_in m.key (keys_of ms) w k, other_keys ms at w (subst (λ (z : RefKey). monitor_of ms z ≡ None) (same_key m.key at e) sound.1) k)
       ])
   | inr e ↦ (
-      let y : IsKey (key_words m.key ++ keys_of (rekeyed ms (Object (Volatile at)) (Object (Persistent line)))) w = subst (λ b. IsKey (keys_of (if b then record m { key = Object (Persistent line) } ∷ ms else m ∷ rekeyed ms (Object (Volatile at)) (Object (Persistent line)))) w) e x in
+      let y : IsKey (key_words m.key ++ keys_of (rekeyed ms (Object (Volatile at)) (Object (Persistent line)))) w = subst
+      (λ b. IsKey (keys_of (if b then record m { key = Object (Persistent line) } ∷ ms else m ∷ rekeyed ms
+      (Object (Volatile at)) (Object (Persistent line)))) w) e x in
       elim (key_or m.key (keys_of (rekeyed ms (Object (Volatile at)) (Object (Persistent line)))) w y) [
         | inl own ↦ inl (key_of m.key (keys_of ms) w own, not_at m.key at w e own)
         | inr k ↦ elim (rekeyed_keys ms at line w sound.2 k) [

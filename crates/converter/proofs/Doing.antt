@@ -1,5 +1,6 @@
 -- Each thing that is done, as a step of a conversion.
-use Rattle.std.proofs.Common.{◌≡◌, ◌≢◌, ◌⊎◌, inl, inr, ℕ, zero, suc, ◌+◌, ◌-◌, ◌*◌, ◌<◌, ◌≤◌, List, [], ◌∷◌, length, refl, sym, ◌∙◌, ap, subst, arith, slice_set}
+use Rattle.std.proofs.Common.{◌≡◌, ◌≢◌, ◌⊎◌, inl, inr, ℕ, zero, suc, ◌+◌, ◌-◌, ◌*◌, ◌<◌, ◌≤◌, List, [], ◌∷◌, length, refl, sym}
+use Rattle.std.proofs.Common.{◌∙◌, ap, subst, arith, slice_set}
 use Rattle.twin_forms.specs.Table.{Entry, entry, View, Lies, lines_of}
 use Rattle.twin_forms.specs.Moves.{Moved, Becomes, ChangesLine, ToCopy, ToForward, ToRepair, IsRepaired, one_more, forwarded}
 use Rattle.twin_forms.specs.Sights.{Twin, view_of, held_of, written_of}
@@ -70,7 +71,8 @@ copies_here s es t object line a w es' n' k ln' may =
     omega (arith, l, c, first, here)
 
 pub copy_is : (s : Scene) (heap : Twin) (q : Queues) (es : List Entry) (t object line result : ℕ) → AgreesAt s es → IsToCopy s es t object line →
-    Becomes one_more (ToCopy object) (view_of s.heap) (view_of heap) → result ≡ line → ChangesLine result s.heap.memory heap.memory → heap.space ≡ s.heap.space → heap.marks.kinds ≡ s.heap.marks.kinds →
+    Becomes one_more (ToCopy object) (view_of s.heap) (view_of heap) → result ≡ line → ChangesLine result s.heap.memory
+    heap.memory → heap.space ≡ s.heap.space → heap.marks.kinds ≡ s.heap.marks.kinds →
     q ≡ record s.queue { marks = with_store s.queue.marks t result } →
     (es' : List Entry) × Converts t step.CopiedLine s (record s { heap = heap; queue = q }) es es'
 copy_is s heap q es t object line result a w becomes at changes space kinds told_of =
@@ -92,7 +94,9 @@ pub to_forward : (s : Scene) (es : List Entry) (t object line : ℕ) → (w : Is
 to_forward s es t object line w = (w.copying.at, w.copying.young, w.full)
 
 pub forward_is : (s : Scene) (heap : Twin) (q : Queues) (keys : List ℕ) (es : List Entry) (t object line place : ℕ) → AgreesAt s es → IsToForward s es t object line →
-    Becomes forwarded (ToForward object) (view_of s.heap) (view_of heap) → heap.memory ≡ s.heap.memory → heap.marks ≡ s.heap.marks → heap.space.left ≡ s.heap.space.left → place ≡ (place_of s.queue t).0 → GoesTo t Copy (place + 1) 0 s.queue q →
+    Becomes forwarded (ToForward object) (view_of s.heap) (view_of heap) → heap.memory ≡ s.heap.memory → heap.marks ≡
+    s.heap.marks → heap.space.left ≡ s.heap.space.left → place ≡ (place_of s.queue t).0 → GoesTo t Copy (place + 1) 0
+    s.queue q →
     ((w : ℕ) → IsKey keys w → (IsKey s.keys w × (w ≢ 2 * object + 1)) ⊎ (w ≡ 2 * line)) →
     (es' : List Entry) × Converts t step.Forwarded s (record { heap = heap; queue = q; free = s.free; keys = keys }) es es'
 forward_is s heap q keys es t object line place a w becomes same marks left at goes rekeyed =
@@ -110,18 +114,21 @@ forward_is s heap q keys es t object line place a w becomes same marks left at g
 
 -- ---- repairs
 
-pub to_repair : (s : Scene) (es : List Entry) (t object first c : ℕ) → AgreesAt s es → (w : IsToRepair s es t object first c) → LacksNone (view_of s.heap) object c es → ToRepair object c (view_of s.heap) es w.n
+pub to_repair : (s : Scene) (es : List Entry) (t object first c : ℕ) → AgreesAt s es →
+    (w : IsToRepair s es t object first c) → LacksNone (view_of s.heap) object c es → ToRepair object c (view_of s.heap) es
+    w.n
 to_repair s es t object first c a w lacks =
     let n = w.n in
     let two : (entry es n).stage ≡ 2 = repaired_far s es t n a w.is w.phase in
     subst (λ x. ToRepair x c (view_of s.heap) es n) w.at
     (may_repair (view_of s.heap) (held_of s.heap.memory) (written_of s.heap.memory) s.queue s.free (IsKey s.keys) es t (place_of s.queue t).0 n c a w.is w.phase w.within
-    (λ k m lk here ref lm names. lacks n k m w.is.claimed.0 w.at two lk here (record { reference = ref; there = lm; names = names })))
+    (λ k m lk here ref kept lm names. lacks n k m w.is.claimed.0 w.at two lk here (record { reference = ref; there = lm; names = names })))
   where
     repaired_far : (s : Scene) (es : List Entry) (t n : ℕ) → AgreesAt s es → Is s.queue es t (place_of s.queue t).0 n → phase_of s.queue t ≡ Repair → (entry es n).stage ≡ 2
     repaired_far s es t n a is repairing = own_forwarded (view_of s.heap) (held_of s.heap.memory) (written_of s.heap.memory) s.queue s.free (IsKey s.keys) es t n a repairing is.claimed
 
-pub repairs_here : (s : Scene) (es : List Entry) (t object first c : ℕ) → AgreesAt s es → (w : IsToRepair s es t object first c) → (es' : List Entry) (n' : ℕ) → Lies (view_of s.heap) es' → n' < length es' →
+pub repairs_here : (s : Scene) (es : List Entry) (t object first c : ℕ) → AgreesAt s es →
+    (w : IsToRepair s es t object first c) → (es' : List Entry) (n' : ℕ) → Lies (view_of s.heap) es' → n' < length es' →
     (entry es' n').at ≡ object → (entry es' n').stage ≡ 2 → (entry es' n').line + c ≡ first + c
 repairs_here s es t object first c a w es' n' k ln' at two =
     let v = view_of s.heap in
@@ -130,7 +137,8 @@ repairs_here s es t object first c a w es' n' k ln' at two =
     let first_is = w.line in
     omega (arith, l, first_is)
 
-pub repair_is : (s : Scene) (heap : Twin) (q1 q2 : Queues) (es : List Entry) (t object first c result place : ℕ) → AgreesAt s es → IsToRepair s es t object first c → LacksNone (view_of s.heap) object c es →
+pub repair_is : (s : Scene) (heap : Twin) (q1 q2 : Queues) (es : List Entry) (t object first c result place : ℕ) → AgreesAt
+    s es → IsToRepair s es t object first c → LacksNone (view_of s.heap) object c es →
     Becomes (λ e. e) (ToRepair object c) (view_of s.heap) (view_of heap) →
     ((es' : List Entry) (n : ℕ) → Lies (view_of s.heap) es' → n < length es' → ToRepair object c (view_of s.heap) es' n → IsRepaired c (view_of heap) es' n) →
     result ≡ first + c → ChangesLine result s.heap.memory heap.memory → heap ≡ record s.heap { memory = heap.memory } →
@@ -197,7 +205,8 @@ stored_own s es t l a st =
 
 -- ---- claims
 
-pub claim_is : (s : Scene) (heap : Twin) (q : Queues) (free : ℕ) (es : List Entry) (t object line count : ℕ) → AgreesAt s es → (w : IsToClaim s es t object) → t < 64 → line ≡ s.free → count ≡ lines_of (entry es w.m) →
+pub claim_is : (s : Scene) (heap : Twin) (q : Queues) (free : ℕ) (es : List Entry) (t object line count : ℕ) → AgreesAt s
+    es → (w : IsToClaim s es t object) → t < 64 → line ≡ s.free → count ≡ lines_of (entry es w.m) →
     count ≤ s.heap.memory.size - s.free →
     (es' : List Entry) × OneBecomes w.m (claimed_at t line (entry es w.m)) es es' × Moved (view_of s.heap) es (view_of heap) es' →
     heap.memory ≡ s.heap.memory → heap.marks.kinds ≡ s.heap.marks.kinds → heap.space.left ≡ s.heap.space.left → q ≡ with_object s.queue t object line → free ≡ s.free + count →
@@ -213,7 +222,8 @@ claim_is s heap q free es t object line count a w few at counts fits x same kind
           (subst (λ f. Converts t step.Claimed s (record { heap = heap; queue = with_object s.queue t (entry es m).at s.free; free = f; keys = s.keys }) es x.0) (sym free_eq) done),
     )
 
-pub takable : (s : Scene) (es : List Entry) (t object line count : ℕ) → AgreesAt s es → (w : IsToClaim s es t object) → line ≡ s.free → count ≡ lines_of (entry es w.m) → count ≤ s.heap.memory.size - s.free →
+pub takable : (s : Scene) (es : List Entry) (t object line count : ℕ) → AgreesAt s es → (w : IsToClaim s es t object) →
+    line ≡ s.free → count ≡ lines_of (entry es w.m) → count ≤ s.heap.memory.size - s.free →
     s.free ≤ s.heap.memory.size → IsTakable (record s { free = line }) es object w.m
 takable s es t object line count a w at counts fits le = record {
   agrees = subst (λ f. AgreesAt (record s { free = f }) es) (sym at) a;
@@ -224,7 +234,8 @@ takable s es t object line count a w at counts fits le = record {
   room = omega (arith, at, counts, fits, le);
 }
 
-pub full_is : (s : Scene) (es : List Entry) (t object need left : ℕ) → AgreesAt s es → (w : IsToClaim s es t object) → need ≡ lines_of (entry es w.m) → left ≡ s.heap.memory.size - s.free → left < need →
+pub full_is : (s : Scene) (es : List Entry) (t object need left : ℕ) → AgreesAt s es → (w : IsToClaim s es t object) → need
+    ≡ lines_of (entry es w.m) → left ≡ s.heap.memory.size - s.free → left < need →
     (es' : List Entry) × Converts t (step.Full need left) s s es es'
 full_is s es t object need left a w need_is left_is more = (es, full_converts s es t need left (record { m = w.m; asked = w.asked; need_is = need_is; left_is = left_is; more = more }) a)
 

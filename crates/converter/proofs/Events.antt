@@ -25,7 +25,8 @@ pub err_on : {T E : Type 0} (r : Result T E) (P Q : Type 0) → OnErr r P → (P
 err_on (Ok x) P Q p f = p
 err_on (Err e) P Q p f = f p
 
-pub event_of : (t : ℕ) (answer : ConvertStep) (s at s' : Scene) (es es' : List Entry) (ms ms' : List Monitor) → GoesOn t s at es → Converts t answer at s' es es' → IsOther answer → ms' ≡ ms → Event t answer s s' es ms ms'
+pub event_of : (t : ℕ) (answer : ConvertStep) (s at s' : Scene) (es es' : List Entry) (ms ms' : List Monitor) → GoesOn t s
+    at es → Converts t answer at s' es es' → IsOther answer → ms' ≡ ms → Event t answer s s' es ms ms'
 event_of t answer s at s' es es' ms ms' goes done other same = record {
   at = at;
   after = es';
@@ -51,7 +52,8 @@ rekeys_claim (step.Wait u) t s es ms o = refl
 rekeys_claim (step.Full need left) t s es ms o = refl
 
 -- A claim or a refusal, before which the place doesn't go on.
-pub event_claim : (t : ℕ) (answer : ConvertStep) (s at s' : Scene) (es es' : List Entry) (ms : List Monitor) → GoesOn t s at es → at ≡ s → Converts t answer at s' es es' → answer ≢ step.Forwarded → Event t answer s s' es ms ms
+pub event_claim : (t : ℕ) (answer : ConvertStep) (s at s' : Scene) (es es' : List Entry) (ms : List Monitor) → GoesOn t s
+    at es → at ≡ s → Converts t answer at s' es es' → answer ≢ step.Forwarded → Event t answer s s' es ms ms
 event_claim t answer s at s' es es' ms goes same done other = record {
   at = at;
   after = es';

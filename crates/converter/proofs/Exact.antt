@@ -51,7 +51,8 @@ only_sealed (step.Wait u) t s s' es es' flush clean all says = absurd (elim says
 only_sealed (step.Sealed x) t s s' es es' flush clean all says = (x, refl, says.group)
 
 -- a group's members are in each closed set that has its thread
-pub in_closed : (needs needs' : ℕ → ℕ → Bool) (t : ℕ) (set : ℕ → Bool) → ((a b : ℕ) → needs a b ≡ true → needs' a b ≡ true) → IsClosed needs' set → set t ≡ true → (u : ℕ) → InGroup needs t u → set u ≡ true
+pub in_closed : (needs needs' : ℕ → ℕ → Bool) (t : ℕ) (set : ℕ → Bool) → ((a b : ℕ) → needs a b ≡ true → needs' a b ≡ true)
+    → IsClosed needs' set → set t ≡ true → (u : ℕ) → InGroup needs t u → set u ≡ true
 in_closed needs needs' t set on closed first _ itself = first
 in_closed needs needs' t set on closed first _ (needed u w p e) = closed u w (in_closed needs needs' t set on closed first u p) (on u w e)
 
@@ -61,7 +62,8 @@ in_group_back needs needs' t on _ itself = itself
 in_group_back needs needs' t on _ (needed u w p e) = needed u w (in_group_back needs needs' t on u p) (on u w e)
 
 -- In phase Flush a thread meets nobody new.
-pub needs_back : (s at : Scene) (es : List Entry) (t : ℕ) → AgreesAt s es → phase_of s.queue t ≡ Flush → GoesOn t s at es → (a b : ℕ) → needs_of at.queue.needs a b ≡ true → needs_of s.queue.needs a b ≡ true
+pub needs_back : (s at : Scene) (es : List Entry) (t : ℕ) → AgreesAt s es → phase_of s.queue t ≡ Flush → GoesOn t s at es →
+    (a b : ℕ) → needs_of at.queue.needs a b ≡ true → needs_of s.queue.needs a b ≡ true
 needs_back s at es t a flush goes x y need = elim (goes.met x y need) [
   | inl old ↦ old
   | inr z ↦ (

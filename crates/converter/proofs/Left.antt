@@ -1,5 +1,6 @@
 -- What each event leaves of the work.
-use Rattle.std.proofs.Common.{◌≡◌, ◌≢◌, inl, inr, ℕ, zero, suc, ◌+◌, ◌-◌, ◌*◌, ◌<◌, ◌≤◌, ◌++◌, true, List, [], ◌∷◌, length, refl, sym, ◌∙◌, ap, subst, arith}
+use Rattle.std.proofs.Common.{◌≡◌, ◌≢◌, inl, inr, ℕ, zero, suc, ◌+◌, ◌-◌, ◌*◌, ◌<◌, ◌≤◌, ◌++◌, true, List, [], ◌∷◌, length}
+use Rattle.std.proofs.Common.{refl, sym, ◌∙◌, ap, subst, arith}
 use Rattle.std.specs.Prelude.{min, Option, None, Some, get_or, slice_get, slice_index, slice_index_or, sum_by, drop}
 use Rattle.std.proofs.lemmas.Bool.{cases_Bool, false≢true}
 use Rattle.std.proofs.lemmas.List.{get_or_append_left, get_or-set_same, get_or-set_other, length-append, take_all, drop_all}
@@ -25,7 +26,8 @@ use Rattle.convert_words.proofs.Basics.{is_one, room_of}
 use Rattle.convert_words.proofs.Noting.{own_forwarded}
 use Rattle.converter.specs.declared.begin.Begun.TheVariants as begun
 use Rattle.converter.specs.Beginning.{BeginsByClaim, BeginsByNeed}
-use Rattle.converter.specs.Laws.{BeginningsAddWork, StoresAddWork, Tells, AreUnwritten, done_in, done_of, done_at, work_of, quiet, EventsTakeWork}
+use Rattle.converter.specs.Laws.{BeginningsAddWork, StoresAddWork, Tells, AreUnwritten, done_in, done_of, done_at, work_of}
+use Rattle.converter.specs.Laws.{quiet, EventsTakeWork}
 use Rattle.converter.proofs.Exact.{clash}
 use Rattle.converter.proofs.Unwritten.{going_unwritten}
 use Rattle.converter.proofs.Worked.{copies_take_work, forwards_take_work, repairs_take_work, writes_take_work, fences_take_work}
@@ -130,7 +132,9 @@ done_still : (lines : ℕ → ℕ) (s s' : Scene) (es es' : List Entry) (u : ℕ
     done_at lines s'.heap.marks.copies s'.queue u ≡ done_at lines s.heap.marks.copies s.queue u
 done_still lines s s' es es' u a a' queue phase place same = elim (below_or_not (place_of s.queue u).0 (length (queue_of s.queue u))) [
   | inr le ↦ (
-      let le' : length (queue_of s'.queue u) ≤ (place_of s'.queue u).0 = subst (λ (x : List Queued). length x ≤ (place_of s'.queue u).0) (sym queue) (subst (λ (x : ℕ × ℕ). length (queue_of s.queue u) ≤ x.0) (sym place) le) in
+      let le' : length (queue_of s'.queue u) ≤ (place_of s'.queue u).0 = subst
+      (λ (x : List Queued). length x ≤ (place_of s'.queue u).0) (sym queue)
+      (subst (λ (x : ℕ × ℕ). length (queue_of s.queue u) ≤ x.0) (sym place) le) in
       done_past lines s'.heap.marks.copies s'.queue u le' ∙ sym (done_past lines s.heap.marks.copies s.queue u le))
   | inl lt ↦ (
       let i = (place_of s.queue u).0 in
@@ -142,7 +146,8 @@ done_still lines s s' es es' u a a' queue phase place same = elim (below_or_not 
       still_in (phase_of s.queue u) refl n is x.1 at e.1)
 ]
   where
-    still_in : (p : Phase) → phase_of s.queue u ≡ p → (n : ℕ) → Is s'.queue es' u (place_of s.queue u).0 n → Is s.queue es u (place_of s.queue u).0 n → (place_of s'.queue u).0 ≡ (place_of s.queue u).0 → entry es' n ≡ entry es n →
+    still_in : (p : Phase) → phase_of s.queue u ≡ p → (n : ℕ) → Is s'.queue es' u (place_of s.queue u).0 n → Is s.queue es
+        u (place_of s.queue u).0 n → (place_of s'.queue u).0 ≡ (place_of s.queue u).0 → entry es' n ≡ entry es n →
         done_at lines s'.heap.marks.copies s'.queue u ≡ done_at lines s.heap.marks.copies s.queue u
     still_in Copy p n is' is at e =
         done_copy lines s' es' u (place_of s.queue u).0 n a' is' at (phase ∙ p) ∙ ap (λ (x : Entry). min x.copied (lines x.at)) e
@@ -171,7 +176,8 @@ flush_none lines queue p n d flush = ap (λ x. thread_work lines queue x n d) fl
 
 going_in : (lines : ℕ → ℕ) (s at : Scene) (es : List Entry) (t : ℕ) → AgreesAt s es → GoesOn t s at es → (p p' : Phase) → phase_of s.queue t ≡ p → phase_of at.queue t ≡ p' →
     IsOn p (place_of s.queue t) p' (place_of at.queue t) → thread_left lines at t ≤ thread_left lines s t
-going_in lines s at es t a goes p Flush is is' on = let none = flush_none lines (queue_of at.queue t) (phase_of at.queue t) (place_of at.queue t).0 (done_at lines at.heap.marks.copies at.queue t) is' in omega (arith, none)
+going_in lines s at es t a goes p Flush is is' on = let none = flush_none lines (queue_of at.queue t) (phase_of at.queue t)
+    (place_of at.queue t).0 (done_at lines at.heap.marks.copies at.queue t) is' in omega (arith, none)
 going_in lines s at es t a goes Copy Copy is is' (inl x) = absurd (omega (arith, x))
 going_in lines s at es t a goes Repair Copy is is' (inl x) = absurd (omega (arith, x))
 going_in lines s at es t a goes Flush Copy is is' (inl x) = absurd (omega (arith, x))
@@ -275,7 +281,8 @@ going_left lines s at es t a goes =
           let queue : queue_of at.queue u ≡ queue_of s.queue u = ap (λ (y : List (List Queued)). queue_in y u) goes.queues in
           let phase = goes.other_phases u ne in
           let place = goes.other_places u ne in
-          let done : done_at lines at.heap.marks.copies at.queue u ≡ done_at lines s.heap.marks.copies s.queue u = done_still lines s at es es u a goes.agrees queue phase place (λ n is. (is.claimed.0, refl)) in
+          let done : done_at lines at.heap.marks.copies at.queue u ≡ done_at lines s.heap.marks.copies s.queue u =
+          done_still lines s at es es u a goes.agrees queue phase place (λ n is. (is.claimed.0, refl)) in
           let eq = work_still lines s.queue at.queue u (done_at lines s.heap.marks.copies s.queue u) (done_at lines at.heap.marks.copies at.queue u) queue phase place done in
           omega (arith, eq))
     ]) in
@@ -288,7 +295,8 @@ work_same : (lines : ℕ → ℕ) (s s' : Scene) (q : Queues) → s'.queue ≡ q
 work_same lines s s' q queue marks =
     ap (λ (x : Queues). work_left lines (done_at lines s'.heap.marks.copies x) x) queue ∙ ap (λ (x : Marks). work_left lines (done_at lines x.copies q) q) marks
 
-copied_left : (lines : ℕ → ℕ) (t : ℕ) (s s' : Scene) (es es' : List Entry) → t < 64 → AgreesAt s es → Tells lines es → Tells lines es' → Converts t step.CopiedLine s s' es es' → work_of lines s' + 1 ≡ work_of lines s
+copied_left : (lines : ℕ → ℕ) (t : ℕ) (s s' : Scene) (es es' : List Entry) → t < 64 → AgreesAt s es → Tells lines es →
+    Tells lines es' → Converts t step.CopiedLine s s' es es' → work_of lines s' + 1 ≡ work_of lines s
 copied_left lines t s s' es es' few a tells tells' c =
     let w = c.says.0 in
     let n = w.n in
@@ -314,7 +322,9 @@ copied_left lines t s s' es es' few a tells tells' c =
     let told_lines : lines e.at ≡ lines_of e = tells t n w.is.claimed in
     let before : d t ≡ e.copied = done_copy lines s es t i n a w.is refl w.phase ∙ min_low e.copied (lines e.at) (omega (arith, told_lines, left)) in
     let after : d' t ≡ e.copied + 1 =
-    done_copy lines s' es' t i n c.agrees is' (ap (λ (x : ℕ × ℕ). x.0) (place t)) (phase t ∙ w.phase) ∙ ap (λ (x : Entry). min x.copied (lines x.at)) here ∙ min_low (e.copied + 1) (lines e.at) (omega (arith, told_lines, left)) in
+    done_copy lines s' es' t i n c.agrees is' (ap (λ (x : ℕ × ℕ). x.0) (place t)) (phase t ∙ w.phase) ∙ ap
+    (λ (x : Entry). min x.copied (lines x.at)) here ∙ min_low (e.copied + 1) (lines e.at)
+    (omega (arith, told_lines, left)) in
     let others : (u : ℕ) → u ≢ t → d' u ≡ d u = λ u ne. done_still lines s s' es es' u a c.agrees (queue u) (phase u) (place u) (λ m is. let lm = is.claimed.0 in
     (omega (arith, lm, long), w.becomes.others m (λ eq. ne (let x : u + 1 ≡ t + 1 = sym is.claimed.1 ∙ ap (λ y. (entry es y).owner) eq ∙ w.is.claimed.1 in omega (arith, x))))) in
     copies_take_work lines d d' t s s' es es' few a tells (before ∙ next) (after ∙ ap (λ x. x + 1) (sym before)) others c
@@ -354,7 +364,8 @@ forwarded_left lines t s s' es es' few a tells c =
     (omega (arith, lm, long), w.becomes.others m (λ eq. ne (let x : u + 1 ≡ t + 1 = sym is.claimed.1 ∙ ap (λ y. (entry es y).owner) eq ∙ w.is.claimed.1 in omega (arith, x))))) in
     forwards_take_work lines d d' t s s' es es' few whole begun others c
 
-repaired_left : (lines : ℕ → ℕ) (t : ℕ) (s s' : Scene) (es es' : List Entry) → t < 64 → AgreesAt s es → AreUnwritten s.queue es → Tells lines es → Converts t step.Repaired s s' es es' → work_of lines s' + 1 ≡ work_of lines s
+repaired_left : (lines : ℕ → ℕ) (t : ℕ) (s s' : Scene) (es es' : List Entry) → t < 64 → AgreesAt s es → AreUnwritten
+    s.queue es → Tells lines es → Converts t step.Repaired s s' es es' → work_of lines s' + 1 ≡ work_of lines s
 repaired_left lines t s s' es es' few a unwritten tells c =
     let w = c.says.0 in
     let n = w.n in
@@ -405,7 +416,8 @@ claimed_left lines t s s' es es' few a tells tells' c =
     let place : (u : ℕ) → place_of s'.queue u ≡ place_of s.queue u = λ u. ap (λ (y : Queues). place_of y u) w.queue in
     let within = at.within in
     let more = length-append q (item ∷ []) in
-    let first : slice_index_or (queue_of s'.queue t) i (0, 0) ≡ slice_index_or q i (0, 0) = ap (λ (y : List Queued). slice_index_or y i (0, 0)) own ∙ get_or_append_left q (item ∷ []) (0, 0) i within in
+    let first : slice_index_or (queue_of s'.queue t) i (0, 0) ≡ slice_index_or q i (0, 0) = ap
+    (λ (y : List Queued). slice_index_or y i (0, 0)) own ∙ get_or_append_left q (item ∷ []) (0, 0) i within in
     let is' : Is s'.queue es' t i n = record {
       within = subst (λ (y : List Queued). i < length y) (sym own) (omega (arith, within, more));
       claimed = (omega (arith, ln, long), ap (λ (x : Entry). x.owner) same ∙ at.claimed.1);
@@ -414,7 +426,8 @@ claimed_left lines t s s' es es' few a tells tells' c =
       line = ap (λ (y : Queued). y.1) first ∙ at.line ∙ ap (λ (x : Entry). x.line) (sym same);
     } in
     let done : d' t ≡ d t =
-    done_copy lines s' es' t i n c.agrees is' (ap (λ (x : ℕ × ℕ). x.0) (place t)) (phase t ∙ w.asked.phase) ∙ ap (λ (x : Entry). min x.copied (lines x.at)) same ∙ sym (done_copy lines s es t i n a at refl w.asked.phase) in
+    done_copy lines s' es' t i n c.agrees is' (ap (λ (x : ℕ × ℕ). x.0) (place t)) (phase t ∙ w.asked.phase) ∙ ap
+    (λ (x : Entry). min x.copied (lines x.at)) same ∙ sym (done_copy lines s es t i n a at refl w.asked.phase) in
     let most : d t ≤ lines (entry es n).at = (let x = done_copy lines s es t i n a at refl w.asked.phase in let y = min_most (entry es n).copied (lines (entry es n).at) in omega (arith, x, y)) in
     let head = sum_by-drop_more (λ (y : Queued). whole_work (lines y.0)) q i (0, 0) within in
     let object : lines (get_or q i (0, 0)).0 ≡ lines (entry es n).at = ap lines at.object in
@@ -446,7 +459,8 @@ sealed_left lines t set s s' es es' a a' w =
     let marks : line_work s'.queue.marks ≡ line_work s.queue.marks = ap line_work w.released.marks in
     let sums = sum_same (thread_left lines s') (thread_left lines s) 64 (λ u lu. elim (cases_Bool (has set u)) [
       | inl there ↦ (let flush = (w.settled u lu there).phase in
-          flush_none lines (queue_of s'.queue u) (phase_of s'.queue u) (place_of s'.queue u).0 (d' u) (phase u ∙ flush) ∙ sym (flush_none lines (queue_of s.queue u) (phase_of s.queue u) (place_of s.queue u).0 (d u) flush))
+          flush_none lines (queue_of s'.queue u) (phase_of s'.queue u) (place_of s'.queue u).0 (d' u) (phase u ∙ flush) ∙
+          sym (flush_none lines (queue_of s.queue u) (phase_of s.queue u) (place_of s.queue u).0 (d u) flush))
       | inr not ↦ (let queue = w.released.kept u not in
           work_still lines s.queue s'.queue u (d u) (d' u) queue (phase u) (place u) (done_still lines s s' es es' u a a' queue (phase u) (place u) (λ n is.
           let ln = is.claimed.0 in
@@ -527,7 +541,9 @@ claim_begun lines t m s s' es es' few a a' empty tells lm w =
     let d' = done_at lines s'.heap.marks.copies s'.queue in
     let long = w.becomes.long in
     let ordinary = w.ordinary in
-    let own : queue_of s'.queue t ≡ item ∷ [] = ap (λ (y : Queues). queue_of y t) w.queue ∙ get_or-set_same s.queue.queues t (q ++ item ∷ []) [] (let x = a.sizes.queues in omega (arith, few, x)) ∙ ap (λ (y : List Queued). y ++ item ∷ []) empty in
+    let own : queue_of s'.queue t ≡ item ∷ [] = ap (λ (y : Queues). queue_of y t) w.queue ∙ get_or-set_same s.queue.queues
+    t (q ++ item ∷ []) [] (let x = a.sizes.queues in omega (arith, few, x)) ∙ ap (λ (y : List Queued). y ++ item ∷ [])
+    empty in
     let phase_t : phase_of s'.queue t ≡ Copy = ap (λ (y : Queues). phase_of y t) w.queue ∙ get_or-set_same s.queue.phases t Copy Copy (let x = a.sizes.phases in omega (arith, few, x)) in
     let place_t : place_of s'.queue t ≡ (0, 0) = ap (λ (y : Queues). place_of y t) w.queue ∙ get_or-set_same s.queue.places t (0, 0) (0, 0) (let x = a.sizes.places in omega (arith, few, x)) in
     let queue : (u : ℕ) → u ≢ t → queue_of s'.queue u ≡ queue_of s.queue u = λ u ne. ap (λ (y : Queues). queue_of y u) w.queue ∙ get_or-set_other s.queue.queues t u (q ++ item ∷ []) [] ne in
@@ -548,7 +564,8 @@ claim_begun lines t m s s' es es' few a a' empty tells lm w =
     let free = w.free in
     omega (arith, sums, after, most, marks, count, free)
 
-need_begun : (lines : ℕ → ℕ) (t m u : ℕ) (s s' : Scene) (es es' : List Entry) → t < 64 → AgreesAt s es → AgreesAt s' es' → queue_of s.queue t ≡ [] → BeginsByNeed s s' es es' t m u → work_of lines s' ≤ work_of lines s
+need_begun : (lines : ℕ → ℕ) (t m u : ℕ) (s s' : Scene) (es es' : List Entry) → t < 64 → AgreesAt s es → AgreesAt s' es' →
+    queue_of s.queue t ≡ [] → BeginsByNeed s s' es es' t m u → work_of lines s' ≤ work_of lines s
 need_begun lines t m u s s' es es' few a a' empty w =
     let d = done_at lines s.heap.marks.copies s.queue in
     let d' = done_at lines s'.heap.marks.copies s'.queue in
@@ -575,5 +592,6 @@ stores_add_work lines t l s heap es a own same =
     let long = a.sizes.marks in
     let d = done_at lines s.heap.marks.copies s.queue in
     let marks = work_stored s.queue.marks t l (omega (arith, room, to, long)) in
-    let eq : work_of lines (record s { heap = heap; queue = told s.queue t l }) ≡ work_left lines d (told s.queue t l) = ap (λ (x : Marks). work_left lines (done_at lines x.copies (told s.queue t l)) (told s.queue t l)) same in
+    let eq : work_of lines (record s { heap = heap; queue = told s.queue t l }) ≡ work_left lines d (told s.queue t l) = ap
+    (λ (x : Marks). work_left lines (done_at lines x.copies (told s.queue t l)) (told s.queue t l)) same in
     omega (arith, marks, eq)

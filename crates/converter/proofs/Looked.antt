@@ -1,5 +1,6 @@
 -- References of copied lines, and what they ask.
-use Rattle.std.proofs.Common.{◌≡◌, ◌≢◌, ◌⊎◌, inl, inr, ℕ, zero, suc, ◌+◌, ◌<◌, Bool, true, List, length, refl, sym, ◌∙◌, ap, subst, arith}
+use Rattle.std.proofs.Common.{◌≡◌, ◌≢◌, ◌⊎◌, inl, inr, ℕ, zero, suc, ◌+◌, ◌<◌, Bool, true, List, length, refl, sym, ◌∙◌, ap}
+use Rattle.std.proofs.Common.{subst, arith}
 use Rattle.std.specs.Prelude.{Option, Some, None}
 use Rattle.ap_base.specs.References.{IsReference, reference_word}
 use Rattle.ap_base.specs.declared.reference.Ref.{Ref}
@@ -97,7 +98,9 @@ claim_asks at e = let x : 1 ≡ 0 = ap question e in omega (arith, x)
 pub need_asks : (u : ℕ) → ToNeed u ≡ Nothing → ⊥
 need_asks u e = let x : 2 ≡ 0 = ap question e in omega (arith, x)
 
-pub met_more : (needs needs' : List ℕ) (t : ℕ) (es : List Entry) (m : ℕ) → ((a b : ℕ) → needs_of needs a b ≡ true → needs_of needs' a b ≡ true) → Met es (needs_of needs) t m → Met es (needs_of needs') t m
+pub met_more : (needs needs' : List ℕ) (t : ℕ) (es : List Entry) (m : ℕ) →
+    ((a b : ℕ) → needs_of needs a b ≡ true → needs_of needs' a b ≡ true) → Met es (needs_of needs) t m → Met es
+    (needs_of needs') t m
 met_more needs needs' t es m on met = elim met [
   | inl p ↦ inl p
   | inr x ↦ elim x [

@@ -1,5 +1,6 @@
 -- How the place goes on in phase Copy.
-use Rattle.std.proofs.Common.{◌≡◌, ◌≢◌, ◌⊎◌, inl, inr, ℕ, ◌+◌, ◌-◌, ◌*◌, ◌<◌, ◌≤◌, true, List, [], ◌∷◌, zero, suc, length, refl, sym, ◌∙◌, ap, subst, arith}
+use Rattle.std.proofs.Common.{◌≡◌, ◌≢◌, ◌⊎◌, inl, inr, ℕ, ◌+◌, ◌-◌, ◌*◌, ◌<◌, ◌≤◌, true, List, [], ◌∷◌, zero, suc, length, refl}
+use Rattle.std.proofs.Common.{sym, ◌∙◌, ap, subst, arith}
 use Rattle.std.specs.Prelude.{min, Some, slice_get}
 use Rattle.std.proofs.lemmas.List.Sums.{sum_by-cons}
 use Rattle.twin_forms.specs.Table.{Entry, entry, lines_of, line_of, IsClaimed}
@@ -13,9 +14,11 @@ use Rattle.convert_words.specs.Scenes.{Scene, AgreesAt}
 use Rattle.convert_words.specs.Converting.{RefersTo, Meets, IsOn, rank, GoesOn}
 use Rattle.convert_words.proofs.Copying.{far_copy}
 use Rattle.convert_words.proofs.Basics.{young, is_one}
-use Rattle.convert_words.proofs.StepLaws.{needs_keep, met_lines_go_on, forwarded_queues_repair, repaired_objects_go_on, repaired_queues_flush}
+use Rattle.convert_words.proofs.StepLaws.{needs_keep, met_lines_go_on, forwarded_queues_repair, repaired_objects_go_on}
+use Rattle.convert_words.proofs.StepLaws.{repaired_queues_flush}
 use Rattle.converter.specs.Looking.{AsksFirst, IsOld, Refers, IsTaken}
-use Rattle.converter.specs.Working.{IsAtObject, IsCopying, IsLooking, IsFilling, IsNextOf, IsToClaim, IsToCopy, IsToForward, IsToRepair, IsWork}
+use Rattle.converter.specs.Working.{IsAtObject, IsCopying, IsLooking, IsFilling, IsNextOf, IsToClaim, IsToCopy, IsToForward}
+use Rattle.converter.specs.Working.{IsToRepair, IsWork}
 use Rattle.converter.specs.declared.work.Work.{Work}
 use Rattle.converter.specs.declared.work.Work.TheVariants as work
 use Rattle.converter.proofs.Goings.{found, goes_by_place, goes_on_on}
@@ -232,7 +235,8 @@ to_repair_here s es t object first a repairing item within =
 
 -- ---- what is done in phase Copy
 
-pub looking_of : (s : Scene) (es : List Entry) (t object first n count : ℕ) → AgreesAt s es → IsAtObject s es t object first n → count ≡ (entry es n).copied → count ≢ (place_of s.queue t).1 → IsLooking s es t object count n
+pub looking_of : (s : Scene) (es : List Entry) (t object first n count : ℕ) → AgreesAt s es → IsAtObject s es t object
+    first n → count ≡ (entry es n).copied → count ≢ (place_of s.queue t).1 → IsLooking s es t object count n
 looking_of s es t object first n count a x is ne = record {
   is = x.is;
   phase = x.phase;
@@ -241,7 +245,8 @@ looking_of s es t object first n count a x is ne = record {
   last = elim (copying_here s es t n a x.is x.phase).1 [ inl eq ↦ absurd (ne (is ∙ eq)) | inr eq ↦ is ∙ eq ];
 }
 
-pub filling_of : (s : Scene) (es : List Entry) (t object first n count : ℕ) → AgreesAt s es → IsAtObject s es t object first n → count ≡ (entry es n).copied → IsFilling (view_of s.heap) object first count es n
+pub filling_of : (s : Scene) (es : List Entry) (t object first n count : ℕ) → AgreesAt s es → IsAtObject s es t object
+    first n → count ≡ (entry es n).copied → IsFilling (view_of s.heap) object first count es n
 filling_of s es t object first n count a x is = record {
   lies = a.lies;
   there = x.is.claimed.0;
@@ -251,7 +256,8 @@ filling_of s es t object first n count a x is = record {
   count = sym is;
 }
 
-copying_of : (s : Scene) (es : List Entry) (t object first n count : ℕ) → AgreesAt s es → IsAtObject s es t object first n → count ≡ (entry es n).copied → count ≡ (place_of s.queue t).1 → IsCopying s es t object first n
+copying_of : (s : Scene) (es : List Entry) (t object first n count : ℕ) → AgreesAt s es → IsAtObject s es t object first n
+    → count ≡ (entry es n).copied → count ≡ (place_of s.queue t).1 → IsCopying s es t object first n
 copying_of s es t object first n count a x is at = record {
   is = x.is;
   phase = x.phase;
@@ -274,7 +280,8 @@ next_of (work.Repair at line c) s es t object first n count a x is place next = 
 next_of work.Flush s es t object first n count a x is place next = absurd next
 
 -- once the place has gone on to the next line
-pub at_after : (s : Scene) (q : Queues) (es : List Entry) (t object first n : ℕ) → IsAtObject s es t object first n → q.queues ≡ s.queue.queues → phase_of q t ≡ Copy → (place_of q t).0 ≡ (place_of s.queue t).0 →
+pub at_after : (s : Scene) (q : Queues) (es : List Entry) (t object first n : ℕ) → IsAtObject s es t object first n →
+    q.queues ≡ s.queue.queues → phase_of q t ≡ Copy → (place_of q t).0 ≡ (place_of s.queue t).0 →
     IsAtObject (record s { queue = q }) es t object first n
 at_after s q es t object first n x same phase at = record {
   is = subst (λ y. Is q es t y n) (sym at) (record {

@@ -32,14 +32,16 @@ pub none_not : {A : Type 0} (o : Option A) (u : A) → IsNone o → o ≡ Some u
 none_not o u none eq = false≢true (sym (subst IsNone eq none))
 
 -- the word of a slot in the copy
-pub moved_word : (s : Space) (m : Memory) (marks : Marks) (object line k : ℕ) (es : List Entry) (n : ℕ) → IsMoved (sight s m marks) object line k es n → word_of (sight s m marks) (entry es n) k ≡ shown m line ((k + 1) % 8)
+pub moved_word : (s : Space) (m : Memory) (marks : Marks) (object line k : ℕ) (es : List Entry) (n : ℕ) → IsMoved
+    (sight s m marks) object line k es n → word_of (sight s m marks) (entry es n) k ≡ shown m line ((k + 1) % 8)
 moved_word s m marks object line k es n x =
     let two = x.moved in
     let here = x.here in
     word_moved (sight s m marks) (entry es n) k (omega (arith, two)) ∙ spot_is m (8 * (entry es n).line + 1 + k) line ((k + 1) % 8) (omega (arith, here)) (omega arith)
 
 -- the slots of the line that is repaired
-pub moved_here : (s : Scene) (es : List Entry) (t object first c from to : ℕ) → AgreesAt s es → (w : IsToRepair s es t object first c) → Holds c (entry es w.n).slots from to → (k : ℕ) → from ≤ k → k < to →
+pub moved_here : (s : Scene) (es : List Entry) (t object first c from to : ℕ) → AgreesAt s es →
+    (w : IsToRepair s es t object first c) → Holds c (entry es w.n).slots from to → (k : ℕ) → from ≤ k → k < to →
     IsMoved (view_of s.heap) object (first + c) k es w.n
 moved_here s es t object first c from to a w holds k lo hi =
     let h = holds.here k lo hi in
@@ -54,7 +56,8 @@ moved_here s es t object first c from to a w holds k lo hi =
       here = omega (arith, line, at);
     }
 
-pub lacks_here : (s : Scene) (es : List Entry) (t object first c from to u k m : ℕ) → AgreesAt s es → (w : IsToRepair s es t object first c) → Holds c (entry es w.n).slots from to → from ≤ k → k < to →
+pub lacks_here : (s : Scene) (es : List Entry) (t object first c from to u k m : ℕ) → AgreesAt s es →
+    (w : IsToRepair s es t object first c) → Holds c (entry es w.n).slots from to → from ≤ k → k < to →
     Refers (view_of s.heap) es w.n k m → IsClaimed es u m → (entry es m).stage < 2 → Lacks s es t u
 lacks_here s es t object first c from to u k m a w holds lo hi r claimed low =
     let h = holds.here k lo hi in

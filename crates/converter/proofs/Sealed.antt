@@ -1,5 +1,6 @@
 -- The objects of a group are sealed, one after another.
-use Rattle.std.proofs.Common.{◌≡◌, ◌⊎◌, inl, inr, ℕ, ◌+◌, ◌<◌, ◌≤◌, ◌^◌, true, false, List, length, refl, sym, ◌∙◌, ap, subst, arith, slice_set}
+use Rattle.std.proofs.Common.{◌≡◌, ◌⊎◌, inl, inr, ℕ, ◌+◌, ◌<◌, ◌≤◌, ◌^◌, true, false, List, length, refl, sym, ◌∙◌, ap, subst}
+use Rattle.std.proofs.Common.{arith, slice_set}
 use Rattle.std.specs.Prelude.{Some, slice_get, slice_index_or}
 use Rattle.std.proofs.lemmas.Option.{slice_get_within, get_or_from_slice_get}
 use Rattle.std.proofs.lemmas.Bool.{false≢true}
@@ -119,7 +120,8 @@ sealed_past q v0 es0 set u v es s out = record {
 }
 
 -- All threads are done.
-pub sealed_all : (q : Queues) (v0 : View) (es0 : List Entry) (set : ℕ) (v : View) (es : List Entry) → ((t n : ℕ) → IsClaimed es0 t n → t < 64) → AreSealedTo q v0 es0 set 64 0 v es → AreSealed (OfSet es0 set) es0 es
+pub sealed_all : (q : Queues) (v0 : View) (es0 : List Entry) (set : ℕ) (v : View) (es : List Entry) →
+    ((t n : ℕ) → IsClaimed es0 t n → t < 64) → AreSealedTo q v0 es0 set 64 0 v es → AreSealed (OfSet es0 set) es0 es
 sealed_all q v0 es0 set v es few s = sealed_alike (IsOfFirst q es0 set 64 0) (OfSet es0 set) es0 es
     (λ m lm those. elim those [
       | inl x ↦ (x.0, x.2, x.3)
@@ -138,14 +140,21 @@ queued_in q v0 es0 set u i v es x s is =
     (y.0, y.1, sym y.1.object ∙ ap (λ (z : Queued). z.0) item)
 
 -- It may be sealed.
-pub to_seal : (q : Queues) (v0 : View) (es0 : List Entry) (set u i n object : ℕ) (v : View) (es : List Entry) → AreSealedTo q v0 es0 set u i v es → has set u ≡ true → Is q es0 u i n → (entry es0 n).at ≡ object →
+pub to_seal : (q : Queues) (v0 : View) (es0 : List Entry) (set u i n object : ℕ) (v : View) (es : List Entry) → AreSealedTo
+    q v0 es0 set u i v es → has set u ≡ true → Is q es0 u i n → (entry es0 n).at ≡ object →
     (n < length es) × ToSeal object v es n
 to_seal q v0 es0 set u i n object v es s member is at =
     let same = not_yet q v0 es0 set u i n v es s is in
     let long = s.sealed.long in
     let lt = is.claimed.0 in
-    let owner = is.claimed.1 in
-    (omega (arith, long, lt), (ap (λ e. e.at) same ∙ at, ap (λ e. e.stage) same ∙ s.forwarded u n member is.claimed, (let o : (entry es n).owner ≡ u + 1 = ap (λ e. e.owner) same ∙ owner in omega (arith, o))))
+    let owner = is.claimed.1 in (
+      omega (arith, long, lt),
+      (
+        ap (λ e. e.at) same ∙ at,
+        ap (λ e. e.stage) same ∙ s.forwarded u n member is.claimed,
+        (let o : (entry es n).owner ≡ u + 1 = ap (λ e. e.owner) same ∙ owner in omega (arith, o)),
+      ),
+    )
 
 -- the same by another scene of the same heap and queues, in which no more lines are taken than there are
 pub sealed_none_of : (s s' : Scene) (es es' : List Entry) (set : ℕ) → AgreesAt s es → AgreesAt s' es' → s'.heap ≡ s.heap → s'.queue ≡ s.queue → s'.free ≤ s'.heap.memory.size → AllSettled s.queue set →

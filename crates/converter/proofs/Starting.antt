@@ -21,8 +21,10 @@ pub begins_at : (s : Scene) (q : Queues) (es : List Entry) (t : ℕ) → AgreesA
 begins_at s q es t a empty goes = places_keep s q t Copy 0 0 es goes
     (λ i m is. absurd (let lt = is.within in let e : length (queue_of s.queue t) ≡ 0 = ap length empty in omega (arith, lt, e))) a
 
-pub begin_takable : (s : Scene) (q : Queues) (es : List Entry) (t object line count m : ℕ) → AgreesAt s es → queue_of s.queue t ≡ [] → GoesTo t Copy 0 0 s.queue q → line ≡ s.free → m < length es → (entry es m).at ≡ object →
-    (entry es m).stage ≡ 0 → (entry es m).owner ≡ 0 → count ≡ lines_of (entry es m) → count ≤ s.heap.memory.size - s.free → s.free ≤ s.heap.memory.size → IsTakable (record s { queue = q; free = line }) es object m
+pub begin_takable : (s : Scene) (q : Queues) (es : List Entry) (t object line count m : ℕ) → AgreesAt s es → queue_of
+    s.queue t ≡ [] → GoesTo t Copy 0 0 s.queue q → line ≡ s.free → m < length es → (entry es m).at ≡ object →
+    (entry es m).stage ≡ 0 → (entry es m).owner ≡ 0 → count ≡ lines_of (entry es m) → count ≤ s.heap.memory.size - s.free →
+    s.free ≤ s.heap.memory.size → IsTakable (record s { queue = q; free = line }) es object m
 begin_takable s q es t object line count m a empty goes at lm index young nobody counts fits le = record {
   agrees = subst (λ f. AgreesAt (record s { queue = q; free = f }) es) (sym at) (begins_at s q es t a empty goes);
   there = lm;
@@ -32,7 +34,8 @@ begin_takable s q es t object line count m a empty goes at lm index young nobody
   room = omega (arith, at, counts, fits, le);
 }
 
-pub begin_claims : (s : Scene) (heap : Twin) (q q2 : Queues) (free : ℕ) (es : List Entry) (t object line count m : ℕ) → AgreesAt s es → queue_of s.queue t ≡ [] → GoesTo t Copy 0 0 s.queue q → q ≡ begun_at s.queue t → t < 64 →
+pub begin_claims : (s : Scene) (heap : Twin) (q q2 : Queues) (free : ℕ) (es : List Entry) (t object line count m : ℕ) →
+    AgreesAt s es → queue_of s.queue t ≡ [] → GoesTo t Copy 0 0 s.queue q → q ≡ begun_at s.queue t → t < 64 →
     line ≡ s.free → m < length es → (entry es m).at ≡ object → (entry es m).stage ≡ 0 → (entry es m).owner ≡ 0 → count ≡ lines_of (entry es m) → count ≤ s.heap.memory.size - s.free →
     (es' : List Entry) × OneBecomes m (claimed_at t line (entry es m)) es es' × Moved (view_of s.heap) es (view_of heap) es' →
     heap.memory ≡ s.heap.memory → heap.marks.kinds ≡ s.heap.marks.kinds → heap.space.left ≡ s.heap.space.left → q2 ≡ with_object q t object line → free ≡ s.free + count →
@@ -66,7 +69,8 @@ begin_claims s heap q q2 free es t object line count m a empty goes whole few at
       },
     )
 
-pub begin_full : (s : Scene) (es : List Entry) (t need left m : ℕ) → AgreesAt s es → (entry es m).stage ≡ 0 → (entry es m).owner ≡ 0 → need ≡ lines_of (entry es m) → left ≡ s.heap.memory.size - s.free → left < need →
+pub begin_full : (s : Scene) (es : List Entry) (t need left m : ℕ) → AgreesAt s es → (entry es m).stage ≡ 0 →
+    (entry es m).owner ≡ 0 → need ≡ lines_of (entry es m) → left ≡ s.heap.memory.size - s.free → left < need →
     (es' : List Entry) × Begins t m (begun.Full need left) s s es es'
 begin_full s es t need left m a young nobody need_is left_is more = (
   es,
@@ -101,7 +105,8 @@ begin_needs s q q2 es t u m a empty goes whole claimed here others long same =
         keys = refl;
         says = record {
           claimed = claimed;
-          other = λ eq. (let i = a.queued.all t m (subst (λ x. IsClaimed es x m) eq claimed) in let lt = i.1.within in let e : length (queue_of s.queue t) ≡ 0 = ap length empty in omega (arith, lt, e));
+          other = λ eq. (let i = a.queued.all t m (subst (λ x. IsClaimed es x m) eq claimed) in let lt = i.1.within in let
+              e : length (queue_of s.queue t) ≡ 0 = ap length empty in omega (arith, lt, e));
           here = here;
           others = λ x y ne. others x y ne ∙ ap (λ (z : List ℕ). needs_of z x y) goes.needs;
           queue = same ∙ ap (λ (y : Queues). record y { needs = q2.needs }) whole;

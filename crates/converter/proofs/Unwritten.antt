@@ -23,7 +23,8 @@ use Rattle.convert_words.proofs.Basics.{room_of, claimed_once, line_other}
 use Rattle.convert_words.proofs.Tied.{stored_here, stored_other, written_other, fenced_at}
 use Rattle.converter.specs.declared.begin.Begun.TheVariants as begun
 use Rattle.converter.specs.Beginning.{begun_at}
-use Rattle.converter.specs.Laws.{AreUnwritten, FirstLinesAreUnwritten, BeginningsStayUnwritten, EventsStayUnwritten, StoresStayUnwritten}
+use Rattle.converter.specs.Laws.{AreUnwritten, FirstLinesAreUnwritten, BeginningsStayUnwritten, EventsStayUnwritten}
+use Rattle.converter.specs.Laws.{StoresStayUnwritten}
 use Rattle.converter.proofs.Exact.{flush_stays}
 use Rattle.converter.proofs.Named.{number_is}
 
@@ -50,7 +51,9 @@ same_item s es es' u i n a a' is =
     let one : x.0 ≡ n = sym (number_is s es u i x.0 a x.1) ∙ number_is s es' u i n a' is in
     subst (Is s.queue es u i) one x.1
 
-unwritten_same : (s : Scene) (es es' : List Entry) → AgreesAt s es → AgreesAt s es' → length es' ≡ length es → ((n : ℕ) → n < length es → (entry es' n).slots ≡ (entry es n).slots) → AreUnwritten s.queue es → AreUnwritten s.queue es'
+unwritten_same : (s : Scene) (es es' : List Entry) → AgreesAt s es → AgreesAt s es' → length es' ≡ length es →
+    ((n : ℕ) → n < length es → (entry es' n).slots ≡ (entry es n).slots) → AreUnwritten s.queue es → AreUnwritten s.queue
+    es'
 unwritten_same s es es' a a' long slots old u n c claimed early lc has =
     let v = view_of s.heap in
     let i = a'.queued.all u n claimed in
@@ -141,7 +144,8 @@ unwritten_copied t s s' es es' a w old =
           let ln = claimed.0 in
           let sizes = w.becomes.long in
           subst (λ (x : Entry). IsStored (with_store s.queue.marks t l) u (x.line + c)) (sym same)
-          (now u n c (omega (arith, ln, sizes), ap (λ (x : Entry). x.owner) (sym same) ∙ claimed.1) early (subst (λ (x : Entry). c < lines_of x) same lc) (subst (λ (x : Entry). HasCopied x c) same has)))
+          (now u n c (omega (arith, ln, sizes), ap (λ (x : Entry). x.owner) (sym same) ∙ claimed.1) early
+          (subst (λ (x : Entry). c < lines_of x) same lc) (subst (λ (x : Entry). HasCopied x c) same has)))
       | inl eq ↦ (
           let here : entry es' n ≡ one_more e = ap (entry es') eq ∙ w.becomes.here in
           let more = subst (λ (x : Entry). HasCopied x c) here has in
@@ -224,7 +228,9 @@ unwritten_sealed t set s s' es es' w old =
 
 -- ---- an event
 
-waited : (s s' : Scene) (es es' : List Entry) → AgreesAt s es → AgreesAt s' es' → length es' ≡ length es → ((n : ℕ) → n < length es → (entry es' n).slots ≡ (entry es n).slots) → s' ≡ s → AreUnwritten s.queue es → AreUnwritten s'.queue es'
+waited : (s s' : Scene) (es es' : List Entry) → AgreesAt s es → AgreesAt s' es' → length es' ≡ length es →
+    ((n : ℕ) → n < length es → (entry es' n).slots ≡ (entry es n).slots) → s' ≡ s → AreUnwritten s.queue es → AreUnwritten
+    s'.queue es'
 waited s s' es es' a a' long slots same old =
     subst (λ (x : Scene). AreUnwritten x.queue es') (sym same) (unwritten_same s es es' a (subst (λ (x : Scene). AgreesAt x es') same a') long slots old)
 
@@ -282,7 +288,9 @@ step_unwritten (step.Full need left) t s s' es es' a c old = waited s s' es es' 
 pub going_unwritten : (s at : Scene) (es : List Entry) (t : ℕ) → GoesOn t s at es → AreUnwritten s.queue es → AreUnwritten at.queue es
 going_unwritten s at es t goes old = unwritten_back s.queue at.queue es es goes.marks
     (λ u early flush. elim (same_or_not u t) [
-      | inl eq ↦ early (subst (λ x. phase_of at.queue x ≡ Flush) (sym eq) (flush_stays (phase_of s.queue t) (phase_of at.queue t) (place_of s.queue t) (place_of at.queue t) (subst (λ x. phase_of s.queue x ≡ Flush) eq flush) goes.on))
+      | inl eq ↦ early (subst (λ x. phase_of at.queue x ≡ Flush) (sym eq)
+          (flush_stays (phase_of s.queue t) (phase_of at.queue t) (place_of s.queue t) (place_of at.queue t)
+          (subst (λ x. phase_of s.queue x ≡ Flush) eq flush) goes.on))
       | inr ne ↦ early (goes.other_phases u ne ∙ flush)
     ])
     (λ u n c claimed early lc has. (claimed, lc, has, refl)) old

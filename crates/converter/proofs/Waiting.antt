@@ -1,5 +1,6 @@
 -- A thread that lacks another waits for it, and no other thread waits.
-use Rattle.std.proofs.Common.{◌≡◌, ◌≢◌, ◌⊎◌, inl, inr, ℕ, ◌+◌, ◌%◌, ◌<◌, true, List, length, refl, sym, ◌∙◌, ap, subst, arith}
+use Rattle.std.proofs.Common.{◌≡◌, ◌≢◌, ◌⊎◌, inl, inr, ℕ, ◌+◌, ◌%◌, ◌<◌, Bool, true, List, length, refl, sym, ◌∙◌, ap, subst}
+use Rattle.std.proofs.Common.{arith}
 use Rattle.twin_forms.specs.Table.{Entry, entry, Names, refers, kept_at, word_of, shows, line_of}
 use Rattle.twin_forms.specs.Moves.{Moved, SameHeap, IsRepaired}
 use Rattle.twin_forms.specs.Sights.{Twin, view_of}
@@ -99,7 +100,8 @@ not_repaired t u s s' es es' a l c w =
     let one : refers v' (entry es n) k ≡ true = refers_moved v v' es es n k moved r.claimed.0 r.slot ∙ r.reference in
     let word = word_of v (entry es n) k in
     let word' = word_of v' (entry es n) k in
-    let even : word' % 2 ≡ 0 = subst (λ (x : ℕ). IsRepaired (place_of s.queue t).1 v' es x) same w.repaired k r.slot l.here one in
+    let even : word' % 2 ≡ 0 = subst (λ (x : ℕ). IsRepaired (place_of s.queue t).1 v' es x) same w.repaired k r.slot l.here one
+    (subst (λ (f : ℕ → ℕ → Bool). f (entry es n).shape k ≡ true) (sym moved.same.kept) r.kept) in
     let some : number_plus (shows v es n k) ≡ l.m + 1 =
     ap number_plus (value_obj v (refers v (entry es n) k) word r.reference (positive (entry es l.m) word r.leads)) ∙ ap (λ x. x + 1) (number_is v es l.m word a.lies r.there r.leads) in
     elim (lies'.lies.refs n k r.claimed.0 one r.slot) [

@@ -7,7 +7,8 @@ use Rattle.convert_queue.specs.declared.phase.Phase.TheVariants.{Copy, Repair}
 use Rattle.convert_queue.specs.Marks.{mark_at, with_store, IsStored, IsWritten}
 use Rattle.convert_queue.specs.Queues.{Queued, Queues, queue_in, queue_of, place_of, phase_of}
 use Rattle.convert_queue.specs.Work.{weight, line_work, thread_work, sum_below, work_left}
-use Rattle.convert_queue.proofs.WorkLaws.{work_stored, work_written, work_fenced, work_copied, work_forwarded, work_repaired, sum_changed}
+use Rattle.convert_queue.proofs.WorkLaws.{work_stored, work_written, work_fenced, work_copied, work_forwarded, work_repaired}
+use Rattle.convert_queue.proofs.WorkLaws.{sum_changed}
 use Rattle.convert_words.specs.Scenes.{Scene, IsKey, AgreesAt}
 use Rattle.convert_words.proofs.Basics.{room_of}
 use Rattle.convert_words.proofs.Noting.{uncopied_clean}

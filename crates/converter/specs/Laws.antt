@@ -1,5 +1,6 @@
 -- What an event of a conversion comes to, exactly.
-use Rattle.std.specs.Prelude.{◌≡◌, ◌≢◌, ◌⊎◌, ◌↔◌, ℕ, ◌+◌, ◌-◌, ◌*◌, ◌<◌, ◌≤◌, min, true, List, [], length, Option, None, Some, slice_get, slice_index}
+use Rattle.std.specs.Prelude.{◌≡◌, ◌≢◌, ◌⊎◌, ◌↔◌, ℕ, ◌+◌, ◌-◌, ◌*◌, ◌<◌, ◌≤◌, min, true, List, [], length, Option, None, Some}
+use Rattle.std.specs.Prelude.{slice_get, slice_index}
 use Rattle.monitors.specs.declared.monitor.Monitor.{Monitor}
 use Rattle.twin_forms.specs.Table.{Entry, entry, lines_of, HasCopied, IsClaimed, InP}
 use Rattle.twin_forms.specs.Sights.{Twin}

@@ -1,5 +1,9 @@
 // What an event of a conversion comes to, exactly, and by how much it lowers the work that is left.
-ghost use Rattle.converter.specs.Laws.{SettledGroupsAreSealed, StoppedThreadsWait, LackingThreadsWait, SettledThreadsWait, WaitingThreadsLack, SealsNameQueues, QueuesNameOnce, CopiesTakeWork, ForwardsTakeWork, RepairsTakeWork, WritesTakeWork, FencesTakeWork, FirstLinesAreUnwritten, BeginningsStayUnwritten, EventsStayUnwritten, StoresStayUnwritten, EventsTakeWork, BeginningsAddWork, StoresAddWork};
+ghost use Rattle.converter.specs.Laws.{SettledGroupsAreSealed, StoppedThreadsWait, LackingThreadsWait, SettledThreadsWait};
+ghost use Rattle.converter.specs.Laws.{WaitingThreadsLack, SealsNameQueues, QueuesNameOnce, CopiesTakeWork, ForwardsTakeWork};
+ghost use Rattle.converter.specs.Laws.{RepairsTakeWork, WritesTakeWork, FencesTakeWork, FirstLinesAreUnwritten};
+ghost use Rattle.converter.specs.Laws.{BeginningsStayUnwritten, EventsStayUnwritten, StoresStayUnwritten, EventsTakeWork};
+ghost use Rattle.converter.specs.Laws.{BeginningsAddWork, StoresAddWork};
 
 /// A thread whose group is settled seals it: its next event has no other answer, and the set that it
 /// tells is that group.

@@ -7,7 +7,8 @@ ghost use Rattle.convert_words.specs.Agreeing.{Is};
 ghost use Rattle.convert_words.specs.Scenes.{scene, AgreesAt};
 ghost use Rattle.convert_words.specs.Steps.{GoesTo};
 ghost use Rattle.convert_words.specs.Converting.{GoesOn};
-ghost use Rattle.converter.specs.Working.{Going, Working, SomeScene, IsAtObject, IsFilling, IsLooking, IsNextOf, IsToClaim, IsWork};
+ghost use Rattle.converter.specs.Working.{Going, Working, SomeScene, IsAtObject, IsFilling, IsLooking, IsNextOf, IsToClaim};
+ghost use Rattle.converter.specs.Working.{IsWork};
 
 use crate::looks::{find_claim, note_needs};
 use crate::slots::{count_of, end_slot, first_slot};

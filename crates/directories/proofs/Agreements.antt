@@ -1,5 +1,6 @@
 -- Fields and array types that are compared.
-use Rattle.std.proofs.Common.{◌≡◌, ◌<◌, ◌-◌, ℕ, List, [], ◌∷◌, Option, Some, None, Bor, true, false, length, map, take, drop, get_or, slice_index_or, refl, sym, ◌∙◌, ap, arith}
+use Rattle.std.proofs.Common.{◌≡◌, ◌<◌, ◌-◌, ℕ, List, [], ◌∷◌, Option, Some, None, Bor, true, false, length, map, take, drop}
+use Rattle.std.proofs.Common.{get_or, slice_index_or, refl, sym, ◌∙◌, ap, arith}
 use Rattle.std.proofs.lemmas.List.{get_or-map, take_all, length-drop}
 use Rattle.std.specs.Option.{option_copied, is_some}
 use Rattle.ap_base.specs.declared.kind.Kind.{Kind}

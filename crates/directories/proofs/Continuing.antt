@@ -1,5 +1,6 @@
 -- Entries that are read and planned go on as those of a directory.
-use Rattle.std.proofs.Common.{◌+◌, ◌≡◌, ◌≢◌, inl, inr, ◌⊎◌, ⊎_elim, ◌<◌, ◌≤◌, ◌-◌, ℕ, suc, Bool, true, false, Option, None, Ok, List, [], ◌∷◌, ◌++◌, length, map, refl, sym, ◌∙◌, ap, subst, append_assoc, arith, slice_index_or}
+use Rattle.std.proofs.Common.{◌+◌, ◌≡◌, ◌≢◌, inl, inr, ◌⊎◌, ⊎_elim, ◌<◌, ◌≤◌, ◌-◌, ℕ, suc, Bool, true, false, Option, None, Ok}
+use Rattle.std.proofs.Common.{List, [], ◌∷◌, ◌++◌, length, map, refl, sym, ◌∙◌, ap, subst, append_assoc, arith, slice_index_or}
 use Rattle.std.specs.List.{list_any, AllByRecursion}
 use Rattle.std.specs.Str.{bytes_eq}
 use Rattle.std.proofs.lemmas.Bool.{lt-leb, le-ltb}
@@ -13,12 +14,14 @@ use Rattle.run_types.specs.declared.fault.Which.TheVariants.{DirectoryWords, Roo
 use Rattle.image_layout.specs.Places.{root_slots, directory_words, directory_line, directory_word}
 use Rattle.image_meaning.specs.Checks.{Words}
 use Rattle.image_meaning.specs.Entries.{DirectoryEntry, ShapeEntry, RootEntry}
-use Rattle.image_meaning.specs.Directories.{Directory, no_entries, has_name, is_refused, with_entry, with_all, with_entries, directory_words_of, spelled_all, AreEntries}
+use Rattle.image_meaning.specs.Directories.{Directory, no_entries, has_name, is_refused, with_entry, with_all, with_entries}
+use Rattle.image_meaning.specs.Directories.{directory_words_of, spelled_all, AreEntries}
 use Rattle.image_meaning.proofs.Directories.{entries-taken}
 use Rattle.directories.specs.Kept.{Kept, Continues}
 use Rattle.directories.specs.Read.{IsDirectory, the_directory}
 use Rattle.directories.proofs.Grows.{spelled_both}
-use Rattle.directories.specs.Planning.{has_entry, lacking, directory_of_kept, root_count, unless_room, no_room, words_left, roots_left, IsPlanned, AreOthers, CanBePlanned, HasRead}
+use Rattle.directories.specs.Planning.{has_entry, lacking, directory_of_kept, root_count, unless_room, no_room, words_left}
+use Rattle.directories.specs.Planning.{roots_left, IsPlanned, AreOthers, CanBePlanned, HasRead}
 use Rattle.directories.proofs.Plans.{none_of_room, entries_few}
 
 -- ---- names

@@ -1,10 +1,12 @@
 -- The steps of one entry.
-use Rattle.std.proofs.Common.{◌≡◌, ◌⊎◌, inl, inr, ⊎_elim, ◌<◌, ◌≤◌, ◌+◌, ℕ, List, Option, Some, None, Result, Ok, Err, OnErr, length, slice_index_or, sym, ◌∙◌, subst, arith}
+use Rattle.std.proofs.Common.{◌≡◌, ◌⊎◌, inl, inr, ⊎_elim, ◌<◌, ◌≤◌, ◌+◌, ℕ, List, Option, Some, None, Result, Ok, Err, OnErr}
+use Rattle.std.proofs.Common.{length, slice_index_or, sym, ◌∙◌, subst, arith}
 use Rattle.std.proofs.lemmas.Bool.{cases_lt}
 use Rattle.line_image.specs.Trace.{Trace, Outcome}
 use Rattle.line_memory.specs.Memory.{Memory, shown, IsTelling, ReadsWord, IsWritten, IsDurable}
 use Rattle.image_layout.specs.Places.{min_lines, directory_words, directory_line, directory_word}
-use Rattle.word_changes.specs.Changes.{AllKnown, IsFixed, IsWrittenAs, Nothing, IsGiven, IsLeft, OldOrGiven, ChangesTo, StopsLeave}
+use Rattle.word_changes.specs.Changes.{AllKnown, IsFixed, IsWrittenAs, Nothing, IsGiven, IsLeft, OldOrGiven, ChangesTo}
+use Rattle.word_changes.specs.Changes.{StopsLeave}
 use Rattle.word_changes.proofs.Changing.{stays_fixed, left_fixed, changes_stops, changes_nowhere, changes_more, changes_weaker}
 use Rattle.word_changes.proofs.Going.{changes_silent}
 use Rattle.directories.specs.declared.stepping.Progress.{Progress}

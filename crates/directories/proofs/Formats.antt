@@ -4,10 +4,13 @@ use Rattle.std.proofs.lemmas.Bool.{cases_lt}
 use Rattle.line_memory.specs.Memory.{Memory, shown, IsWritten, IsDurable, SameImage}
 use Rattle.image_layout.specs.Places.{magic, version, min_lines, root_slots, logs, slot_line, slot_word, log_head_line}
 use Rattle.image_meaning.specs.Checks.{Words}
-use Rattle.word_changes.specs.Changes.{Tells, AllKnown, IsFixed, Nothing, IsGiven, IsLeft, ChangesTo, WritesAll, AllFixed, StopsLeave}
-use Rattle.word_changes.proofs.Changing.{changes_nothing, changes_weaker, changes_nowhere, changes_more, stays_fixed, left_fixed, changes_stops, stops_then}
+use Rattle.word_changes.specs.Changes.{Tells, AllKnown, IsFixed, Nothing, IsGiven, IsLeft, ChangesTo, WritesAll, AllFixed}
+use Rattle.word_changes.specs.Changes.{StopsLeave}
+use Rattle.word_changes.proofs.Changing.{changes_nothing, changes_weaker, changes_nowhere, changes_more, stays_fixed}
+use Rattle.word_changes.proofs.Changing.{left_fixed, changes_stops, stops_then}
 use Rattle.word_changes.proofs.Writing.{AreWithin, AreApart, still_wrote, left_as_fixed, wrote_after, wrote_both, fence_wrote}
-use Rattle.directories.specs.Formatting.{IsFormatted, IsBlankOrFormatted, IsCleared, OfLines, OfSlots, OfCounts, OfCleared, OfSuperblock, OfFront, OfLayout}
+use Rattle.directories.specs.Formatting.{IsFormatted, IsBlankOrFormatted, IsCleared, OfLines, OfSlots, OfCounts, OfCleared}
+use Rattle.directories.specs.Formatting.{OfSuperblock, OfFront, OfLayout}
 
 -- ---- where the words lie
 

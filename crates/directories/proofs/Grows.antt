@@ -1,12 +1,15 @@
 -- An image whose directory grows stands for the same graph, new null roots aside.
-use Rattle.std.proofs.Common.{◌≡◌, ◌≢◌, inl, ⊎_elim, ◌<◌, ◌≤◌, ◌+◌, ◌-◌, ◌==◌, ◌&&◌, ℕ, false, List, [], ◌∷◌, ◌++◌, length, Result, Ok, refl, sym, ◌∙◌, ap, subst, append_assoc, arith, slice_index_or, if◌then◌else◌}
+use Rattle.std.proofs.Common.{◌≡◌, ◌≢◌, inl, ⊎_elim, ◌<◌, ◌≤◌, ◌+◌, ◌-◌, ◌==◌, ◌&&◌, ℕ, false, List, [], ◌∷◌, ◌++◌, length}
+use Rattle.std.proofs.Common.{Result, Ok, refl, sym, ◌∙◌, ap, subst, append_assoc, arith, slice_index_or, if◌then◌else◌}
 use Rattle.std.proofs.lemmas.Bool.{cases_lt, ne_eqb}
 use Rattle.std.proofs.lemmas.List.{append-nil, length-append, get_or_append_left, get_or-append-add}
 use Rattle.graph_model.specs.declared.types.Graph.{Graph}
-use Rattle.image_layout.specs.Places.{directory_words, directory_line, directory_word, log_head_line, log_entry_line, log_entry_word, object_line, object_word, slot_line, slot_word}
+use Rattle.image_layout.specs.Places.{directory_words, directory_line, directory_word, log_head_line, log_entry_line}
+use Rattle.image_layout.specs.Places.{log_entry_word, object_line, object_word, slot_line, slot_word}
 use Rattle.image_meaning.specs.Checks.{Words, Bad}
 use Rattle.image_meaning.specs.Entries.{DirectoryEntry, spelled, IsEntry}
-use Rattle.image_meaning.specs.Directories.{Directory, no_entries, is_refused, with_entry, with_all, directory_of, spelled_all, AreEntries, Spells}
+use Rattle.image_meaning.specs.Directories.{Directory, no_entries, is_refused, with_entry, with_all, directory_of, spelled_all}
+use Rattle.image_meaning.specs.Directories.{AreEntries, Spells}
 use Rattle.image_meaning.specs.Logs.{SameLogs}
 use Rattle.image_meaning.specs.Meaning.{StandsFor}
 use Rattle.image_meaning.specs.Corresponds.{SameWords}

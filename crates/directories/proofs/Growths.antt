@@ -1,5 +1,6 @@
 -- Calls that append entries, one after another: what each stop leaves stands for the same graph, new null roots aside.
-use Rattle.std.proofs.Common.{◌≢◌, ◌≡◌, inl, inr, ◌⊎◌, ⊎_elim, ◌<◌, ◌≤◌, ◌+◌, ℕ, List, [], ◌∷◌, ◌++◌, length, take, drop, refl, sym, ◌∙◌, ap, subst, append_assoc, arith, slice_index_or}
+use Rattle.std.proofs.Common.{◌≢◌, ◌≡◌, inl, inr, ◌⊎◌, ⊎_elim, ◌<◌, ◌≤◌, ◌+◌, ℕ, List, [], ◌∷◌, ◌++◌, length, take, drop, refl}
+use Rattle.std.proofs.Common.{sym, ◌∙◌, ap, subst, append_assoc, arith, slice_index_or}
 use Rattle.std.proofs.lemmas.List.{append-nil, length-append, take-append-drop}
 use Rattle.std.proofs.Math.Seq.{take-append-add}
 use Rattle.graph_model.specs.declared.types.Graph.{Graph}
@@ -17,7 +18,8 @@ use Rattle.directories.specs.declared.stepping.Progress.{Progress}
 use Rattle.directories.specs.declared.stepping.Progress.TheVariants.{Words, Fenced, Raised}
 use Rattle.directories.specs.Appending.{OfEntry, HasCome}
 use Rattle.directories.specs.Kept.{Kept, next_words, Continues, Stands, NextStands, HasSome}
-use Rattle.directories.specs.Growing.{OfDirectory, HasDurable, HasAppended, LeavesGraph, StandsWith, StandsWithSome, IsAppendCall, LeavesDirectory}
+use Rattle.directories.specs.Growing.{OfDirectory, HasDurable, HasAppended, LeavesGraph, StandsWith, StandsWithSome}
+use Rattle.directories.specs.Growing.{IsAppendCall, LeavesDirectory}
 use Rattle.directories.specs.Planning.{IsPlanned}
 use Rattle.directories.proofs.Appends.{next_within}
 use Rattle.directories.proofs.Grows.{SameBesides, spelled_both, grown}

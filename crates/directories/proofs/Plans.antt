@@ -1,5 +1,7 @@
 -- Entries that are planned.
-use Rattle.std.proofs.Common.{◌≡◌, ⊎_elim, ◌<◌, ◌≤◌, ◌+◌, ◌-◌, ◌^◌, min, Option, Some, None, ℕ, zero, suc, Bool, true, false, not, List, [], ◌∷◌, ◌++◌, length, map, filter, take, drop, get_or, refl, sym, ◌∙◌, ap, append_assoc, add-one, arith, if◌then◌else◌}
+use Rattle.std.proofs.Common.{◌≡◌, ⊎_elim, ◌<◌, ◌≤◌, ◌+◌, ◌-◌, ◌^◌, min, Option, Some, None, ℕ, zero, suc, Bool, true, false}
+use Rattle.std.proofs.Common.{not, List, [], ◌∷◌, ◌++◌, length, map, filter, take, drop, get_or, refl, sym, ◌∙◌, ap}
+use Rattle.std.proofs.Common.{append_assoc, add-one, arith, if◌then◌else◌}
 use Rattle.std.proofs.lemmas.List.{append-nil, length-append, length-drop, length-map, map-append, get_or-map, nil_from_length}
 use Rattle.std.proofs.Math.Seq.{take-suc, drop-cons}
 use Rattle.std.proofs.lemmas.Bool.{cases_lt, lt-ltb}
@@ -13,7 +15,8 @@ use Rattle.image_meaning.specs.Directories.{Directory, no_entries, with_entry, w
 use Rattle.directories.specs.declared.entries.Entry.{Entry}
 use Rattle.directories.specs.Read.{entry_of, the_directory}
 use Rattle.directories.specs.Kept.{Kept}
-use Rattle.directories.specs.Planning.{is_root, has_entry, lacking, root_count, directory_of_kept, unless_room, no_room, words_left}
+use Rattle.directories.specs.Planning.{is_root, has_entry, lacking, root_count, directory_of_kept, unless_room, no_room}
+use Rattle.directories.specs.Planning.{words_left}
 use Rattle.directories.proofs.Appends.{spelled_more}
 use Rattle.directories.proofs.Grows.{spelled_both}
 

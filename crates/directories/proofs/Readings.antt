@@ -1,5 +1,7 @@
 -- What words are read as, step by step.
-use Rattle.std.proofs.Common.{◌≡◌, ◌⊎◌, inl, inr, ⊎_elim, ◌<◌, ◌≤◌, ◌+◌, ◌-◌, ◌/◌, ◌%◌, ℕ, zero, suc, min, map, List, [], ◌∷◌, ◌++◌, length, take, drop, get_or, refl, sym, ◌∙◌, ap, append_assoc, subst, Bool, true, false, nat_eq, ◌&&◌, Some, None, Option, is_some, is_none, Ok, Err, not, ◌||◌, arith}
+use Rattle.std.proofs.Common.{◌≡◌, ◌⊎◌, inl, inr, ⊎_elim, ◌<◌, ◌≤◌, ◌+◌, ◌-◌, ◌/◌, ◌%◌, ℕ, zero, suc, min, map, List, [], ◌∷◌}
+use Rattle.std.proofs.Common.{◌++◌, length, take, drop, get_or, refl, sym, ◌∙◌, ap, append_assoc, subst, Bool, true, false}
+use Rattle.std.proofs.Common.{nat_eq, ◌&&◌, Some, None, Option, is_some, is_none, Ok, Err, not, ◌||◌, arith}
 use Rattle.std.proofs.lemmas.List.{append-nil, length-drop, length-append, length-map, get_or-map, length-take, take_all}
 use Rattle.std.specs.List.{starts_with}
 use Rattle.std.specs.Cmp.Lexicographic.{same_text}
@@ -10,9 +12,11 @@ use Rattle.const_pool.specs.Parsing.{descriptor_at}
 use Rattle.const_pool.specs.declared.descriptor.Descriptor.{Descriptor}
 use Rattle.const_pool.proofs.Texts.{good_has_none, none_is_good}
 use Rattle.graph_model.specs.declared.types.Field.{Field}
-use Rattle.image_meaning.specs.Entries.{DirectoryEntry, spelled, is_entry, entry_from, read_entry, is_descriptor, words_for, bytes_of_word, bytes_from, name_from, fields_from}
+use Rattle.image_meaning.specs.Entries.{DirectoryEntry, spelled, is_entry, entry_from, read_entry, is_descriptor, words_for}
+use Rattle.image_meaning.specs.Entries.{bytes_of_word, bytes_from, name_from, fields_from}
 use Rattle.std.specs.Str.{bytes_eq}
-use Rattle.image_meaning.specs.Directories.{Directory, bad_entry, has_name, is_refused, with_entry, with_entries, directory_words_of}
+use Rattle.image_meaning.specs.Directories.{Directory, bad_entry, has_name, is_refused, with_entry, with_entries}
+use Rattle.image_meaning.specs.Directories.{directory_words_of}
 use Rattle.image_layout.specs.Places.{directory_line, directory_word}
 use Rattle.image_meaning.specs.Checks.{Words}
 use Rattle.image_meaning.proofs.Ranges.{mapped_list}

@@ -1,5 +1,6 @@
 -- Names in order, and those of a directory.
-use Rattle.std.proofs.Common.{◌≡◌, ◌<◌, ◌+◌, ℕ, Bool, true, false, ◌||◌, List, [], ◌∷◌, ◌++◌, length, map, take, get_or, refl, sym, ◌∙◌, ap, subst, add-one, not, nat_le, Result, Ok, Err, Less, Equal, Greater}
+use Rattle.std.proofs.Common.{◌≡◌, ◌<◌, ◌+◌, ℕ, Bool, true, false, ◌||◌, List, [], ◌∷◌, ◌++◌, length, map, take, get_or, refl}
+use Rattle.std.proofs.Common.{sym, ◌∙◌, ap, subst, add-one, not, nat_le, Result, Ok, Err, Less, Equal, Greater}
 use Rattle.std.proofs.Math.Seq.{take-suc}
 use Rattle.std.specs.Prelude.{IfOk}
 use Rattle.std.specs.Ordering.{is_eq, match_ordering, nat_cmp}

@@ -1,5 +1,6 @@
 -- The words of names.
-use Rattle.std.proofs.Common.{◌≡◌, ◌<◌, ◌≤◌, ◌+◌, ◌-◌, ◌*◌, ◌^◌, ℕ, zero, suc, List, [], ◌∷◌, ◌++◌, length, take, drop, get_or, refl, sym, ◌∙◌, ap, subst, append_assoc, add-one, arith}
+use Rattle.std.proofs.Common.{◌≡◌, ◌<◌, ◌≤◌, ◌+◌, ◌-◌, ◌*◌, ◌^◌, ℕ, zero, suc, List, [], ◌∷◌, ◌++◌, length, take, drop, get_or}
+use Rattle.std.proofs.Common.{refl, sym, ◌∙◌, ap, subst, append_assoc, add-one, arith}
 use Rattle.std.proofs.Math.Nat.{pow-suc}
 use Rattle.std.proofs.Math.Seq.{drop-cons}
 use Rattle.std.proofs.lemmas.List.{drop-drop, length-drop, get_or-drop, append-nil, length-append}
@@ -8,7 +9,8 @@ use Rattle.ap_base.specs.declared.kind.Kind.{Kind}
 use Rattle.ap_base.specs.declared.kind.Kind.TheVariants.{Z, B, C, S, I, J, L, Text}
 use Rattle.graph_model.specs.declared.types.Field.{Field}
 use Rattle.graph_model.specs.declared.types.Shape.{Shape}
-use Rattle.image_meaning.specs.Entries.{RootEntry, ShapeEntry, letter_of, word_of_bytes, words_for, some_words, name_words, field_words, fields_words, spelled}
+use Rattle.image_meaning.specs.Entries.{RootEntry, ShapeEntry, letter_of, word_of_bytes, words_for, some_words, name_words}
+use Rattle.image_meaning.specs.Entries.{field_words, fields_words, spelled}
 
 abbrev pub AllBelow : List ℕ → Type 0
 AllBelow bytes = (k : ℕ) → get_or bytes k 0 < 256

@@ -1,6 +1,7 @@
 -- The entries of a class set, and which shapes of a directory agree with one. Of this project's own format; descriptors are those
 -- of JVMS 4.3.2.
-use Rattle.std.specs.Prelude.{◌≡◌, ◌<◌, ◌-◌, ◌==◌, ℕ, Bool, true, false, List, [], ◌∷◌, ◌++◌, length, map, take, slice_index_or, Option, Some, None, if◌then◌else◌, Contains, ◌↔◌, ◌⊎◌}
+use Rattle.std.specs.Prelude.{◌≡◌, ◌<◌, ◌-◌, ◌==◌, ℕ, Bool, true, false, List, [], ◌∷◌, ◌++◌, length, map, take, slice_index_or}
+use Rattle.std.specs.Prelude.{Option, Some, None, if◌then◌else◌, Contains, ◌↔◌, ◌⊎◌}
 use Rattle.std.specs.List.Sorted.{IsStrictlySortedBy}
 use Rattle.std.specs.Str.{bytes_eq}
 use Rattle.std.specs.Ordering.{nat_cmp}

@@ -1,5 +1,6 @@
 -- The entries that a directory lacks of some, and whether there is room for them. Of this project's own format.
-use Rattle.std.specs.Prelude.{◌≤◌, ◌≡◌, ◌≢◌, ◌+◌, ◌-◌, ◌^◌, ℕ, Bool, true, false, not, nat_lt, min, List, [], ◌∷◌, ◌++◌, length, map, filter, Option, Some, None, if◌then◌else◌}
+use Rattle.std.specs.Prelude.{◌≤◌, ◌≡◌, ◌≢◌, ◌+◌, ◌-◌, ◌^◌, ℕ, Bool, true, false, not, nat_lt, min, List, [], ◌∷◌, ◌++◌, length}
+use Rattle.std.specs.Prelude.{map, filter, Option, Some, None, if◌then◌else◌}
 use Rattle.std.specs.List.{AllByRecursion}
 use Rattle.graph_model.specs.declared.types.Shape.{Shape}
 use Rattle.run_types.specs.declared.fault.Full.{Full}
@@ -8,7 +9,8 @@ use Rattle.run_types.specs.declared.fault.Which.TheVariants.{DirectoryWords, Roo
 use Rattle.image_layout.specs.Places.{root_slots, directory_words}
 use Rattle.image_meaning.specs.Checks.{Words}
 use Rattle.image_meaning.specs.Entries.{DirectoryEntry, ShapeEntry, RootEntry, IsEntry}
-use Rattle.image_meaning.specs.Directories.{Directory, no_entries, has_name, spelled_all, with_all, with_entries, directory_words_of, Spells}
+use Rattle.image_meaning.specs.Directories.{Directory, no_entries, has_name, spelled_all, with_all, with_entries}
+use Rattle.image_meaning.specs.Directories.{directory_words_of, Spells}
 use Rattle.directories.specs.declared.planning.PlanFault.{PlanFault}
 use Rattle.directories.specs.declared.planning.PlanFault.TheVariants.{Full as TooMuch, OutOfMemory}
 use Rattle.directories.specs.Kept.{Kept, Continues}

@@ -1,5 +1,6 @@
 -- What the words of a directory are read as.
-use Rattle.std.specs.Prelude.{◌≡◌, ℕ, ◌/◌, ◌%◌, ◌^◌, List, drop, length, slice_index_or, true, [], Option, Some, None, Result, Ok, Err}
+use Rattle.std.specs.Prelude.{◌≡◌, ℕ, ◌/◌, ◌%◌, ◌^◌, List, drop, length, slice_index_or, true, [], Option, Some, None, Result}
+use Rattle.std.specs.Prelude.{Ok, Err}
 use Rattle.graph_model.specs.declared.types.Field.{Field}
 use Rattle.graph_model.specs.declared.types.Shape as shapes
 use Rattle.image_meaning.specs.Entries.{DirectoryEntry, ShapeEntry, RootEntry, spelled, name_from, behind_name, kind_of_letter}

@@ -6,7 +6,8 @@ use Rattle.graph_model.specs.declared.types.Field.{Field}
 use Rattle.graph_model.specs.declared.types.Shape.{Shape}
 use Rattle.image_meaning.specs.Entries.{DirectoryEntry, ShapeEntry, RootEntry}
 use Rattle.plain_model.specs.Classes.{ClassFacts, ArrayType, Missing}
-use Rattle.plain_model.specs.BuiltIn.{field, class_under, interface, object_place, array_of_objects, chars_array, arguments_array}
+use Rattle.plain_model.specs.BuiltIn.{field, class_under, interface, object_place, array_of_objects, chars_array}
+use Rattle.plain_model.specs.BuiltIn.{arguments_array}
 use Rattle.plain_model.specs.Facts.{StaticFacts, SetFacts}
 use Rattle.directories.specs.ClassSets.{AreEntriesOf, Agrees}
 

@@ -1,8 +1,11 @@
 // Entries are read from the directory's words: first what the words would spell, and then whether they do.
-ghost use Rattle.std.specs.Prelude.{◌≡◌, ◌<◌, ◌≤◌, ◌+◌, ◌++◌, ◌%◌, ◌/◌, ◌^◌, length, drop, min, IfOk, OnOk, IsSome, IsNone, IfSome};
+ghost use Rattle.std.specs.Prelude.{◌≡◌, ◌<◌, ◌≤◌, ◌+◌, ◌++◌, ◌%◌, ◌/◌, ◌^◌, length, drop, min, IfOk, OnOk, IsSome, IsNone};
+ghost use Rattle.std.specs.Prelude.{IfSome};
 ghost use Rattle.const_pool.specs.Utf8.{IsModifiedUtf8};
 ghost use Rattle.image_layout.specs.Places.{directory_words};
-ghost use Rattle.image_meaning.specs.Entries.{words_for, bytes_of_word, name_from, fields_from, entry_from, kind_of_letter, element_of, shape_named, body_from, is_shape, is_descriptor, is_entry, read_entry};
+ghost use Rattle.image_meaning.specs.Entries.{words_for, bytes_of_word, name_from, fields_from, entry_from, kind_of_letter};
+ghost use Rattle.image_meaning.specs.Entries.{element_of, shape_named, body_from, is_shape, is_descriptor, is_entry};
+ghost use Rattle.image_meaning.specs.Entries.{read_entry};
 ghost use Rattle.directories.specs.Read.{entry_of, field_at, after_field, IsRead};
 
 use crate::spelling::{entry_length, spell};

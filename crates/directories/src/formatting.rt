@@ -3,8 +3,10 @@ ghost use Rattle.std.specs.Prelude.{◌≡◌, ◌<◌, ◌≤◌, ◌+◌, ℕ,
 ghost use Rattle.ap_base.specs.Causes.{HasCause};
 ghost use Rattle.line_memory.specs.Memory.{shown, IsDurable, IsResident, SameResident, SameImage};
 ghost use Rattle.image_layout.specs.Places.{min_lines, logs, log_head_line};
-ghost use Rattle.word_changes.specs.Changes.{Tells, AllKnown, IsFixed, IsGiven, ChangesTo, GoesOn, WritesAll, AllFixed, StopsLeave};
-ghost use Rattle.directories.specs.Formatting.{IsFormatted, IsBlankOrFormatted, IsCleared, OfLines, OfSlots, OfCounts, OfCleared, OfSuperblock, OfFront, OfLayout};
+ghost use Rattle.word_changes.specs.Changes.{Tells, AllKnown, IsFixed, IsGiven, ChangesTo, GoesOn, WritesAll, AllFixed};
+ghost use Rattle.word_changes.specs.Changes.{StopsLeave};
+ghost use Rattle.directories.specs.Formatting.{IsFormatted, IsBlankOrFormatted, IsCleared, OfLines, OfSlots, OfCounts};
+ghost use Rattle.directories.specs.Formatting.{OfCleared, OfSuperblock, OfFront, OfLayout};
 
 use ap_base::{Spot, ThreadNo};
 use image_layout::{FIRST_DIRECTORY_LINE, FIRST_SLOT_LINE, LOGS, MAGIC, VERSION, log_head};

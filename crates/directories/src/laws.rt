@@ -1,6 +1,7 @@
 // Laws of directories. Each function states one in its contract, and does nothing.
 ghost use Rattle.directories.specs.ClassSets.{ClassSetEntriesCanBePlanned};
-ghost use Rattle.directories.specs.Growing.{FormattedImagesStand, AppendedEntriesStand, OthersLeaveDirectories, PlansLeaveDirectories};
+ghost use Rattle.directories.specs.Growing.{FormattedImagesStand, AppendedEntriesStand, OthersLeaveDirectories};
+ghost use Rattle.directories.specs.Growing.{PlansLeaveDirectories};
 ghost use Rattle.directories.specs.Rows.{SmallSetHasEntries, ShapesAgree};
 ghost use Rattle.directories.specs.Planning.{PlannedEntriesContinue, ReadEntriesContinue};
 

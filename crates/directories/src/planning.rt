@@ -1,5 +1,6 @@
 // What a directory lacks is planned.
-ghost use Rattle.std.specs.Prelude.{◌≡◌, ◌≤◌, ◌-◌, ◌+◌, ◌^◌, ◌++◌, List, [], ◌∷◌, None, map, min, length, IfOk, IfErr, OnOk, OnErr};
+ghost use Rattle.std.specs.Prelude.{◌≡◌, ◌≤◌, ◌-◌, ◌+◌, ◌^◌, ◌++◌, List, [], ◌∷◌, None, map, min, length, IfOk, IfErr, OnOk};
+ghost use Rattle.std.specs.Prelude.{OnErr};
 ghost use Rattle.image_layout.specs.Places.{directory_words};
 ghost use Rattle.image_meaning.specs.Directories.{no_entries, spelled_all, with_entry, with_all};
 ghost use Rattle.directories.specs.Read.{entry_of, the_directory};

@@ -1,7 +1,8 @@
 // The words that spell an entry.
 ghost use Rattle.std.specs.Prelude.{◌≡◌, ◌≤◌, ◌+◌, ◌-◌, ◌*◌, ◌^◌, ◌++◌, All, length, take, min, IfOk, OnOk};
 ghost use Rattle.image_layout.specs.Places.{directory_words};
-ghost use Rattle.image_meaning.specs.Entries.{letter_of, word_of_bytes, name_words, field_words, fields_words, spelled, ShapeEntry, RootEntry};
+ghost use Rattle.image_meaning.specs.Entries.{letter_of, word_of_bytes, name_words, field_words, fields_words, spelled};
+ghost use Rattle.image_meaning.specs.Entries.{ShapeEntry, RootEntry};
 ghost use Rattle.directories.specs.Read.{entry_of};
 
 use crate::entries::{Entry, words_for};

@@ -4,7 +4,8 @@ ghost use Rattle.ap_base.specs.Causes.{HasCause};
 ghost use Rattle.line_memory.specs.Memory.{shown, IsResident, SameResident, SameImage, OneCall};
 ghost use Rattle.image_layout.specs.Places.{min_lines, directory_words, directory_line, directory_word};
 ghost use Rattle.word_changes.specs.Changes.{AllKnown, IsGiven, Nothing, ChangesTo, StopsLeave};
-ghost use Rattle.directories.specs.Appending.{OfEntry, HasCome, HasComeBy, OldOrWhole, OfWords, lines_between, IsCalled, IsFetched};
+ghost use Rattle.directories.specs.Appending.{OfEntry, HasCome, HasComeBy, OldOrWhole, OfWords, lines_between, IsCalled};
+ghost use Rattle.directories.specs.Appending.{IsFetched};
 
 use ap_base::Spot;
 use image_layout::directory_spot;

@@ -1,5 +1,6 @@
 -- A first machine is one whose thread may take its first turn.
-use Rattle.std.proofs.Common.{◌≡◌, ℕ, ◌<◌, true, false, List, [], ◌∷◌, length, Some, None, refl, ap, sym, subst, ◌∙◌, arith, lit<}
+use Rattle.std.proofs.Common.{◌≡◌, ℕ, ◌<◌, true, false, List, [], ◌∷◌, length, Some, None, refl, ap, sym, subst, ◌∙◌, arith}
+use Rattle.std.proofs.Common.{lit<}
 use Rattle.std.specs.Prelude.{nat_lt, ◌≢◌, AllPairs}
 use Rattle.std.proofs.lemmas.Bool.{lt-ltb}
 use Rattle.run_history.specs.Recorded.{Recorded}
@@ -14,22 +15,22 @@ use Rattle.run_forms.specs.Views.{ThreadFrames}
 use Rattle.run_forms.specs.Standing.{Launch, known_at}
 use Rattle.twin_forms.specs.Table.{Entry, IsClaimed}
 use Rattle.convert_queue.specs.Queues.{Queued}
-use Rattle.machine_forms.specs.declared.doing.Doing.{Doing}
-use Rattle.machine_forms.specs.declared.doing.Doing.TheVariants.{Nothing}
+use Rattle.durable_run.specs.Passed.{Doing}
+use Rattle.durable_run.specs.Passed.{Nothing}
 use Rattle.region_log.specs.Log.{Log}
-use Rattle.machine_forms.specs.Machines.{Opening, doing_of, known_in, layout_in, log_of, memory_of}
-use Rattle.machine_forms.specs.Keeping.{IsDoing, KeepsRun}
-use Rattle.machine_runs.specs.Frames.{RunsAsPlain}
-use Rattle.machine_starts.specs.First.{IsFirstMachine}
-use Rattle.machine_starts.proofs.Nodes.{nobody_owns, table_of_lines}
-use Rattle.machine_starts.proofs.Queues.{nothing_queued}
-use Rattle.machine_starts.proofs.Stops.{all_idle}
-use Rattle.machine_lines.specs.Lines.{TakesLines}
-use Rattle.machine_lines.specs.Laws.{StartsTakeNoLines}
-use Rattle.machine_lines.specs.Unwritten.{StartsHaveUnwritten}
-use Rattle.shared_heap.specs.Shared.{Shared}
-use Rattle.shared_heap.specs.Conversions.{NamesClaimed}
-use Rattle.machine.specs.Running.{AsksItsEnd, IsRunning, IsAboutItsStore, LagsByItsStore, HadNoFault, ListsClasses}
+use Rattle.durable_run.specs.Passed.{Opening, doing_of, known_in, layout_in, log_of, memory_of}
+use Rattle.durable_run.specs.Passed.{IsDoing, KeepsRun}
+use Rattle.durable_run.specs.Passed.{RunsAsPlain}
+use Rattle.launch_laws.specs.First.{IsFirstMachine}
+use Rattle.launch_laws.proofs.Nodes.{nobody_owns, table_of_lines}
+use Rattle.launch_laws.proofs.Queues.{nothing_queued}
+use Rattle.launch_laws.proofs.Stops.{all_idle}
+use Rattle.durable_run.specs.Passed.{TakesLines}
+use Rattle.durable_run.specs.Passed.{StartsTakeNoLines}
+use Rattle.durable_run.specs.Passed.{StartsHaveUnwritten}
+use Rattle.durable_run.specs.Passed.{Shared}
+use Rattle.durable_run.specs.Passed.{NamesClaimed}
+use Rattle.durable_run.specs.Passed.{AsksItsEnd, IsRunning, IsAboutItsStore, LagsByItsStore, HadNoFault, ListsClasses}
 
 -- ---- no act
 

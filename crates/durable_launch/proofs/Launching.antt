@@ -29,17 +29,17 @@ use Rattle.run_forms.specs.Views.{ThreadFrames}
 use Rattle.run_forms.specs.Standing.{IsLaunch, Launch, setting_of}
 use Rattle.twin_forms.specs.Table.{Entry}
 use Rattle.first_spaces.specs.Spaces.{spaces_of}
-use Rattle.machine_forms.specs.Machines.{Opening, empty_log}
-use Rattle.machine_starts.specs.First.{IsFirstMachine, IsOpenedImage, BeginsMain}
-use Rattle.machine_starts.specs.Laws.{FirstMachinesKeepRuns, FirstMachinesRunAsPlain}
-use Rattle.machine_starts.specs.Shapes.{MadeHeapsHaveTheirDirectory}
-use Rattle.machine_lines.specs.Laws.{StartsTakeNoLines}
-use Rattle.machine_lines.specs.Unwritten.{StartsHaveUnwritten}
-use Rattle.machine.specs.Running.{ListsClasses}
-use Rattle.asked_arrays.specs.Written.{ThreadsAskForWrittenArrays}
-use Rattle.shared_heap.specs.Shared.{Shared}
-use Rattle.shared_heap.proofs.Logging.{at_to, long_to}
-use Rattle.shared_heap.specs.First.{first_shared}
+use Rattle.durable_run.specs.Passed.{Opening, empty_log}
+use Rattle.launch_laws.specs.First.{IsFirstMachine, IsOpenedImage, BeginsMain}
+use Rattle.launch_laws.specs.Laws.{FirstMachinesKeepRuns, FirstMachinesRunAsPlain}
+use Rattle.launch_laws.specs.Shapes.{MadeHeapsHaveTheirDirectory}
+use Rattle.durable_run.specs.Passed.{StartsTakeNoLines}
+use Rattle.durable_run.specs.Passed.{StartsHaveUnwritten}
+use Rattle.durable_run.specs.Passed.{ListsClasses}
+use Rattle.launch_laws.specs.Written.{ThreadsAskForWrittenArrays}
+use Rattle.durable_run.specs.Passed.{Shared}
+use Rattle.durable_run.proofs.Passed.{at_to, long_to}
+use Rattle.durable_run.specs.Passed.{first_shared}
 use Rattle.durable_run.specs.Turning.{IsReady, AsksListed}
 use Rattle.durable_launch.specs.declared.heaps.OpenedHeap.{OpenedHeap}
 use Rattle.durable_launch.specs.Launching.{CanLaunch, launch_over, opening_over}

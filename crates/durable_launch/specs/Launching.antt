@@ -18,7 +18,7 @@ use Rattle.program_launch.specs.declared.mains.Main.{Main}
 use Rattle.program_launch.specs.Launches.{set_program}
 use Rattle.run_forms.specs.Standing.{Launch}
 use Rattle.two_spaces.specs.Seen.{Spaces, shown_of}
-use Rattle.machine_forms.specs.Machines.{Opening, memory_of}
+use Rattle.durable_run.specs.Passed.{Opening, memory_of}
 use Rattle.first_spaces.specs.declared.parts.SpacesTables.{SpacesTables}
 use Rattle.first_spaces.specs.Beginnings.{HasTables, IsWholeOpened, RootsLieInSlots, ShowsOpening, StandFor}
 use Rattle.first_spaces.specs.Parts.{AreTables}

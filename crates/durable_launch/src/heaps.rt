@@ -6,7 +6,6 @@ ghost use Rattle.plain_model.specs.First.{first_objects};
 ghost use Rattle.one_space.specs.First.{LacksWords};
 ghost use Rattle.class_set.specs.Linked.{Linked};
 ghost use Rattle.class_set.specs.Facts.{facts_of};
-ghost use Rattle.first_spaces.specs.Parts.{RootsDiffer};
 ghost use Rattle.program_launch.specs.Refusals.{IfFull};
 ghost use Rattle.set_opening.specs.Opened.{IsOpenedFor};
 ghost use Rattle.durable_launch.specs.Launching.{CanLaunch};
@@ -54,7 +53,6 @@ pub fn open_heap<I: Image>(
 ) -> Result<OpenedHeap<I>, (NoLaunch, LineMemory<I>)>
     requires opened { (start : Told) × (old : Linked) × IsOpenedFor start old set.now
         opened.memory opened.directory opened.lines opened.graph opened.free }
-    requires differ { RootsDiffer (facts_of set.now) }
     ensures can { IfOk result (λ heap. (start : Told) (old : Linked) → IsOpenedFor start old set.now
         opened.memory opened.directory opened.lines opened.graph opened.free
         → CanLaunch start old set.now words heap) }

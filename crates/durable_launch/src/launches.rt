@@ -10,23 +10,21 @@ ghost use Rattle.durable_launch.specs.Launching.{CanLaunch, IsLaunched};
 use crate::beside::{Beside, make_beside};
 use crate::heaps::OpenedHeap;
 use ap_base::Ref;
-use asked_arrays::asked_arrays_are_written;
 use class_code::programs_name_what_is_there;
 use class_set::{ClassSet, linked_sets_are_consistent};
+use durable_run::{SharedHeap, events_keep_lines, lines_stay_unwritten};
 use graph_model::Graph;
-use line_image::Image;
-use line_memory::LineMemory;
-use machine_lines::{events_keep_lines, lines_stay_unwritten};
-use machine_starts::{
-    first_heaps_have_their_directory, first_machines_keep_their_run,
+use launch_laws::{
+    asked_arrays_are_written, first_heaps_have_their_directory, first_machines_keep_their_run,
     first_machines_run_as_plain_runs,
 };
+use line_image::Image;
+use line_memory::LineMemory;
 use natives::{Native, NativeState};
 use private_steps::Frames;
 use program_host::ProgramHost;
 use program_launch::Main;
 use run_types::Limits;
-use shared_heap::SharedHeap;
 use std::alloc::Global;
 
 /// What a run over an opened image begins with: what its frames are given, its heap with the empty

@@ -6,5 +6,6 @@ mod beside;
 mod heaps;
 mod launches;
 
+pub use durable_run::{Run, Turned, each_stop_is_allowed, run_thread};
 pub use heaps::{OpenedHeap, open_heap};
 pub use launches::{Launched, launch};

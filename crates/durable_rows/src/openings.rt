@@ -45,12 +45,12 @@ type Word = (usize, usize, u64);
 type Row = (&'static str, &'static [Word], &'static str);
 
 /// The objects begin at line 20,577, log 0 at 4,129 and log 63 at 20,320.
-static ROWS: [Row; 29] = [
+static ROWS: [Row; 31] = [
     (PAIR, &[], "1\n2\n"),
     // an image whose first word is 0 is blank
     (PAIR, &[(0, 0, 0), (0, 1, 7)], ""),
     (PAIR, &[(0, 0, 1)], "autopersist: image 0 Magic\n"),
-    (PAIR, &[(0, 1, 2)], "autopersist: image 0 Version\n"),
+    (PAIR, &[(0, 1, 3)], "autopersist: image 0 Version\n"),
     (PAIR, &[(0, 2, 32_769)], "autopersist: image 0 LineCount\n"),
     (
         PAIR,
@@ -150,11 +150,13 @@ static ROWS: [Row; 29] = [
         &[(20_577, 1, 2 * 20_578)],
         "autopersist: image 20578 Overlap\n",
     ),
-    // a byte of -128, and none of 200
+    // a byte is read as the int that stands there, and no int has more than 32 bits
     (SMALL, &[(20_577, 1, 0xffff_ff80)], "-128\n"),
+    (SMALL, &[(20_577, 1, 200)], "200\n"),
+    (SMALL, &[(20_577, 1, 0x8000_0000)], "-2147483648\n"),
     (
         SMALL,
-        &[(20_577, 1, 200)],
+        &[(20_577, 1, 1 << 32)],
         "autopersist: image 20577 Value\n",
     ),
     (SMALL, &[(20_577, 3, 2)], "autopersist: image 20577 Value\n"),

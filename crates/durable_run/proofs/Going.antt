@@ -1,5 +1,6 @@
 -- What a turn does to a run: it begins an event's request, and its last event leaves the run ready, or ended.
-use Rattle.std.proofs.Common.{◌≡◌, ℕ, zero, suc, ◌+◌, ◌<◌, ◌≤◌, Bool, true, false, not, List, [], ◌∷◌, length, Option, Some, None, refl, ap, sym, subst, ◌∙◌, arith, inl, inr}
+use Rattle.std.proofs.Common.{◌≡◌, ℕ, zero, suc, ◌+◌, ◌<◌, ◌≤◌, Bool, true, false, not, List, [], ◌∷◌, length, Option, Some}
+use Rattle.std.proofs.Common.{None, refl, ap, sym, subst, ◌∙◌, arith, inl, inr}
 use Rattle.std.specs.Prelude.{slice_get, slice_index}
 use Rattle.std.proofs.lemmas.List.{length-append}
 use Rattle.ap_base.specs.declared.reference.Ref.{Ref}
@@ -23,14 +24,16 @@ use Rattle.twin_forms.specs.Table.{Entry}
 use Rattle.machine_forms.specs.declared.doing.Doing.TheVariants.{Nothing}
 use Rattle.machine_forms.specs.Machines.{Opening, doing_of, shown_in}
 use Rattle.machine_forms.specs.Events.{IsListed}
-use Rattle.machine_runs.specs.Frames.{Asks, IdleMachinesStand}
-use Rattle.machine_ends.specs.Laws.{SingleThreadsFinish, ending_of}
-use Rattle.shared_heap.specs.Shared.{Shared}
+use Rattle.machine.specs.Passed.{Asks, IdleMachinesStand}
+use Rattle.machine.specs.Passed.{SingleThreadsFinish, ending_of}
+use Rattle.machine.specs.Passed.{Shared}
 use Rattle.machine.specs.declared.events.Event.{Event}
 use Rattle.machine.specs.declared.events.Event.TheVariants.{Did, Micro, Over as Ends}
+use Rattle.machine.specs.declared.events.Halt.{Halt}
+use Rattle.machine.specs.Halts.{fault_of_halt}
 use Rattle.machine.specs.Running.{HadNoFault, IsDue, IsBuilt, IsRunning, asked_class}
 use Rattle.machine.specs.Events.{AddsActs, AddsOne, GoesOn, GoesTo, IsAnswerTo, IsOver, answered}
-use Rattle.machine_lines.specs.Work.{measure}
+use Rattle.machine.specs.Passed.{measure}
 use Rattle.durable_run.specs.Events.{HasDue, IsOver as IsOverEvent, LeadsTo, LeavesLess, is_micro}
 use Rattle.durable_run.specs.Turning.{EndsBy, HasEnded, HasMet, HasRun, IsReady, is_built, is_live, uncaught_in}
 use Rattle.durable_run.specs.declared.turns.Turned.TheVariants.{Ended, Unbuilt}
@@ -208,7 +211,7 @@ module _ (o : Opening) (first : ℕ) (set : SetFacts) (fs : ThreadFrames) (reque
       facts = due.facts;
     },
   )
-  leads (Ends f) goes adds = ended f goes
+  leads (Ends halt) goes adds = ended (fault_of_halt halt) goes
 
 -- ---- a turn ends
 
@@ -250,35 +253,35 @@ module _ (o : Opening) (first : ℕ) (set : SetFacts) (fs : ThreadFrames) (reque
       → LeadsTo o first set fs request event old new → HasDue o first set new fs request
   still-due (Did r) old new e leads = no-true e
   still-due Micro old new e leads = leads
-  still-due (Ends f) old new e leads = no-true e
+  still-due (Ends halt) old new e leads = no-true e
 
   pub leads-since : (event : Event) (old mid new : Shared)
       → length old.history.acts ≤ length mid.history.acts → LeadsTo o first set fs request event mid new
       → LeadsTo o first set fs request event old new
   leads-since (Did r) old mid new later leads = (leads.0, omega (arith, later, leads.1))
   leads-since Micro old mid new later leads = leads
-  leads-since (Ends f) old mid new later leads = leads
+  leads-since (Ends halt) old mid new later leads = leads
 
 pub less-so : (event : Event) (old new : Shared)
     → (event ≡ Micro → new.history.acts ≡ old.history.acts → measure new.machine < measure old.machine)
     → LeavesLess event old new
 less-so (Did r) old new quiet = tt
 less-so Micro old new quiet = quiet refl
-less-so (Ends f) old new quiet = tt
+less-so (Ends halt) old new quiet = tt
 
 pub less-of : (event : Event) (old new : Shared) → is_micro event ≡ true → LeavesLess event old new
     → new.history.acts ≡ old.history.acts → measure new.machine < measure old.machine
 less-of (Did r) old new e less = no-true e
 less-of Micro old new e less = less
-less-of (Ends f) old new e less = no-true e
+less-of (Ends halt) old new e less = no-true e
 
-pub over-so : (event : Event) (f : RunFault) → event ≡ Ends f → IsOverEvent event
-over-so event f e = subst IsOverEvent (sym e) tt
+pub over-so : (event : Event) (halt : Halt) → event ≡ Ends halt → IsOverEvent event
+over-so event halt e = subst IsOverEvent (sym e) tt
 
 pub over-not : (event : Event) → is_micro event ≡ true → IsOverEvent event → ⊥
 over-not (Did r) e over = over
 over-not Micro e over = over
-over-not (Ends f) e over = no-true e
+over-not (Ends halt) e over = no-true e
 
 pub at-most-one : (event : Event) (old new : List Recorded) → AddsActs event old new
     → length new ≤ length old + 1
@@ -286,5 +289,5 @@ at-most-one (Did r) old new one = one-more old new one
 at-most-one Micro old new (inl same) = let e = ap (λ (acts : List Recorded). length acts) same in omega
     (arith, e)
 at-most-one Micro old new (inr one) = one-more old new one
-at-most-one (Ends f) old new same = let e = ap (λ (acts : List Recorded). length acts) same in omega
+at-most-one (Ends halt) old new same = let e = ap (λ (acts : List Recorded). length acts) same in omega
     (arith, e)

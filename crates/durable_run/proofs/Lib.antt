@@ -4,3 +4,4 @@ mod Running
 mod Telling
 mod Throwing
 mod Thrown
+pub mod Passed

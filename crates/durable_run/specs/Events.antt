@@ -10,12 +10,14 @@ use Rattle.plain_model.specs.Facts.{SetFacts}
 use Rattle.run_forms.specs.Views.{ThreadFrames}
 use Rattle.twin_forms.specs.Table.{Entry}
 use Rattle.machine_forms.specs.Machines.{Opening, memory_of}
-use Rattle.shared_heap.specs.Shared.{Shared}
+use Rattle.machine.specs.Passed.{Shared}
 use Rattle.machine.specs.declared.events.Event.{Event}
 use Rattle.machine.specs.declared.events.Event.TheVariants.{Did, Micro, Over}
+use Rattle.machine.specs.declared.events.Halt.{Halt}
+use Rattle.machine.specs.Halts.{fault_of_halt}
 use Rattle.machine.specs.Running.{IsDue}
 use Rattle.machine.specs.Events.{GoesOn}
-use Rattle.machine_lines.specs.Work.{measure}
+use Rattle.machine.specs.Passed.{measure}
 use Rattle.durable_run.specs.Telling.{AddsShare, HasTold, IsCaused}
 use Rattle.durable_run.specs.Turning.{HasMet, HasRun}
 
@@ -42,7 +44,7 @@ pub record Tells (request : Request Ref Item) (over : Option RunFault) (old new 
       (memory_of new.machine).faults
 
 abbrev pub fault_of : Event → Option RunFault
-fault_of (Over f) = Some f
+fault_of (Over halt) = Some (fault_of_halt halt)
 fault_of event = None
 
 -- ---- what was done
@@ -57,12 +59,13 @@ abbrev pub LeadsTo : Opening → ℕ → SetFacts → ThreadFrames → Request R
 LeadsTo o first set fs request (Did r) old new =
     GoesOn o first r new fs × (length old.history.acts < length new.history.acts)
 LeadsTo o first set fs request Micro old new = HasDue o first set new fs request
-LeadsTo o first set fs request (Over f) old new = HasRun o new × HasMet o first new.machine f
+LeadsTo o first set fs request (Over halt) old new =
+    HasRun o new × HasMet o first new.machine (fault_of_halt halt)
 
 -- what several events came to
-abbrev pub event_of : Result (Reply Ref Item) RunFault → Event
+abbrev pub event_of : Result (Reply Ref Item) Halt → Event
 event_of (Ok r) = Did r
-event_of (Err f) = Over f
+event_of (Err halt) = Over halt
 
 abbrev pub is_micro : Event → Bool
 is_micro Micro = true
@@ -70,7 +73,7 @@ is_micro event = false
 
 -- the run is over
 abbrev pub IsOver : Event → Type 0
-IsOver (Over f) = Unit {0}
+IsOver (Over halt) = Unit {0}
 IsOver event = ⊥
 
 -- an event that is neither an act nor the last one leaves less to do

@@ -1,3 +1,5 @@
 pub mod Events
+pub mod Quick
 pub mod Telling
 pub mod Turning
+pub mod Passed

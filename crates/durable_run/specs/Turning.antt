@@ -25,9 +25,10 @@ use Rattle.machine_forms.specs.declared.doing.Doing.TheVariants.{Nothing}
 use Rattle.machine_forms.specs.Machines.{Opening, Machine, doing_of, shown_in}
 use Rattle.machine_forms.specs.Events.{IsListed}
 use Rattle.machine_forms.specs.Keeping.{KeepsRun}
-use Rattle.shared_heap.specs.Shared.{Shared}
-use Rattle.machine_ends.specs.Laws.{ending_of}
-use Rattle.machine_lines.specs.Lines.{lines_from}
+use Rattle.machine.specs.Passed.{Shared}
+use Rattle.machine.specs.Passed.{ending_of}
+use Rattle.machine.specs.Passed.{lines_from}
+use Rattle.machine.specs.Halts.{fault_of_halt}
 use Rattle.machine.specs.Running.{IsRunning, HadNoFault}
 use Rattle.durable_run.specs.declared.turns.Turned.{Turned}
 use Rattle.durable_run.specs.declared.turns.Turned.TheVariants.{Acted, Ended, Over, Unbuilt}
@@ -105,7 +106,7 @@ pub record AsksUnbuilt (o : Opening) (m : Machine) : Type 0 where
 abbrev pub EndsBy : Opening → ℕ → Turned → Shared → Type 0
 EndsBy o first Acted s = ⊥
 EndsBy o first (Ended uncaught) s = HasRun o s × HasEnded o first s.machine (ending_of uncaught)
-EndsBy o first (Over f) s = HasRun o s × HasMet o first s.machine f
+EndsBy o first (Over halt) s = HasRun o s × HasMet o first s.machine (fault_of_halt halt)
 EndsBy o first Unbuilt s = HasRun o s × AsksUnbuilt o s.machine
 
 -- ---- what a turn leaves
@@ -117,7 +118,7 @@ abbrev pub TurnsTo : Opening → ℕ → SetFacts → Setting Native Ref (Native
     → Shared → ThreadFrames → Type 0
 TurnsTo o first set x old Acted new fs =
     IsReady o first set x new fs × (length old.history.acts < length new.history.acts)
-TurnsTo o first set x old (Over f) new fs = EndsBy o first (Over f) new
+TurnsTo o first set x old (Over halt) new fs = EndsBy o first (Over halt) new
 TurnsTo o first set x old turned new fs = (new ≡ old) × EndsBy o first turned new
 
 abbrev pub is_acted : Turned → Bool
@@ -130,5 +131,5 @@ IsFinal Acted = ⊥
 IsFinal other = Unit {0}
 
 abbrev pub fault_in : Turned → Option RunFault
-fault_in (Over f) = Some f
+fault_in (Over halt) = Some (fault_of_halt halt)
 fault_in other = None

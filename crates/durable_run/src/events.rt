@@ -8,11 +8,9 @@ ghost use Rattle.durable_run.specs.Events.{HasDue, IsOver, LeadsTo, LeavesLess, 
 
 use ap_base::Sink;
 use line_image::Image;
-use machine::{Event, event};
+use machine::{Event, Halt, SharedHeap, event};
 use natives::{Reply, Request};
 use run_history::{Acts, Watcher};
-use run_types::RunFault;
-use shared_heap::SharedHeap;
 use shared_objects::Types;
 
 fn is_micro(event: &Event) -> bool
@@ -23,7 +21,7 @@ fn is_micro(event: &Event) -> bool
 
 // Tells the watcher the act that stands behind so many others, if there is one, with the objects
 // that it names.
-fn tell<W: Watcher>(watcher: &mut W, acts: &Acts, from: u32)
+pub(crate) fn tell<W: Watcher>(watcher: &mut W, acts: &Acts, from: u32)
     requires one { length acts.now.acts ≤ from + 1 }
     ensures told { W.seen watcher.new ≡ with_all (W.seen watcher.old) (drop from acts.now.acts) }
 {
@@ -93,14 +91,14 @@ fn next_act<C: Types, I: Image, S: Sink, W: Watcher>(
     }
 }
 
-/// What the thread asks is done, event by event; or the run is over by a fault.
+/// What the thread asks is done, event by event; or the run is over.
 pub(crate) fn does<C: Types, I: Image, S: Sink, W: Watcher>(
     heap: &mut SharedHeap<I>,
     sink: &mut S,
     watcher: &mut W,
     set: &C,
     request: &Request,
-) -> Result<Reply, RunFault>
+) -> Result<Reply, Halt>
     requires due { (o : Opening) × (first : ℕ) × (fs : ThreadFrames)
         × HasDue o first (C.facts set.now) heap.old fs request.now }
     ensures leads { (o : Opening) (first : ℕ) (fs : ThreadFrames)
@@ -117,7 +115,7 @@ pub(crate) fn does<C: Types, I: Image, S: Sink, W: Watcher>(
     'acts: loop {
         match next_act(heap, sink, watcher, set, request) {
             Event::Did(reply) => return Ok(reply),
-            Event::Over(fault) => return Err(fault),
+            Event::Over(halt) => return Err(halt),
             Event::Micro => {}
         }
     }

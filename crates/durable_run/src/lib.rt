@@ -4,10 +4,12 @@
 
 mod events;
 mod parts;
+mod quick;
 mod run;
 mod runs;
 mod turns;
 
+pub use machine::{SharedHeap, each_stop_is_allowed, events_keep_lines, lines_stay_unwritten};
 pub use run::Run;
 pub use runs::run_thread;
 pub use turns::{Turned, turn};

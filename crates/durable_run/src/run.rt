@@ -1,10 +1,10 @@
 // What a run changes.
 use ap_base::{Ref, Sink};
 use line_image::Image;
+use machine::SharedHeap;
 use natives::NativeState;
 use private_steps::Frames;
 use run_history::Watcher;
-use shared_heap::SharedHeap;
 
 /// What a run changes: the frames of its thread, the heap with its history, the outside, and how
 /// many turns the thread has had.

@@ -1,9 +1,11 @@
 -- Chars that are stored to a new object.
-use Rattle.std.proofs.Common.{◌≡◌, inl, inr, ℕ, ℤ, ◌+◌, ◌<◌, ◌≤◌, ◌^◌, true, pos, List, [], ◌∷◌, ◌++◌, map, take, drop, length, get_or, set, slice_index_or, Option, Some, None, refl, ap, ◌∙◌, sym, subst, arith, append_assoc}
+use Rattle.std.proofs.Common.{◌≡◌, inl, inr, ℕ, ℤ, ◌+◌, ◌<◌, ◌≤◌, ◌^◌, true, pos, List, [], ◌∷◌, ◌++◌, map, take, drop, length}
+use Rattle.std.proofs.Common.{get_or, set, slice_index_or, Option, Some, None, refl, ap, ◌∙◌, sym, subst, arith, append_assoc}
 use Rattle.std.specs.Prelude.{sum_by}
 use Rattle.std.specs.Int.{w32, cast_unsigned}
 use Rattle.std.proofs.lemmas.Bool.{cases_lt, lt-ltb}
-use Rattle.std.proofs.lemmas.List.{get_or-set_same, get_or_at, get_or_past, set-set, set_at, take_more, drop_more, map-append, length-map, length-take-le, length-replicate}
+use Rattle.std.proofs.lemmas.List.{get_or-set_same, get_or_at, get_or_past, set-set, set_at, take_more, drop_more, map-append}
+use Rattle.std.proofs.lemmas.List.{length-map, length-take-le, length-replicate}
 use Rattle.ap_base.specs.declared.kind.Kind.{Kind}
 use Rattle.ap_base.specs.declared.kind.Kind.TheVariants.{C}
 use Rattle.ap_base.specs.declared.place.Place.TheVariants.{Slot}

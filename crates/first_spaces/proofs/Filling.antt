@@ -1,5 +1,7 @@
 -- The heap that has been given its first volatile objects and its static fields.
-use Rattle.std.proofs.Common.{◌≡◌, ◌⊎◌, inl, inr, ℕ, zero, suc, ◌+◌, ◌-◌, ◌*◌, ◌/◌, ◌%◌, ◌<◌, ◌≤◌, Bool, true, false, List, [], ◌∷◌, ◌++◌, map, drop, length, slice_index_or, Option, Some, None, refl, ap, ◌∙◌, sym, subst, arith, length-append, if◌then◌else◌}
+use Rattle.std.proofs.Common.{◌≡◌, ◌⊎◌, inl, inr, ℕ, zero, suc, ◌+◌, ◌-◌, ◌*◌, ◌/◌, ◌%◌, ◌<◌, ◌≤◌, Bool, true, false, List, []}
+use Rattle.std.proofs.Common.{◌∷◌, ◌++◌, map, drop, length, slice_index_or, Option, Some, None, refl, ap, ◌∙◌, sym, subst}
+use Rattle.std.proofs.Common.{arith, length-append, if◌then◌else◌}
 use Rattle.std.specs.Prelude.{slice_index, sum_by}
 use Rattle.std.specs.Option.{option_map}
 use Rattle.std.proofs.lemmas.Bool.{cases_lt}
@@ -26,8 +28,10 @@ use Rattle.image_meaning.specs.Directories.{Directory}
 use Rattle.image_meaning.specs.Meaning.{root_word as image_root}
 use Rattle.image_meaning.specs.Objects.{length_at}
 use Rattle.image_meaning.specs.Opening.{found_at, free_line}
-use Rattle.plain_model.specs.Facts.{Constant, IntConstant, LiteralConstant, LongConstant, SetFacts, StaticFacts, arguments_class, shapes_of, stream_class, string_number}
-use Rattle.plain_model.specs.First.{constant_value, first_heap, first_objects, first_statics, lacking_roots, literal_object, node_object, static_value as plain_value}
+use Rattle.plain_model.specs.Facts.{Constant, IntConstant, LiteralConstant, LongConstant, SetFacts, StaticFacts}
+use Rattle.plain_model.specs.Facts.{arguments_class, shapes_of, stream_class, string_number}
+use Rattle.plain_model.specs.First.{constant_value, first_heap, first_objects, first_statics, lacking_roots, literal_object}
+use Rattle.plain_model.specs.First.{node_object, static_value as plain_value}
 use Rattle.plain_model.specs.Kinds.{narrowed}
 use Rattle.plain_model.specs.Limits.{words_of, words_taken}
 use Rattle.shared_objects.specs.Shown.{number_value}

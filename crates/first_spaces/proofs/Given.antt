@@ -1,5 +1,6 @@
 -- What volatile objects and static fields are made of is there.
-use Rattle.std.proofs.Common.{◌≡◌, ℕ, ◌<◌, Bool, true, false, List, map, length, slice_index_or, Option, Some, None, ap, ◌∙◌, sym, subst, arith, if◌then◌else◌}
+use Rattle.std.proofs.Common.{◌≡◌, ℕ, ◌<◌, Bool, true, false, List, map, length, slice_index_or, Option, Some, None, ap, ◌∙◌}
+use Rattle.std.proofs.Common.{sym, subst, arith, if◌then◌else◌}
 use Rattle.std.specs.Prelude.{All}
 use Rattle.std.specs.Option.{option_map}
 use Rattle.std.proofs.lemmas.List.{length-map, get_or-map}
@@ -11,7 +12,8 @@ use Rattle.line_memory.specs.Memory.{Memory}
 use Rattle.image_meaning.specs.Directories.{Directory}
 use Rattle.plain_model.specs.Classes.{ClassFacts, no_class}
 use Rattle.plain_model.specs.Consistent.{IsConstantBelow}
-use Rattle.plain_model.specs.Facts.{SetFacts, StaticFacts, arguments_class, class_at, classes_of, shapes_of, stream_class, string_number}
+use Rattle.plain_model.specs.Facts.{SetFacts, StaticFacts, arguments_class, class_at, classes_of, shapes_of, stream_class}
+use Rattle.plain_model.specs.Facts.{string_number}
 use Rattle.plain_model.specs.First.{lacking_roots}
 use Rattle.plain_model.proofs.Consistent.{arguments_there, stream_shape, stream_there, string_there, text_elements}
 use Rattle.plain_model.proofs.Given.{given_arrays_are_there}

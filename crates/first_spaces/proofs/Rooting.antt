@@ -1,5 +1,7 @@
 -- Static fields lie in the root slots of the durable roots whose statics they are.
-use Rattle.std.proofs.Common.{◌≡◌, ◌≢◌, inl, inr, ℕ, zero, suc, ◌+◌, ◌-◌, ◌<◌, Bool, true, false, ◌&&◌, List, [], ◌∷◌, ◌++◌, map, filter, take, length, refl, ap, sym, ◌∙◌, subst, arith, nat_eq, cond, slice_index_or, if◌then◌else◌, length-append}
+use Rattle.std.proofs.Common.{◌≡◌, ◌≢◌, inl, inr, ℕ, zero, suc, ◌+◌, ◌-◌, ◌<◌, Bool, true, false, ◌&&◌, List, [], ◌∷◌, ◌++◌}
+use Rattle.std.proofs.Common.{map, filter, take, length, refl, ap, sym, ◌∙◌, subst, arith, nat_eq, cond, slice_index_or}
+use Rattle.std.proofs.Common.{if◌then◌else◌, length-append}
 use Rattle.std.specs.Prelude.{◌↔◌, AllPairs, Contains, Option, Some, None}
 use Rattle.std.proofs.lemmas.Bool.{eqb-true, eq-eqb, and_parts, false≢true, cases_lt}
 use Rattle.std.proofs.lemmas.List.{get_or-map, get_or_append_left, get_or_past, length-map}

@@ -1,5 +1,6 @@
 -- What words of an image show in a heap, by what they hold.
-use Rattle.std.proofs.Common.{◌≡◌, ◌⊎◌, inl, inr, ℕ, zero, suc, ◌*◌, ◌<◌, ◌^◌, true, nat_lt, pos, List, [], ◌∷◌, map, length, slice_get, slice_index_or, Option, Some, None, refl, ap, ◌∙◌, sym, arith, rules}
+use Rattle.std.proofs.Common.{◌≡◌, ◌⊎◌, inl, inr, ℕ, zero, suc, ◌*◌, ◌<◌, ◌^◌, true, nat_lt, pos, List, [], ◌∷◌, map, length}
+use Rattle.std.proofs.Common.{slice_get, slice_index_or, Option, Some, None, refl, ap, ◌∙◌, sym, arith, rules}
 use Rattle.std.specs.Prelude.{slice_index}
 use Rattle.std.specs.Int.{w32, cast_signed}
 use Rattle.std.proofs.lemmas.Int.{to_z_pos}
@@ -11,7 +12,7 @@ use Rattle.graph_model.specs.declared.types.Field.{Field}
 use Rattle.graph_model.specs.declared.types.Shape.{Shape}
 use Rattle.graph_model.specs.declared.types.Value.{Value}
 use Rattle.graph_model.specs.declared.types.Value.TheVariants.{Int, Long, Null, Obj as Object}
-use Rattle.image_meaning.specs.Objects.{has_length, kind_of}
+use Rattle.image_meaning.specs.Objects.{holds_slots, kind_of}
 use Rattle.image_meaning.specs.Corresponds.{Holds, HoldsReference}
 use Rattle.image_meaning.specs.Opening.{found_at}
 use Rattle.one_space.specs.Layout.{lower}
@@ -32,11 +33,11 @@ slice_here (x ∷ xs) zero d below = refl
 slice_here (x ∷ xs) (suc i) d below = slice_here xs i d (omega (arith, below))
 
 -- the kind of a slot of an object that has as many as its shape says
-pub kind_is : (shape : Shape) (count i : ℕ) → has_length shape.element shape.fields count ≡ true → i < count
+pub kind_is : (shape : Shape) (count i : ℕ) → holds_slots shape.element shape.fields count ≡ true → i < count
     → kind_in (kinds_of shape) i ≡ Some (kind_of shape i)
 kind_is shape count i full below = at_parts shape.element full
   where
-    at_parts : (element : Option Kind) → has_length element shape.fields count ≡ true
+    at_parts : (element : Option Kind) → holds_slots element shape.fields count ≡ true
         → kind_in (kinds_of (record { name = shape.name; fields = shape.fields; element = element })) i
         ≡ Some (kind_of (record { name = shape.name; fields = shape.fields; element = element }) i)
     at_parts (Some kind) is = refl

@@ -1,5 +1,6 @@
 -- What the first heap of a class set is made of, over an image with a directory and a graph.
-use Rattle.std.specs.Prelude.{◌≡◌, ◌≢◌, ℕ, ◌<◌, ◌≤◌, ◌^◌, true, List, [], ◌++◌, map, length, slice_index, slice_index_or, All, AllPairs}
+use Rattle.std.specs.Prelude.{◌≡◌, ◌≢◌, ℕ, ◌<◌, ◌≤◌, ◌^◌, true, List, [], ◌++◌, map, length, slice_index, slice_index_or, All}
+use Rattle.std.specs.Prelude.{AllPairs}
 use Rattle.std.specs.Option.{option_map}
 use Rattle.line_memory.specs.Memory.{Memory}
 use Rattle.graph_model.specs.declared.types.Graph.{Graph}

@@ -1,5 +1,6 @@
 // Objects in volatile memory, which a heap is given one after another.
-ghost use Rattle.std.specs.Prelude.{◌≡◌, ◌+◌, ◌<◌, ◌≤◌, ◌^◌, ◌∷◌, [], ℕ, All, IfErr, IfOk, IsTrue, List, OnOk, Some, length, map, pos, slice_index_or};
+ghost use Rattle.std.specs.Prelude.{◌≡◌, ◌+◌, ◌<◌, ◌≤◌, ◌^◌, ◌∷◌, [], ℕ, All, IfErr, IfOk, IsTrue, List, OnOk, Some, length};
+ghost use Rattle.std.specs.Prelude.{map, pos, slice_index_or};
 ghost use Rattle.ap_base.specs.declared.kind.Kind.TheVariants.{C};
 ghost use Rattle.ap_base.specs.declared.reference.Item.TheVariants.{Int as IntItem};
 ghost use Rattle.graph_model.specs.Heaps.{no_shape};

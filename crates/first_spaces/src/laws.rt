@@ -1,5 +1,6 @@
 // Laws of images over which a run begins, and of the first heap.
-ghost use Rattle.first_spaces.specs.Laws.{AppendedImagesAreOpened, EmptyImagesAreOpened, FirstScenesAgree, FoundImagesAreOpened};
+ghost use Rattle.first_spaces.specs.Laws.{AppendedImagesAreOpened, EmptyImagesAreOpened, FirstScenesAgree};
+ghost use Rattle.first_spaces.specs.Laws.{FoundImagesAreOpened};
 
 use convert_words::places_go_on;
 

@@ -1,6 +1,8 @@
 -- What a call leaves in the window on the cells.
-use Rattle.std.proofs.Common.{◌≡◌, ℕ, ◌+◌, ◌-◌, ◌≤◌, List, [], ◌++◌, length, take, drop, reverse, ap, sym, ◌∙◌, arith, subst, length-append, length-drop, take-append-drop, drop_of_length-le}
-use Rattle.std.proofs.lemmas.List.{take_all, drop-drop, take-append-le, drop-append-le, reverse-append, reverse-reverse, length-reverse}
+use Rattle.std.proofs.Common.{◌≡◌, ℕ, ◌+◌, ◌-◌, ◌≤◌, List, [], ◌++◌, length, take, drop, reverse, ap, sym, ◌∙◌, arith, subst}
+use Rattle.std.proofs.Common.{length-append, length-drop, take-append-drop, drop_of_length-le}
+use Rattle.std.proofs.lemmas.List.{take_all, drop-drop, take-append-le, drop-append-le, reverse-append, reverse-reverse}
+use Rattle.std.proofs.lemmas.List.{length-reverse}
 use Rattle.std.proofs.Math.Seq.{take-add, take-append_seam}
 use Rattle.frame_cells.specs.declared.cell.Cell.{Cell}
 use Rattle.frame_cells.specs.Window.{Window, window}

@@ -1,5 +1,6 @@
 -- A list in which one entry comes before some others, each of which moves up by one in turn.
-use Rattle.std.proofs.Common.{◌≡◌, ℕ, ◌<◌, ◌+◌, ◌∙◌, ap, Some, List, [], ◌∷◌, ◌++◌, length, take, drop, append_assoc, arith, length-set, slice_get, slice_set, insert}
+use Rattle.std.proofs.Common.{◌≡◌, ℕ, ◌<◌, ◌+◌, ◌∙◌, ap, Some, List, [], ◌∷◌, ◌++◌, length, take, drop, append_assoc, arith}
+use Rattle.std.proofs.Common.{length-set, slice_get, slice_set, insert}
 use Rattle.std.proofs.lemmas.List.{take_more_set, drop-set-lt, drop_more}
 use Rattle.std.proofs.lemmas.Option.{get_or_from_slice_get}
 

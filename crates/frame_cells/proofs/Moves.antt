@@ -1,6 +1,8 @@
 -- What a copy of the top cells leaves in the window on the cells.
-use Rattle.std.proofs.Common.{◌≡◌, ℕ, ◌+◌, ◌-◌, ◌≤◌, List, [], ◌∷◌, ◌++◌, length, take, drop, reverse, ap, sym, ◌∙◌, arith, subst, length-append, length-drop, true, Some, slice_get}
-use Rattle.std.proofs.lemmas.List.{take-take, length-take-le, take-append-le, drop-drop, reverse-append, reverse-reverse, length-reverse}
+use Rattle.std.proofs.Common.{◌≡◌, ℕ, ◌+◌, ◌-◌, ◌≤◌, List, [], ◌∷◌, ◌++◌, length, take, drop, reverse, ap, sym, ◌∙◌, arith}
+use Rattle.std.proofs.Common.{subst, length-append, length-drop, true, Some, slice_get}
+use Rattle.std.proofs.lemmas.List.{take-take, length-take-le, take-append-le, drop-drop, reverse-append, reverse-reverse}
+use Rattle.std.proofs.lemmas.List.{length-reverse}
 use Rattle.std.proofs.Math.Seq.{drop-append_seam}
 use Rattle.std.specs.List.{insert}
 use Rattle.frame_cells.specs.declared.cell.Cell.{Cell}

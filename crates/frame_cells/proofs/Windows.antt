@@ -1,6 +1,8 @@
 -- What a write to the vector of cells leaves in the window on it.
-use Rattle.std.proofs.Common.{◌≡◌, ℕ, ◌+◌, ◌-◌, ◌≤◌, ◌<◌, List, [], ◌++◌, length, take, drop, reverse, refl, ap, sym, ◌∙◌, arith, take-append-drop, length-drop, nat_le, true, subst, slice_set, append-nil, length-set}
-use Rattle.std.proofs.lemmas.List.{take-set-le, drop-set-add, drop-set-lt, take-append-le, drop-append-le, take-take, length-take-le, reverse-append, length-reverse, drop-take}
+use Rattle.std.proofs.Common.{◌≡◌, ℕ, ◌+◌, ◌-◌, ◌≤◌, ◌<◌, List, [], ◌++◌, length, take, drop, reverse, refl, ap, sym, ◌∙◌}
+use Rattle.std.proofs.Common.{arith, take-append-drop, length-drop, nat_le, true, subst, slice_set, append-nil, length-set}
+use Rattle.std.proofs.lemmas.List.{take-set-le, drop-set-add, drop-set-lt, take-append-le, drop-append-le, take-take}
+use Rattle.std.proofs.lemmas.List.{length-take-le, reverse-append, length-reverse, drop-take}
 use Rattle.std.proofs.lemmas.Bool.{le-leb}
 use Rattle.std.proofs.Math.Seq.{drop-append_seam, take-set-lt}
 use Rattle.frame_cells.specs.declared.cell.Cell.{Cell}

@@ -18,7 +18,8 @@ use Rattle.frame_cells.specs.declared.cell.Cell.{Cell}
 use Rattle.frame_cells.specs.declared.cell.Cell.TheVariants.{Empty, Int, Long, Half, Reference}
 use Rattle.frame_cells.specs.declared.cell.Did.TheVariants.{Next, Jump, DividedByZero, Bad}
 use Rattle.frame_cells.specs.Own.{Own, After, stays}
-use Rattle.frame_cells.specs.Families.{pushes, pushes_long, loads, stores, increments, combines, negates, shifts, converts, compares, branches, branches_on_two, branches_on_null, switches, looks_up, rearranges}
+use Rattle.frame_cells.specs.Families.{pushes, pushes_long, loads, stores, increments, combines, negates, shifts, converts}
+use Rattle.frame_cells.specs.Families.{compares, branches, branches_on_two, branches_on_null, switches, looks_up, rearranges}
 
 -- references are numbers here, and 0 is null
 abbrev pub Cells : Type 0

@@ -1,6 +1,7 @@
 //! The cells of a thread's frames, in one stack that never grows.
 
-ghost use Rattle.std.specs.Prelude.{◌≡◌, Bool, ℕ, ◌<◌, ◌≤◌, ◌+◌, ◌-◌, List, [], ◌∷◌, ◌++◌, length, take, drop, reverse, replicate, slice_get, IfOk};
+ghost use Rattle.std.specs.Prelude.{◌≡◌, Bool, ℕ, ◌<◌, ◌≤◌, ◌+◌, ◌-◌, List, [], ◌∷◌, ◌++◌, length, take, drop, reverse};
+ghost use Rattle.std.specs.Prelude.{replicate, slice_get, IfOk};
 ghost use Rattle.frame_cells.specs.Own.{int_at, long_at, reference_at, IsAsLarge, put, keep, is_whole};
 ghost use Rattle.frame_cells.specs.Window.{Window, empty_window, filled, window, window_after, entered};
 ghost use Rattle.frame_cells.specs.Families.{gives_long, copies, drops, swaps};
@@ -25,12 +26,13 @@ impl<R: Copy + Drop> Model for Cells<R> {
 
     ghost Value = { Window R };
 
-    ghost view = { λ c. window c.items c.locals c.base c.room };
+    ghost view = { λ c. window c.items.entries c.locals c.base c.room };
 
     ghost invariant = { λ c. (c.locals ≤ c.base)
-        × (c.base ≤ length c.items)
-        × (length c.items ≤ c.base + c.room)
-        × (c.base + c.room ≤ 65536) };
+        × (c.base ≤ length c.items.entries)
+        × (length c.items.entries ≤ c.base + c.room)
+        × (c.base + c.room ≤ c.items.ready)
+        × (c.items.ready ≤ 65536) };
 }
 
 /// Where the locals and the stack of a frame begin among the cells, and how many cells its stack may have.
@@ -42,12 +44,12 @@ pub struct Places {
 }
 
 impl<R: Copy + Drop> Cells<R> {
-    /// No frames. It takes all the memory that the thread will need.
+    /// No frames. It takes all the memory that the thread will need, and writes none of it.
     pub fn new(alloc: Global) -> Result<Cells<R>, AllocError>
         ensures { IfOk result (λ r. r ≡ empty_window) }
     {
         Ok(Cells {
-            items: CellStack::new(alloc, Cell::Empty)?,
+            items: CellStack::new(alloc)?,
             locals: 0,
             base: 0,
             room: 0,
@@ -303,6 +305,8 @@ impl<R: Copy + Drop> Cells<R> {
         ensures { self.new ≡ entered args locals room self.old }
     {
         self.locals = self.items.len() - args;
+        self.items
+            .make_ready(self.locals + locals + room, Cell::Empty);
         fill(&mut self.items, locals - args);
         self.base = self.items.len();
         self.room = room;
@@ -316,6 +320,8 @@ impl<R: Copy + Drop> Cells<R> {
         ensures { self.new ≡ window self.old.under places.locals places.base places.room }
     {
         self.items.truncate(self.locals);
+        self.items
+            .make_ready(places.base + places.room, Cell::Empty);
         self.locals = places.locals;
         self.base = places.base;
         self.room = places.room;
@@ -338,8 +344,9 @@ impl<R: Copy + Drop> Cells<R> {
 
 // Empty cells at the end.
 fn fill<R: Copy + Drop>(items: &mut CellStack<Cell<R>>, count: usize)
-    requires { length items.old + count ≤ 65536 }
-    ensures { items.new ≡ items.old ++ replicate count Cell.Empty }
+    requires { length items.old.entries + count ≤ items.old.ready }
+    ensures entries { items.new.entries ≡ items.old.entries ++ replicate count Cell.Empty }
+    ensures ready { items.new.ready ≡ items.old.ready }
 {
     for _ in 0..count {
         items.push(Cell::Empty);

@@ -18,4 +18,3 @@ pub use laws::{
     branches_and_locals_follow, kinds_are_checked, longs_are_moved_whole,
     numbers_are_those_of_the_standard,
 };
-pub use stack::{CellStack, ROOM};

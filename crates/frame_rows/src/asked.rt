@@ -2,7 +2,7 @@
 
 use ap_base::{Item, Ref};
 use natives::Request;
-use run_types::{Full, LinkKind, RunFault, Which};
+use run_types::{Full, LinkKind, StepFault, Which};
 
 /// What a turn asks.
 #[derive(Clone, Copy, PartialEq)]
@@ -32,17 +32,17 @@ pub enum Asked {
     Other,
 }
 
-fn of_fault(fault: &RunFault) -> Asked {
+fn of_fault(fault: &StepFault) -> Asked {
     match fault {
-        RunFault::BadCode(from) => Asked::BadCode(from.method, from.pc),
-        RunFault::Full(
+        StepFault::BadCode(from) => Asked::BadCode(from.method, from.pc),
+        StepFault::Full(
             Full {
                 which: Which::FrameSlots,
                 need,
                 left,
             },
         ) => Asked::Slots(*need, *left),
-        RunFault::LinkFault {
+        StepFault::LinkFault {
             kind: LinkKind::InitFailed,
             class,
             index: _,

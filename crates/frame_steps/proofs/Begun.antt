@@ -1,5 +1,6 @@
 -- The cells with which a method begins.
-use Rattle.std.proofs.Common.{◌≡◌, ℕ, zero, suc, ◌+◌, ◌-◌, ◌≤◌, ◌<◌, nat_le, true, List, [], ◌∷◌, ◌++◌, length, reverse, replicate, slice_set, Option, None, Some, refl, ap, sym, ◌∙◌, arith}
+use Rattle.std.proofs.Common.{◌≡◌, ℕ, zero, suc, ◌+◌, ◌-◌, ◌≤◌, ◌<◌, nat_le, true, List, [], ◌∷◌, ◌++◌, length, reverse}
+use Rattle.std.proofs.Common.{replicate, slice_set, Option, None, Some, refl, ap, sym, ◌∙◌, arith}
 use Rattle.frame_cells.specs.declared.cell.Cell.{Cell}
 use Rattle.frame_cells.specs.declared.cell.Cell.TheVariants.{Empty, Reference}
 use Rattle.frame_cells.specs.Own.{Own}

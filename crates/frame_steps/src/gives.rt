@@ -2,10 +2,11 @@
 
 ghost use Rattle.std.specs.Prelude.{◌≡◌, Some, None, IfSome};
 ghost use Rattle.run_types.specs.declared.fault.LinkKind.TheVariants as kind;
-ghost use Rattle.run_types.specs.declared.fault.RunFault.TheVariants as fault;
+ghost use Rattle.run_types.specs.declared.fault.StepFault.TheVariants as fault;
 ghost use Rattle.frames.specs.declared.given.Given.{Given};
 ghost use Rattle.frames.specs.Settings.{Runs};
-ghost use Rattle.frames.specs.Calls.{Stepped, native_does, begins_with, begins_found, breaks, returns_to, reply_of, signature_of};
+ghost use Rattle.frames.specs.Calls.{Stepped, native_does, begins_with, begins_found, breaks, returns_to, reply_of};
+ghost use Rattle.frames.specs.Calls.{signature_of};
 ghost use Rattle.frame_thread.specs.Views.{native_step, called};
 ghost use Rattle.frame_thread.specs.Stacked.{list_of, stepped, IsBelowEnd};
 ghost use Rattle.frame_steps.specs.Sized.{AreOf};

@@ -1,7 +1,8 @@
 //! How classes are initialised, and what goes on once they are.
 
 ghost use Rattle.std.specs.Prelude.{◌≡◌, [], IfSome, None};
-ghost use Rattle.frames.specs.Calls.{begins_initialiser, initialises, resumes, runs_initialiser, begins_with, if_room, returns_to, goes_on};
+ghost use Rattle.frames.specs.Calls.{begins_initialiser, initialises, resumes, runs_initialiser, begins_with, if_room};
+ghost use Rattle.frames.specs.Calls.{returns_to, goes_on};
 ghost use Rattle.frames.specs.Settings.{Ends};
 ghost use Rattle.frame_thread.specs.Stacked.{list_of, stepped, IsBelowEnd};
 ghost use Rattle.frame_steps.specs.Sized.{AreOf};

@@ -2,3 +2,4 @@ pub mod Views
 pub mod Stacked
 pub mod Outlines
 pub mod Stops
+pub mod Forms

@@ -1,7 +1,6 @@
 //! What a frame is, and what a thread does next.
 
 use crate::said::Fault;
-use frame_cells::Places;
 use frames::Given;
 use run_types::{At, Key};
 
@@ -24,14 +23,6 @@ pub enum Form<R, N> {
     Initialiser { class: u32, from: At },
     /// `main` and its argument, until its class is initialised.
     Main { method: u32, arguments: R },
-}
-
-/// A frame below the last one: what it is, where its cells are, and how many slots were left above it.
-#[derive(Clone, Copy)]
-pub struct Saved<R, N> {
-    pub form: Form<R, N>,
-    pub places: Places,
-    pub left: usize,
 }
 
 /// What a thread does next, where that is no instruction of its last frame.

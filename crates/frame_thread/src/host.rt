@@ -1,6 +1,6 @@
 //! What frames are given by the machine that runs them.
 
-ghost use Rattle.std.specs.Prelude.{◌≡◌, map, reverse};
+ghost use Rattle.std.specs.Prelude.{◌≡◌, List, map, reverse, take};
 ghost use Rattle.frames.specs.Settings.{Setting};
 ghost use Rattle.frames.specs.Calls.{cells_of, value_of};
 ghost use Rattle.frame_thread.specs.Views.{native_step, receiver_given};
@@ -46,9 +46,11 @@ pub trait Host<M: Copy + Drop, R: Copy + Drop, N: Copy + Drop, V: Drop> {
     fn given(&self, value: &V) -> Given<R>
         ensures { cells_of result ≡ (setting self.now).cells value.now };
 
-    /// Where a native method stands that was given its arguments, the last one first.
+    /// Where a native method stands that was given arguments, of which these are the first two, the last one first.
+    /// No native method reads more.
     fn start(&self, method: M, from: At, arguments: &[Given<R>]) -> N
-        ensures { let values = map (value_of (setting self.now)) (reverse arguments.now) in
+        ensures { (values : List V) →
+            take 2 (map (value_of (setting self.now)) (reverse arguments.now)) ≡ take 2 values →
             result ≡ (setting self.now).start method from values };
 
     /// The same of a native method with no argument but this receiver.

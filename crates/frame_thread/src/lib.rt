@@ -3,6 +3,7 @@
 #![tactic(auto)]
 
 mod form;
+mod forms;
 mod host;
 mod private;
 pub mod requests;
@@ -10,7 +11,7 @@ mod said;
 pub mod tables;
 mod thread;
 
-pub use form::{Activity, Advance, Callee, Form, Saved, Standing};
+pub use form::{Activity, Advance, Callee, Form, Standing};
 pub use host::Host;
 pub use private::{Stop, Why};
 pub use said::{Fault, Said};

@@ -4,7 +4,7 @@ ghost use Rattle.std.specs.Prelude.{◌≡◌};
 ghost use Rattle.frame_thread.specs.Views.{fault_of, request_said};
 
 use natives::Request;
-use run_types::{At, Full, Key, LinkKind, RunFault, Which};
+use run_types::{At, Full, Key, LinkKind, StepFault, Which};
 
 /// The faults with which frames end a run.
 #[derive(Clone, Copy)]
@@ -23,14 +23,14 @@ pub enum Fault {
 }
 
 impl Fault {
-    /// The fault as a run tells it.
-    pub fn of_run(self) -> RunFault
+    /// The fault as a step meets it.
+    pub fn of_step(self) -> StepFault
         ensures { result ≡ fault_of self }
     {
         match self {
-            Fault::BadCode(from) => RunFault::BadCode(from),
-            Fault::Unlinked { kind, class, index } => RunFault::LinkFault { kind, class, index },
-            Fault::Slots { need, left } => RunFault::Full(Full {
+            Fault::BadCode(from) => StepFault::BadCode(from),
+            Fault::Unlinked { kind, class, index } => StepFault::LinkFault { kind, class, index },
+            Fault::Slots { need, left } => StepFault::Full(Full {
                 which: Which::FrameSlots,
                 need: need as u64,
                 left: left as u64,
@@ -59,7 +59,7 @@ impl<R: Copy + Drop> Said<R> {
             Said::Raise { from, class } => Some(Request::Raise { from, class }),
             Said::Init { from, class } => Some(Request::Init { from, class }),
             Said::Exit { from, key } => Some(Request::Exit { from, key }),
-            Said::Breaks(fault) => Some(Request::Broken(fault.of_run())),
+            Said::Breaks(fault) => Some(Request::Broken(fault.of_step())),
         }
     }
 }

@@ -1,7 +1,8 @@
 //! Reads of the tables of a program, by number.
 
 ghost use Rattle.std.specs.Prelude.{◌≡◌, pos, slice_index_or};
-ghost use Rattle.frames.specs.Tables.{placed_at, method_at, class_at, selector_at, field_at, no_table, no_lookup, from_of, start_of, dispatched, is_subtype, first_initialised, target_of, covers};
+ghost use Rattle.frames.specs.Tables.{placed_at, method_at, class_at, selector_at, field_at, no_table, no_lookup, from_of};
+ghost use Rattle.frames.specs.Tables.{start_of, dispatched, is_subtype, first_initialised, target_of, covers};
 ghost use Rattle.frame_thread.specs.Outlines.{outline_of};
 
 use ap_base::Kind;

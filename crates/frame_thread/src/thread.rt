@@ -1,6 +1,7 @@
 //! The frames of a thread in memory of a fixed size: all that reads or writes how they lie there.
 
-ghost use Rattle.std.specs.Prelude.{◌≡◌, ◌<◌, ◌≤◌, ◌+◌, ◌-◌, [], ◌∷◌, ◌++◌, drop, take, length, reverse, replicate, Some, None, IsSome, IfSome, IfOk, vec_capacity};
+ghost use Rattle.std.specs.Prelude.{◌≡◌, ◌<◌, ◌≤◌, ◌+◌, ◌-◌, [], ◌∷◌, ◌++◌, drop, take, length, reverse, replicate, Some, None};
+ghost use Rattle.std.specs.Prelude.{IsSome, IfSome, IfOk, vec_capacity};
 ghost use Rattle.frame_cells.specs.Own.{IsAsLarge, put};
 ghost use Rattle.frame_cells.specs.Window.{filled, window_after};
 ghost use Rattle.frames.specs.Settings.{Running, Runs};
@@ -8,9 +9,11 @@ ghost use Rattle.frames.specs.Calls.{cells_of};
 ghost use Rattle.frames.specs.Turns.{turn_of};
 ghost use Rattle.frame_thread.specs.Views.{doing_of};
 ghost use Rattle.frame_thread.specs.Stops.{comes_to, IsAtOther};
-ghost use Rattle.frame_thread.specs.Stacked.{frames_with, list_of, frames_of, room_left, slots_at, moved, restated, holding, called_own, received, without, IsBelowEnd, IsOther, MayDo};
+ghost use Rattle.frame_thread.specs.Stacked.{frames_with, list_of, frames_of, room_left, slots_at, moved, restated, holding};
+ghost use Rattle.frame_thread.specs.Stacked.{called_own, received, without, IsBelowEnd, IsOther, MayDo};
 
-use crate::form::{Activity, Form, Saved, Standing};
+use crate::form::{Activity, Form, Standing};
+use crate::forms::Forms;
 use crate::host::Host;
 use crate::private::{Stop, run};
 use frame_cells::{Cell, Cells, Did, Places};
@@ -19,9 +22,6 @@ use run_types::Key;
 use std::alloc::{AllocError, Global};
 use std::marker::Model;
 
-/// How many frames a thread has room for: each but the first takes at least four slots.
-const FRAMES: usize = 16_385;
-
 /// How many cells the frames of a thread have room for.
 const CELLS: usize = 65_536;
 
@@ -29,14 +29,12 @@ const CELLS: usize = 65_536;
 #[derive(Drop)]
 pub struct Thread<R: Copy + Drop, N: Copy + Drop> {
     doing: Activity<R>,
-    form: Option<Form<R, N>>,
+    forms: Forms<R, N>,
     left: usize,
     cells: Cells<R>,
-    saved: Vec<Saved<R, N>>,
 }
 
 impl<R: Copy + Drop, N: Copy + Drop> Model for Thread<R, N> {
-    ghost use Rattle.std.specs.Prelude.{◌≤◌, reverse, vec_capacity};
     ghost use Rattle.frame_thread.specs.Stacked.{Stacked, callers_of, IsLaid, MayDo};
     ghost use Rattle.frame_thread.specs.Views.{doing_of};
 
@@ -44,14 +42,12 @@ impl<R: Copy + Drop, N: Copy + Drop> Model for Thread<R, N> {
 
     ghost view = { λ t. record {
       doing = doing_of t.doing;
-      form = t.form;
+      form = t.forms.form;
       own = t.cells.own;
-      below = callers_of (reverse t.saved.items) t.cells.under;
+      below = callers_of t.forms.saved t.cells.under;
     } };
 
-    ghost invariant = { λ t. (IsLaid t.form t.left t.cells (reverse t.saved.items))
-        × (MayDo t.doing t.form)
-        × (16385 ≤ vec_capacity t.saved) };
+    ghost invariant = { λ t. (IsLaid t.forms.form t.left t.cells t.forms.saved) × (MayDo t.doing t.forms.form) };
 }
 
 impl<R: Copy + Drop, N: Copy + Drop> Thread<R, N> {
@@ -61,10 +57,9 @@ impl<R: Copy + Drop, N: Copy + Drop> Thread<R, N> {
     {
         Ok(Thread {
             doing: Activity::Runs,
-            form: None,
+            forms: Forms::new(alloc)?,
             left: CELLS,
             cells: Cells::new(alloc)?,
-            saved: Vec::with_capacity(alloc, FRAMES)?,
         })
     }
 
@@ -90,7 +85,7 @@ impl<R: Copy + Drop, N: Copy + Drop> Thread<R, N> {
     pub fn form(&self) -> Option<Form<R, N>>
         ensures { result ≡ self.now.form }
     {
-        self.form
+        self.forms.last()
     }
 
     /// The cells of the last frame.
@@ -116,8 +111,8 @@ impl<R: Copy + Drop, N: Copy + Drop> Thread<R, N> {
         requires { self.old.doing ≡ Runs }
         ensures { self.new ≡ record self.old { form = moved to self.old.form } }
     {
-        if let Some(Form::Running(standing)) = self.form {
-            self.form = Some(Form::Running(Standing { at: to, ..standing }));
+        if let Some(standing) = self.forms.standing() {
+            self.forms.stand(Standing { at: to, ..standing });
         }
     }
 
@@ -125,11 +120,11 @@ impl<R: Copy + Drop, N: Copy + Drop> Thread<R, N> {
     pub fn hold(&mut self, monitor: Option<Key<R>>)
         ensures { self.new ≡ record self.old { form = holding monitor self.old.form } }
     {
-        if let Some(Form::Running(standing)) = self.form {
-            self.form = Some(Form::Running(Standing {
+        if let Some(standing) = self.forms.standing() {
+            self.forms.stand(Standing {
                 held: monitor,
                 ..standing
-            }));
+            });
         }
     }
 
@@ -137,8 +132,8 @@ impl<R: Copy + Drop, N: Copy + Drop> Thread<R, N> {
     pub fn restate(&mut self, state: N)
         ensures { self.new ≡ record self.old { form = restated state self.old.form } }
     {
-        if let Some(Form::Native { from, state: _ }) = self.form {
-            self.form = Some(Form::Native { from, state });
+        if let Some(Form::Native { from, state: _ }) = self.forms.last() {
+            self.forms.put(Form::Native { from, state });
         }
     }
 
@@ -173,10 +168,10 @@ impl<R: Copy + Drop, N: Copy + Drop> Thread<R, N> {
         ensures fuel { result.fuel ≤ fuel }
     {
         let stop = run(host, &mut self.cells, standing.at, fuel);
-        self.form = Some(Form::Running(Standing {
+        self.forms.stand(Standing {
             at: stop.at,
             ..standing
-        }));
+        });
         stop
     }
 
@@ -202,19 +197,16 @@ impl<R: Copy + Drop, N: Copy + Drop> Thread<R, N> {
           below = frames_with self.old.form (without taken self.old.own) self.old.below;
         } }
     {
-        let Some(form) = self.form else {
-            unreachable!()
-        };
         let places = self.cells.places();
         let _depth = self.cells.depth();
-        save(&mut self.saved, form, places, self.left);
-        self.cells.enter(taken, locals, room);
-        self.left -= 4 + locals + room;
-        self.form = Some(Form::Running(Standing {
+        let standing = Standing {
             method,
             at: entry,
             held: None,
-        }));
+        };
+        self.forms.call(standing, places, self.left);
+        self.cells.enter(taken, locals, room);
+        self.left -= 4 + locals + room;
     }
 
     /// A method is the only frame. It has no arguments yet.
@@ -228,14 +220,13 @@ impl<R: Copy + Drop, N: Copy + Drop> Thread<R, N> {
         } }
     {
         clear(&mut self.cells);
-        self.saved.clear();
         self.cells.enter(0, locals, room);
         self.left = CELLS - (4 + locals + room);
-        self.form = Some(Form::Running(Standing {
+        self.forms.begin(Standing {
             method,
             at: entry,
             held: None,
-        }));
+        });
     }
 
     /// A frame without cells is the only one.
@@ -246,10 +237,9 @@ impl<R: Copy + Drop, N: Copy + Drop> Thread<R, N> {
         ensures below { self.new.below ≡ [] }
     {
         clear(&mut self.cells);
-        self.saved.clear();
         self.cells.enter(0, 0, 0);
         self.left = CELLS - slots_of(&form);
-        self.form = Some(form);
+        self.forms.begin_other(form);
     }
 
     /// A frame without cells comes above the others.
@@ -263,15 +253,11 @@ impl<R: Copy + Drop, N: Copy + Drop> Thread<R, N> {
         ensures form { self.new.form ≡ Some form }
         ensures below { self.new.below ≡ list_of self.old }
     {
-        let Some(last) = self.form else {
-            unreachable!()
-        };
         let places = self.cells.places();
         let _depth = self.cells.depth();
-        save(&mut self.saved, last, places, self.left);
+        self.forms.push(form, places, self.left);
         self.cells.enter(0, 0, 0);
         self.left -= 16;
-        self.form = Some(form);
     }
 
     /// The last frame goes.
@@ -280,15 +266,13 @@ impl<R: Copy + Drop, N: Copy + Drop> Thread<R, N> {
         ensures frames { list_of self.new ≡ self.old.below }
         ensures waits { IfSome self.new.form IsBelowEnd }
     {
-        let Some(saved) = self.saved.pop() else {
+        let Some(kept) = self.forms.pop() else {
             clear(&mut self.cells);
             self.left = CELLS;
-            self.form = None;
             return;
         };
-        self.cells.leave(saved.places);
-        self.left = saved.left;
-        self.form = Some(saved.form);
+        self.cells.leave(kept.places);
+        self.left = kept.left;
     }
 
     /// All frames go.
@@ -297,9 +281,8 @@ impl<R: Copy + Drop, N: Copy + Drop> Thread<R, N> {
         ensures frames { list_of self.new ≡ [] }
     {
         clear(&mut self.cells);
-        self.saved.clear();
+        self.forms.clear();
         self.left = CELLS;
-        self.form = None;
     }
 }
 
@@ -313,22 +296,6 @@ fn slots_of<R, N>(form: &Form<R, N>) -> usize
         Form::Initialiser { .. } => 16,
         Form::Main { .. } => 0,
     }
-}
-
-// The last frame is kept below the one that comes.
-fn save<R: Copy + Drop, N: Copy + Drop>(
-    saved: &mut Vec<Saved<R, N>>,
-    form: Form<R, N>,
-    places: Places,
-    left: usize,
-)
-    requires few { length saved.old.items < 16385 }
-    requires room { 16385 ≤ vec_capacity saved.old }
-    ensures items { saved.new.items
-        ≡ saved.old.items ++ record { form = form; places = places; left = left } ∷ [] }
-    ensures room { vec_capacity saved.new ≡ vec_capacity saved.old }
-{
-    saved.push_reserved(Saved { form, places, left });
 }
 
 // No cells.

@@ -1,5 +1,7 @@
 -- A change of references commutes with calls, returns, initialisers and throwables.
-use Rattle.std.proofs.Common.{◌≡◌, ℕ, zero, suc, ℤ, ◌+◌, ◌-◌, nat_le, Bool, true, false, List, [], ◌∷◌, ◌++◌, length, take, drop, reverse, replicate, map, sum, slice_get, pos, Option, Some, None, refl, ap, sym, ◌∙◌, if◌then◌else◌}
+use Rattle.std.proofs.Common.{◌≡◌, ℕ, zero, suc, ℤ, ◌+◌, ◌-◌, nat_le, Bool, true, false, List, [], ◌∷◌, ◌++◌, length, take}
+use Rattle.std.proofs.Common.{drop, reverse, replicate, map, sum, slice_get, pos, Option, Some, None, refl, ap, sym, ◌∙◌}
+use Rattle.std.proofs.Common.{if◌then◌else◌}
 use Rattle.std.proofs.lemmas.List.{take-map, drop-map, map-append, length-map}
 use Rattle.std.proofs.lemmas.Option.{slice_get-map}
 use Rattle.std.proofs.lemmas.Grind.{reverse_onto}
@@ -7,7 +9,7 @@ use Rattle.std.specs.Option.{option_map}
 use Rattle.run_types.specs.declared.resolved.At.{At}
 use Rattle.run_types.specs.declared.key.Key.{Key}
 use Rattle.run_types.specs.declared.key.Key.TheVariants as key
-use Rattle.run_types.specs.declared.fault.RunFault.TheVariants as fault
+use Rattle.run_types.specs.declared.fault.StepFault.TheVariants as fault
 use Rattle.run_types.specs.declared.fault.Which.TheVariants.{FrameSlots}
 use Rattle.natives.specs.declared.requests.Reply.TheVariants as reply
 use Rattle.code_form.specs.declared.ins.Sort.{Sort}
@@ -25,10 +27,17 @@ use Rattle.frames.specs.declared.program.Method.{Method}
 use Rattle.frames.specs.declared.program.Program.{Program}
 use Rattle.frames.specs.declared.program.Target.{Target}
 use Rattle.frames.specs.declared.program.Target.TheVariants as target
-use Rattle.frames.specs.Tables.{Caught, Passed, Goes, Fails, method_at, class_at, start_of, dispatched, first_initialised, caught_by}
-use Rattle.frames.specs.Settings.{Frame, Running, Native, Initialiser, Main, Runs, Enters, NativeStep, Asks, Calls, Gives, Setting, slots_of, slots_left}
-use Rattle.frames.specs.Calls.{Stepped, arguments_on, cells_taken, cells_of, given_of, result_of, object_in, monitor_of, first_own, value_of, reply_of, done_so, after, if_room, begins_code, begins_body, begins, begins_with, begins_found, signature_of, native_does, returns_to, calls_with, calls, runs_method, runs_initialiser, initialises_first, begins_initialiser, initialises, resumes, returns_held, returns, leaves_method, caught, throws, breaks, goes_on}
-use Rattle.frames.specs.Maps.{map_cell, map_own, map_after, map_held, map_given, map_doing, map_frame, map_native, map_reply, map_stepped, Keeps}
+use Rattle.frames.specs.Tables.{Caught, Passed, Goes, Fails, method_at, class_at, start_of, dispatched, first_initialised}
+use Rattle.frames.specs.Tables.{caught_by}
+use Rattle.frames.specs.Settings.{Frame, Running, Native, Initialiser, Main, Runs, Enters, NativeStep, Asks, Calls, Gives}
+use Rattle.frames.specs.Settings.{Setting, slots_of, slots_left}
+use Rattle.frames.specs.Calls.{Stepped, arguments_on, cells_taken, cells_of, given_of, result_of, object_in, monitor_of}
+use Rattle.frames.specs.Calls.{first_own, value_of, reply_of, done_so, after, if_room, begins_code, begins_body, begins}
+use Rattle.frames.specs.Calls.{begins_with, begins_found, signature_of, native_does, returns_to, calls_with, calls, runs_method}
+use Rattle.frames.specs.Calls.{runs_initialiser, initialises_first, begins_initialiser, initialises, resumes, returns_held}
+use Rattle.frames.specs.Calls.{returns, leaves_method, caught, throws, breaks, goes_on}
+use Rattle.frames.specs.Maps.{map_cell, map_own, map_after, map_held, map_given, map_doing, map_frame, map_native, map_reply}
+use Rattle.frames.specs.Maps.{map_stepped, Keeps}
 use Rattle.frames.proofs.Cells.{int-map, reference-map, long-map, put-map}
 use Rattle.frames.proofs.Moved.{moved}
 

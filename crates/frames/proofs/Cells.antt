@@ -1,5 +1,6 @@
 -- A change of references commutes with what is read from and written to the cells of a frame.
-use Rattle.std.proofs.Common.{◌≡◌, ℕ, zero, suc, ◌+◌, ◌-◌, nat_le, ◌&&◌, not, Bool, true, false, List, [], ◌∷◌, ◌++◌, length, drop, map, slice_get, slice_set, Option, Some, None, refl, ap, sym, ◌∙◌, if◌then◌else◌}
+use Rattle.std.proofs.Common.{◌≡◌, ℕ, zero, suc, ◌+◌, ◌-◌, nat_le, ◌&&◌, not, Bool, true, false, List, [], ◌∷◌, ◌++◌, length}
+use Rattle.std.proofs.Common.{drop, map, slice_get, slice_set, Option, Some, None, refl, ap, sym, ◌∙◌, if◌then◌else◌}
 use Rattle.std.proofs.lemmas.List.{drop-map, map-append, length-map, map-set}
 use Rattle.std.proofs.lemmas.Option.{slice_get-map}
 use Rattle.std.specs.Option.{option_map}

@@ -1,5 +1,6 @@
 -- A change of references commutes with the private instructions on cells, family by family.
-use Rattle.std.proofs.Common.{◌≡◌, ℕ, ℤ, ◌+◌, ◌&&◌, Bool, true, false, List, [], ◌∷◌, ◌++◌, take, drop, slice_get, Option, Some, None, refl, ap, ◌∙◌}
+use Rattle.std.proofs.Common.{◌≡◌, ℕ, ℤ, ◌+◌, ◌&&◌, Bool, true, false, List, [], ◌∷◌, ◌++◌, take, drop, slice_get, Option, Some}
+use Rattle.std.proofs.Common.{None, refl, ap, ◌∙◌}
 use Rattle.std.proofs.lemmas.List.{take-map, drop-map, map-append}
 use Rattle.std.specs.Option.{option_map}
 use Rattle.std.specs.Int.{w32, w64}
@@ -21,7 +22,9 @@ use Rattle.frame_cells.specs.declared.cell.Cell.TheVariants.{Int, Long, Half, Re
 use Rattle.frame_cells.specs.declared.cell.Did.TheVariants.{Next}
 use Rattle.frame_cells.specs.Own.{Own, After, int_of, long_of, reference_of, int_at, long_at, reference_at, put, is_whole}
 use Rattle.frame_cells.specs.Numbers.{combined, compared}
-use Rattle.frame_cells.specs.Families.{with, when, unless_divided, loads, stores, increments, combines, negates, shifts, converts, compares, branches, branches_on_two, branches_on_null, switches, looks_up, drops, copies, swaps, rearranges}
+use Rattle.frame_cells.specs.Families.{with, when, unless_divided, loads, stores, increments, combines, negates, shifts}
+use Rattle.frame_cells.specs.Families.{converts, compares, branches, branches_on_two, branches_on_null, switches, looks_up}
+use Rattle.frame_cells.specs.Families.{drops, copies, swaps, rearranges}
 use Rattle.frames.specs.Maps.{map_own, map_after}
 use Rattle.frames.proofs.Cells.{int-map, reference-map, long-map, whole-map, put-map, keep-map}
 

@@ -1,6 +1,7 @@
 -- A setting with the tables of another one, over other references: what its private instructions and
 -- requests come to.
-use Rattle.std.proofs.Common.{◌≡◌, ℕ, ℤ, ◌+◌, ◌-◌, Bool, true, false, [], ◌∷◌, slice_index_or, Option, Some, None, refl, if◌then◌else◌}
+use Rattle.std.proofs.Common.{◌≡◌, ℕ, ℤ, ◌+◌, ◌-◌, Bool, true, false, [], ◌∷◌, slice_index_or, Option, Some, None, refl}
+use Rattle.std.proofs.Common.{if◌then◌else◌}
 use Rattle.std.specs.Option.{option_map}
 use Rattle.run_types.specs.declared.resolved.At.{At}
 use Rattle.ap_base.specs.declared.kind.Kind.{Kind}
@@ -21,7 +22,9 @@ use Rattle.frames.specs.Private.{by_table, by_lookup, private_step}
 use Rattle.frames.specs.Requests.{width_of, given, value_so, request_of}
 use Rattle.frames.specs.Maps.{map_own, map_after, map_asks, Keeps}
 use Rattle.frames.proofs.Cells.{int-map, reference-map, long-map, put-map}
-use Rattle.frames.proofs.Families.{combines-map, compares-map, shifts-map, negates-map, converts-map, increments-map, branches-map, branches_on_two-map, branches_on_null-map, switches-map, looks_up-map, loads-map, stores-map, rearranges-map}
+use Rattle.frames.proofs.Families.{combines-map, compares-map, shifts-map, negates-map, converts-map, increments-map}
+use Rattle.frames.proofs.Families.{branches-map, branches_on_two-map, branches_on_null-map, switches-map, looks_up-map}
+use Rattle.frames.proofs.Families.{loads-map, stores-map, rearranges-map}
 
 abbrev pub moved : {M R S N O V W : Type 0} → Setting M R N V → Setting M S O W → Setting M S O W
 moved a b = record b { program = a.program; main = a.main }

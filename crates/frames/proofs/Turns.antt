@@ -1,5 +1,6 @@
 -- A change of references commutes with turns and answers.
-use Rattle.std.proofs.Common.{◌≡◌, ℕ, zero, suc, ◌-◌, Bool, true, false, List, [], ◌∷◌, drop, map, pos, negsuc, Option, Some, None, refl, ap, sym, ◌∙◌, subst}
+use Rattle.std.proofs.Common.{◌≡◌, ℕ, zero, suc, ◌-◌, Bool, true, false, List, [], ◌∷◌, drop, map, pos, negsuc, Option, Some}
+use Rattle.std.proofs.Common.{None, refl, ap, sym, ◌∙◌, subst}
 use Rattle.std.proofs.lemmas.List.{drop-map}
 use Rattle.std.specs.Option.{option_map}
 use Rattle.run_types.specs.declared.resolved.At.{At}
@@ -20,15 +21,22 @@ use Rattle.frames.specs.declared.program.Selector.{Selector}
 use Rattle.frames.specs.declared.program.Target.{Target}
 use Rattle.frames.specs.declared.program.Target.TheVariants as target
 use Rattle.frames.specs.Tables.{placed_at, method_at, selector_at, from_of, dispatched}
-use Rattle.frames.specs.Settings.{Frame, Running, Native, Initialiser, Main, Doing, Runs, BeginsMain, BeginsThread, Enters, Unwinds, Initialises, Initialised, Breaks, Ends, Frames, Setting}
+use Rattle.frames.specs.Settings.{Frame, Running, Native, Initialiser, Main, Doing, Runs, BeginsMain, BeginsThread, Enters}
+use Rattle.frames.specs.Settings.{Unwinds, Initialises, Initialised, Breaks, Ends, Frames, Setting}
 use Rattle.frames.specs.Private.{private_step}
 use Rattle.frames.specs.Requests.{request_of, taken_by}
-use Rattle.frames.specs.Calls.{Stepped, after, calls, cells_taken, result_of, returns_to, native_does, throws, runs_initialiser, initialises, resumes}
-use Rattle.frames.specs.Turns.{asks_or, calls_special, does, at_of, key_of, class_of, frame_does, asked_by, one_of, one, turn_of, turn_if, turn, is_yes, is_so, gives_back, throws_top, calls_selected, replied, instruction_answered, native_answered, frame_answered, answered, settled, answer_of, answer_if, answer}
-use Rattle.frames.specs.Maps.{map_cell, map_own, map_key, map_held, map_given, map_doing, map_frame, map_frames, map_reply, map_asks, map_stepped, Keeps, GoAlike}
+use Rattle.frames.specs.Calls.{Stepped, after, calls, cells_taken, result_of, returns_to, native_does, throws, runs_initialiser}
+use Rattle.frames.specs.Calls.{initialises, resumes}
+use Rattle.frames.specs.Turns.{asks_or, calls_special, does, at_of, key_of, class_of, frame_does, asked_by, one_of, one}
+use Rattle.frames.specs.Turns.{turn_of, turn_if, turn, is_yes, is_so, gives_back, throws_top, calls_selected, replied}
+use Rattle.frames.specs.Turns.{instruction_answered, native_answered, frame_answered, answered, settled, answer_of, answer_if}
+use Rattle.frames.specs.Turns.{answer}
+use Rattle.frames.specs.Maps.{map_cell, map_own, map_key, map_held, map_given, map_doing, map_frame, map_frames, map_reply}
+use Rattle.frames.specs.Maps.{map_asks, map_stepped, Keeps, GoAlike}
 use Rattle.frames.proofs.Cells.{reference-map}
 use Rattle.frames.proofs.Moved.{moved, private_step-map, request_of-map}
-use Rattle.frames.proofs.Calls.{if-map, result_of-map, after-map, put-after, begins_found-map, native_does-map, returns_to-map, calls-map, runs_initialiser-map, initialises-map, resumes-map, returns-map, throws-map}
+use Rattle.frames.proofs.Calls.{if-map, result_of-map, after-map, put-after, begins_found-map, native_does-map, returns_to-map}
+use Rattle.frames.proofs.Calls.{calls-map, runs_initialiser-map, initialises-map, resumes-map, returns-map, throws-map}
 
 yes-map : {R S : Type 0} (f : R → S) → (cells : List (Cell R)) → is_yes (map (map_cell f) cells) ≡
     is_yes cells

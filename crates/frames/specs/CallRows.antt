@@ -8,7 +8,7 @@ use Rattle.run_types.specs.declared.resolved.At.{At}
 use Rattle.run_types.specs.declared.key.Key.{Key}
 use Rattle.run_types.specs.declared.key.Key.TheVariants as key
 use Rattle.run_types.specs.declared.fault.LinkKind.TheVariants.{MissingMethod}
-use Rattle.run_types.specs.declared.fault.RunFault.TheVariants as fault
+use Rattle.run_types.specs.declared.fault.StepFault.TheVariants as fault
 use Rattle.natives.specs.declared.requests.Request.{Request}
 use Rattle.natives.specs.declared.requests.Request.TheVariants as ask
 use Rattle.natives.specs.declared.requests.Reply.{Reply}
@@ -24,7 +24,8 @@ use Rattle.frames.specs.declared.program.Program.{Program}
 use Rattle.frames.specs.Settings.{Frame, Running, Initialiser, Main, Enters, Initialises, Initialised, Breaks, Ends}
 use Rattle.frames.specs.Calls.{Stepped}
 use Rattle.frames.specs.Turns.{turn, answer, begun_main, begun_thread}
-use Rattle.frames.specs.Rows.{Thread, Answer, setting, at_pc, static_method, program, running, runs, paused, asks, from, Turn, does, main_at, class_of}
+use Rattle.frames.specs.Rows.{Thread, Answer, setting, at_pc, static_method, program, running, runs, paused, asks, from, Turn}
+use Rattle.frames.specs.Rows.{does, main_at, class_of}
 use Rattle.frames.specs.RequestRows.{frames_at}
 
 -- static void f() { int i = 0; do i++; while (i < 256); f(); }

@@ -13,7 +13,9 @@ use Rattle.frame_cells.specs.declared.cell.Cell.TheVariants.{Empty, Int, Long, H
 use Rattle.frame_cells.specs.Own.{Own, After}
 use Rattle.frames.specs.declared.given.Given.{Given}
 use Rattle.frames.specs.declared.given.Given.TheVariants as given
-use Rattle.frames.specs.Settings.{Frame, Running, Native, Initialiser, Main, Doing, Runs, BeginsMain, BeginsThread, Enters, Unwinds, Initialises, Initialised, Breaks, Ends, Frames, NativeStep, Asks, Calls, Gives, Setting}
+use Rattle.frames.specs.Settings.{Frame, Running, Native, Initialiser, Main, Doing, Runs, BeginsMain, BeginsThread, Enters}
+use Rattle.frames.specs.Settings.{Unwinds, Initialises, Initialised, Breaks, Ends, Frames, NativeStep, Asks, Calls, Gives}
+use Rattle.frames.specs.Settings.{Setting}
 use Rattle.frames.specs.Calls.{Stepped}
 use Rattle.frames.specs.Turns.{turn, answer}
 

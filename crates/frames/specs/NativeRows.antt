@@ -3,7 +3,7 @@ use Rattle.std.specs.Prelude.{◌≡◌, ℕ, true, false, nat_eq, ◌+◌, List
 use Rattle.ap_base.specs.declared.kind.Kind.TheVariants.{Text}
 use Rattle.run_types.specs.declared.resolved.At.{At}
 use Rattle.run_types.specs.declared.fault.LinkKind.TheVariants.{MissingMethod}
-use Rattle.run_types.specs.declared.fault.RunFault.TheVariants as fault
+use Rattle.run_types.specs.declared.fault.StepFault.TheVariants as fault
 use Rattle.run_types.specs.declared.fault.Which.TheVariants.{FrameSlots}
 use Rattle.code_form.specs.declared.ins.Sort.{Sort}
 use Rattle.code_form.specs.declared.ins.Sort.TheVariants as sort
@@ -21,7 +21,8 @@ use Rattle.frames.specs.declared.program.Dispatch.{Dispatch}
 use Rattle.frames.specs.declared.program.Method.{Method}
 use Rattle.frames.specs.declared.program.Program.{Program}
 use Rattle.frames.specs.declared.program.Target.TheVariants as target
-use Rattle.frames.specs.Settings.{Frame, Running, Native, Doing, Runs, Breaks, Frames, Run, ToString, NativeStep, Asks, Calls, Gives, Setting}
+use Rattle.frames.specs.Settings.{Frame, Running, Native, Doing, Runs, Breaks, Frames, Run, ToString, NativeStep, Asks, Calls}
+use Rattle.frames.specs.Settings.{Gives, Setting}
 use Rattle.frames.specs.Calls.{Stepped}
 use Rattle.frames.specs.Turns.{turn_of, answer_if}
 use Rattle.frames.specs.Rows.{main_at, cells_of, at_pc, static_method, class_of, run_by, program, entry}

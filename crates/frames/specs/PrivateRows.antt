@@ -1,6 +1,6 @@
 -- What each private instruction does, as decoded (JVMS 6.5). Stacks are written with the top first.
 use Rattle.std.specs.Prelude.{ℕ, List, [], ◌∷◌, ℤ, pos, negsuc, None}
-use Rattle.run_types.specs.declared.fault.RunFault.TheVariants as fault
+use Rattle.run_types.specs.declared.fault.StepFault.TheVariants as fault
 use Rattle.code_form.specs.declared.ins.Binary.TheVariants.{Subtract, Divide, Remainder}
 use Rattle.code_form.specs.declared.ins.Case.{Case}
 use Rattle.code_form.specs.declared.ins.Condition.TheVariants as is

@@ -6,7 +6,7 @@ use Rattle.ap_base.specs.declared.kind.Kind.TheVariants.{Z, B, C, S, I, J, L}
 use Rattle.run_types.specs.declared.resolved.At.{At}
 use Rattle.run_types.specs.declared.resolved.FieldAt.{FieldAt}
 use Rattle.run_types.specs.declared.key.Key.TheVariants as key
-use Rattle.run_types.specs.declared.fault.RunFault.TheVariants as fault
+use Rattle.run_types.specs.declared.fault.StepFault.TheVariants as fault
 use Rattle.code_form.specs.declared.ins.Access.TheVariants as access
 use Rattle.code_form.specs.declared.ins.Equality.TheVariants.{Equal, NotEqual}
 use Rattle.natives.specs.declared.requests.Request.{Request}

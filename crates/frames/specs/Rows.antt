@@ -4,8 +4,8 @@ use Rattle.run_types.specs.declared.resolved.At.{At}
 use Rattle.run_types.specs.declared.key.Key.{Key}
 use Rattle.run_types.specs.declared.key.Key.TheVariants as key
 use Rattle.run_types.specs.declared.fault.LinkKind.TheVariants.{MissingClass, MissingMethod, InitFailed}
-use Rattle.run_types.specs.declared.fault.RunFault.{RunFault}
-use Rattle.run_types.specs.declared.fault.RunFault.TheVariants as fault
+use Rattle.run_types.specs.declared.fault.StepFault.{StepFault}
+use Rattle.run_types.specs.declared.fault.StepFault.TheVariants as fault
 use Rattle.run_types.specs.declared.fault.Which.TheVariants.{FrameSlots}
 use Rattle.code_form.specs.declared.ins.Binary.TheVariants.{Add, Divide}
 use Rattle.code_form.specs.declared.ins.Number.TheVariants as number
@@ -32,7 +32,8 @@ use Rattle.frames.specs.declared.program.Method.{Method}
 use Rattle.frames.specs.declared.program.Placed.{Placed}
 use Rattle.frames.specs.declared.program.Program.{Program}
 use Rattle.frames.specs.declared.program.Target.TheVariants as target
-use Rattle.frames.specs.Settings.{Frame, Running, Initialiser, Main, Doing, Runs, BeginsMain, BeginsThread, Enters, Unwinds, Initialised, Breaks, Ends, Frames, Gives, Setting}
+use Rattle.frames.specs.Settings.{Frame, Running, Initialiser, Main, Doing, Runs, BeginsMain, BeginsThread, Enters, Unwinds}
+use Rattle.frames.specs.Settings.{Initialised, Breaks, Ends, Frames, Gives, Setting}
 use Rattle.frames.specs.Calls.{Stepped}
 use Rattle.frames.specs.Turns.{turn_of, answer_if}
 
@@ -203,10 +204,10 @@ at m index stack = running m index [] stack ∷ []
 abbrev pub ends : Request ℕ (Cell ℕ) → List (Frame ℕ ℕ) → Turn
 ends request frames = (wrong, 9, runs frames, asks request (runs frames))
 
-abbrev pub breaks : RunFault → List (Frame ℕ ℕ) → Turn
+abbrev pub breaks : StepFault → List (Frame ℕ ℕ) → Turn
 breaks f frames = ends (ask.Broken f) frames
 
-abbrev pub few_slots : RunFault
+abbrev pub few_slots : StepFault
 few_slots = fault.Full (record { which = FrameSlots; need = 5; left = 3 })
 
 abbrev pub at_zero : List (Frame ℕ ℕ)
@@ -235,9 +236,10 @@ entry start end target catches = record { start = start; end = end; target = tar
 abbrev pub missing : Link
 missing = record { kind = MissingClass; index = 6 }
 
+-- a static synchronized method of class 1
 abbrev pub synchronized_method : (number entry : ℕ) → (room : ℕ) → Method ℕ
 synchronized_method number entry room = record {
-  class = 0;
+  class = 1;
   number = number;
   body = body.Code entry;
   parameters = [];
@@ -249,7 +251,8 @@ synchronized_method number entry room = record {
 }
 
 -- Method 0 has three handlers: of class 2 round instruction 1, of any throwable round 0 to 2, and round 3 one
--- whose class is missing. Method 1 is synchronized and has none. Method 2 is the initialiser of class 0.
+-- whose class is missing. Method 1 is synchronized, is of class 1 and has none. Method 2 is the initialiser of
+-- class 0.
 abbrev pub handling : Program ℕ
 handling = program
     (at_pc 0 0 op.Nop ∷ at_pc 0 1 (op.InvokeStatic 1) ∷ at_pc 0 4 op.Nop ∷ at_pc 0 5 op.Throw
@@ -262,11 +265,16 @@ handling = program
     ∷ static_method 4 8 [] 0 0 [] ∷ [])
     (Some 2)
 
+-- the monitor of the class of method 1
 abbrev pub class_key : Key ℕ
-class_key = key.Class 0
+class_key = key.Class 1
 
 abbrev pub caller : Frame ℕ ℕ
 caller = running 0 1 [] (Int (pos 9) ∷ [])
+
+-- in the synchronized method
+abbrev pub from_held : (pc : ℕ) → At
+from_held pc = record { class = 1; method = 3; pc = pc }
 
 -- the synchronized method at an instruction, above its caller
 abbrev pub held_at : ℕ → List (Cell ℕ) → List (Frame ℕ ℕ)
@@ -283,13 +291,13 @@ initialising_method = Running 2 8 (record { locals = []; stack = []; room = 0 })
 abbrev pub asks_doing : Doing ℕ → List (Frame ℕ ℕ) → Request ℕ (Cell ℕ) → Turn
 asks_doing doing frames request = (handling, 9, does doing frames, asks request (does doing frames))
 
--- A synchronized method asks for its monitor before its first instruction, and gives it back before it
+-- A static synchronized method asks for its class's monitor before its first instruction, and gives it back before it
 -- returns and before a throwable leaves it. An initialiser that has run says so.
 abbrev pub monitors : List Turn
 monitors =
-    asks_doing Enters (held_at 6 []) (ask.Enter (from 3 0) class_key) ∷
-    asks_doing Runs (held_at 7 []) (ask.Exit (from 3 1) class_key) ∷
-    asks_doing (Unwinds 30 2) (held_at 6 []) (ask.Exit (from 3 0) class_key) ∷
+    asks_doing Enters (held_at 6 []) (ask.Enter (from_held 0) class_key) ∷
+    asks_doing Runs (held_at 7 []) (ask.Exit (from_held 1) class_key) ∷
+    asks_doing (Unwinds 30 2) (held_at 6 []) (ask.Exit (from_held 0) class_key) ∷
     asks_doing Initialised (initialiser ∷ caller ∷ []) (ask.InitDone (from 2 1) 0) ∷ []
 
 abbrev pub answers : Doing ℕ → List (Frame ℕ ℕ) → Reply ℕ (Cell ℕ) → Doing ℕ → List (Frame ℕ ℕ) → Answer

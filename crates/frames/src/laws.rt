@@ -3,7 +3,8 @@
 ghost use Rattle.frames.specs.Settings.{Setting};
 ghost use Rattle.frames.specs.Maps.{Keeps, GoAlike};
 ghost use Rattle.frames.specs.Rows.{AreTurns, AreAnswers, calling, faults, monitors, replies, thrown, initialising};
-ghost use Rattle.frames.specs.CallRows.{AreWholeTurns, AreWholeAnswers, whole_turns, whole_answers, beginnings, superclasses, mains, ends_initialiser, selecting, entering};
+ghost use Rattle.frames.specs.CallRows.{AreWholeTurns, AreWholeAnswers, whole_turns, whole_answers, beginnings, superclasses};
+ghost use Rattle.frames.specs.CallRows.{mains, ends_initialiser, selecting, entering};
 ghost use Rattle.frames.specs.NativeRows as native;
 ghost use Rattle.frames.specs.PrivateRows.{constants, moves, numbers, branches};
 ghost use Rattle.frames.specs.RequestRows.{AreAsked, AreTaken, asking, wrong_operands, taking, branching, no_room};

@@ -1,13 +1,16 @@
 -- What is found once the slots of so many objects were looked at.
-use Rattle.std.proofs.Common.{◌≡◌, ◌↔◌, ℕ, zero, suc, ◌+◌, ◌<◌, ◌≤◌, true, List, [], ◌∷◌, ◌++◌, refl, ap, sym, ◌∙◌, subst, arith, length, take, drop, slice_index_or, eq-eqb, nat_eq, Some, ◌⊎◌, inl, inr}
+use Rattle.std.proofs.Common.{◌≡◌, ◌↔◌, ℕ, zero, suc, ◌+◌, ◌<◌, ◌≤◌, true, List, [], ◌∷◌, ◌++◌, refl, ap, sym, ◌∙◌, subst}
+use Rattle.std.proofs.Common.{arith, length, take, drop, slice_index_or, eq-eqb, nat_eq, Some, ◌⊎◌, inl, inr}
 use Rattle.std.specs.Prelude.{All, Contains}
 use Rattle.std.specs.List.{IsDistinct, flat_map, slice_get}
 use Rattle.std.proofs.lemmas.Bool.{cases_lt, false≢true, true≢false}
-use Rattle.std.proofs.lemmas.List.{append-nil, append_assoc, get_or_append_left, get_or_past, get_or_at, length-append, take-append-drop, take_all, take_more, flat_map_more}
+use Rattle.std.proofs.lemmas.List.{append-nil, append_assoc, get_or_append_left, get_or_past, get_or_at, length-append}
+use Rattle.std.proofs.lemmas.List.{take-append-drop, take_all, take_more, flat_map_more}
 use Rattle.std.proofs.lemmas.List.Concat.{flat_map-append}
 use Rattle.std.proofs.lemmas.Option.{slice_get_within, get_or_from_slice_get}
 use Rattle.std.proofs.lemmas.Map.Keys.{apart_from_distinct}
-use Rattle.std.proofs.lemmas.List.Elements.{All-nil, All-map, All-weaker, All-contains, Contains-append_left, Contains-append_right, Contains-get_or}
+use Rattle.std.proofs.lemmas.List.Elements.{All-nil, All-map, All-weaker, All-contains, Contains-append_left}
+use Rattle.std.proofs.lemmas.List.Elements.{Contains-append_right, Contains-get_or}
 use Rattle.std.proofs.lemmas.Map.Steps.{length-le_from_distinct_below}
 use Rattle.graph_model.specs.declared.types.Value.{Value}
 use Rattle.graph_model.specs.declared.types.Value.TheVariants.{Int, Long, Null, Obj as Object}
@@ -19,7 +22,8 @@ use Rattle.graph_model.specs.Canon.{with_new, with_slots_of, found_after, found_
 use Rattle.graph_model.specs.Reach.{here, along, IsReached}
 use Rattle.graph_model.specs.Found.{IsNumbered, IsNode}
 use Rattle.graph_model.specs.BreadthFirst.{IsNumbering}
-use Rattle.graph_model.proofs.Numbers.{has_number-any, has_number-from_Contains, Contains-from_has_number, with_new-append, with_new-has, with_new-only, with_new-prefix, with_new-distinct, with_new-below}
+use Rattle.graph_model.proofs.Numbers.{has_number-any, has_number-from_Contains, Contains-from_has_number, with_new-append}
+use Rattle.graph_model.proofs.Numbers.{with_new-has, with_new-only, with_new-prefix, with_new-distinct, with_new-below}
 
 -- no slots stand past the objects
 values_of-past : (heap : Heap) → values_of heap (length heap.objects) ≡ []

@@ -1,5 +1,6 @@
 -- Heaps after stores and with new objects.
-use Rattle.std.proofs.Common.{◌≡◌, ℕ, ◌+◌, ◌-◌, ◌^◌, ◌<◌, List, [], ◌∷◌, ◌++◌, map, replicate, Some, None, refl, ap, sym, ◌∙◌, subst, arith, length, slice_index_or, slice_set, if◌then◌else◌, nat_eq, inl, inr}
+use Rattle.std.proofs.Common.{◌≡◌, ℕ, ◌+◌, ◌-◌, ◌^◌, ◌<◌, List, [], ◌∷◌, ◌++◌, map, replicate, Some, None, refl, ap, sym, ◌∙◌}
+use Rattle.std.proofs.Common.{subst, arith, length, slice_index_or, slice_set, if◌then◌else◌, nat_eq, inl, inr}
 use Rattle.std.specs.Prelude.{All}
 use Rattle.std.proofs.lemmas.Bool.{cases_lt, cases_eq, eq-eqb, ne_eqb}
 use Rattle.std.proofs.lemmas.List.{get_or-set_same, get_or-set_other, length-set, length_push, set_past}
@@ -14,7 +15,8 @@ use Rattle.graph_model.specs.declared.types.Field.{Field}
 use Rattle.graph_model.specs.declared.types.Shape.{Shape}
 use Rattle.graph_model.specs.declared.types.Obj.{Obj}
 use Rattle.graph_model.specs.declared.types.Heap.{Heap}
-use Rattle.graph_model.specs.Heaps.{default_of, fresh_values, with_slot, no_object, object_at, shape_at, values_of, IsBelow, IsSound, HasPlace, value_at, stored, with_fresh, place_is}
+use Rattle.graph_model.specs.Heaps.{default_of, fresh_values, with_slot, no_object, object_at, shape_at, values_of, IsBelow}
+use Rattle.graph_model.specs.Heaps.{IsSound, HasPlace, value_at, stored, with_fresh, place_is}
 
 -- a list after a write, read at any place
 get_or-set : {X : Type 0} (xs : List X) (n m : ℕ) (x d : X) → n < length xs

@@ -1,5 +1,6 @@
 -- The objects that were found so far, and their places in the order.
-use Rattle.std.specs.Prelude.{◌≡◌, true, ℕ, ◌<◌, ◌^◌, List, length, All, Option, Some, None, slice_index_or, nat_eq, if◌then◌else◌}
+use Rattle.std.specs.Prelude.{◌≡◌, true, ℕ, ◌<◌, ◌^◌, List, length, All, Option, Some, None, slice_index_or, nat_eq}
+use Rattle.std.specs.Prelude.{if◌then◌else◌}
 use Rattle.std.specs.List.{IsDistinct}
 use Rattle.graph_model.specs.declared.types.Value.{Value}
 use Rattle.graph_model.specs.declared.types.Value.TheVariants.{Int, Long, Null, Obj as Object}

@@ -1,6 +1,7 @@
 -- Plain heaps: a list of objects that never move, static fields and durable roots (JVMS 2.4, 2.5.3; Shull, Huang and
 -- Torrellas, "AutoPersist", PLDI 2019, for durable roots). What their places hold, and what a store changes.
-use Rattle.std.specs.Prelude.{ℕ, ◌<◌, ◌^◌, Bool, true, false, nat_eq, pos, List, [], ◌∷◌, ◌++◌, map, length, replicate, slice_set, slice_index_or, Some, None, All, ◌||◌, ◌&&◌}
+use Rattle.std.specs.Prelude.{ℕ, ◌<◌, ◌^◌, Bool, true, false, nat_eq, pos, List, [], ◌∷◌, ◌++◌, map, length, replicate}
+use Rattle.std.specs.Prelude.{slice_set, slice_index_or, Some, None, All, ◌||◌, ◌&&◌}
 use Rattle.ap_base.specs.declared.kind.Kind.{Kind}
 use Rattle.ap_base.specs.declared.kind.Kind.TheVariants.{Z, B, C, S, I, J, L, Text}
 use Rattle.ap_base.specs.declared.place.Place.{Place}

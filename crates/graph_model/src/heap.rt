@@ -1,7 +1,8 @@
 // What the places of a heap hold, stores, and new objects.
 ghost use Rattle.std.specs.Prelude.{◌≡◌, ◌<◌, ◌-◌, ◌^◌, ◌↔◌, length, map, All, IsTrue, IfOk, OnOk, OnErr};
 ghost use Rattle.graph_model.specs.declared.types.Field.{Field as InstanceField};
-ghost use Rattle.graph_model.specs.Heaps.{IsBelow, IsSound, HasPlace, value_at, stored, with_fresh, values_of, fresh_values, default_of};
+ghost use Rattle.graph_model.specs.Heaps.{IsBelow, IsSound, HasPlace, value_at, stored, with_fresh, values_of, fresh_values};
+ghost use Rattle.graph_model.specs.Heaps.{default_of};
 
 use crate::{Field, Heap, Obj, Shape, Value};
 use ap_base::{Kind, ListOf, Place};

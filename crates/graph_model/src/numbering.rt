@@ -1,5 +1,6 @@
 // The numbering of what values reach.
-ghost use Rattle.std.specs.Prelude.{◌≡◌, ◌<◌, ◌^◌, [], length, All, IfOk, OnOk, filter, map, slice_index_or, Some, IfSome, IfNone, IsTrue, ◌≤◌};
+ghost use Rattle.std.specs.Prelude.{◌≡◌, ◌<◌, ◌^◌, [], length, All, IfOk, OnOk, filter, map, slice_index_or, Some, IfSome};
+ghost use Rattle.std.specs.Prelude.{IfNone, IsTrue, ◌≤◌};
 ghost use Rattle.std.specs.List.{range_with_len, slice_get};
 ghost use Rattle.graph_model.specs.Heaps.{IsBelow, IsSound, has_number};
 ghost use Rattle.graph_model.specs.Canon.{with_number, with_new, found_from, renumbered};

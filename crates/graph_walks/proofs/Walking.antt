@@ -1,10 +1,12 @@
 -- What a walk has reached while it goes on, and which vertices it has still to come to, in order.
-use Rattle.std.proofs.Common.{◌≡◌, ◌↔◌, ℕ, ◌+◌, ◌*◌, ◌-◌, ◌<◌, ◌≤◌, true, false, List, [], ◌∷◌, ◌++◌, refl, ap, sym, ◌∙◌, subst, arith, length, if◌then◌else◌, inl, inr}
+use Rattle.std.proofs.Common.{◌≡◌, ◌↔◌, ℕ, ◌+◌, ◌*◌, ◌-◌, ◌<◌, ◌≤◌, true, false, List, [], ◌∷◌, ◌++◌, refl, ap, sym, ◌∙◌, subst}
+use Rattle.std.proofs.Common.{arith, length, if◌then◌else◌, inl, inr}
 use Rattle.std.specs.Prelude.{Contains, All, reverse}
 use Rattle.std.specs.List.{flat_map, sum_by}
 use Rattle.std.proofs.lemmas.List.{append-nil, append_assoc, length-append, reverse-append}
 use Rattle.std.proofs.lemmas.List.Concat.{flat_map-append}
-use Rattle.std.proofs.lemmas.List.Elements.{All-contains, All-get_or, Contains-append_left, Contains-append_right, Contains-append_cases, Contains-push_cases}
+use Rattle.std.proofs.lemmas.List.Elements.{All-contains, All-get_or, Contains-append_left, Contains-append_right}
+use Rattle.std.proofs.lemmas.List.Elements.{Contains-append_cases, Contains-push_cases}
 use Rattle.std.proofs.lemmas.List.Sums.{get_or-le-sum_by}
 use Rattle.graph_walks.specs.Paths.{next_of, Leads, Directly, IsReached}
 use Rattle.graph_walks.specs.Order.{walk, visits_from}
@@ -12,7 +14,8 @@ use Rattle.graph_walks.specs.Reached.{has_vertex}
 use Rattle.graph_walks.proofs.Firsts.{firsts_of}
 use Rattle.graph_walks.proofs.Lists.{Contains-head, Contains-tail, Contains-cons_cases, Contains-nil, cons_head, cons_tail}
 use Rattle.graph_walks.proofs.Paths.{Leads-more, IsReached-more, IsReached-covered}
-use Rattle.graph_walks.proofs.Vertices.{Contains-from_has_vertex, has_vertex-from_Contains, with_vertices, with_vertices-append, with_vertices-none}
+use Rattle.graph_walks.proofs.Vertices.{Contains-from_has_vertex, has_vertex-from_Contains, with_vertices, with_vertices-append}
+use Rattle.graph_walks.proofs.Vertices.{with_vertices-none}
 use Rattle.graph_walks.proofs.Walks.{IsAcyclic, walk_step}
 
 module _ (edges : List (List ℕ)) (starts : List ℕ) where

@@ -3,10 +3,11 @@ ghost use Rattle.std.specs.Prelude.{◌≡◌, ◌≤◌, ◌<◌, ◌*◌, ◌^
 ghost use Rattle.std.specs.Fd.{file_raw_fd};
 ghost use Rattle.std.specs.Option.{ForSome};
 
+use crate::trouble::{Trouble, refused};
 use line_image::{Image, ImageFailed};
-use std::fs::File;
+use std::fs::{File, Metadata, TryLockError};
 use std::os::fd::{AsRawFd, RawFd};
-use std::os::unix::fs::FileExt;
+use std::os::unix::fs::{FileExt, MetadataExt};
 use std::rt::Files;
 use std::{fs, io};
 
@@ -17,13 +18,17 @@ const CLOSED_LINES: u64 = 32_768;
 // The highest number of a standard stream.
 const LAST_STREAM: RawFd = 2;
 
+// Where the system shows what is open as a standard stream (proc(5)).
+const STREAMS: [&str; 3] = ["/proc/self/fd/0", "/proc/self/fd/1", "/proc/self/fd/2"];
+
 /// A file as an image, for this process alone: as many lines as it has whole 64 bytes. It tells nothing.
 ///
-/// Its descriptor is none of a standard stream's, so that no printed byte is written to it. One that couldn't be opened, or is
-/// open in another process, shows 32,768 lines, and each call fails.
+/// Its descriptor is none of a standard stream's, and where the system tells which file a stream is, the image is no such file: so no
+/// printed byte is written to it. One that couldn't be opened, or is open in another process, shows 32,768 lines, and each call fails.
 #[derive(Drop)]
 pub struct ImageFile {
     file: Option<File>,
+    trouble: Option<Trouble>,
     lines: u64,
     calls: u64,
     faults: u64,
@@ -33,20 +38,36 @@ pub struct ImageFile {
     ghost faults_fit: { faults < 2 ^ 64 },
 }
 
-fn open_file(rt: &impl Files<File = File>, path: &str) -> io::Result<(File, u64)>
-    ensures apart { IfOk result (λ opened. pos 2 <ℤ file_raw_fd opened.0) }
-    ensures places_fit { IfOk result (λ opened. opened.1 * 64 < 2 ^ 64) }
-{
-    let file = fs::OpenOptions::new()
-        .read(true)
-        .write(true)
-        .open(rt, path)?;
-    if file.as_raw_fd() <= LAST_STREAM {
-        return Err(closed());
+// Whether a standard stream is this file.
+fn is_stream(rt: &impl Files<File = File>, image: &Metadata) -> bool {
+    for stream in STREAMS {
+        if let Ok(it) = fs::metadata(rt, stream) {
+            if it.dev() == image.dev() && it.ino() == image.ino() {
+                return true;
+            }
+        }
     }
-    file.try_lock()?;
-    let lines = file.metadata()?.len() / LINE_BYTES;
-    Ok((file, lines))
+    false
+}
+
+fn open_file(rt: &impl Files<File = File>, path: &str) -> Result<(File, u64), Trouble>
+    ensures apart { IfOk result (λ opened. pos 2 <ℤ file_raw_fd opened.0) }
+{
+    let file = match fs::OpenOptions::new().read(true).write(true).open(rt, path) {
+        Ok(file) => file,
+        Err(error) => return Err(refused(&error)),
+    };
+    let Ok(metadata) = file.metadata() else {
+        return Err(Trouble::Other);
+    };
+    if file.as_raw_fd() <= LAST_STREAM || is_stream(rt, &metadata) {
+        return Err(Trouble::Stream);
+    }
+    match file.try_lock() {
+        Ok(()) => Ok((file, metadata.len())),
+        Err(TryLockError::WouldBlock) => Err(Trouble::Locked),
+        Err(TryLockError::Error(_)) => Err(Trouble::Other),
+    }
 }
 
 fn read_words(file: &File, at: u64) -> io::Result<[u64; 8]> {
@@ -75,19 +96,26 @@ impl ImageFile {
     /// Opens a file, and locks it until it is closed.
     pub fn open(rt: &impl Files<File = File>, path: &str) -> ImageFile {
         match open_file(rt, path) {
-            Ok((file, lines)) => ImageFile {
+            Ok((file, bytes)) => ImageFile {
                 file: Some(file),
-                lines,
+                trouble: Trouble::of_length(bytes),
+                lines: bytes / LINE_BYTES,
                 calls: 0,
                 faults: 0,
             },
-            Err(_) => ImageFile {
+            Err(trouble) => ImageFile {
                 file: None,
+                trouble: Some(trouble),
                 lines: CLOSED_LINES,
                 calls: 0,
                 faults: 0,
             },
         }
+    }
+
+    /// Why the file can't serve as an image, as far as the host told it when the file was opened.
+    pub fn trouble(&self) -> Option<Trouble> {
+        self.trouble
     }
 
     // What a call on the file gave, with the counts of calls and faults.

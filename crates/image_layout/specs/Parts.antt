@@ -1,6 +1,7 @@
 -- The parts before the objects, and each part's word of the image. Of this project's own format.
 use Rattle.std.specs.Prelude.{◌≡◌, ℕ, ◌+◌, ◌<◌, ◌≤◌}
-use Rattle.image_layout.specs.Places.{root_slots, directory_words, logs, log_entries, slot_line, slot_word, directory_line, directory_word, log_head_line, log_entry_line, log_entry_word, object_line, object_word}
+use Rattle.image_layout.specs.Places.{root_slots, directory_words, logs, log_entries, slot_line, slot_word, directory_line}
+use Rattle.image_layout.specs.Places.{directory_word, log_head_line, log_entry_line, log_entry_word, object_line, object_word}
 
 -- a word of the superblock, a root slot, a word of the directory, a word of a log's head line, a word of a log's entry
 pub data Part : Type 0 where

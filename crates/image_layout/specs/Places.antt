@@ -4,7 +4,8 @@
 --   lines 33 to 4,128     the directory, 32,768 words
 --   lines 4,129 to 20,576 64 logs of 257 lines: a head, and 1,024 entries of two words
 --   from line 20,577      objects, each at a line's start
-use Rattle.std.specs.Prelude.{◌≡◌, ℕ, ◌+◌, ◌*◌, ◌/◌, ◌%◌, ◌^◌, Bool, true, false, ◌&&◌, ◌==◌, nat_le, Option, None, Some, IsTrue, if◌then◌else◌}
+use Rattle.std.specs.Prelude.{◌≡◌, ℕ, ◌+◌, ◌*◌, ◌/◌, ◌%◌, ◌^◌, Bool, true, false, ◌&&◌, ◌==◌, nat_le, Option, None, Some}
+use Rattle.std.specs.Prelude.{IsTrue, if◌then◌else◌}
 use Rattle.image_layout.specs.declared.superblock.BadReason.{BadReason}
 use Rattle.image_layout.specs.declared.superblock.BadReason.TheVariants.{Size, Magic, Version, LineCount, DirectoryUse}
 use Rattle.image_layout.specs.declared.superblock.Super.{Super}
@@ -109,4 +110,4 @@ super_check line lines =
 
 -- what a superblock says whose tests hold
 abbrev pub super_of : (ℕ → ℕ) → Super
-super_of line = if line 0 == 0 then Blank else Used (line 3)
+super_of line = if line 0 == 0 then Blank else Used (line 1) (line 3)

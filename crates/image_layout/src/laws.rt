@@ -1,7 +1,9 @@
 // Laws of the layout: its parts lie apart, and fill the lines before the objects.
 ghost use Rattle.std.specs.Prelude.{◌≡◌, ◌≢◌, ◌+◌, ◌*◌, ◌^◌, ◌<◌, ◌≤◌, ℕ, codes};
 ghost use Rattle.std.specs.Int.{from_le_bytes, w64};
-ghost use Rattle.image_layout.specs.Places.{root_slots, directory_words, logs, log_entries, first_object_line, min_lines, max_lines, magic, version, slot_line, directory_line, log_head_line, lines_of, object_line, head_of};
+ghost use Rattle.image_layout.specs.Places.{root_slots, directory_words, logs, log_entries, first_object_line, min_lines};
+ghost use Rattle.image_layout.specs.Places.{max_lines, magic, version, slot_line, directory_line, log_head_line, lines_of};
+ghost use Rattle.image_layout.specs.Places.{object_line, head_of};
 ghost use Rattle.image_layout.specs.Parts.{Part, IsPart, spot_of, IsInRow, IsInItsLog, object_spot};
 
 use crate::{

@@ -1,6 +1,7 @@
 // The words of the root slots, the directory and the logs.
 ghost use Rattle.std.specs.Prelude.{◌≡◌, ◌+◌, ◌<◌, ◌≤◌, ◌↔◌, IsNone, IfSome};
-ghost use Rattle.image_layout.specs.Places.{root_slots, directory_words, log_entries, slot_line, slot_word, directory_line, directory_word, log_head_line, log_entry_line, log_entry_word};
+ghost use Rattle.image_layout.specs.Places.{root_slots, directory_words, log_entries, slot_line, slot_word, directory_line};
+ghost use Rattle.image_layout.specs.Places.{directory_word, log_head_line, log_entry_line, log_entry_word};
 
 use crate::{
     DIRECTORY_WORDS, FIRST_DIRECTORY_LINE, FIRST_LOG_LINE, FIRST_SLOT_LINE, LOG_ENTRIES, LOG_LINES,

@@ -55,8 +55,8 @@ pub enum BadReason {
 pub enum Super {
     /// No layout is written yet.
     Blank,
-    /// The layout is written, and so many words of the directory are in use.
-    Used { directory: u32 },
+    /// The layout of this version is written, and so many words of the directory are in use.
+    Used { version: u32, directory: u32 },
 }
 
 /// Checks the superblock's words and the count of an image's lines: `Err` with the first check that fails.
@@ -85,6 +85,7 @@ pub fn check_super(words: &[u64; 8], lines: u64) -> Result<Super, BadReason>
         return Err(BadReason::DirectoryUse);
     }
     Ok(Super::Used {
+        version: words[1] as u32,
         directory: words[3] as u32,
     })
 }

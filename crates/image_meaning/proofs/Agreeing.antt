@@ -12,7 +12,8 @@ use Rattle.image_meaning.specs.Checks.{Words}
 use Rattle.image_meaning.specs.Directories.{Directory}
 use Rattle.image_meaning.specs.Objects.{shape_of, kind_of, object_slot}
 use Rattle.image_meaning.specs.Meaning.{root_word}
-use Rattle.image_meaning.specs.Corresponds.{LiesAt, Holds, HoldsReference, AreApart, Corresponds, SameObjectSizes, AgreesEverywhere, root_value_at, root_static}
+use Rattle.image_meaning.specs.Corresponds.{LiesAt, Holds, HoldsReference, AreApart, Corresponds, SameObjectSizes}
+use Rattle.image_meaning.specs.Corresponds.{AgreesEverywhere, root_value_at, root_static}
 
 apart_same : (c d : Words) (a b : ℕ) → d a 0 ≡ c a 0 → d b 0 ≡ c b 0 → AreApart c a b → AreApart d a b
 apart_same c d a b x y apart = rw (x, y) apart

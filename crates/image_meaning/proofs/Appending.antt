@@ -1,5 +1,6 @@
 -- A directory with one more entry.
-use Rattle.std.proofs.Common.{◌≡◌, inl, inr, ℕ, zero, suc, ◌+◌, ◌-◌, ◌<◌, ◌||◌, Bool, true, false, List, [], ◌∷◌, ◌++◌, length, map, nat_le, Ok, refl, sym, ◌∙◌, ap, arith, slice_index_or, length-append, append_assoc}
+use Rattle.std.proofs.Common.{◌≡◌, inl, inr, ℕ, zero, suc, ◌+◌, ◌-◌, ◌<◌, ◌||◌, Bool, true, false, List, [], ◌∷◌, ◌++◌, length}
+use Rattle.std.proofs.Common.{map, nat_le, Ok, refl, sym, ◌∙◌, ap, arith, slice_index_or, length-append, append_assoc}
 use Rattle.std.proofs.lemmas.Bool.{cases_lt, leb-false}
 use Rattle.std.proofs.lemmas.List.{append-nil, get_or_append_left, get_or_at, length-map, map-append}
 use Rattle.std.proofs.lemmas.List.FromFn.{length-map-range_with_len, get_or-map-range_with_len}
@@ -14,7 +15,8 @@ use Rattle.graph_model.proofs.Numbers.{with_new-append}
 use Rattle.image_layout.specs.Places.{root_slots, directory_line, directory_word}
 use Rattle.image_meaning.specs.Checks.{Words}
 use Rattle.image_meaning.specs.Entries.{DirectoryEntry, ShapeEntry, RootEntry, spelled, IsEntry}
-use Rattle.image_meaning.specs.Directories.{Directory, no_entries, has_name, is_refused, with_entry, directory_words_of, directory_of, spelled_all, with_all, AreEntries, Spells}
+use Rattle.image_meaning.specs.Directories.{Directory, no_entries, has_name, is_refused, with_entry, directory_words_of}
+use Rattle.image_meaning.specs.Directories.{directory_of, spelled_all, with_all, AreEntries, Spells}
 use Rattle.image_meaning.specs.Logs.{SameLogs}
 use Rattle.image_meaning.specs.Objects.{shape_number, shape_of}
 use Rattle.image_meaning.specs.Corresponds.{LiesAt, IsObject, Corresponds, root_value_at}

@@ -1,5 +1,6 @@
 -- Images without objects, and with one array of ints.
-use Rattle.std.proofs.Common.{◌≡◌, ℕ, zero, suc, ◌*◌, ◌^◌, ◌<◌, ◌≤◌, true, ℤ, pos, List, [], ◌∷◌, length, map, refl, ap, sym, ◌∙◌, subst, arith, slice_index_or}
+use Rattle.std.proofs.Common.{◌≡◌, ℕ, zero, suc, ◌*◌, ◌^◌, ◌<◌, ◌≤◌, true, ℤ, pos, List, [], ◌∷◌, length, map, refl, ap, sym}
+use Rattle.std.proofs.Common.{◌∙◌, subst, arith, slice_index_or}
 use Rattle.std.proofs.lemmas.Bool.{lt-ltb}
 use Rattle.std.proofs.lemmas.List.{get_or-map, length-map}
 use Rattle.graph_model.specs.declared.types.Value.TheVariants.{Null, Obj as Object}
@@ -17,7 +18,8 @@ use Rattle.image_meaning.specs.Directories.{Directory, no_entries, with_all, Are
 use Rattle.image_meaning.specs.Objects.{shape_number, length_at, object_slot}
 use Rattle.image_meaning.specs.Meaning.{root_word, StandsFor}
 use Rattle.image_meaning.specs.Corresponds.{LiesAt, Corresponds, IsObject}
-use Rattle.image_meaning.specs.Arrays.{IsInUse, null_root, null_graph, int_array, array_entries, int_value, IsIntArray, array_graph}
+use Rattle.image_meaning.specs.Arrays.{IsInUse, null_root, null_graph, int_array, array_entries, int_value, IsIntArray}
+use Rattle.image_meaning.specs.Arrays.{array_graph}
 use Rattle.image_meaning.proofs.Directories.{roots-few}
 use Rattle.image_meaning.proofs.Opened.{stands, put_back-same_words, opens-in_use}
 

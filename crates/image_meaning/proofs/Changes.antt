@@ -1,6 +1,7 @@
 -- What changes of words and of heaps keep a correspondence. Where objects stay at their lines, it follows from
 -- what agrees place by place.
-use Rattle.std.proofs.Common.{◌≡◌, ◌≢◌, inl, inr, ℕ, ◌<◌, true, false, length, refl, sym, ◌∙◌, ap, subst, arith, slice_index_or, nat_eq, List, map}
+use Rattle.std.proofs.Common.{◌≡◌, ◌≢◌, inl, inr, ℕ, ◌<◌, true, false, length, refl, sym, ◌∙◌, ap, subst, arith, slice_index_or}
+use Rattle.std.proofs.Common.{nat_eq, List, map}
 use Rattle.std.proofs.lemmas.Bool.{cases_eq, eq-eqb, ne_eqb}
 use Rattle.std.proofs.lemmas.List.{get_or-set_same, get_or-set_other, length-set}
 use Rattle.ap_base.specs.declared.kind.Kind.{Kind}
@@ -19,7 +20,8 @@ use Rattle.image_meaning.specs.Checks.{Words}
 use Rattle.image_meaning.specs.Directories.{Directory}
 use Rattle.image_meaning.specs.Objects.{shape_of, object_slot, kind_of}
 use Rattle.image_meaning.specs.Meaning.{root_word}
-use Rattle.image_meaning.specs.Corresponds.{LiesAt, HoldsReference, Holds, Corresponds, root_value_at, SameWords, SameButSlot, SameButRoot, root_static, SameObjects, SameObjectSizes, Either, CanJoin}
+use Rattle.image_meaning.specs.Corresponds.{LiesAt, HoldsReference, Holds, Corresponds, root_value_at, SameWords, SameButSlot}
+use Rattle.image_meaning.specs.Corresponds.{SameButRoot, root_static, SameObjects, SameObjectSizes, Either, CanJoin}
 use Rattle.image_meaning.proofs.Agreeing.{corresponds-agree, root_value_is, slot_holds, root_holds, own_sizes}
 
 -- ---- words that say the same

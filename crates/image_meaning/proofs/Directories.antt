@@ -1,11 +1,15 @@
 -- A directory is read exactly where its words spell entries that may stand there.
-use Rattle.std.proofs.Common.{◌≡◌, ◌⊎◌, inl, inr, ℕ, zero, suc, ◌+◌, ◌<◌, ◌≤◌, Bool, true, false, List, [], ◌∷◌, ◌++◌, length, refl, sym, ◌∙◌, ap, subst, arith, ◌||◌, nat_le, Option, Some, None, Result, Ok, Err, append_assoc, length-append}
+use Rattle.std.proofs.Common.{◌≡◌, ◌⊎◌, inl, inr, ℕ, zero, suc, ◌+◌, ◌<◌, ◌≤◌, Bool, true, false, List, [], ◌∷◌, ◌++◌, length}
+use Rattle.std.proofs.Common.{refl, sym, ◌∙◌, ap, subst, arith, ◌||◌, nat_le, Option, Some, None, Result, Ok, Err, append_assoc}
+use Rattle.std.proofs.Common.{length-append}
 use Rattle.std.proofs.lemmas.Bool.{leb-false}
 use Rattle.std.proofs.lemmas.List.FromFn.{length-map-range_with_len}
 use Rattle.image_layout.specs.Places.{root_slots, directory_line, directory_word}
 use Rattle.image_meaning.specs.Checks.{Words, Bad}
 use Rattle.image_meaning.specs.Entries.{DirectoryEntry, ShapeEntry, RootEntry, entry_body, spelled, read_entry}
-use Rattle.image_meaning.specs.Directories.{Directory, no_entries, has_name, is_refused, with_entry, bad_entry, with_entries, directory_words_of, directory_of, spelled_all, with_all, AreEntries, NoEntryBegins, BreaksOff, Spells}
+use Rattle.image_meaning.specs.Directories.{Directory, no_entries, has_name, is_refused, with_entry, bad_entry, with_entries}
+use Rattle.image_meaning.specs.Directories.{directory_words_of, directory_of, spelled_all, with_all, AreEntries, NoEntryBegins}
+use Rattle.image_meaning.specs.Directories.{BreaksOff, Spells}
 use Rattle.image_meaning.specs.Laws.{BadDirectoriesAreTold}
 use Rattle.image_meaning.proofs.Entries.{entry-again, entry-taken}
 use Rattle.image_meaning.proofs.Ranges.{mapped_list, mapped_same}

@@ -1,5 +1,6 @@
 -- Changes of a heap that concern no object that lies somewhere.
-use Rattle.std.proofs.Common.{◌≡◌, ◌≢◌, inl, inr, ℕ, zero, suc, ◌+◌, ◌<◌, ◌≤◌, true, false, List, [], ◌∷◌, ◌++◌, length, map, refl, sym, ◌∙◌, ap, subst, arith, slice_index_or, slice_set, length-append}
+use Rattle.std.proofs.Common.{◌≡◌, ◌≢◌, inl, inr, ℕ, zero, suc, ◌+◌, ◌<◌, ◌≤◌, true, false, List, [], ◌∷◌, ◌++◌, length, map}
+use Rattle.std.proofs.Common.{refl, sym, ◌∙◌, ap, subst, arith, slice_index_or, slice_set, length-append}
 use Rattle.std.proofs.lemmas.Bool.{cases_eq, true≢false}
 use Rattle.std.proofs.lemmas.List.{get_or-set_same, get_or-set_other, length-set, get_or_append_left}
 use Rattle.ap_base.specs.declared.place.Place.TheVariants.{Static, Slot}
@@ -8,7 +9,8 @@ use Rattle.graph_model.specs.declared.types.Value.TheVariants.{Null}
 use Rattle.graph_model.specs.declared.types.Obj.{Obj}
 use Rattle.graph_model.specs.declared.types.Root.{Root}
 use Rattle.graph_model.specs.declared.types.Heap.{Heap}
-use Rattle.graph_model.specs.Heaps.{no_object, object_at, shape_at, values_of, value_at, is_kept_slot, with_slot, stored, with_fresh, fresh_values}
+use Rattle.graph_model.specs.Heaps.{no_object, object_at, shape_at, values_of, value_at, is_kept_slot, with_slot, stored}
+use Rattle.graph_model.specs.Heaps.{with_fresh, fresh_values}
 use Rattle.image_layout.specs.Places.{lines_of}
 use Rattle.image_meaning.specs.Checks.{Words}
 use Rattle.image_meaning.specs.Directories.{Directory}

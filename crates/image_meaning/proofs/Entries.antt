@@ -1,5 +1,7 @@
 -- What is read is spelled so, and what is spelled so is read.
-use Rattle.std.proofs.Common.{◌≡◌, ◌≢◌, ℕ, zero, suc, ◌+◌, ◌-◌, ◌*◌, ◌/◌, ◌%◌, ◌^◌, ◌==◌, ◌&&◌, ◌<◌, ◌≤◌, nat_eq, min, Bool, true, false, List, [], ◌∷◌, ◌++◌, length, take, drop, refl, sym, ◌∙◌, ap, subst, arith, if◌then◌else◌, Option, Some, None, append_assoc, length-append, length-drop, eq-eqb}
+use Rattle.std.proofs.Common.{◌≡◌, ◌≢◌, ℕ, zero, suc, ◌+◌, ◌-◌, ◌*◌, ◌/◌, ◌%◌, ◌^◌, ◌==◌, ◌&&◌, ◌<◌, ◌≤◌, nat_eq, min, Bool}
+use Rattle.std.proofs.Common.{true, false, List, [], ◌∷◌, ◌++◌, length, take, drop, refl, sym, ◌∙◌, ap, subst, arith}
+use Rattle.std.proofs.Common.{if◌then◌else◌, Option, Some, None, append_assoc, length-append, length-drop, eq-eqb}
 use Rattle.std.specs.List.{starts_with, AllByRecursion}
 use Rattle.std.specs.Cmp.Lexicographic.{pointwise, same_text}
 use Rattle.std.proofs.lemmas.Bool.{and_parts}
@@ -7,7 +9,10 @@ use Rattle.ap_base.specs.declared.kind.Kind.{Kind}
 use Rattle.ap_base.specs.declared.kind.Kind.TheVariants.{Z, B, C, S, I, J, L, Text}
 use Rattle.graph_model.specs.declared.types.Field.{Field}
 use Rattle.graph_model.specs.declared.types.Shape.{Shape}
-use Rattle.image_meaning.specs.Entries.{DirectoryEntry, ShapeEntry, RootEntry, letter_of, word_of_bytes, words_for, some_words, name_words, fields_words, entry_body, spelled, is_shape, is_entry, AreBytes, IsField, IsShape, IsEntry, kind_of_letter, bytes_of_word, bytes_from, name_from, behind_name, fields_from, shape_named, body_from, entry_from, read_entry}
+use Rattle.image_meaning.specs.Entries.{DirectoryEntry, ShapeEntry, RootEntry, letter_of, word_of_bytes, words_for, some_words}
+use Rattle.image_meaning.specs.Entries.{name_words, fields_words, entry_body, spelled, is_shape, is_entry, AreBytes, IsField}
+use Rattle.image_meaning.specs.Entries.{IsShape, IsEntry, kind_of_letter, bytes_of_word, bytes_from, name_from, behind_name}
+use Rattle.image_meaning.specs.Entries.{fields_from, shape_named, body_from, entry_from, read_entry}
 
 -- ---- names
 

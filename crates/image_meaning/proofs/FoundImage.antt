@@ -1,5 +1,6 @@
 -- What is found in an image corresponds to each heap that holds its graph.
-use Rattle.std.proofs.Common.{◌≡◌, ◌≢◌, inl, inr, ℕ, ◌+◌, ◌<◌, ◌≤◌, Bool, true, false, List, [], ◌∷◌, length, map, take, None, Ok, refl, sym, ◌∙◌, ap, subst, arith, slice_index_or}
+use Rattle.std.proofs.Common.{◌≡◌, ◌≢◌, inl, inr, ℕ, ◌+◌, ◌<◌, ◌≤◌, Bool, true, false, List, [], ◌∷◌, length, map, take, None}
+use Rattle.std.proofs.Common.{Ok, refl, sym, ◌∙◌, ap, subst, arith, slice_index_or}
 use Rattle.std.specs.List.{range_with_len, list_any}
 use Rattle.std.proofs.lemmas.Bool.{cases_lt}
 use Rattle.std.proofs.lemmas.List.{get_or-map, get_or-take, length-map, length-take, map-id}
@@ -26,7 +27,8 @@ use Rattle.image_meaning.specs.Opening.{no_node, graph_node, HoldsGraph, found_a
 use Rattle.image_meaning.proofs.Directories.{entries-taken, roots-few}
 use Rattle.image_meaning.proofs.Ranges.{get_or_any, mapped_alike}
 use Rattle.image_meaning.proofs.Steps.{Gone, all_gone}
-use Rattle.image_meaning.proofs.Opening.{ObjectPasses, object_passed, values_in_image, roots_in_image, root_unused, root_held, slot_held, one_number, apart_from_free}
+use Rattle.image_meaning.proofs.Opening.{ObjectPasses, object_passed, values_in_image, roots_in_image, root_unused, root_held}
+use Rattle.image_meaning.proofs.Opening.{slot_held, one_number, apart_from_free}
 
 not_if : (b c : Bool) → (b ≡ true → c ≡ true) → c ≡ false → b ≡ false
 not_if true c f none = absurd (let e : true ≡ false = sym (f refl) ∙ none in cc)

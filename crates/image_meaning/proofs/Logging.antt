@@ -1,5 +1,7 @@
 -- What entries of logs do to the words that are put back.
-use Rattle.std.proofs.Common.{◌≡◌, ◌≢◌, inl, inr, ℕ, zero, suc, ◌+◌, ◌/◌, ◌%◌, ◌<◌, ◌≤◌, ◌==◌, ◌&&◌, ◌||◌, Bool, true, false, List, [], ◌∷◌, ◌++◌, length, Some, None, refl, sym, ◌∙◌, ap, subst, arith, slice_index_or, if◌then◌else◌}
+use Rattle.std.proofs.Common.{◌≡◌, ◌≢◌, inl, inr, ℕ, zero, suc, ◌+◌, ◌/◌, ◌%◌, ◌<◌, ◌≤◌, ◌==◌, ◌&&◌, ◌||◌, Bool, true, false}
+use Rattle.std.proofs.Common.{List, [], ◌∷◌, ◌++◌, length, Some, None, refl, sym, ◌∙◌, ap, subst, arith, slice_index_or}
+use Rattle.std.proofs.Common.{if◌then◌else◌}
 use Rattle.std.specs.Prelude.{not}
 use Rattle.std.proofs.lemmas.Bool.{cases_lt, cases_eq, le-leb, and_parts, eqb-true, eq-eqb, ne_eqb, true≢false, cases_Bool}
 use Rattle.std.proofs.lemmas.List.Folds.{list_any-append, list_any_at}
@@ -7,13 +9,16 @@ use Rattle.std.proofs.lemmas.List.FromFn.{length-map-range_with_len, get_or-map-
 use Rattle.image_layout.specs.declared.superblock.BadReason.TheVariants as bad
 use Rattle.image_layout.specs.Places.{logs, log_entries, log_entry_line}
 use Rattle.image_meaning.specs.Checks.{Words, first_fault}
-use Rattle.image_meaning.specs.Logs.{Logged, log_count, logged_at, first_logged, log_of, logs_below, may_be_logged, has_place, entry_fault, log_fault, logs_fault, is_place, old_word, or_else, is_log_line, put_back, put_one, SameLogs}
+use Rattle.image_meaning.specs.Logs.{Logged, log_count, logged_at, first_logged, log_of, logs_below, may_be_logged, has_place}
+use Rattle.image_meaning.specs.Logs.{entry_fault, log_fault, logs_fault, is_place, old_word, or_else, is_log_line, put_back}
+use Rattle.image_meaning.specs.Logs.{put_one, SameLogs}
 use Rattle.image_meaning.specs.Logging.{AddsLogged, IsFree, LoggingKeeps, SameButLogged, Empties, EmptyingCommits}
 use Rattle.image_meaning.proofs.Faults.{first_fault-none, passes_if}
 use Rattle.image_meaning.proofs.Ranges.{mapped_same}
 use Rattle.image_meaning.proofs.Logs.{logs_below-same}
 use Rattle.image_meaning.proofs.Places.{first_more, not_named, log_passes, entry_passes, once}
-use Rattle.image_meaning.proofs.Recovering.{or_old, old_append, some_or, unchanged_log, emptied_log, logs_still, put_value, put_at, not_log_if_logged}
+use Rattle.image_meaning.proofs.Recovering.{or_old, old_append, some_or, unchanged_log, emptied_log, logs_still, put_value}
+use Rattle.image_meaning.proofs.Recovering.{put_at, not_log_if_logged}
 use Rattle.image_meaning.proofs.Stopped.{logs_pass}
 use Rattle.image_meaning.proofs.Naming.{same_lines}
 

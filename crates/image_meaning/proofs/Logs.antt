@@ -1,11 +1,13 @@
 -- Logs without counted entries, and logs that say the same.
-use Rattle.std.proofs.Common.{◌≡◌, ℕ, zero, suc, ◌<◌, ◌≤◌, ◌/◌, ◌&&◌, false, List, [], ◌++◌, refl, ap, ◌∙◌, arith, nat_le, nat_lt, None}
+use Rattle.std.proofs.Common.{◌≡◌, ℕ, zero, suc, ◌<◌, ◌≤◌, ◌/◌, ◌&&◌, false, List, [], ◌++◌, refl, ap, ◌∙◌, arith, nat_le}
+use Rattle.std.proofs.Common.{nat_lt, None}
 use Rattle.std.specs.Prelude.{not}
 use Rattle.std.proofs.lemmas.Bool.{lt-leb, le-ltb, and_left, and_right}
 use Rattle.image_layout.specs.declared.superblock.BadReason.TheVariants as bad
 use Rattle.image_layout.specs.Places.{logs, log_head_line, log_entry_line, first_object_line}
 use Rattle.image_meaning.specs.Checks.{Words, fails_unless, first_fault}
-use Rattle.image_meaning.specs.Logs.{Logged, log_count, logged_at, first_logged, log_of, logs_below, may_be_logged, has_place, entry_fault, log_fault, logs_fault, is_log_line, put_back, SameLogs, NoneLogged}
+use Rattle.image_meaning.specs.Logs.{Logged, log_count, logged_at, first_logged, log_of, logs_below, may_be_logged, has_place}
+use Rattle.image_meaning.specs.Logs.{entry_fault, log_fault, logs_fault, is_log_line, put_back, SameLogs, NoneLogged}
 use Rattle.image_meaning.proofs.Faults.{first_fault-none, first_fault-same}
 use Rattle.image_meaning.proofs.Ranges.{mapped_same}
 

@@ -3,7 +3,8 @@ use Rattle.std.proofs.Common.{◌≡◌, inl, inr, ℕ, zero, suc, ◌+◌, ◌<
 use Rattle.std.proofs.lemmas.Bool.{cases_lt, le-leb, lt-ltb}
 use Rattle.image_layout.specs.Places.{logs, log_head_line, log_entry_line, log_entry_word, first_object_line}
 use Rattle.image_meaning.specs.Checks.{Words}
-use Rattle.image_meaning.specs.Logs.{log_count, logged_at, first_logged, log_of, logs_below, log_fault, logs_fault, old_word, is_log_line, SameLogs}
+use Rattle.image_meaning.specs.Logs.{log_count, logged_at, first_logged, log_of, logs_below, log_fault, logs_fault, old_word}
+use Rattle.image_meaning.specs.Logs.{is_log_line, SameLogs}
 use Rattle.image_meaning.specs.Logging.{IsNamed}
 use Rattle.image_meaning.proofs.Ranges.{mapped_same}
 use Rattle.image_meaning.proofs.Places.{log_passes}

@@ -13,7 +13,8 @@ use Rattle.image_meaning.specs.Corresponds.{LiesAt, Corresponds, SameWords}
 use Rattle.image_meaning.specs.Laws.{Opens, SameFront}
 use Rattle.image_meaning.specs.Arrays.{IsInUse}
 use Rattle.image_meaning.proofs.Directories.{directory-again, directory-same}
-use Rattle.image_meaning.proofs.Logs.{logs_fault-none, put_back-none, not_log_before, not_log_after, logs_fault-same, put_back-same}
+use Rattle.image_meaning.proofs.Logs.{logs_fault-none, put_back-none, not_log_before, not_log_after, logs_fault-same}
+use Rattle.image_meaning.proofs.Logs.{put_back-same}
 use Rattle.image_meaning.proofs.Changes.{corresponds-same}
 use Rattle.image_meaning.proofs.Stands.{graph_from-corresponds}
 

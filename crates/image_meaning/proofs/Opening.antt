@@ -1,8 +1,10 @@
 -- An image that stands for a graph corresponds to each heap that holds the graph.
-use Rattle.std.proofs.Common.{◌≡◌, ◌≢◌, inl, inr, ℕ, ◌+◌, ◌-◌, ◌*◌, ◌/◌, ◌%◌, ◌<◌, ◌≤◌, ◌==◌, ◌&&◌, true, false, List, [], ◌∷◌, length, nat_eq, nat_le, nat_lt, None, refl, sym, ◌∙◌, arith, slice_index_or, if◌then◌else◌}
+use Rattle.std.proofs.Common.{◌≡◌, ◌≢◌, inl, inr, ℕ, ◌+◌, ◌-◌, ◌*◌, ◌/◌, ◌%◌, ◌<◌, ◌≤◌, ◌==◌, ◌&&◌, true, false, List, [], ◌∷◌}
+use Rattle.std.proofs.Common.{length, nat_eq, nat_le, nat_lt, None, refl, sym, ◌∙◌, arith, slice_index_or, if◌then◌else◌}
 use Rattle.std.specs.Prelude.{not}
 use Rattle.std.specs.List.{IsDistinct, list_any}
-use Rattle.std.proofs.lemmas.Bool.{cases_lt, cases_eq, lt-ltb, le-ltb, le-leb, eq-eqb, ne_eqb, false≢true, and_parts, and_from, leb-true, ltb-true, eqb-true, eqb-false, not-true}
+use Rattle.std.proofs.lemmas.Bool.{cases_lt, cases_eq, lt-ltb, le-ltb, le-leb, eq-eqb, ne_eqb, false≢true, and_parts, and_from}
+use Rattle.std.proofs.lemmas.Bool.{leb-true, ltb-true, eqb-true, eqb-false, not-true}
 use Rattle.std.proofs.lemmas.List.FromFn.{length-map-range_with_len, get_or-map-range_with_len}
 use Rattle.std.proofs.lemmas.Map.Keys.{apart_from_distinct}
 use Rattle.ap_base.specs.declared.kind.Kind.{Kind}
@@ -15,7 +17,9 @@ use Rattle.graph_model.specs.Canon.{place_in, renumbered}
 use Rattle.image_layout.specs.declared.superblock.BadReason.TheVariants as bad
 use Rattle.image_layout.specs.Places.{root_slots, slot_line, first_object_line, lines_of, object_line}
 use Rattle.image_meaning.specs.Checks.{Words, fails_unless, first_fault}
-use Rattle.image_meaning.specs.Objects.{is_reference, is_number, value_of, word_fault, shape_number, shape_of, length_at, object_slot, kind_of, has_length, values_at, is_within, line_fault, slot_fault, object_fault}
+use Rattle.image_meaning.specs.Objects.{is_reference, is_number, value_of, word_fault, shape_number, shape_of, length_at}
+use Rattle.image_meaning.specs.Objects.{object_slot, kind_of, holds_slots, values_at, is_within, line_fault, slot_fault}
+use Rattle.image_meaning.specs.Objects.{object_fault}
 use Rattle.image_meaning.specs.Meaning.{root_word, root_fault, roots_fault, root_value, root_values_of}
 use Rattle.image_meaning.specs.Corresponds.{HoldsReference, Holds, AreApart}
 use Rattle.image_meaning.specs.Opening.{found_at}
@@ -60,7 +64,7 @@ word_object size Text line w m h e = absurd (let f : value_of Text w ≡ Object 
 -- an object that passes
 pub record ObjectPasses (shapes : List Shape) (size : ℕ) (words : Words) (earlier : List ℕ) (line : ℕ) : Type 0 where
   pub known : shape_number words line < length shapes
-  pub full : has_length (shape_of shapes words line).element (shape_of shapes words line).fields (length_at words line) ≡ true
+  pub full : holds_slots (shape_of shapes words line).element (shape_of shapes words line).fields (length_at words line) ≡ true
   pub high : line + lines_of (length_at words line) ≤ size
   pub free : (j : ℕ) → j < lines_of (length_at words line) → list_any (is_within words (line + j)) earlier ≡ false
   pub slots : (i : ℕ) → i < length_at words line
@@ -72,10 +76,10 @@ object_passed shapes size words earlier line h =
     let shape = shape_of shapes words line in
     let n = length_at words line in
     let a = both_none (fails_unless (nat_lt (shape_number words line) (length shapes)) (line, bad.Shape)) _ h in
-    let b = both_none (fails_unless (has_length shape.element shape.fields n && nat_le (line + lines_of n) size) (line, bad.Length)) _ a.1 in
+    let b = both_none (fails_unless (holds_slots shape.element shape.fields n && nat_le (line + lines_of n) size) (line, bad.Length)) _ a.1 in
     let c = both_none (first_fault (line_fault words earlier line) (lines_of n)) _ b.1 in
-    let length_good = and_parts (has_length shape.element shape.fields n) (nat_le (line + lines_of n) size)
-    (passed (has_length shape.element shape.fields n && nat_le (line + lines_of n) size) (line, bad.Length) b.0) in
+    let length_good = and_parts (holds_slots shape.element shape.fields n) (nat_le (line + lines_of n) size)
+    (passed (holds_slots shape.element shape.fields n && nat_le (line + lines_of n) size) (line, bad.Length) b.0) in
     record {
       known = ltb-true (shape_number words line) (length shapes) (passed (nat_lt (shape_number words line) (length shapes)) (line, bad.Shape) a.0);
       full = length_good.0;

@@ -5,7 +5,8 @@ use Rattle.image_layout.specs.declared.superblock.BadReason.{BadReason}
 use Rattle.image_layout.specs.Places.{logs, has_size, IsBlank, super_check}
 use Rattle.image_meaning.specs.Checks.{Words, Bad}
 use Rattle.image_meaning.specs.Directories.{Directory, directory_of}
-use Rattle.image_meaning.specs.Logs.{Logged, logs_below, logs_fault, is_place, old_word, or_else, is_log_line, put_back, put_each}
+use Rattle.image_meaning.specs.Logs.{Logged, logs_below, logs_fault, is_place, old_word, or_else, is_log_line, put_back}
+use Rattle.image_meaning.specs.Logs.{put_each}
 use Rattle.image_meaning.specs.Meaning.{roots_fault, root_values_of, walk, graph_from, empty_graph, meaning, StandsFor}
 use Rattle.image_meaning.specs.Laws.{Opens, ChecksComeInOrder}
 

@@ -1,5 +1,6 @@
 -- Lines and the objects that lie there, pair by pair.
-use Rattle.std.proofs.Common.{◌≡◌, ℕ, zero, suc, ◌<◌, true, false, List, [], ◌∷◌, ◌++◌, refl, ap, subst, arith, length, map, inl, inr, if◌then◌else◌, nat_eq, slice_index_or, eq-eqb}
+use Rattle.std.proofs.Common.{◌≡◌, ℕ, zero, suc, ◌<◌, true, false, List, [], ◌∷◌, ◌++◌, refl, ap, subst, arith, length, map}
+use Rattle.std.proofs.Common.{inl, inr, if◌then◌else◌, nat_eq, slice_index_or, eq-eqb}
 use Rattle.std.proofs.lemmas.Bool.{cases_eq, ne_eqb}
 use Rattle.graph_model.specs.declared.types.Value.{Value}
 use Rattle.graph_model.specs.declared.types.Value.TheVariants.{Int, Long, Null, Obj as Object}

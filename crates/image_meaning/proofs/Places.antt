@@ -1,5 +1,6 @@
 -- The places of logs that pass: each is once, and none lies in front of the objects but a root slot's.
-use Rattle.std.proofs.Common.{◌≡◌, ℕ, suc, ◌+◌, ◌/◌, ◌%◌, ◌<◌, ◌≤◌, ◌==◌, ◌&&◌, ◌||◌, Bool, true, false, List, [], ◌∷◌, ◌++◌, length, nat_le, Some, None, refl, sym, ◌∙◌, subst, arith, slice_index_or, if◌then◌else◌}
+use Rattle.std.proofs.Common.{◌≡◌, ℕ, suc, ◌+◌, ◌/◌, ◌%◌, ◌<◌, ◌≤◌, ◌==◌, ◌&&◌, ◌||◌, Bool, true, false, List, [], ◌∷◌, ◌++◌}
+use Rattle.std.proofs.Common.{length, nat_le, Some, None, refl, sym, ◌∙◌, subst, arith, slice_index_or, if◌then◌else◌}
 use Rattle.std.specs.Prelude.{not}
 use Rattle.std.proofs.lemmas.Bool.{and_parts, eq-eqb, eqb-true, leb-true, not-true, true≢false}
 use Rattle.std.proofs.lemmas.List.FromFn.{map-range_with_len_more, length-map-range_with_len, get_or-map-range_with_len}
@@ -7,7 +8,8 @@ use Rattle.std.proofs.lemmas.List.Folds.{list_any-append}
 use Rattle.image_layout.specs.declared.superblock.BadReason.TheVariants as bad
 use Rattle.image_layout.specs.Places.{log_entries, log_head_line, log_entry_line}
 use Rattle.image_meaning.specs.Checks.{Words, Bad, fails_unless, first_fault}
-use Rattle.image_meaning.specs.Logs.{Logged, log_count, logged_at, first_logged, log_of, logs_below, may_be_logged, has_place, entry_fault, log_fault, is_place, old_word}
+use Rattle.image_meaning.specs.Logs.{Logged, log_count, logged_at, first_logged, log_of, logs_below, may_be_logged, has_place}
+use Rattle.image_meaning.specs.Logs.{entry_fault, log_fault, is_place, old_word}
 use Rattle.image_meaning.proofs.Faults.{first_fault-passes, both_none}
 
 abbrev no_entry : Logged

@@ -1,9 +1,11 @@
 -- The counted entries of the 64 logs are put back, and nothing else is.
-use Rattle.std.proofs.Common.{◌≡◌, inl, inr, ℕ, zero, suc, ◌+◌, ◌/◌, ◌%◌, ◌<◌, ◌≤◌, true, false, [], ◌∷◌, Some, None, refl, sym, ◌∙◌, ap, arith}
+use Rattle.std.proofs.Common.{◌≡◌, inl, inr, ℕ, zero, suc, ◌+◌, ◌/◌, ◌%◌, ◌<◌, ◌≤◌, true, false, [], ◌∷◌, Some, None, refl, sym}
+use Rattle.std.proofs.Common.{◌∙◌, ap, arith}
 use Rattle.std.proofs.lemmas.Bool.{cases_lt, eq-eqb, true≢false}
 use Rattle.image_layout.specs.Places.{logs}
 use Rattle.image_meaning.specs.Checks.{Words}
-use Rattle.image_meaning.specs.Logs.{log_count, logged_at, first_logged, log_of, logs_below, log_fault, is_place, old_word, put_back}
+use Rattle.image_meaning.specs.Logs.{log_count, logged_at, first_logged, log_of, logs_below, log_fault, is_place, old_word}
+use Rattle.image_meaning.specs.Logs.{put_back}
 use Rattle.image_meaning.specs.Laws.{CountedEntriesArePutBack}
 use Rattle.image_meaning.proofs.Places.{first_more, not_named, log_passes, entry_passes, in_log}
 use Rattle.image_meaning.proofs.Recovering.{or_old, old_append, some_or, put_at}

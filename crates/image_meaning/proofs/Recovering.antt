@@ -1,12 +1,15 @@
 -- A stop within a recovery leaves words that stand for the same graph.
-use Rattle.std.proofs.Common.{◌≡◌, ◌⊎◌, inl, inr, ℕ, zero, suc, ◌+◌, ◌/◌, ◌<◌, ◌≤◌, ◌==◌, ◌&&◌, ◌||◌, Bool, true, false, List, [], ◌∷◌, ◌++◌, Option, Some, None, refl, sym, ◌∙◌, ap, subst, arith, if◌then◌else◌}
+use Rattle.std.proofs.Common.{◌≡◌, ◌⊎◌, inl, inr, ℕ, zero, suc, ◌+◌, ◌/◌, ◌<◌, ◌≤◌, ◌==◌, ◌&&◌, ◌||◌, Bool, true, false, List}
+use Rattle.std.proofs.Common.{[], ◌∷◌, ◌++◌, Option, Some, None, refl, sym, ◌∙◌, ap, subst, arith, if◌then◌else◌}
 use Rattle.std.specs.Prelude.{not}
 use Rattle.std.proofs.lemmas.Bool.{cases_lt, lt-leb, le-leb, lt-ltb, le-ltb, true≢false, false≢true}
 use Rattle.std.proofs.lemmas.List.Folds.{list_any-append}
 use Rattle.image_layout.specs.declared.superblock.BadReason.TheVariants as bad
-use Rattle.image_layout.specs.Places.{logs, log_entries, slot_line, root_slots, first_object_line, log_head_line, log_entry_line, log_entry_word}
+use Rattle.image_layout.specs.Places.{logs, log_entries, slot_line, root_slots, first_object_line, log_head_line}
+use Rattle.image_layout.specs.Places.{log_entry_line, log_entry_word}
 use Rattle.image_meaning.specs.Checks.{Words, first_fault}
-use Rattle.image_meaning.specs.Logs.{Logged, log_count, logged_at, first_logged, log_of, logs_below, may_be_logged, has_place, entry_fault, log_fault, logs_fault, is_place, old_word, or_else, is_log_line, put_back}
+use Rattle.image_meaning.specs.Logs.{Logged, log_count, logged_at, first_logged, log_of, logs_below, may_be_logged, has_place}
+use Rattle.image_meaning.specs.Logs.{entry_fault, log_fault, logs_fault, is_place, old_word, or_else, is_log_line, put_back}
 use Rattle.image_meaning.specs.Recovering.{IsUnchanged, IsEmptied, IsRecovering}
 use Rattle.image_meaning.proofs.Faults.{first_fault-none, passes_if}
 use Rattle.image_meaning.proofs.Logs.{not_log_before, not_log_after}

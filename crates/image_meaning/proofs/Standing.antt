@@ -1,5 +1,6 @@
 -- An image that stands for a graph, and isn't blank, opens.
-use Rattle.std.proofs.Common.{◌≡◌, ◌≢◌, ℕ, ◌≤◌, ◌==◌, Bool, true, false, nat_le, Option, Some, None, Result, Ok, Err, refl, if◌then◌else◌}
+use Rattle.std.proofs.Common.{◌≡◌, ◌≢◌, ℕ, ◌≤◌, ◌==◌, Bool, true, false, nat_le, Option, Some, None, Result, Ok, Err, refl}
+use Rattle.std.proofs.Common.{if◌then◌else◌}
 use Rattle.std.proofs.lemmas.Bool.{ne_eqb, eqb-true, leb-true, le-leb}
 use Rattle.graph_model.specs.declared.types.Graph.{Graph}
 use Rattle.image_layout.specs.declared.superblock.BadReason.{BadReason}
@@ -64,6 +65,10 @@ used-magic size line used h = eqb-true (line 0) magic (used_parts size line used
 -- no more words are in use than there are
 pub use-within : (size : ℕ) (line : ℕ → ℕ) → line 0 ≢ 0 → super_check line size ≡ None → line 3 ≤ directory_words
 use-within size line used h = leb-true (line 3) directory_words (used_parts size line used h).4
+
+-- and its version is the one that is known
+pub version-within : (size : ℕ) (line : ℕ → ℕ) → line 0 ≢ 0 → super_check line size ≡ None → line 1 ≡ version
+version-within size line used h = eqb-true (line 1) version (used_parts size line used h).2
 
 -- with any number of words in use that there are
 pub used-still : (size : ℕ) (line other : ℕ → ℕ) → line 0 ≢ 0 → super_check line size ≡ None → other 0 ≡ line 0 → other 1 ≡ line 1

@@ -1,5 +1,6 @@
 -- Images that stand for a graph: what is found in them, and with one more entry.
-use Rattle.std.proofs.Common.{◌≡◌, ◌≢◌, inl, inr, ℕ, ◌+◌, ◌<◌, ◌≤◌, ◌&&◌, true, false, nat_le, List, [], ◌∷◌, length, map, None, Result, Ok, refl, sym, ◌∙◌, ap, subst, arith, slice_index_or}
+use Rattle.std.proofs.Common.{◌≡◌, ◌≢◌, inl, inr, ℕ, ◌+◌, ◌<◌, ◌≤◌, ◌&&◌, true, false, nat_le, List, [], ◌∷◌, length, map, None}
+use Rattle.std.proofs.Common.{Result, Ok, refl, sym, ◌∙◌, ap, subst, arith, slice_index_or}
 use Rattle.std.specs.List.{range_with_len}
 use Rattle.std.proofs.lemmas.Bool.{cases_eq, ne_eqb, le-leb}
 use Rattle.std.proofs.lemmas.List.{get_or-map, get_or_past, length-map}
@@ -14,12 +15,14 @@ use Rattle.graph_model.specs.declared.types.Graph.{Graph}
 use Rattle.graph_model.specs.Heaps.{no_shape, no_object}
 use Rattle.graph_model.specs.Canon.{found_from, canon_of}
 use Rattle.graph_model.proofs.FoundAfter.{found_after-past}
-use Rattle.image_layout.specs.Places.{min_lines, max_lines, directory_words, log_entries, slot_line, slot_word, directory_line, directory_word, log_head_line, log_entry_line, log_entry_word, object_line, object_word}
+use Rattle.image_layout.specs.Places.{min_lines, max_lines, directory_words, log_entries, slot_line, slot_word, directory_line}
+use Rattle.image_layout.specs.Places.{directory_word, log_head_line, log_entry_line, log_entry_word, object_line, object_word}
 use Rattle.image_meaning.specs.Checks.{Words, Bad, ◌>>=◌}
 use Rattle.image_meaning.specs.Entries.{DirectoryEntry, ShapeEntry, RootEntry, IsEntry}
 use Rattle.image_meaning.specs.Directories.{Directory, directory_of, is_refused, with_entry}
 use Rattle.image_meaning.specs.Logs.{log_count, put_back, SameLogs}
-use Rattle.image_meaning.specs.Meaning.{roots_fault, root_values_of, walk, graph_found, graph_from, empty_graph, meaning, StandsFor}
+use Rattle.image_meaning.specs.Meaning.{roots_fault, root_values_of, walk, graph_found, graph_from, empty_graph, meaning}
+use Rattle.image_meaning.specs.Meaning.{StandsFor}
 use Rattle.image_meaning.specs.Corresponds.{Corresponds, SameWords}
 use Rattle.image_meaning.specs.Laws.{Opens, SameFront}
 use Rattle.image_meaning.specs.Opening.{no_node, graph_node, HoldsGraph, found_at, Finds, FoundImage}

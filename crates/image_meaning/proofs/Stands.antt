@@ -1,5 +1,6 @@
 -- Words that correspond to a heap stand for the heap's graph.
-use Rattle.std.proofs.Common.{◌≡◌, ◌≢◌, ℕ, zero, suc, ◌+◌, ◌<◌, ◌≤◌, ◌==◌, false, List, [], None, Ok, refl, ap, subst, sym, ◌∙◌, arith, length, map, take, slice_index_or, inl, inr, nat_eq, nat_le, nat_lt, length-take}
+use Rattle.std.proofs.Common.{◌≡◌, ◌≢◌, ℕ, zero, suc, ◌+◌, ◌<◌, ◌≤◌, ◌==◌, false, List, [], None, Ok, refl, ap, subst, sym, ◌∙◌}
+use Rattle.std.proofs.Common.{arith, length, map, take, slice_index_or, inl, inr, nat_eq, nat_le, nat_lt, length-take}
 use Rattle.std.specs.Prelude.{not}
 use Rattle.std.specs.List.{range_with_len, IsDistinct, list_any}
 use Rattle.std.proofs.lemmas.Bool.{cases_lt, le-leb, lt-leb, lt-ltb, le-ltb, eq-eqb, eqb-false, and_left, and_right}
@@ -22,13 +23,16 @@ use Rattle.image_layout.specs.declared.superblock.BadReason.TheVariants as bad
 use Rattle.image_layout.specs.Places.{root_slots, slot_line, first_object_line, lines_of, object_line}
 use Rattle.image_meaning.specs.Checks.{Words, first_fault}
 use Rattle.image_meaning.specs.Directories.{Directory}
-use Rattle.image_meaning.specs.Objects.{is_reference, is_within, shape_number, shape_of, length_at, object_slot, kind_of, values_at, line_fault, slot_fault, object_fault}
-use Rattle.image_meaning.specs.Meaning.{root_word, root_fault, roots_fault, root_value, root_values_of, look_at, walk, root_at, node_at, graph_found, graph_from}
+use Rattle.image_meaning.specs.Objects.{is_reference, is_within, shape_number, shape_of, length_at, object_slot, kind_of}
+use Rattle.image_meaning.specs.Objects.{values_at, line_fault, slot_fault, object_fault}
+use Rattle.image_meaning.specs.Meaning.{root_word, root_fault, roots_fault, root_value, root_values_of, look_at, walk, root_at}
+use Rattle.image_meaning.specs.Meaning.{node_at, graph_found, graph_from}
 use Rattle.image_meaning.specs.Corresponds.{LiesAt, Holds, Corresponds, root_value_at}
 use Rattle.image_meaning.proofs.KeptSlots.{each_slot_is_kept}
 use Rattle.image_meaning.proofs.Faults.{first_fault-none, passes_if}
 use Rattle.image_meaning.proofs.Ranges.{get_or_any, mapped_alike}
-use Rattle.image_meaning.proofs.Pairs.{Pairs, none_left, pair, Alike, pairs-with_new, pairs-at, pairs-length, pairs-object, pairs-line, alike-renumbered}
+use Rattle.image_meaning.proofs.Pairs.{Pairs, none_left, pair, Alike, pairs-with_new, pairs-at, pairs-length, pairs-object}
+use Rattle.image_meaning.proofs.Pairs.{pairs-line, alike-renumbered}
 use Rattle.image_meaning.proofs.Words.{reference_passes, word_passes, words_alike, reference_renumbered}
 
 -- a walk goes no further than what it found

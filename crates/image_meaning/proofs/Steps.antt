@@ -1,5 +1,6 @@
 -- What a walk that ends well has seen, step by step.
-use Rattle.std.proofs.Common.{◌≡◌, inl, inr, ℕ, zero, suc, ◌+◌, ◌<◌, ◌≤◌, true, false, List, [], length, take, nat_eq, nat_lt, None, Ok, ◌∙◌, ap, subst, arith, slice_index_or, length-append}
+use Rattle.std.proofs.Common.{◌≡◌, inl, inr, ℕ, zero, suc, ◌+◌, ◌<◌, ◌≤◌, true, false, List, [], length, take, nat_eq, nat_lt}
+use Rattle.std.proofs.Common.{None, Ok, ◌∙◌, ap, subst, arith, slice_index_or, length-append}
 use Rattle.std.specs.Prelude.{Contains}
 use Rattle.std.specs.List.{IsDistinct}
 use Rattle.std.proofs.lemmas.Bool.{cases_lt, lt-ltb, le-ltb, false≢true}
@@ -10,7 +11,8 @@ use Rattle.graph_model.specs.declared.types.Value.TheVariants.{Obj as Object}
 use Rattle.graph_model.specs.declared.types.Shape.{Shape}
 use Rattle.graph_model.specs.Heaps.{has_number}
 use Rattle.graph_model.specs.Canon.{with_new}
-use Rattle.graph_model.proofs.Numbers.{has_number-any, with_new-keeps, with_new-has, with_new-only, with_new-prefix, with_new-distinct}
+use Rattle.graph_model.proofs.Numbers.{has_number-any, with_new-keeps, with_new-has, with_new-only, with_new-prefix}
+use Rattle.graph_model.proofs.Numbers.{with_new-distinct}
 use Rattle.image_layout.specs.Places.{first_object_line}
 use Rattle.image_meaning.specs.Checks.{Words}
 use Rattle.image_meaning.specs.Objects.{values_at, object_fault}

@@ -2,7 +2,8 @@
 use Rattle.std.proofs.Common.{◌≡◌, ◌≢◌, inl, inr, ℕ, ◌<◌, ◌≤◌, false, None, Ok, refl, ◌∙◌, arith}
 use Rattle.std.proofs.lemmas.Bool.{ne_eqb, lt-leb, le-ltb, le-leb}
 use Rattle.graph_model.specs.declared.types.Graph.{Graph}
-use Rattle.image_layout.specs.Places.{logs, slot_line, root_slots, first_object_line, directory_line, directory_word, directory_words}
+use Rattle.image_layout.specs.Places.{logs, slot_line, root_slots, first_object_line, directory_line, directory_word}
+use Rattle.image_layout.specs.Places.{directory_words}
 use Rattle.image_meaning.specs.Checks.{Words}
 use Rattle.image_meaning.specs.Directories.{Directory}
 use Rattle.image_meaning.specs.Logs.{log_fault, logs_fault, may_be_logged, put_back}

@@ -1,5 +1,7 @@
 -- What an image stands for is told by the words of its lines: those behind its last line say nothing.
-use Rattle.std.proofs.Common.{◌≡◌, ◌≢◌, ◌⊎◌, inl, inr, ℕ, zero, suc, ◌+◌, ◌/◌, ◌^◌, ◌<◌, ◌≤◌, ◌&&◌, ◌||◌, Bool, true, false, List, [], ◌∷◌, ◌++◌, length, map, take, nat_le, nat_lt, Option, Some, None, Result, Ok, Err, refl, sym, ◌∙◌, ap, subst, arith, slice_index_or}
+use Rattle.std.proofs.Common.{◌≡◌, ◌≢◌, ◌⊎◌, inl, inr, ℕ, zero, suc, ◌+◌, ◌/◌, ◌^◌, ◌<◌, ◌≤◌, ◌&&◌, ◌||◌, Bool, true, false}
+use Rattle.std.proofs.Common.{List, [], ◌∷◌, ◌++◌, length, map, take, nat_le, nat_lt, Option, Some, None, Result, Ok, Err, refl}
+use Rattle.std.proofs.Common.{sym, ◌∙◌, ap, subst, arith, slice_index_or}
 use Rattle.std.specs.Prelude.{not}
 use Rattle.std.specs.List.{list_any, range_with_len}
 use Rattle.std.proofs.lemmas.Bool.{cases_lt, cases_eq, lt-ltb, lt-leb, le-leb, le-ltb, eq-eqb, ne_eqb}
@@ -13,12 +15,17 @@ use Rattle.graph_model.specs.Canon.{with_new, renumbered}
 use Rattle.graph_model.proofs.Numbers.{has_number-from_Contains}
 use Rattle.image_layout.specs.declared.superblock.BadReason.{BadReason}
 use Rattle.image_layout.specs.declared.superblock.BadReason.TheVariants as bad
-use Rattle.image_layout.specs.Places.{min_lines, root_slots, slot_line, slot_word, directory_words, directory_line, directory_word, logs, log_entries, log_head_line, log_entry_line, log_entry_word, lines_of, object_line, object_word, super_check}
+use Rattle.image_layout.specs.Places.{min_lines, root_slots, slot_line, slot_word, directory_words, directory_line}
+use Rattle.image_layout.specs.Places.{directory_word, logs, log_entries, log_head_line, log_entry_line, log_entry_word}
+use Rattle.image_layout.specs.Places.{lines_of, object_line, object_word, super_check}
 use Rattle.image_meaning.specs.Checks.{Words, Bad, fails_unless, then_check, first_fault, after_check, ◌>>=◌}
 use Rattle.image_meaning.specs.Directories.{Directory, directory_of}
-use Rattle.image_meaning.specs.Logs.{Logged, log_count, logged_at, first_logged, log_of, logs_below, may_be_logged, has_place, entry_fault, log_fault, logs_fault, put_back}
-use Rattle.image_meaning.specs.Objects.{value_of, has_length, kind_of, object_slot, length_at, shape_of, values_at, is_within, line_fault, slot_fault, object_fault}
-use Rattle.image_meaning.specs.Meaning.{root_word, root_value, root_fault, roots_fault, root_values_of, look_at, walk, root_at, node_at, graph_found, graph_from, graph_after_logs, graph_after_super, meaning}
+use Rattle.image_meaning.specs.Logs.{Logged, log_count, logged_at, first_logged, log_of, logs_below, may_be_logged, has_place}
+use Rattle.image_meaning.specs.Logs.{entry_fault, log_fault, logs_fault, put_back}
+use Rattle.image_meaning.specs.Objects.{value_of, holds_slots, kind_of, object_slot, length_at, shape_of, values_at, is_within}
+use Rattle.image_meaning.specs.Objects.{line_fault, slot_fault, object_fault}
+use Rattle.image_meaning.specs.Meaning.{root_word, root_value, root_fault, roots_fault, root_values_of, look_at, walk, root_at}
+use Rattle.image_meaning.specs.Meaning.{node_at, graph_found, graph_from, graph_after_logs, graph_after_super, meaning}
 use Rattle.image_meaning.proofs.Directories.{directory-same}
 use Rattle.image_meaning.proofs.Faults.{first_fault-same, both_none}
 use Rattle.image_meaning.proofs.FoundImage.{directory-few}
@@ -165,7 +172,7 @@ module _ (size : ℕ) (a b : Words) (enough : min_lines ≤ size) (same : (l w :
       elim (cases_lt size (line + lines_of n)) [
         | inl past ↦ (
             let e : nat_le (line + lines_of n) size ≡ false = lt-leb (line + lines_of n) size past in
-            rw (head, e, and_no (has_length shape.element shape.fields n)) refl)
+            rw (head, e, and_no (holds_slots shape.element shape.fields n)) refl)
         | inr high ↦ (
             let lines : first_fault (line_fault b earlier line) (lines_of n) ≡ first_fault (line_fault a earlier line) (lines_of n) =
             first_fault-same (line_fault a earlier line) (line_fault b earlier line) (lines_of n)

@@ -8,7 +8,8 @@ use Rattle.graph_model.specs.declared.types.Value.TheVariants.{Int, Null, Obj as
 use Rattle.graph_model.specs.declared.types.Shape.{Shape}
 use Rattle.graph_model.specs.declared.types.NamedValue.{NamedValue}
 use Rattle.graph_model.specs.declared.types.Graph.{Graph}
-use Rattle.image_layout.specs.Places.{magic, version, min_lines, max_lines, directory_words, root_slots, first_object_line, lines_of, head_of}
+use Rattle.image_layout.specs.Places.{magic, version, min_lines, max_lines, directory_words, root_slots, first_object_line}
+use Rattle.image_layout.specs.Places.{lines_of, head_of}
 use Rattle.image_meaning.specs.Checks.{Words}
 use Rattle.image_meaning.specs.Entries.{DirectoryEntry, ShapeEntry, RootEntry, AreBytes}
 use Rattle.image_meaning.specs.Directories.{no_entries, with_all, AreEntries, Spells}

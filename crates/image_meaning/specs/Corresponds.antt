@@ -13,7 +13,8 @@ use Rattle.graph_model.specs.Heaps.{object_at, shape_at, values_of, value_at, ro
 use Rattle.image_layout.specs.Places.{root_slots, first_object_line, lines_of}
 use Rattle.image_meaning.specs.Checks.{Words}
 use Rattle.image_meaning.specs.Directories.{Directory}
-use Rattle.image_meaning.specs.Objects.{is_number, value_of, shape_number, shape_of, length_at, object_slot, kind_of, has_length}
+use Rattle.image_meaning.specs.Objects.{is_number, value_of, shape_number, shape_of, length_at, object_slot, kind_of}
+use Rattle.image_meaning.specs.Objects.{holds_slots}
 use Rattle.image_meaning.specs.Meaning.{root_word}
 
 -- which object, by its number, begins at a line
@@ -43,7 +44,7 @@ pub record IsObject (R : LiesAt) (shapes : List Shape) (size : ℕ) (words : Wor
   pub known : shape_number words line < length shapes
   pub shape : shape_of shapes words line ≡ shape_at heap (object_at heap n).shape
   pub count : length_at words line ≡ length (values_of heap n)
-  pub full : has_length (shape_of shapes words line).element (shape_of shapes words line).fields (length (values_of heap n)) ≡ true
+  pub full : holds_slots (shape_of shapes words line).element (shape_of shapes words line).fields (length (values_of heap n)) ≡ true
   pub low : first_object_line ≤ line
   pub high : line + lines_of (length (values_of heap n)) ≤ size
   pub slots : (i : ℕ) → i < length (values_of heap n) → is_kept_slot heap n i ≡ true

@@ -1,6 +1,7 @@
 -- The directory of an image: shapes and durable roots (Shull, Huang and Torrellas, "AutoPersist", PLDI 2019), numbered separately, in the order
 -- of their entries. Of this project's own format.
-use Rattle.std.specs.Prelude.{◌≡◌, ◌<◌, true, false, slice_index_or, ℕ, zero, suc, ◌+◌, ◌||◌, nat_le, Bool, List, [], ◌∷◌, ◌++◌, length, map, if◌then◌else◌, Option, Some, None, Result, Ok, Err}
+use Rattle.std.specs.Prelude.{◌≡◌, ◌<◌, true, false, slice_index_or, ℕ, zero, suc, ◌+◌, ◌||◌, nat_le, Bool, List, [], ◌∷◌, ◌++◌}
+use Rattle.std.specs.Prelude.{length, map, if◌then◌else◌, Option, Some, None, Result, Ok, Err}
 use Rattle.std.specs.List.{list_any, range_with_len}
 use Rattle.std.specs.Str.{bytes_eq}
 use Rattle.graph_model.specs.declared.types.Shape.{Shape}

@@ -7,14 +7,18 @@ use Rattle.graph_model.specs.declared.types.Heap.{Heap}
 use Rattle.graph_model.specs.Heaps.{values_of, is_kept_slot, stored, with_fresh}
 use Rattle.graph_model.specs.Canon.{canon_of}
 use Rattle.image_layout.specs.declared.superblock.BadReason.{BadReason}
-use Rattle.image_layout.specs.Places.{min_lines, logs, root_slots, slot_line, object_line, object_word, directory_line, directory_word, IsBlank, super_check}
+use Rattle.image_layout.specs.Places.{min_lines, logs, root_slots, slot_line, object_line, object_word, directory_line}
+use Rattle.image_layout.specs.Places.{directory_word, IsBlank, super_check}
 use Rattle.image_meaning.specs.Checks.{Words, Bad}
 use Rattle.image_meaning.specs.Entries.{DirectoryEntry}
-use Rattle.image_meaning.specs.Directories.{Directory, no_entries, bad_entry, directory_words_of, directory_of, with_entries, spelled_all, with_all, AreEntries, BreaksOff}
-use Rattle.image_meaning.specs.Logs.{log_count, logged_at, logs_below, logs_fault, is_place, is_log_line, put_back, put_each, SameLogs}
+use Rattle.image_meaning.specs.Directories.{Directory, no_entries, bad_entry, directory_words_of, directory_of, with_entries}
+use Rattle.image_meaning.specs.Directories.{spelled_all, with_all, AreEntries, BreaksOff}
+use Rattle.image_meaning.specs.Logs.{log_count, logged_at, logs_below, logs_fault, is_place, is_log_line, put_back, put_each}
+use Rattle.image_meaning.specs.Logs.{SameLogs}
 use Rattle.image_meaning.specs.Objects.{shape_of, kind_of, object_slot}
 use Rattle.image_meaning.specs.Meaning.{root_word, roots_fault, root_values_of, walk, empty_graph, meaning, StandsFor}
-use Rattle.image_meaning.specs.Corresponds.{LiesAt, Holds, HoldsReference, Corresponds, SameWords, SameButSlot, SameButRoot, SameObjects, SameObjectSizes, AgreesEverywhere, Either, CanJoin, root_static}
+use Rattle.image_meaning.specs.Corresponds.{LiesAt, Holds, HoldsReference, Corresponds, SameWords, SameButSlot, SameButRoot}
+use Rattle.image_meaning.specs.Corresponds.{SameObjects, SameObjectSizes, AgreesEverywhere, Either, CanJoin, root_static}
 
 -- the relation that a test tells
 abbrev pub told_by : (ℕ → ℕ → Bool) → LiesAt

@@ -3,7 +3,8 @@
 use Rattle.std.specs.Prelude.{◌≡◌, ◌≢◌, ◌↔◌, ℕ, suc, ◌/◌, ◌<◌, true, false, Option, None, Some}
 use Rattle.image_layout.specs.Places.{logs, log_entries}
 use Rattle.image_meaning.specs.Checks.{Words}
-use Rattle.image_meaning.specs.Logs.{Logged, log_count, logged_at, log_of, logs_below, may_be_logged, has_place, logs_fault, old_word, is_place, is_log_line, put_back, put_one, SameLogs}
+use Rattle.image_meaning.specs.Logs.{Logged, log_count, logged_at, log_of, logs_below, may_be_logged, has_place, logs_fault}
+use Rattle.image_meaning.specs.Logs.{old_word, is_place, is_log_line, put_back, put_one, SameLogs}
 use Rattle.image_meaning.specs.Recovering.{IsUnchanged}
 
 -- d has the words of c outside the logs

@@ -1,9 +1,11 @@
 -- The logs of an image, and the words once their entries are put back. These are the undo logs of failure-atomic regions (Shull, Huang and
 -- Torrellas, "AutoPersist", PLDI 2019), of this project's own format.
-use Rattle.std.specs.Prelude.{◌≡◌, ◌<◌, ℕ, zero, suc, ◌+◌, ◌/◌, ◌%◌, ◌==◌, ◌&&◌, ◌||◌, not, nat_le, nat_lt, Bool, List, [], ◌∷◌, ◌++◌, map, if◌then◌else◌, Option, Some, None}
+use Rattle.std.specs.Prelude.{◌≡◌, ◌<◌, ℕ, zero, suc, ◌+◌, ◌/◌, ◌%◌, ◌==◌, ◌&&◌, ◌||◌, not, nat_le, nat_lt, Bool, List, [], ◌∷◌}
+use Rattle.std.specs.Prelude.{◌++◌, map, if◌then◌else◌, Option, Some, None}
 use Rattle.std.specs.List.{list_any, range_with_len}
 use Rattle.image_layout.specs.declared.superblock.BadReason.TheVariants as bad
-use Rattle.image_layout.specs.Places.{logs, log_entries, root_slots, slot_line, first_object_line, log_head_line, log_entry_line, log_entry_word}
+use Rattle.image_layout.specs.Places.{logs, log_entries, root_slots, slot_line, first_object_line, log_head_line}
+use Rattle.image_layout.specs.Places.{log_entry_line, log_entry_word}
 use Rattle.image_meaning.specs.Checks.{Words, Bad, fails_unless, then_check, first_fault}
 
 -- a place, which is 8 × line + word, and the word that it had

@@ -1,6 +1,7 @@
 -- The graph that an image stands for, or the first check that fails. What the durable roots reach is kept (Shull, Huang and Torrellas,
 -- "AutoPersist", PLDI 2019); the words are of this project's own format.
-use Rattle.std.specs.Prelude.{◌≡◌, ◌≢◌, ℕ, zero, suc, ◌==◌, nat_lt, List, [], length, map, take, slice_index_or, if◌then◌else◌, Option, Some, None, Result, Ok}
+use Rattle.std.specs.Prelude.{◌≡◌, ◌≢◌, ℕ, zero, suc, ◌==◌, nat_lt, List, [], length, map, take, slice_index_or, if◌then◌else◌}
+use Rattle.std.specs.Prelude.{Option, Some, None, Result, Ok}
 use Rattle.std.specs.List.{range_with_len}
 use Rattle.ap_base.specs.declared.kind.Kind.TheVariants.{L}
 use Rattle.graph_model.specs.declared.types.Value.{Value}

@@ -1,5 +1,6 @@
 -- The objects of an image, and the checks of one. Values are those of JVMS 2.3 and 2.4, their words of this project's own format.
-use Rattle.std.specs.Prelude.{ℕ, ◌+◌, ◌/◌, ◌%◌, ◌^◌, ◌==◌, ◌&&◌, ◌||◌, not, nat_le, nat_lt, Bool, true, false, List, length, map, pos, slice_index_or, if◌then◌else◌, Option, Some, None}
+use Rattle.std.specs.Prelude.{ℕ, ◌+◌, ◌/◌, ◌%◌, ◌^◌, ◌==◌, ◌&&◌, ◌||◌, not, nat_le, nat_lt, Bool, true, false, List, length}
+use Rattle.std.specs.Prelude.{map, pos, slice_index_or, if◌then◌else◌, Option, Some, None}
 use Rattle.std.specs.Int.{w32, w64, cast_signed}
 use Rattle.std.specs.List.{list_any, range_with_len}
 use Rattle.ap_base.specs.declared.kind.Kind.{Kind}
@@ -70,10 +71,10 @@ kind_among None fields i = slice_index_or (map (λ (f : Field). f.kind) fields) 
 abbrev pub kind_of : Shape → ℕ → Kind
 kind_of shape i = kind_among shape.element shape.fields i
 
--- an object without elements has a slot for each field
-abbrev pub has_length : Option Kind → List Field → ℕ → Bool
-has_length (Some kind) fields n = true
-has_length None fields n = length fields == n
+-- an object of an image that has no elements has a slot for each field
+abbrev pub holds_slots : Option Kind → List Field → ℕ → Bool
+holds_slots (Some kind) fields n = true
+holds_slots None fields n = length fields == n
 
 abbrev pub values_at : List Shape → Words → ℕ → List Value
 values_at shapes words line =
@@ -100,6 +101,6 @@ object_fault shapes size words earlier line =
     let shape = shape_of shapes words line in
     let n = length_at words line in
     then_check (fails_unless (nat_lt (shape_number words line) (length shapes)) (line, bad.Shape))
-    (then_check (fails_unless (has_length shape.element shape.fields n && nat_le (line + lines_of n) size) (line, bad.Length))
+    (then_check (fails_unless (holds_slots shape.element shape.fields n && nat_le (line + lines_of n) size) (line, bad.Length))
     (then_check (first_fault (line_fault words earlier line) (lines_of n))
     (first_fault (slot_fault size words shape line) n)))

@@ -1,5 +1,6 @@
 -- Rows worked out by hand: superblocks, entries, logs, and the checks of small objects. Of this project's own format.
-use Rattle.std.specs.Prelude.{◌<◌, ◌≤◌, ◌++◌, false, map, ◌≡◌, ℕ, ◌+◌, ◌*◌, ◌^◌, ◌==◌, true, negsuc, List, [], ◌∷◌, slice_index, codes, if◌then◌else◌, Option, Some, None, Ok, Err}
+use Rattle.std.specs.Prelude.{◌<◌, ◌≤◌, ◌++◌, false, map, ◌≡◌, ℕ, ◌+◌, ◌*◌, ◌^◌, ◌==◌, true, negsuc, List, [], ◌∷◌, slice_index}
+use Rattle.std.specs.Prelude.{codes, if◌then◌else◌, Option, Some, None, Ok, Err}
 use Rattle.std.specs.List.{range_with_len}
 use Rattle.ap_base.specs.declared.kind.Kind.TheVariants.{Z, B, C, I, J, L}
 use Rattle.graph_model.specs.declared.types.Value.TheVariants.{Int, Long, Obj as Object}

@@ -1,14 +1,21 @@
 // Laws of what an image stands for. Each function states one in its contract, and does nothing.
 ghost use Rattle.std.specs.Prelude.{ℕ};
 ghost use Rattle.image_meaning.specs.Checks.{Words};
-ghost use Rattle.image_meaning.specs.Laws.{ChecksComeInOrder, LinesTellTheMeaning, PutBackOneByOne, CountedEntriesArePutBack, DirectoriesAreRead, BadDirectoriesAreTold, CorrespondingWordsStand, SameWordsStand, SameWordsCorrespond, SlotStoreCorresponds, RootStoreCorresponds, OtherObjectsCorrespond, ChangesElsewhereCorrespond, FurtherObjectsCorrespond};
+ghost use Rattle.image_meaning.specs.Laws.{ChecksComeInOrder, LinesTellTheMeaning, PutBackOneByOne, CountedEntriesArePutBack};
+ghost use Rattle.image_meaning.specs.Laws.{DirectoriesAreRead, BadDirectoriesAreTold, CorrespondingWordsStand, SameWordsStand};
+ghost use Rattle.image_meaning.specs.Laws.{SameWordsCorrespond, SlotStoreCorresponds, RootStoreCorresponds};
+ghost use Rattle.image_meaning.specs.Laws.{OtherObjectsCorrespond, ChangesElsewhereCorrespond, FurtherObjectsCorrespond};
 ghost use Rattle.image_meaning.specs.Laws.{AgreeingWordsCorrespond, CorrespondingWordsLieApart};
-ghost use Rattle.image_meaning.specs.Appending.{AddedEntryOpens, AddedShapeCorresponds, AddedRootCorresponds, NullRootIsAdded, AddedEntryStands, AddedEntriesStand};
-ghost use Rattle.image_meaning.specs.Opening.{WellFormedImagesPass, StandingImageIsFound, FoundImageStands, FoundObjectsLieBefore, StandingGraphsAreCanonical};
-ghost use Rattle.image_meaning.specs.Logging.{FreePlacesAreLogged, LoggedStoresAreUndone, EmptiedLogsCommit, OneLogNames, SameLinesSayTheSame};
+ghost use Rattle.image_meaning.specs.Appending.{AddedEntryOpens, AddedShapeCorresponds, AddedRootCorresponds, NullRootIsAdded};
+ghost use Rattle.image_meaning.specs.Appending.{AddedEntryStands, AddedEntriesStand};
+ghost use Rattle.image_meaning.specs.Opening.{WellFormedImagesPass, StandingImageIsFound, FoundImageStands};
+ghost use Rattle.image_meaning.specs.Opening.{FoundObjectsLieBefore, StandingGraphsAreCanonical};
+ghost use Rattle.image_meaning.specs.Logging.{FreePlacesAreLogged, LoggedStoresAreUndone, EmptiedLogsCommit, OneLogNames};
+ghost use Rattle.image_meaning.specs.Logging.{SameLinesSayTheSame};
 ghost use Rattle.image_meaning.specs.Recovering.{StoppedRecoveryStands, StoppedRecoveriesAreOne};
 ghost use Rattle.image_meaning.specs.Spelling.{NumbersAreSpelled};
-ghost use Rattle.image_meaning.specs.Rows.{SuperblockRows, EntryRows, DirectoryRows, PutBackRow, LogRows, LogCountIsChecked, RootRows, ObjectRows, WordRows, WalkRows};
+ghost use Rattle.image_meaning.specs.Rows.{SuperblockRows, EntryRows, DirectoryRows, PutBackRow, LogRows, LogCountIsChecked};
+ghost use Rattle.image_meaning.specs.Rows.{RootRows, ObjectRows, WordRows, WalkRows};
 ghost use Rattle.image_meaning.specs.Arrays.{NullRootsStand, ArrayEntriesMayStand, OneArrayStands};
 
 /// The first check that fails counts: of the superblock, the directory, the logs, the root slots, the objects.

@@ -1,13 +1,17 @@
 -- Entries that are put back one after another.
-use Rattle.std.proofs.Common.{◌≡◌, ◌⊎◌, inl, inr, ⊎_elim, ◌<◌, ◌≤◌, ◌/◌, ◌%◌, ◌&&◌, ◌||◌, ◌==◌, ℕ, suc, Bool, true, false, List, [], ◌∷◌, ◌++◌, length, drop, nat_le, nat_lt, None, Result, Ok, Err, OnOk, ◌+◌, add-one, refl, sym, ◌∙◌, ap, subst, arith}
+use Rattle.std.proofs.Common.{◌≡◌, ◌⊎◌, inl, inr, ⊎_elim, ◌<◌, ◌≤◌, ◌/◌, ◌%◌, ◌&&◌, ◌||◌, ◌==◌, ℕ, suc, Bool, true, false, List}
+use Rattle.std.proofs.Common.{[], ◌∷◌, ◌++◌, length, drop, nat_le, nat_lt, None, Result, Ok, Err, OnOk, ◌+◌, add-one, refl, sym}
+use Rattle.std.proofs.Common.{◌∙◌, ap, subst, arith}
 use Rattle.std.proofs.lemmas.Bool.{cases_eq, and_parts, eq-eqb, eqb-true, leb-true, ltb-true, le-leb, lt-ltb, true≢false}
 use Rattle.std.proofs.lemmas.List.FromFn.{length-map-range_with_len, get_or-map-range_with_len}
 use Rattle.std.proofs.Math.ListN.{drop_of_length-le}
 use Rattle.std.proofs.Math.Seq.{drop-cons}
 use Rattle.line_memory.specs.Memory.{Memory, shown, IsKnown, IsWritten, IsDurable}
-use Rattle.image_layout.specs.Places.{min_lines, logs, log_entries, root_slots, slot_line, first_object_line, log_head_line, log_entry_line, log_entry_word}
+use Rattle.image_layout.specs.Places.{min_lines, logs, log_entries, root_slots, slot_line, first_object_line, log_head_line}
+use Rattle.image_layout.specs.Places.{log_entry_line, log_entry_word}
 use Rattle.image_meaning.specs.Checks.{Words}
-use Rattle.image_meaning.specs.Logs.{Logged, log_count, logged_at, log_of, logs_below, may_be_logged, logs_fault, is_place, is_log_line, put_back, put_each}
+use Rattle.image_meaning.specs.Logs.{Logged, log_count, logged_at, log_of, logs_below, may_be_logged, logs_fault, is_place}
+use Rattle.image_meaning.specs.Logs.{is_log_line, put_back, put_each}
 use Rattle.image_meaning.proofs.Logs.{not_log_before, not_log_after}
 use Rattle.image_meaning.proofs.Places.{log_passes, entry_passes}
 use Rattle.image_meaning.proofs.PuttingBack.{counted-put_back}

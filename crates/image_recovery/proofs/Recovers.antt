@@ -1,12 +1,14 @@
 -- What is found in an image that is recovered, and what stops meanwhile leave.
-use Rattle.std.proofs.Common.{◌≡◌, inl, inr, ⊎_elim, ◌<◌, ◌≤◌, ℕ, nat_le, List, None, Result, Ok, Err, IfOk, IfErr, OnOk, refl, sym, ◌∙◌, ap, subst, arith}
+use Rattle.std.proofs.Common.{◌≡◌, ◌≢◌, inl, inr, ⊎_elim, ◌<◌, ◌≤◌, ℕ, nat_le, List, None, Result, Ok, Err, IfOk, IfErr, OnOk}
+use Rattle.std.proofs.Common.{refl, sym, ◌∙◌, ap, subst, arith}
 use Rattle.std.proofs.lemmas.Bool.{and_parts, cases_eq, cases_lt, eq-eqb, leb-true, ne_eqb, true≢false}
 use Rattle.ap_base.specs.Causes.{Rose}
 use Rattle.graph_model.specs.declared.types.Shape.{Shape}
 use Rattle.graph_model.specs.declared.types.Graph.{Graph}
 use Rattle.line_image.specs.Trace.{Outcome}
 use Rattle.line_memory.specs.Memory.{Memory, shown}
-use Rattle.image_layout.specs.Places.{min_lines, max_lines, super_check, super_of, slot_line, slot_word, directory_words, directory_line, directory_word, logs, log_head_line}
+use Rattle.image_layout.specs.Places.{min_lines, max_lines, super_check, super_of, slot_line, slot_word, directory_words}
+use Rattle.image_layout.specs.Places.{directory_line, directory_word, logs, log_head_line}
 use Rattle.image_layout.specs.declared.superblock.Super.{Super}
 use Rattle.image_layout.specs.declared.superblock.Super.TheVariants as supers
 use Rattle.image_meaning.specs.Checks as checks
@@ -16,13 +18,13 @@ use Rattle.image_meaning.specs.Logs.{logs_fault, is_log_line, put_back}
 use Rattle.image_meaning.specs.Meaning.{at_super, empty_graph, graph_from, meaning, StandsFor, IsWellFormed}
 use Rattle.image_meaning.proofs.Ranges.{mapped_same}
 use Rattle.image_meaning.proofs.Recovering.{while_emptying}
-use Rattle.image_meaning.proofs.Standing.{opens-standing, standing-sized}
+use Rattle.image_meaning.proofs.Standing.{opens-standing, standing-sized, version-within}
 use Rattle.image_meaning.proofs.Stopped.{logs_pass, opens-still, stopped-stands}
 use Rattle.image_meaning.proofs.Standings.{found-stands, stands-within}
 use Rattle.word_changes.specs.Changes.{Nothing, Tells, AllKnown, IsFixed, ChangesTo, StopsLeave, GoesOn}
-use Rattle.word_changes.proofs.Changing.{changes_nowhere, changes_stops, stops_then, stops_weaker, telling_knows}
+use Rattle.word_changes.proofs.Changing.{changes_more, changes_nowhere, changes_stops, stops_then, stops_weaker, telling_knows}
 use Rattle.word_changes.proofs.Going.{goes_by_fetch, goes_more}
-use Rattle.directories.specs.Formatting.{IsFormatted, IsBlankOrFormatted}
+use Rattle.directories.specs.Formatting.{IsFormatted, IsBlankOrFormatted, OfLayout}
 use Rattle.directories.specs.Kept.{Kept}
 use Rattle.directories.specs.Read as read
 use Rattle.directories.specs.declared.reading.DirectoryFault.{DirectoryFault}
@@ -31,9 +33,10 @@ use Rattle.directories.proofs.Formatted.{either_stands, formatted_well}
 use Rattle.image_walk.specs.Walking.{Shows, Looks, IsFault, IsFaultOf, directory_with}
 use Rattle.image_walk.specs.declared.fault.RecoverFault.{RecoverFault}
 use Rattle.image_walk.specs.declared.fault.RecoverFault.TheVariants as faults
-use Rattle.image_recovery.specs.Putting.{IsPutBack, IsCleared, AllDurable, AllWritten, PutsBack, IsRecovered, within, IsRecoveringIn}
+use Rattle.image_recovery.specs.Putting.{IsPutBack, IsCleared, IsRestored, AllDurable, AllWritten, PutsBack, IsRecovered}
+use Rattle.image_recovery.specs.Putting.{within, IsRecoveringIn}
 use Rattle.image_recovery.specs.Recovered.{IsUsed, FindsImage, FindsNothing, IsSameFault, IsBadFault, entries_in}
-use Rattle.image_recovery.specs.Recoveries.{FailsToRecover, Recovers, StopsKeepTheGraph}
+use Rattle.image_recovery.specs.Recoveries.{FailsToRecover, Recovers, StopsKeepTheGraph, StoresItsOwn}
 use Rattle.image_recovery.proofs.PutSteps.{head_in}
 use Rattle.image_recovery.proofs.Stops.{inside, behind, putting_stop, emptying_stop}
 
@@ -170,6 +173,17 @@ module _ (first b : Memory) (graph : Graph) (enough : min_lines ≤ first.size) 
   pub recovered_stands : StandsFor first.size (shown b) graph
   recovered_stands = recovering_stands first.size (shown first) (shown b) graph enough most used stands recovered_is
 
+  -- the version stays
+  pub recovered_version : shown b 0 1 ≡ shown first 0 1
+  recovered_version =
+      let c = shown first in
+      let size = first.size in
+      let o = opens-standing size c graph used stands in
+      let still = opens-still size c (within size (shown b) (put_back c)) o.0 o.1 recovered_is in
+      sym (inside size (shown b) (put_back c) 0 1 (omega (arith, enough)))
+      ∙ version-within size (within size (shown b) (put_back c) 0) still.used still.super
+      ∙ sym (version-within size (c 0) used o.1.super)
+
   pub recovered_well : IsWellFormed first.size (shown b)
   recovered_well =
       let c = shown first in
@@ -258,19 +272,30 @@ empty_directory given kept read empty = same_graph given (entries_in kept) no_en
 
 pub says_blank : (line : ℕ → ℕ) (says : Super) → says ≡ super_of line → says ≡ supers.Blank → line 0 ≡ 0
 says_blank line says is blank = ⊎_elim (λ e. e)
-    (λ ne. absurd (let f : supers.Blank ≡ super_of line = sym blank ∙ is in let h : supers.Blank ≡ supers.Used (line 3) = (rw (ne_eqb (line 0) 0 ne) at f) in cc))
+    (λ ne. absurd (let f : supers.Blank ≡ super_of line = sym blank ∙ is in let h : supers.Blank ≡ supers.Used (line 1) (line 3) = (rw (ne_eqb (line 0) 0 ne) at f) in cc))
     (cases_eq (line 0) 0)
 
-pub says_used : (line : ℕ → ℕ) (says : Super) (n : ℕ) → says ≡ super_of line → says ≡ supers.Used n → (line 0 ≡ 0 → ⊥) × (n ≡ line 3)
-says_used line says n is used = ⊎_elim
-    (λ e. absurd (let f : supers.Used n ≡ super_of line = sym used ∙ is in let h : supers.Used n ≡ supers.Blank = (rw (eq-eqb (line 0) 0 e) at f) in cc))
-    (λ ne. (ne, (let f : supers.Used n ≡ super_of line = sym used ∙ is in let h : supers.Used n ≡ supers.Used (line 3) = (rw (ne_eqb (line 0) 0 ne) at f) in cc)))
+-- a layout in use has the version and the count of words that its superblock has
+pub record SaysUsed (line : ℕ → ℕ) (version n : ℕ) : Type 0 where
+  pub begins : line 0 ≡ 0 → ⊥
+  pub version_is : version ≡ line 1
+  pub count_is : n ≡ line 3
+
+pub says_used : (line : ℕ → ℕ) (says : Super) (version n : ℕ) → says ≡ super_of line → says ≡ supers.Used version n
+    → SaysUsed line version n
+says_used line says version n is used =
+    let f : supers.Used version n ≡ super_of line = sym used ∙ is in
+    ⊎_elim
+    (λ e. absurd (let h : supers.Used version n ≡ supers.Blank = (rw (eq-eqb (line 0) 0 e) at f) in cc))
+    (λ ne. (let h : supers.Used version n ≡ supers.Used (line 1) (line 3) = (rw (ne_eqb (line 0) 0 ne) at f) in
+    record { begins = ne; version_is = cc; count_is = cc }))
     (cases_eq (line 0) 0)
 
-pub used_super : (size : ℕ) (words : Words) (says : Super) (n : ℕ) → super_check (words 0) size ≡ None → says ≡ super_of (words 0)
-    → says ≡ supers.Used n → IsUsed size words n
-used_super size words says n passes is used =
-    let so = says_used (words 0) says n is used in record { passes = passes; begins = so.0; says = so.1 }
+pub used_super : (size : ℕ) (words : Words) (says : Super) (version n : ℕ) → super_check (words 0) size ≡ None
+    → says ≡ super_of (words 0) → says ≡ supers.Used version n → IsUsed size words n
+used_super size words says version n passes is used =
+    let so = says_used (words 0) says version n is used in
+    record { passes = passes; begins = so.begins; says = so.count_is }
 
 -- ---- what is found
 
@@ -317,6 +342,11 @@ unread_fails first seen fault looks fails cause = record {
   bad = λ known. fails_at_super first.size (shown first) fault (fails known);
   cause = cause;
   put_back = λ known bad. changes_nowhere (IsPutBack (shown first)) first seen looks.changes;
+  stores = record {
+    blank = λ known zero. changes_nowhere (OfLayout first.size) first seen looks.changes;
+    used = λ known used. changes_nowhere (IsRestored (shown first)) first seen looks.changes;
+    unlogged = λ known used fails. looks.changes;
+  };
   stops = λ tells durable all graph stands.
       let range = sized first.size (shown first) graph stands in
       looking_stops first seen graph range.0 range.1 durable stands looks;
@@ -331,7 +361,17 @@ unread_fails first seen fault looks fails cause = record {
 module _ (first seen new : Memory) (enough : min_lines ≤ first.size) (most : first.size ≤ max_lines) (looks : Looks first seen)
     (zero : AllKnown first → shown first 0 0 ≡ 0)
     (formats : Tells seen → IsFixed seen 0 0 0 → StopsLeave seen new (IsBlankOrFormatted seen.size))
-    (goes : GoesOn seen new) (later : seen.faults ≤ new.faults) where
+    (lays : ChangesTo (OfLayout seen.size) seen new) (goes : GoesOn seen new) (later : seen.faults ≤ new.faults) where
+  -- the layout alone is written
+  blank_stores : StoresItsOwn first new
+  blank_stores = record {
+    blank = λ known blank. changes_more (OfLayout first.size) first seen new
+        (changes_nowhere (OfLayout first.size) first seen looks.changes)
+        (subst (λ (n : ℕ). ChangesTo (OfLayout n) seen new) looks.changes.size lays);
+    used = λ known used. absurd (used (zero known));
+    unlogged = λ known used fails. absurd (used (zero known));
+  }
+
   blank_stops : StopsKeepTheGraph first new
   blank_stops tells durable all graph stands =
       let known = telling_knows first tells in
@@ -368,6 +408,7 @@ module _ (first seen new : Memory) (enough : min_lines ≤ first.size) (most : f
         empty = λ known. (formatted (known_seen known)).logs;
         durable = λ tells written before. durable (looks.changes.telling tells)
             (durable_on first seen (telling_knows first tells) looks before);
+        stores = blank_stores;
         stops = blank_stops;
         recovering = λ tells before all used. absurd (used (zero (telling_knows first tells)));
         goes_on = blank_goes;
@@ -380,6 +421,7 @@ module _ (first seen new : Memory) (enough : min_lines ≤ first.size) (most : f
     bad = λ known. untied (meaning first.size (shown first)) fault (never (looks.changes.known known));
     cause = λ is. let rose = cause is in rose_later first.faults seen.faults new.faults looks.later rose;
     put_back = λ known bad. absurd (never (looks.changes.known known) bad);
+    stores = blank_stores;
     stops = blank_stops;
     recovering = λ tells before all enough used pass. absurd (used (zero (telling_knows first tells)));
     goes_on = blank_goes;
@@ -392,7 +434,17 @@ module _ (first seen new : Memory) (words : ℕ) (enough : min_lines ≤ first.s
     (is : AllKnown first → IsUsed first.size (shown first) words)
     (leaves : Tells first → AllDurable first → AllWritten first → logs_fault first.size (shown first) ≡ None
     → StopsLeave first new (IsRecoveringIn first.size (shown first)))
+    (restores : AllKnown first → ChangesTo (IsRestored (shown first)) first new)
+    (unlogged : AllKnown first → logs_fault first.size (shown first) ≢ None → ChangesTo Nothing first new)
     (goes : GoesOn seen new) (later : seen.faults ≤ new.faults) where
+  -- words are put back and counts cleared, alone
+  used_stores : StoresItsOwn first new
+  used_stores = record {
+    blank = λ known zero. absurd ((is known).begins zero);
+    used = λ known used. restores known;
+    unlogged = λ known used fails. unlogged known fails;
+  }
+
   used_stops : StopsKeepTheGraph first new
   used_stops tells durable all graph stands =
       let used = (is (telling_knows first tells)).begins in
@@ -424,11 +476,20 @@ module _ (first seen new : Memory) (words : ℕ) (enough : min_lines ≤ first.s
             (recovered_well first new graph enough most (is known).begins (stands known) (done known));
         empty = λ known. (done known).empty;
         durable = λ tells written before. durable tells written;
+        stores = used_stores;
         stops = used_stops;
         recovering = λ tells before all used. leaves tells before all (finds (telling_knows first tells)).finds.opens.logs;
         goes_on = used_goes;
         later = omega (arith, looks.later, later);
       }
+
+  -- it is of the version that its superblock has
+  pub used_version : (graph : Graph) (version : ℕ) → (AllKnown first → version ≡ shown first 0 1)
+      → (AllKnown first → StandsFor first.size (shown first) graph) → (AllKnown first → IsRecovered first new)
+      → AllKnown first → version ≡ shown new 0 1
+  used_version graph version same stands done known =
+      same known
+      ∙ sym (recovered_version first new graph enough most (is known).begins (stands known) (done known))
 
   pub used_fails : (fault : RecoverFault) → (AllKnown first → IsFaultOf (meaning first.size (shown first)) fault)
       → (AllKnown first → IsBadFault fault → ChangesTo (IsPutBack (shown first)) first new)
@@ -437,6 +498,7 @@ module _ (first seen new : Memory) (words : ℕ) (enough : min_lines ≤ first.s
     bad = bad;
     cause = λ same. rose_later first.faults seen.faults new.faults looks.later (cause same);
     put_back = put_back;
+    stores = used_stores;
     stops = used_stops;
     recovering = λ tells before all enough used pass. leaves tells before all pass;
     goes_on = used_goes;

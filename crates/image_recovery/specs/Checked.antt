@@ -21,4 +21,4 @@ undone_of words = length (filter (λ t. not (log_count words t == 0)) (range_wit
 -- no more words of the directory are in use than there are
 abbrev pub IsInRange : Super → Type 0
 IsInRange Blank = Unit {0}
-IsInRange (Used directory) = directory ≤ directory_words
+IsInRange (Used version directory) = directory ≤ directory_words

@@ -1,6 +1,6 @@
 -- Logs that are put back into an image, and emptied. These are the undo logs of failure-atomic regions (Shull, Huang and Torrellas,
 -- "AutoPersist", PLDI 2019), of this project's own format.
-use Rattle.std.specs.Prelude.{◌≡◌, ◌<◌, ℕ, List, false, true, nat_lt, if◌then◌else◌}
+use Rattle.std.specs.Prelude.{◌≡◌, ◌⊎◌, ◌<◌, ℕ, List, false, true, nat_lt, if◌then◌else◌}
 use Rattle.line_image.specs.Trace.{Outcome}
 use Rattle.line_memory.specs.Memory.{Memory, shown, IsWritten, IsDurable}
 use Rattle.image_layout.specs.Places.{logs, log_head_line}
@@ -31,6 +31,10 @@ IsClearedAt t l w v = (l ≡ log_head_line t) × (w ≡ 0) × (v ≡ 0)
 -- the count of a log is given 0
 abbrev pub IsCleared : ℕ → ℕ → ℕ → Type 0
 IsCleared l w v = (t : ℕ) × (t < logs) × IsClearedAt t l w v
+
+-- a word outside the logs is put back, or the count of a log is given 0
+abbrev pub IsRestored : Words → ℕ → ℕ → ℕ → Type 0
+IsRestored c l w v = IsPutBack c l w v ⊎ IsCleared l w v
 
 -- each line is written back as it is shown
 abbrev pub AllWritten : Memory → Type 0

@@ -6,13 +6,13 @@ use Rattle.line_memory.specs.Memory.{Memory, shown}
 use Rattle.image_layout.specs.Places.{min_lines}
 use Rattle.image_meaning.specs.Logs.{NoneLogged, logs_fault}
 use Rattle.image_meaning.specs.Meaning.{meaning, StandsFor, IsWellFormed}
-use Rattle.word_changes.specs.Changes.{Tells, AllKnown, ChangesTo, StopsLeave, GoesOn}
+use Rattle.word_changes.specs.Changes.{Nothing, Tells, AllKnown, ChangesTo, StopsLeave, GoesOn}
 use Rattle.directories.specs.Kept.{Kept}
-use Rattle.directories.specs.Formatting.{IsFormatted}
+use Rattle.directories.specs.Formatting.{IsFormatted, OfLayout}
 use Rattle.image_walk.specs.Walking.{IsFaultOf}
 use Rattle.image_walk.specs.declared.fault.RecoverFault.{RecoverFault}
 use Rattle.image_walk.specs.declared.fault.RecoverFault.TheVariants.{ImageFailed}
-use Rattle.image_recovery.specs.Putting.{IsPutBack, AllWritten, AllDurable, IsRecovered, IsRecoveringIn}
+use Rattle.image_recovery.specs.Putting.{IsPutBack, IsRestored, AllWritten, AllDurable, IsRecovered, IsRecoveringIn}
 use Rattle.image_recovery.specs.Recovered.{FindsImage, FindsNothing, IsBadFault}
 
 -- Where the image tells what was done to it, and nothing is stored that isn't durable, a stop at any moment leaves an
@@ -20,6 +20,13 @@ use Rattle.image_recovery.specs.Recovered.{FindsImage, FindsNothing, IsBadFault}
 abbrev pub StopsKeepTheGraph : Memory → Memory → Type 0
 StopsKeepTheGraph old new = Tells old → AllDurable old → AllWritten old → (graph : Graph)
     → StandsFor old.size (shown old) graph → StopsLeave old new (λ c. StandsFor old.size c graph)
+
+-- What is stored, whatever comes of it: in a blank image the words of the layout; in any other words are put back and counts of
+-- logs cleared, alone, and where a log fails its checks nothing is.
+pub record StoresItsOwn (old new : Memory) : Type 0 where
+  pub blank : AllKnown old → shown old 0 0 ≡ 0 → ChangesTo (OfLayout old.size) old new
+  pub used : AllKnown old → shown old 0 0 ≢ 0 → ChangesTo (IsRestored (shown old)) old new
+  pub unlogged : AllKnown old → shown old 0 0 ≢ 0 → logs_fault old.size (shown old) ≢ None → ChangesTo Nothing old new
 
 -- This was found in an image, and it is recovered.
 pub record Recovers (old new : Memory) (directory : Kept) (graph : Graph) (lines : List ℕ) (free undone : ℕ) : Type 0 where
@@ -35,6 +42,7 @@ pub record Recovers (old new : Memory) (directory : Kept) (graph : Graph) (lines
   pub well_formed : AllKnown old → IsWellFormed new.size (shown new)
   pub empty : AllKnown old → NoneLogged (shown new)
   pub durable : Tells old → AllWritten old → AllDurable old → AllDurable new
+  pub stores : StoresItsOwn old new
   -- what stops leave, meanwhile and from now on
   pub stops : StopsKeepTheGraph old new
   pub recovering : Tells old → AllDurable old → AllWritten old → shown old 0 0 ≢ 0
@@ -49,6 +57,7 @@ pub record FailsToRecover (old new : Memory) (fault : RecoverFault) : Type 0 whe
   pub cause : fault ≡ ImageFailed → Rose old.faults new.faults
   -- where it is bad, words were put back alone
   pub put_back : AllKnown old → IsBadFault fault → ChangesTo (IsPutBack (shown old)) old new
+  pub stores : StoresItsOwn old new
   -- what stops leave, meanwhile and from now on
   pub stops : StopsKeepTheGraph old new
   pub recovering : Tells old → AllDurable old → AllWritten old → min_lines ≤ old.size → shown old 0 0 ≢ 0

@@ -6,7 +6,8 @@ ghost use Rattle.image_layout.specs.Places.{min_lines, logs, log_head_line};
 ghost use Rattle.image_meaning.specs.Logs.{logs_fault};
 ghost use Rattle.word_changes.specs.Changes.{Tells, AllKnown, ChangesTo, StopsLeave, GoesOn};
 ghost use Rattle.image_walk.specs.Walking.{Looks};
-ghost use Rattle.image_recovery.specs.Putting.{IsCleared, IsClearedAt, AllWritten, AllDurable, PutsBack, IsRecovered, IsRecoveringIn};
+ghost use Rattle.image_recovery.specs.Putting.{IsCleared, IsClearedAt, AllWritten, AllDurable, PutsBack, IsRecovered};
+ghost use Rattle.image_recovery.specs.Putting.{IsRecoveringIn};
 
 use crate::spots::head_spot;
 use image_layout::LOGS;

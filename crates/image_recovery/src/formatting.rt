@@ -2,10 +2,10 @@
 ghost use Rattle.std.specs.Prelude.{◌≡◌, ◌≤◌, [], OnOk, IfOk, IfErr, IsErrOf};
 ghost use Rattle.ap_base.specs.Causes.{Rose};
 ghost use Rattle.line_memory.specs.Memory.{shown};
-ghost use Rattle.image_layout.specs.Places.{min_lines, max_lines, first_object_line};
+ghost use Rattle.image_layout.specs.Places.{min_lines, max_lines, first_object_line, version};
 ghost use Rattle.image_meaning.specs.Meaning.{empty_graph};
-ghost use Rattle.word_changes.specs.Changes.{Tells, AllKnown, IsFixed, StopsLeave, GoesOn};
-ghost use Rattle.directories.specs.Formatting.{IsFormatted, IsBlankOrFormatted};
+ghost use Rattle.word_changes.specs.Changes.{Tells, AllKnown, ChangesTo, IsFixed, StopsLeave, GoesOn};
+ghost use Rattle.directories.specs.Formatting.{IsFormatted, IsBlankOrFormatted, OfLayout};
 ghost use Rattle.image_recovery.specs.Putting.{AllDurable};
 ghost use Rattle.image_recovery.specs.Recovered.{FindsNothing, IsBadFault};
 
@@ -14,7 +14,7 @@ use crate::recovering::FoundImage;
 use ap_base::ListOf;
 use directories::{Directory, format_image};
 use graph_model::Graph;
-use image_layout::FIRST_OBJECT_LINE;
+use image_layout::{FIRST_OBJECT_LINE, VERSION};
 use image_walk::RecoverFault;
 use line_image::Image;
 use line_memory::LineMemory;
@@ -29,9 +29,11 @@ pub(crate) fn recover_blank<I: Image>(
     requires most { memory.old.size ≤ max_lines }
     ensures finds { AllKnown memory.old
         → IfOk result (λ found. FindsNothing found.directory found.graph found.lines found.free found.undone) }
+    ensures version { IfOk result (λ found. found.version ≡ version) }
     ensures formatted { AllKnown memory.old → OnOk result (IsFormatted memory.old.size (shown memory.new)) }
     ensures durable { Tells memory.old → AllDurable memory.old → OnOk result (AllDurable memory.new) }
     ensures never_bad { AllKnown memory.old → IfErr result (λ fault. IsBadFault fault → ⊥) }
+    ensures changes { ChangesTo (OfLayout memory.old.size) memory.old memory.new }
     ensures stops { Tells memory.old → IsFixed memory.old 0 0 0
         → StopsLeave memory.old memory.new (IsBlankOrFormatted memory.old.size) }
     ensures goes_on { GoesOn memory.old memory.new }
@@ -43,8 +45,9 @@ pub(crate) fn recover_blank<I: Image>(
     Ok(nothing_found(alloc, directory))
 }
 
-/// A directory, and nothing else.
+/// A directory of an image that has just been formatted, and nothing else.
 fn nothing_found(alloc: Global, directory: Directory) -> FoundImage
+    ensures version { result.version ≡ version }
     ensures directory { result.directory ≡ directory }
     ensures graph { result.graph ≡ empty_graph }
     ensures lines { result.lines ≡ [] }
@@ -52,6 +55,7 @@ fn nothing_found(alloc: Global, directory: Directory) -> FoundImage
     ensures undone { result.undone ≡ 0 }
 {
     FoundImage {
+        version: VERSION as u32,
         directory,
         graph: Graph {
             roots: ListOf::from_vec(Vec::new(alloc)),

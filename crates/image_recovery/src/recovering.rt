@@ -1,13 +1,13 @@
 // An image that isn't blank is recovered.
-ghost use Rattle.std.specs.Prelude.{◌≡◌, ◌≤◌, None, OnOk, IfOk, IfErr, IsErrOf};
+ghost use Rattle.std.specs.Prelude.{◌≡◌, ◌≢◌, ◌≤◌, None, OnOk, IfOk, IfErr, IsErrOf};
 ghost use Rattle.ap_base.specs.Causes.{Rose};
 ghost use Rattle.line_memory.specs.Memory.{Memory, shown};
 ghost use Rattle.image_layout.specs.Places.{min_lines, max_lines, directory_words};
 ghost use Rattle.image_meaning.specs.Logs.{logs_fault};
 ghost use Rattle.image_meaning.specs.Meaning.{meaning};
-ghost use Rattle.word_changes.specs.Changes.{Tells, AllKnown, ChangesTo, StopsLeave, GoesOn};
+ghost use Rattle.word_changes.specs.Changes.{Nothing, Tells, AllKnown, ChangesTo, StopsLeave, GoesOn};
 ghost use Rattle.image_walk.specs.Walking.{Looks, IsFaultOf};
-ghost use Rattle.image_recovery.specs.Putting.{IsPutBack, AllWritten, AllDurable, IsRecovered, IsRecoveringIn};
+ghost use Rattle.image_recovery.specs.Putting.{IsPutBack, IsRestored, AllWritten, AllDurable, IsRecovered, IsRecoveringIn};
 ghost use Rattle.image_recovery.specs.Recovered.{IsUsed, FindsImage, IsBadFault};
 
 use crate::clearing::empty_logs;
@@ -24,6 +24,8 @@ use std::alloc::Global;
 /// What is found in an image that is recovered.
 #[derive(Drop)]
 pub(crate) struct FoundImage {
+    /// The version of the layout.
+    pub(crate) version: u32,
     pub(crate) directory: Directory,
     pub(crate) graph: Graph,
     /// The first line of each node of the graph.
@@ -34,10 +36,12 @@ pub(crate) struct FoundImage {
     pub(crate) undone: u32,
 }
 
-/// Recovers an image that isn't blank, and so many words of whose directory are in use. It was only looked at so far.
+/// Recovers an image that isn't blank, whose layout has this version, and so many words of whose directory are in use. It was only
+/// looked at so far.
 pub(crate) fn recover_used<I: Image>(
     alloc: Global,
     memory: &mut LineMemory<I>,
+    version: u32,
     used: u32,
 ) -> Result<FoundImage, RecoverFault>
     requires enough { min_lines ≤ memory.old.size }
@@ -46,6 +50,7 @@ pub(crate) fn recover_used<I: Image>(
     ensures finds { (first : Memory) → AllKnown first → Looks first memory.old
         → IsUsed first.size (shown first) used → IfOk result (λ found. FindsImage first.size (shown first)
         found.directory found.graph found.lines found.free found.undone) }
+    ensures version { IfOk result (λ found. found.version ≡ version) }
     ensures recovered { (first : Memory) → AllKnown first → Looks first memory.old
         → OnOk result (IsRecovered first memory.new) }
     ensures durable { (first : Memory) → Tells first → AllWritten first → Looks first memory.old
@@ -55,6 +60,10 @@ pub(crate) fn recover_used<I: Image>(
         → IfErr result (IsFaultOf (meaning first.size (shown first))) }
     ensures put_back { (first : Memory) → AllKnown first → Looks first memory.old
         → IfErr result (λ fault. IsBadFault fault → ChangesTo (IsPutBack (shown first)) first memory.new) }
+    ensures changes { (first : Memory) → AllKnown first → Looks first memory.old
+        → ChangesTo (IsRestored (shown first)) first memory.new }
+    ensures unlogged { (first : Memory) → AllKnown first → Looks first memory.old
+        → logs_fault first.size (shown first) ≢ None → ChangesTo Nothing first memory.new }
     ensures stops { (first : Memory) → Tells first → AllDurable first → AllWritten first → Looks first memory.old
         → logs_fault first.size (shown first) ≡ None
         → StopsLeave first memory.new (IsRecoveringIn first.size (shown first)) }
@@ -72,6 +81,7 @@ pub(crate) fn recover_used<I: Image>(
     )?;
     empty_logs(memory)?;
     Ok(FoundImage {
+        version,
         directory: front.directory,
         graph: found.graph,
         lines: found.lines,

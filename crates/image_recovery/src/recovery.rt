@@ -1,5 +1,7 @@
 // An image is recovered.
-ghost use Rattle.std.specs.Prelude.{IfOk, IfErr};
+ghost use Rattle.std.specs.Prelude.{◌≡◌, IfOk, IfErr};
+ghost use Rattle.line_memory.specs.Memory.{shown};
+ghost use Rattle.word_changes.specs.Changes.{AllKnown};
 ghost use Rattle.image_recovery.specs.Recoveries.{FailsToRecover, Recovers};
 
 use crate::formatting::recover_blank;
@@ -19,6 +21,8 @@ use std::alloc::Global;
 pub struct Recovered<I: Image> {
     /// The memory of its lines.
     pub memory: LineMemory<I>,
+    /// The version of its layout.
+    pub version: u32,
     /// Its directory.
     pub directory: Directory,
     /// The graph for which it stands.
@@ -45,11 +49,13 @@ pub fn recover<I: Image>(
     mut memory: LineMemory<I>,
 ) -> Result<Recovered<I>, (RecoverFault, LineMemory<I>)>
     ensures recovers { IfOk result (λ r. Recovers memory r.memory r.directory r.graph r.lines r.free r.undone) }
+    ensures version { AllKnown memory → IfOk result (λ r. r.version ≡ shown r.memory 0 1) }
     ensures fails { IfErr result (λ e. FailsToRecover memory e.1 e.0) }
 {
     match recover_image(alloc, &mut memory) {
         Ok(found) => Ok(Recovered {
             memory,
+            version: found.version,
             directory: found.directory,
             graph: found.graph,
             lines: found.lines,
@@ -67,10 +73,11 @@ fn recover_image<I: Image>(
 ) -> Result<FoundImage, RecoverFault>
     ensures recovers { IfOk result (λ found. Recovers memory.old memory.new
         found.directory found.graph found.lines found.free found.undone) }
+    ensures version { AllKnown memory.old → IfOk result (λ found. found.version ≡ shown memory.new 0 1) }
     ensures fails { IfErr result (λ fault. FailsToRecover memory.old memory.new fault) }
 {
     match read_super(memory)? {
         Super::Blank => recover_blank(alloc, memory),
-        Super::Used { directory } => recover_used(alloc, memory, directory),
+        Super::Used { version, directory } => recover_used(alloc, memory, version, directory),
     }
 }

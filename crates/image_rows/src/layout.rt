@@ -94,7 +94,7 @@ fn objects(rt: HostRuntime) -> Result<(), Fail> {
 fn superblocks(rt: HostRuntime) -> Result<(), Fail> {
     let magic = u64::from_le_bytes(*b"AUTOPERS");
     let blank = [0, 9, 9, 9, 9, 9, 9, 9];
-    let all_wrong = [1, 2, 3, 99_999, 0, 0, 0, 0];
+    let all_wrong = [1, 3, 3, 99_999, 0, 0, 0, 0];
     for (words, lines, answer) in [
         (blank, 32_767, Err(BadReason::Size)),
         (blank, 32_768, Ok(Super::Blank)),
@@ -103,7 +103,10 @@ fn superblocks(rt: HostRuntime) -> Result<(), Fail> {
         (
             [magic, 1, 40_000, 32_768, 0, 0, 0, 0],
             40_000,
-            Ok(Super::Used { directory: 32_768 }),
+            Ok(Super::Used {
+                version: 1,
+                directory: 32_768,
+            }),
         ),
         (
             [1, 1, 40_000, 32_768, 0, 0, 0, 0],
@@ -111,7 +114,7 @@ fn superblocks(rt: HostRuntime) -> Result<(), Fail> {
             Err(BadReason::Magic),
         ),
         (
-            [magic, 2, 40_000, 32_768, 0, 0, 0, 0],
+            [magic, 3, 40_000, 32_768, 0, 0, 0, 0],
             40_000,
             Err(BadReason::Version),
         ),

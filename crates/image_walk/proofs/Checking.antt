@@ -1,11 +1,12 @@
 -- Checks, one after another.
-use Rattle.std.proofs.Common.{◌≡◌, ◌<◌, ◌≤◌, ◌+◌, ◌&&◌, ℕ, zero, suc, inl, inr, Option, Some, None, List, length, refl, ◌∙◌, arith, add-one, nat_lt, nat_le}
+use Rattle.std.proofs.Common.{◌≡◌, ◌<◌, ◌≤◌, ◌+◌, ◌&&◌, ℕ, zero, suc, inl, inr, Option, Some, None, List, length, refl, ◌∙◌}
+use Rattle.std.proofs.Common.{arith, add-one, nat_lt, nat_le}
 use Rattle.std.proofs.lemmas.Bool.{cases_lt}
 use Rattle.graph_model.specs.declared.types.Shape.{Shape}
 use Rattle.image_layout.specs.declared.superblock.BadReason.TheVariants as reasons
 use Rattle.image_layout.specs.Places.{lines_of}
 use Rattle.image_meaning.specs.Checks.{Words, Bad, fails_unless, then_check, first_fault}
-use Rattle.image_meaning.specs.Objects.{shape_number, length_at, shape_of, has_length, line_fault, slot_fault, object_fault}
+use Rattle.image_meaning.specs.Objects.{shape_number, length_at, shape_of, holds_slots, line_fault, slot_fault, object_fault}
 use Rattle.image_walk.specs.Walking.{IsFault, head_fault}
 use Rattle.image_walk.specs.declared.fault.RecoverFault.{RecoverFault}
 use Rattle.image_walk.specs.declared.fault.RecoverFault.TheVariants as fault
@@ -45,7 +46,7 @@ pub object_checks : (shapes : List Shape) (size : ℕ) (words : Words) (earlier 
     (first_fault (slot_fault size words (shape_of shapes words line) line) (length_at words line)))
 object_checks shapes size words earlier line =
     nested (fails_unless (nat_lt (shape_number words line) (length shapes)) (line, reasons.Shape))
-    (fails_unless (has_length (shape_of shapes words line).element (shape_of shapes words line).fields (length_at words line)
+    (fails_unless (holds_slots (shape_of shapes words line).element (shape_of shapes words line).fields (length_at words line)
     && nat_le (line + lines_of (length_at words line)) size) (line, reasons.Length))
     (then_check (first_fault (line_fault words earlier line) (lines_of (length_at words line)))
     (first_fault (slot_fault size words (shape_of shapes words line) line) (length_at words line)))

@@ -1,5 +1,6 @@
 -- The roots of a graph that is found, and its faults.
-use Rattle.std.proofs.Common.{◌≡◌, ◌<◌, ◌+◌, ◌++◌, ◌∷◌, ℕ, List, [], None, length, map, slice_index_or, refl, sym, ◌∙◌, ap, arith}
+use Rattle.std.proofs.Common.{◌≡◌, ◌<◌, ◌+◌, ◌++◌, ◌∷◌, ℕ, List, [], None, length, map, slice_index_or, refl, sym, ◌∙◌, ap}
+use Rattle.std.proofs.Common.{arith}
 use Rattle.std.specs.List.{range_with_len}
 use Rattle.std.proofs.lemmas.List.{get_or-map}
 use Rattle.std.proofs.lemmas.List.FromFn.{length-map-range_with_len, get_or-map-range_with_len, map-range_with_len_more}
@@ -12,7 +13,8 @@ use Rattle.graph_model.specs.declared.types.NamedValue.{NamedValue}
 use Rattle.graph_model.specs.Canon.{renumbered}
 use Rattle.image_meaning.specs.Checks.{Words}
 use Rattle.image_meaning.specs.Directories.{Directory}
-use Rattle.image_meaning.specs.Meaning.{root_value, root_values_of, roots_fault, walk, root_at, node_at, graph_found, graph_from}
+use Rattle.image_meaning.specs.Meaning.{root_value, root_values_of, roots_fault, walk, root_at, node_at, graph_found}
+use Rattle.image_meaning.specs.Meaning.{graph_from}
 use Rattle.image_meaning.proofs.Ranges.{mapped_same}
 use Rattle.image_walk.specs.Walking.{IsFault, IsFaultOf, directory_with, named_root}
 use Rattle.image_walk.specs.declared.fault.RecoverFault.{RecoverFault}

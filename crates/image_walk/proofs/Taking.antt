@@ -1,5 +1,6 @@
 -- Lines that are free or taken.
-use Rattle.std.proofs.Common.{◌≡◌, ◌<◌, ◌+◌, ◌&&◌, ◌||◌, ℕ, Bool, true, false, List, Some, None, length, slice_index_or, nat_le, nat_lt, refl, sym, ◌∙◌, arith}
+use Rattle.std.proofs.Common.{◌≡◌, ◌<◌, ◌+◌, ◌&&◌, ◌||◌, ℕ, Bool, true, false, List, Some, None, length, slice_index_or, nat_le}
+use Rattle.std.proofs.Common.{nat_lt, refl, sym, ◌∙◌, arith}
 use Rattle.std.proofs.lemmas.Bool.{le-ltb}
 use Rattle.image_layout.specs.declared.superblock.BadReason.TheVariants as reasons
 use Rattle.image_meaning.specs.Checks.{Words}

@@ -1,5 +1,6 @@
 -- Images that are only looked at, and the checks of their words. Of this project's own format.
-use Rattle.std.specs.Prelude.{◌≡◌, ◌<◌, ◌≤◌, ◌+◌, ◌/◌, ◌%◌, ◌^◌, ◌&&◌, ℕ, nat_lt, nat_le, Bool, false, ◌==◌, if◌then◌else◌, List, [], ◌∷◌, length, map, slice_index_or, Option, Some, Result, Err}
+use Rattle.std.specs.Prelude.{◌≡◌, ◌<◌, ◌≤◌, ◌+◌, ◌/◌, ◌%◌, ◌^◌, ◌&&◌, ℕ, nat_lt, nat_le, Bool, false, ◌==◌, if◌then◌else◌}
+use Rattle.std.specs.Prelude.{List, [], ◌∷◌, length, map, slice_index_or, Option, Some, Result, Err}
 use Rattle.std.specs.List.{list_any, range_with_len}
 use Rattle.ap_base.specs.declared.kind.Kind.TheVariants.{L}
 use Rattle.graph_model.specs.declared.types.Value.{Value}
@@ -15,7 +16,7 @@ use Rattle.image_meaning.specs.Checks as checks
 use Rattle.image_meaning.specs.Checks.{Words, fails_unless, then_check}
 use Rattle.image_meaning.specs.Directories.{Directory}
 use Rattle.image_meaning.specs.Logs.{is_log_line}
-use Rattle.image_meaning.specs.Objects.{is_reference, value_of, kind_of, has_length, object_slot, is_within}
+use Rattle.image_meaning.specs.Objects.{is_reference, value_of, kind_of, holds_slots, object_slot, is_within}
 use Rattle.word_changes.specs.Changes.{AllKnown, Nothing, ChangesTo, CallsGoOn}
 use Rattle.image_walk.specs.declared.fault.RecoverFault.{RecoverFault}
 use Rattle.image_walk.specs.declared.fault.RecoverFault.TheVariants.{Bad, ImageFailed, OutOfMemory}
@@ -62,7 +63,7 @@ head_fault shapes size line head =
     let shape = slice_index_or shapes (head % 2 ^ 32) no_shape in
     let n = head / 2 ^ 32 in
     then_check (fails_unless (nat_lt (head % 2 ^ 32) (length shapes)) (line, reasons.Shape))
-    (fails_unless (has_length shape.element shape.fields n && nat_le (line + lines_of n) size) (line, reasons.Length))
+    (fails_unless (holds_slots shape.element shape.fields n && nat_le (line + lines_of n) size) (line, reasons.Length))
 
 -- the values of the first n slots of an object of this shape that begins at the line
 abbrev pub slot_values : Words → Shape → ℕ → ℕ → List Value

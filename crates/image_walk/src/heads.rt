@@ -1,7 +1,7 @@
 // The heads of objects.
 ghost use Rattle.std.specs.Prelude.{◌≡◌, ◌<◌, ◌≤◌, ◌+◌, ◌/◌, ◌%◌, ◌^◌, None, length, IfOk, IfErr, IsErrOf};
 ghost use Rattle.image_layout.specs.Places.{lines_of};
-ghost use Rattle.image_meaning.specs.Objects.{has_length};
+ghost use Rattle.image_meaning.specs.Objects.{holds_slots};
 ghost use Rattle.image_walk.specs.Walking.{IsFault, head_fault};
 
 use crate::RecoverFault;
@@ -16,8 +16,8 @@ pub(crate) struct Head {
 }
 
 /// Whether an object of the shape may have so many slots.
-fn has_length(shape: &Shape, slots: u32) -> bool
-    ensures { result ≡ has_length shape.now.element shape.now.fields slots }
+fn holds_slots(shape: &Shape, slots: u32) -> bool
+    ensures { result ≡ holds_slots shape.now.element shape.now.fields slots }
 {
     shape.element.is_some() || shape.fields.len() as u64 == u64::from(slots)
 }
@@ -45,7 +45,7 @@ pub(crate) fn check_head(
         });
     }
     let behind = u64::from(line) + u64::from(lines_of(length));
-    if !has_length(&shapes[shape as usize], length) || behind > size {
+    if !holds_slots(&shapes[shape as usize], length) || behind > size {
         return Err(RecoverFault::Bad {
             line,
             reason: BadReason::Length,

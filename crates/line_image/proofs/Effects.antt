@@ -1,5 +1,6 @@
 -- One more effect: what reads give after it, and the versions of a line.
-use Rattle.std.proofs.Common.{◌≡◌, ◌≢◌, inl, inr, ◌<◌, ◌≤◌, ◌+◌, ℕ, List, [], ◌∷◌, ◌++◌, true, false, nat_eq, IsTrue, Option, Some, length, get_or, set, take, ◌∙◌, ap, sym, subst, arith, All, reverse}
+use Rattle.std.proofs.Common.{◌≡◌, ◌≢◌, inl, inr, ◌<◌, ◌≤◌, ◌+◌, ℕ, List, [], ◌∷◌, ◌++◌, true, false, nat_eq, IsTrue, Option}
+use Rattle.std.proofs.Common.{Some, length, get_or, set, take, ◌∙◌, ap, sym, subst, arith, All, reverse}
 use Rattle.std.proofs.lemmas.List.{reverse-append, reverse-reverse, get_or-set_other, take_more}
 use Rattle.std.proofs.lemmas.List.Elements.{All-append, All-push}
 use Rattle.std.proofs.lemmas.Grind.{get_or-set_at}

@@ -1,5 +1,6 @@
 -- The generator of an outcome, and the words that it picks.
-use Rattle.std.proofs.Common.{◌≡◌, ◌≢◌, ⊎_elim, ◌<◌, ◌+◌, ◌*◌, ◌/◌, ◌%◌, ◌^◌, ℕ, List, [], ◌∷◌, true, false, nat_eq, length, get_or, reverse, slice_index, refl, ap, arith, add-one}
+use Rattle.std.proofs.Common.{◌≡◌, ◌≢◌, ⊎_elim, ◌<◌, ◌+◌, ◌*◌, ◌/◌, ◌%◌, ◌^◌, ℕ, List, [], ◌∷◌, true, false, nat_eq, length}
+use Rattle.std.proofs.Common.{get_or, reverse, slice_index, refl, ap, arith, add-one}
 use Rattle.std.proofs.Math.Nat.{mod-add-mod, mod-one}
 use Rattle.std.proofs.lemmas.Nat.{mod_below}
 use Rattle.std.proofs.lemmas.Bool.{cases_eq}

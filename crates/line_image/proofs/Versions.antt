@@ -1,5 +1,7 @@
 -- The versions of a line: some are always there, and what a read gives is one that a stop may leave.
-use Rattle.std.proofs.Common.{◌≡◌, ◌⊎◌, inl, inr, ⊎_elim, ◌<◌, ◌≤◌, ◌+◌, ◌-◌, ℕ, zero, suc, List, [], ◌∷◌, ◌++◌, true, false, nat_eq, IsTrue, Some, length, get_or, slice_index, refl, ◌∙◌, ap, sym, subst, arith, All, reverse, nat_lt, ◌&&◌, ◌==◌}
+use Rattle.std.proofs.Common.{◌≡◌, ◌⊎◌, inl, inr, ⊎_elim, ◌<◌, ◌≤◌, ◌+◌, ◌-◌, ℕ, zero, suc, List, [], ◌∷◌, ◌++◌, true, false}
+use Rattle.std.proofs.Common.{nat_eq, IsTrue, Some, length, get_or, slice_index, refl, ◌∙◌, ap, sym, subst, arith, All, reverse}
+use Rattle.std.proofs.Common.{nat_lt, ◌&&◌, ◌==◌}
 use Rattle.std.proofs.Math.ListN.{get_or-eq_default}
 use Rattle.std.proofs.lemmas.List.{get_or-reverse, length-reverse, get_or_append_left, get_or_push}
 use Rattle.std.proofs.lemmas.Bool.{cases_eq, cases_lt}

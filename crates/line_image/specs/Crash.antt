@@ -1,5 +1,6 @@
 -- The outcome of a stop that a number picks.
-use Rattle.std.specs.Prelude.{ℕ, zero, suc, ◌+◌, ◌-◌, ◌*◌, ◌/◌, ◌%◌, ◌^◌, List, [], get_or, slice_index, reverse, length, if◌then◌else◌, ◌==◌, nat_lt}
+use Rattle.std.specs.Prelude.{ℕ, zero, suc, ◌+◌, ◌-◌, ◌*◌, ◌/◌, ◌%◌, ◌^◌, List, [], get_or, slice_index, reverse, length}
+use Rattle.std.specs.Prelude.{if◌then◌else◌, ◌==◌, nat_lt}
 use Rattle.line_image.specs.Trace.{Trace, versions}
 
 -- the next state of the generator (Knuth, The Art of Computer Programming, volume 2, section 3.3.4, MMIX)

@@ -3,7 +3,8 @@
 -- A line write is a write-back of a cache line (CLWB), a fence is an SFENCE, and a word is an aligned store
 -- of eight bytes, which a power failure doesn't tear (Intel 64 and IA-32 Architectures Software Developer's
 -- Manual, volume 2; the AutoPersist paper, PLDI 2019, stands on the same operations).
-use Rattle.std.specs.Prelude.{◌≡◌, ◌⊎◌, ℕ, List, [], ◌∷◌, Bool, true, ◌&&◌, Option, Some, None, get_or, slice_index, slice_set, if◌then◌else◌, ◌==◌, nat_lt, nat_le, length}
+use Rattle.std.specs.Prelude.{◌≡◌, ◌⊎◌, ℕ, List, [], ◌∷◌, Bool, true, ◌&&◌, Option, Some, None, get_or, slice_index, slice_set}
+use Rattle.std.specs.Prelude.{if◌then◌else◌, ◌==◌, nat_lt, nat_le, length}
 use Rattle.line_image.specs.declared.effect.Effect.{Effect}
 use Rattle.line_image.specs.declared.effect.Done.{Done}
 use Rattle.line_image.specs.declared.effect.Done.TheVariants.{Wrote, Fenced}

@@ -1,5 +1,6 @@
 // One outcome of a stop.
-ghost use Rattle.std.specs.Prelude.{◌≡◌, ◌<◌, ◌+◌, ◌-◌, ◌*◌, ◌^◌, ℕ, [], ◌∷◌, IfOk, OnOk, IsTrue, length, get_or, slice_index, reverse, All};
+ghost use Rattle.std.specs.Prelude.{◌≡◌, ◌<◌, ◌+◌, ◌-◌, ◌*◌, ◌^◌, ℕ, [], ◌∷◌, IfOk, OnOk, IsTrue, length, get_or, slice_index};
+ghost use Rattle.std.specs.Prelude.{reverse, All};
 ghost use Rattle.line_image.specs.Trace.{newest, versions_after, versions_from, versions, is_within};
 ghost use Rattle.line_image.specs.Crash.{next_state as state_next, state_after, state_past, choice, version_word, word_left};
 ghost use Rattle.line_image.specs.declared.effect.Effect.{Effect};

@@ -1,5 +1,6 @@
 // An image in memory, which keeps its writes and fences.
-ghost use Rattle.std.specs.Prelude.{◌≡◌, ◌<◌, ◌≤◌, ◌+◌, ◌-◌, ◌*◌, ◌/◌, ◌^◌, ◌⊎◌, ◌↔◌, ℕ, [], Some, IfOk, OnOk, OnErr, IsErr, vec_capacity, length, get_or, slice_index, reverse, replicate, All, IsTrue};
+ghost use Rattle.std.specs.Prelude.{◌≡◌, ◌<◌, ◌≤◌, ◌+◌, ◌-◌, ◌*◌, ◌/◌, ◌^◌, ◌⊎◌, ◌↔◌, ℕ, [], Some, IfOk, OnOk, OnErr, IsErr};
+ghost use Rattle.std.specs.Prelude.{vec_capacity, length, get_or, slice_index, reverse, replicate, All, IsTrue};
 ghost use Rattle.line_image.specs.Trace.{newest, versions_from, is_within, lines_after};
 ghost use Rattle.line_image.specs.declared.effect.Effect.{Effect};
 

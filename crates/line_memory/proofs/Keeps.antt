@@ -5,9 +5,11 @@ use Rattle.line_image.specs.Trace.{Trace, MayLeave, Reads, IsAllFenced}
 use Rattle.line_image.specs.Told.{Told, IsCounted}
 use Rattle.line_image.specs.declared.effect.Done.TheVariants.{Wrote, Fenced}
 use Rattle.line_memory.specs.Attached.{Attaches}
-use Rattle.line_memory.specs.Memory.{Memory, line_shown, shown, IsTelling, CanLeaveAll, ReadsWord, IsDurable, SameShown, KeepsTelling, StillWritten, WroteLine, MadeFence, DidNothing}
+use Rattle.line_memory.specs.Memory.{Memory, line_shown, shown, IsTelling, CanLeaveAll, ReadsWord, IsDurable, SameShown}
+use Rattle.line_memory.specs.Memory.{KeepsTelling, StillWritten, WroteLine, MadeFence, DidNothing}
 use Rattle.line_memory.specs.Moments.{CountsFrom, KeepsShown}
-use Rattle.line_memory.proofs.Stops.{write_narrows, write_reads, fence_narrows, fence_reads, reads-line, reads-kept, settled_leaves}
+use Rattle.line_memory.proofs.Stops.{write_narrows, write_reads, fence_narrows, fence_reads, reads-line, reads-kept}
+use Rattle.line_memory.proofs.Stops.{settled_leaves}
 use Rattle.line_memory.proofs.Chain.{goes_nowhere, goes_quietly, write_goes, fence_goes}
 use Rattle.line_memory.proofs.Residence.{every_line_is_resident}
 use Rattle.line_memory.proofs.StopSets.{telling-did, telling-before, reads-fenced}

@@ -1,5 +1,6 @@
 -- A stop set has exactly what a stop may leave after the same calls with further write-backs among them.
-use Rattle.std.proofs.Common.{◌≡◌, ◌⊎◌, inl, inr, ⊎_elim, ℕ, List, [], ◌∷◌, Bool, true, false, ◌&&◌, ◌||◌, nat_eq, IsTrue, Option, Some, None, get_or, slice_index, refl, sym, ◌∙◌, ap, subst, arith}
+use Rattle.std.proofs.Common.{◌≡◌, ◌⊎◌, inl, inr, ⊎_elim, ℕ, List, [], ◌∷◌, Bool, true, false, ◌&&◌, ◌||◌, nat_eq, IsTrue}
+use Rattle.std.proofs.Common.{Option, Some, None, get_or, slice_index, refl, sym, ◌∙◌, ap, subst, arith}
 use Rattle.std.proofs.lemmas.Bool.{cases_eq}
 use Rattle.std.proofs.lemmas.Bool.Decides.{nat_tests}
 use Rattle.ap_base.specs.Causes.{next_count}
@@ -9,11 +10,13 @@ use Rattle.line_image.specs.declared.effect.Done.TheVariants as done
 use Rattle.line_image.proofs.Versions.{newest_left}
 use Rattle.line_image.specs.Told.{Told}
 use Rattle.line_memory.specs.Memory.{Memory, line_shown, shown, IsResident, IsTelling, IsKnown, ReadsWord}
-use Rattle.line_memory.specs.Steps.{Deed, WroteBack, Fenced, Stored, Neither, Step, last, Stores, WritesBack, MakesFence, DidAs, Follows, EachFollows}
+use Rattle.line_memory.specs.Steps.{Deed, WroteBack, Fenced, Stored, Neither, Step, last, Stores, WritesBack, MakesFence, DidAs}
+use Rattle.line_memory.specs.Steps.{Follows, EachFollows}
 use Rattle.line_memory.specs.StopSet.{is_fence, writes, ShownSince, InStopSet}
 use Rattle.line_memory.specs.Laws.{AddsWriteBacks, Nothing, Same, Added, NoneElseIsLeft, EachIsLeft}
 use Rattle.line_memory.proofs.Stops.{may_leave-wrote, may_leave-kept, may_leave-fenced, reads-wrote, reads-kept, reads-written}
-use Rattle.line_memory.proofs.StopSets.{telling-did, telling_on, known_on, known_last, same_deed, leaves_on, reads-fenced, shown_now}
+use Rattle.line_memory.proofs.StopSets.{telling-did, telling_on, known_on, known_last, same_deed, leaves_on, reads-fenced}
+use Rattle.line_memory.proofs.StopSets.{shown_now}
 
 -- two memories over images of one size that show the same
 record Alike (m other : Memory) : Type 0 where

@@ -1,15 +1,19 @@
 -- Steps that follow one another, and what each does to a stop set.
-use Rattle.std.proofs.Common.{◌≡◌, ◌⊎◌, inl, inr, ⊎_elim, ℕ, suc, List, [], ◌∷◌, ◌++◌, Bool, true, false, ◌||◌, nat_eq, IsTrue, Option, Some, None, refl, sym, ◌∙◌, ap, subst, arith}
+use Rattle.std.proofs.Common.{◌≡◌, ◌⊎◌, inl, inr, ⊎_elim, ℕ, suc, List, [], ◌∷◌, ◌++◌, Bool, true, false, ◌||◌, nat_eq, IsTrue}
+use Rattle.std.proofs.Common.{Option, Some, None, refl, sym, ◌∙◌, ap, subst, arith}
 use Rattle.std.proofs.lemmas.Bool.Decides.{nat_tests}
 use Rattle.line_image.specs.Trace.{Trace, MayLeave, did}
 use Rattle.line_image.specs.declared.effect.Done.{Done}
 use Rattle.line_image.specs.declared.effect.Done.TheVariants as done
 use Rattle.line_image.specs.Told.{Told}
-use Rattle.line_memory.specs.Memory.{Memory, line_shown, shown, IsResident, IsTelling, IsKnown, ReadsWord, CanLeave, IsWritten, IsDurable}
+use Rattle.line_memory.specs.Memory.{Memory, line_shown, shown, IsResident, IsTelling, IsKnown, ReadsWord, CanLeave, IsWritten}
+use Rattle.line_memory.specs.Memory.{IsDurable}
 use Rattle.line_memory.specs.Steps.{Deed, WroteBack, Fenced, Stored, Neither, Step, Stores, last, DidAs, Follows, EachFollows}
 use Rattle.line_memory.specs.StopSet.{is_fence, writes, ShownSince, InStopSet}
-use Rattle.line_memory.specs.Laws.{NoneStores, StopsStayInside, AddsWhatIsShown, StoresAloneAdd, FencedStandsAlone, FencesLeaveWhatIsRead, ReadsGiveWhatWasWritten, write_and_fence}
-use Rattle.line_memory.proofs.Stops.{may_leave-wrote, may_leave-fenced, reads-wrote, reads_once, reads-kept, reads-written, reads-fenced as reads-unfenced}
+use Rattle.line_memory.specs.Laws.{NoneStores, StopsStayInside, AddsWhatIsShown, StoresAloneAdd, FencedStandsAlone}
+use Rattle.line_memory.specs.Laws.{FencesLeaveWhatIsRead, ReadsGiveWhatWasWritten, write_and_fence}
+use Rattle.line_memory.proofs.Stops.{may_leave-wrote, may_leave-fenced, reads-wrote, reads_once, reads-kept, reads-written}
+use Rattle.line_memory.proofs.Stops.{reads-fenced as reads-unfenced}
 
 pub telling-did : (o : Option Trace) (d : Done) (at : ℕ) → IsTelling o → IsTelling (did d at o)
 telling-did None d at telling = telling

@@ -1,11 +1,13 @@
 -- What each call of an image does to what a stop may leave.
-use Rattle.std.proofs.Common.{◌≡◌, ◌⊎◌, inl, inr, ⊎_elim, ℕ, List, [], Option, Some, None, Result, Ok, Err, OnOk, OnErr, true, false, nat_eq, get_or, slice_index, refl, sym, ◌∙◌, ap, subst, arith}
+use Rattle.std.proofs.Common.{◌≡◌, ◌⊎◌, inl, inr, ⊎_elim, ℕ, List, [], Option, Some, None, Result, Ok, Err, OnOk, OnErr, true}
+use Rattle.std.proofs.Common.{false, nat_eq, get_or, slice_index, refl, sym, ◌∙◌, ap, subst, arith}
 use Rattle.std.proofs.lemmas.Bool.{cases_eq}
 use Rattle.std.proofs.lemmas.Bool.Decides.{nat_tests}
 use Rattle.line_image.specs.Trace.{Trace, MayLeave, OneHas, newest, versions, versions_after, did, Reads, IsAllFenced}
 use Rattle.line_image.specs.declared.effect.Done.TheVariants.{Wrote, Fenced}
 use Rattle.line_image.proofs.Versions.{newest_left}
-use Rattle.line_memory.specs.Memory.{Memory, line_shown, shown, ReadsWord, CanLeave, IsWritten, IsDurable, Narrows, ReadsOrShows, LeavesNoMore, SameReads, WroteLine, MadeFence, DidNothing}
+use Rattle.line_memory.specs.Memory.{Memory, line_shown, shown, ReadsWord, CanLeave, IsWritten, IsDurable, Narrows}
+use Rattle.line_memory.specs.Memory.{ReadsOrShows, LeavesNoMore, SameReads, WroteLine, MadeFence, DidNothing}
 
 -- What a write did: the line's words came in front of its versions.
 wrote_has : (line l w v : ℕ) (words : List ℕ) (rest : List (List ℕ)) → OneHas (versions_after (Wrote line words) l rest) w v

@@ -1,6 +1,7 @@
 // What holds of every run of calls.
 ghost use Rattle.std.specs.Prelude.{ℕ, List, ◌<◌};
-ghost use Rattle.line_memory.specs.Laws.{StopsStayInside, AddsWhatIsShown, StoresAloneAdd, FencedStandsAlone, FencesLeaveWhatIsRead, ReadsGiveWhatWasWritten, NoneElseIsLeft, EachIsLeft};
+ghost use Rattle.line_memory.specs.Laws.{StopsStayInside, AddsWhatIsShown, StoresAloneAdd, FencedStandsAlone};
+ghost use Rattle.line_memory.specs.Laws.{FencesLeaveWhatIsRead, ReadsGiveWhatWasWritten, NoneElseIsLeft, EachIsLeft};
 ghost use Rattle.line_memory.specs.Memory.{Memory, CanLeave, IsResident};
 ghost use Rattle.line_memory.specs.Steps.{Step, last};
 ghost use Rattle.line_memory.specs.StopSet.{InStopSet};

@@ -3,7 +3,8 @@ ghost use Rattle.std.specs.Prelude.{◌≡◌, ◌≢◌, ◌⊎◌, ◌<◌, �
 ghost use Rattle.ap_base.specs.Causes.{HasCause};
 ghost use Rattle.line_image.specs.Trace.{LeavesNow};
 ghost use Rattle.line_memory.specs.Attached.{Attaches, GivesBack};
-ghost use Rattle.line_memory.specs.Memory.{Memory, shown, IsResident, IsAwaited, CanLeave, IsWritten, IsDurable, SameResident, LeavesNoMore, SameReads, OneCall, SameImage, WroteLine, MadeFence, DidNothing};
+ghost use Rattle.line_memory.specs.Memory.{Memory, shown, IsResident, IsAwaited, CanLeave, IsWritten, IsDurable, SameResident};
+ghost use Rattle.line_memory.specs.Memory.{LeavesNoMore, SameReads, OneCall, SameImage, WroteLine, MadeFence, DidNothing};
 ghost use Rattle.line_memory.specs.Moments.{Goes, KeepsShown};
 
 use crate::attach::{AttachFault, read_lines};

@@ -1,5 +1,6 @@
 -- One more entry of a constant pool has its index.
-use Rattle.std.proofs.Common.{◌≡◌, ℕ, ◌+◌, Bool, true, false, cond, ⊎_elim, subst, List, [], ◌∷◌, ◌++◌, Some, None, Vec, Global, refl, sym, ap, ◌∙◌, add_assoc, add-zero}
+use Rattle.std.proofs.Common.{◌≡◌, ℕ, ◌+◌, Bool, true, false, cond, ⊎_elim, subst, List, [], ◌∷◌, ◌++◌, Some, None, Vec, Global}
+use Rattle.std.proofs.Common.{refl, sym, ap, ◌∙◌, add_assoc, add-zero}
 use Rattle.std.specs.Prelude.{sum_by, Option}
 use Rattle.std.specs.Str.{bytes_eq}
 use Rattle.std.specs.HashMap.{Updates, get_by}

@@ -1,5 +1,6 @@
 -- The bytes of instructions, of which the labels are known (JVMS 6.5).
-use Rattle.std.specs.Prelude.{ℕ, ◌&&◌, not, nat_lt, Bool, ℤ, pos, negsuc, ◌-ℤ◌, int_le, List, [], ◌∷◌, ◌++◌, length, replicate, Result, Ok}
+use Rattle.std.specs.Prelude.{ℕ, ◌&&◌, not, nat_lt, Bool, ℤ, pos, negsuc, ◌-ℤ◌, int_le, List, [], ◌∷◌, ◌++◌, length, replicate}
+use Rattle.std.specs.Prelude.{Result, Ok}
 use Rattle.std.specs.Int.{w16, w32, cast_unsigned}
 use Rattle.byteorder.specs.Endian.{big_bytes}
 use Rattle.parsing.specs.Results.{◌>>=◌}

@@ -1,6 +1,7 @@
 -- The bytes of a class's interfaces, fields and methods (JVMS 4.1, 4.5, 4.6, 4.7.3). The entries of the
 -- constant pool are added in the order in which the file names them.
-use Rattle.std.specs.Prelude.{ℕ, ◌+◌, ◌==◌, ◌||◌, not, nat_lt, min, is_some, Bool, true, false, List, [], ◌∷◌, ◌++◌, length, take, codes, Option, Some, None, Result, Ok, Err, if◌then◌else◌}
+use Rattle.std.specs.Prelude.{ℕ, ◌+◌, ◌==◌, ◌||◌, not, nat_lt, min, is_some, Bool, true, false, List, [], ◌∷◌, ◌++◌, length}
+use Rattle.std.specs.Prelude.{take, codes, Option, Some, None, Result, Ok, Err, if◌then◌else◌}
 use Rattle.byteorder.specs.Endian.{big_bytes}
 use Rattle.parsing.specs.Results.{◌>>=◌, placed}
 use Rattle.listing_lines.specs.declared.refusal.ListingFault.TheVariants.{Syntax, TooLarge, UnknownLabel, DoubledLabel}

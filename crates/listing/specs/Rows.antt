@@ -3,7 +3,8 @@ use Rattle.std.specs.Prelude.{◌≡◌, ℕ, List, [], ◌∷◌, ◌++◌, cod
 use Rattle.std.specs.List.{flat_map}
 use Rattle.parsing.specs.Results.{◌>>=◌}
 use Rattle.listing_lines.specs.declared.refusal.ListingFault.{ListingFault}
-use Rattle.listing_lines.specs.declared.refusal.ListingFault.TheVariants.{Syntax, UnknownWord, UnknownLabel, DoubledLabel, BadDescriptor}
+use Rattle.listing_lines.specs.declared.refusal.ListingFault.TheVariants.{Syntax, UnknownWord, UnknownLabel, DoubledLabel}
+use Rattle.listing_lines.specs.declared.refusal.ListingFault.TheVariants.{BadDescriptor}
 use Rattle.listing_lines.specs.declared.lines.Line.{Line}
 use Rattle.listing_lines.specs.Lines.{listing_lines}
 use Rattle.listing.specs.declared.error.ListingError.{ListingError}

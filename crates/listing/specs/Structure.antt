@@ -1,5 +1,6 @@
 -- Which lines may follow one another, and which line is bad.
-use Rattle.std.specs.Prelude.{ℕ, ◌+◌, ◌||◌, nat_lt, min, Bool, true, false, List, [], ◌∷◌, length, Some, Result, Ok, Err, if◌then◌else◌}
+use Rattle.std.specs.Prelude.{ℕ, ◌+◌, ◌||◌, nat_lt, min, Bool, true, false, List, [], ◌∷◌, length, Some, Result, Ok, Err}
+use Rattle.std.specs.Prelude.{if◌then◌else◌}
 use Rattle.parsing.specs.Results.{◌>>=◌, placed}
 use Rattle.parsing.specs.Results as results
 use Rattle.listing_lines.specs.declared.refusal.ListingFault.TheVariants.{Syntax, TooLarge}

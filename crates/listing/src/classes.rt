@@ -8,7 +8,8 @@ ghost use Rattle.parsing.specs.Results.{placed};
 ghost use Rattle.listing_lines.specs.Lines.{listing_lines};
 ghost use Rattle.listing.specs.Pool.{with_text};
 ghost use Rattle.listing.specs.Structure.{Gives, at as at_line};
-ghost use Rattle.listing.specs.Classes.{super_from, front_bytes, class_bytes, files_from, refused, classes_in, lower, both, judged, assembled};
+ghost use Rattle.listing.specs.Classes.{super_from, front_bytes, class_bytes, files_from, refused, classes_in, lower, both};
+ghost use Rattle.listing.specs.Classes.{judged, assembled};
 
 use crate::bodies::bodies;
 use crate::error::{ListingError, at, next_number};

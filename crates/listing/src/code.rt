@@ -4,7 +4,8 @@ ghost use Rattle.std.specs.Prelude.{◌≡◌, ◌≤◌, ◌∷◌, replicate, 
 ghost use Rattle.byteorder.specs.Endian.{big_bytes};
 ghost use Rattle.listing_lines.specs.Reading.{Answers, Gives};
 ghost use Rattle.listing.specs.Labels.{past, padding};
-ghost use Rattle.listing.specs.Code.{near_offset, far_offset, offsets, cases, table_bytes, lookup_bytes, with_index, entry_bytes, interface_bytes, jump_bytes, instruction_bytes};
+ghost use Rattle.listing.specs.Code.{near_offset, far_offset, offsets, cases, table_bytes, lookup_bytes, with_index};
+ghost use Rattle.listing.specs.Code.{entry_bytes, interface_bytes, jump_bytes, instruction_bytes};
 
 use crate::labels::{padding, target};
 use crate::marks::Marks;

@@ -4,7 +4,8 @@ ghost use Rattle.std.specs.Prelude.{◌≡◌, ◌<◌, ◌++◌, Some, IfOk, On
 ghost use Rattle.std.specs.Option.{option_map};
 ghost use Rattle.listing_lines.specs.Reading.{Answers, Gives as LineGives};
 ghost use Rattle.listing.specs.Structure.{Gives};
-ghost use Rattle.listing.specs.Members.{handler_places, catch_index, handler_bytes, handler_item, counted, item_bytes, handlers_from};
+ghost use Rattle.listing.specs.Members.{handler_places, catch_index, handler_bytes, handler_item, counted, item_bytes};
+ghost use Rattle.listing.specs.Members.{handlers_from};
 
 use crate::error::{ListingError, at, next_number};
 use crate::labels::{is_end, pc_of, target};

@@ -3,7 +3,8 @@
 ghost use Rattle.std.specs.Prelude.{◌≡◌, ◌≤◌, ◌<◌, ◌+◌, ◌*◌, ◌++◌, min, IfOk, OnOk};
 ghost use Rattle.std.specs.Option.{option_map};
 ghost use Rattle.listing_lines.specs.Reading.{Answers};
-ghost use Rattle.listing.specs.Labels.{past, padding, size_at, after, place_after, label_in, is_end, mark_at, marks_from, pc_of, target};
+ghost use Rattle.listing.specs.Labels.{past, padding, size_at, after, place_after, label_in, is_end, mark_at, marks_from};
+ghost use Rattle.listing.specs.Labels.{pc_of, target};
 
 use crate::marks::{Mark, Marks};
 use ap_base::Bytes;

@@ -5,7 +5,9 @@ ghost use Rattle.listing_lines.specs.Lines.{listing_lines};
 ghost use Rattle.listing.specs.Code.{is_near};
 ghost use Rattle.listing.specs.Members.{root_bytes};
 ghost use Rattle.listing.specs.Classes.{judged};
-ghost use Rattle.listing.specs.Rows.{text, files_of, class_a_lines, class_a_file, goes_on, AreBad, bad_lines, method_code, AreCodes, jumps, loads, loads_code, loads_entries, method_handlers, caught, caught_table, caught_entries};
+ghost use Rattle.listing.specs.Rows.{text, files_of, class_a_lines, class_a_file, goes_on, AreBad, bad_lines, method_code};
+ghost use Rattle.listing.specs.Rows.{AreCodes, jumps, loads, loads_code, loads_entries, method_handlers, caught, caught_table};
+ghost use Rattle.listing.specs.Rows.{caught_entries};
 
 /// The smallest class has the bytes that JVMS 4.1 gives it.
 pub fn the_smallest_class_is_assembled()

@@ -7,7 +7,10 @@ ghost use Rattle.parsing.specs.Results.{placed};
 ghost use Rattle.listing_lines.specs.Reading.{Gives as LineGives};
 ghost use Rattle.listing.specs.Structure.{Gives, at as at_line};
 ghost use Rattle.listing.specs.Pool.{with_utf8};
-ghost use Rattle.listing.specs.Members.{member_head, with_annotations_name, with_root_name, root_bytes, root_attribute, field_attributes, field_bytes, code_content, attribute_bytes, code_attribute, method_attributes, interface_item, field_item, method_item, item_of, begins_class, section_from};
+ghost use Rattle.listing.specs.Members.{member_head, with_annotations_name, with_root_name, root_bytes, root_attribute};
+ghost use Rattle.listing.specs.Members.{field_attributes, field_bytes, code_content, attribute_bytes, code_attribute};
+ghost use Rattle.listing.specs.Members.{method_attributes, interface_item, field_item, method_item, item_of, begins_class};
+ghost use Rattle.listing.specs.Members.{section_from};
 
 use crate::bodies::code;
 use crate::error::{ListingError, at, next_number};

@@ -2,7 +2,8 @@
 
 ghost use Rattle.std.specs.Prelude.{◌≡◌, ◌+◌, ◌≤◌, ◌++◌, [], ◌∷◌, OnOk, IfErr};
 ghost use Rattle.listing_lines.specs.Reading.{Gives};
-ghost use Rattle.listing.specs.Pool.{width, free_index, index_from, with_entry, with_utf8, with_text, with_pair, with_name_and_type, member_tag, with_member, with_wanted};
+ghost use Rattle.listing.specs.Pool.{width, free_index, index_from, with_entry, with_utf8, with_text, with_pair};
+ghost use Rattle.listing.specs.Pool.{with_name_and_type, member_tag, with_member, with_wanted};
 
 use ap_base::Bytes;
 use listing_lines::{LineRefusal, ListingFault, MemberKind, MemberName, Wanted};

@@ -1,7 +1,8 @@
 //! Which lines may follow one another.
 
 ghost use Rattle.std.specs.Prelude.{◌≡◌, false, if◌then◌else◌};
-ghost use Rattle.listing.specs.Structure.{outside, begun, inside, body, bodiless, meant, next_place, is_long, has_long_text, place_behind, may_end, structure_from, structure};
+ghost use Rattle.listing.specs.Structure.{outside, begun, inside, body, bodiless, meant, next_place, is_long, has_long_text};
+ghost use Rattle.listing.specs.Structure.{place_behind, may_end, structure_from, structure};
 
 use crate::error::{ListingError, at, next_number};
 use listing_lines::{Line, LineRefusal, ListingFault};

@@ -1,7 +1,8 @@
 -- The rows of lines have their meaning, by computation.
 use Rattle.std.proofs.Common.{◌≡◌, [], ◌∷◌, ◌++◌, refl}
 use Rattle.std.specs.Prelude.{codes}
-use Rattle.const_pool.specs.Parsing.{name_len, class_at, after_front, base_at, element_at, brackets, field_at, parameters_at, only_field, result_at, method_at, descriptor_at}
+use Rattle.const_pool.specs.Parsing.{name_len, class_at, after_front, base_at, element_at, brackets, field_at, parameters_at}
+use Rattle.const_pool.specs.Parsing.{only_field, result_at, method_at, descriptor_at}
 use Rattle.listing_lines.specs.declared.refusal.ListingFault.TheVariants.{Syntax}
 use Rattle.listing_lines.specs.declared.lines.Line.TheVariants.{Super, Wrong}
 use Rattle.listing_lines.specs.Words.{words_from}
@@ -9,8 +10,11 @@ use Rattle.listing_lines.specs.Texts.{text_from}
 use Rattle.listing_lines.specs.Numbers.{decimal_from}
 use Rattle.listing_lines.specs.Mnemonics.{mnemonics, row_of}
 use Rattle.listing_lines.specs.Reading.{descriptor_of}
-use Rattle.listing_lines.specs.Instructions.{byte_number, short_number, local_index, increment, new_array, keys, table, key_label, pairs, lookup, constant, load_long, field_use, method_use, interface_use}
-use Rattle.listing_lines.specs.Lines.{class_line, field, sizes, method, method_line, meaning, line_of, lines_from, listing_lines}
+use Rattle.listing_lines.specs.Instructions.{byte_number, short_number, local_index, increment, new_array, keys, table}
+use Rattle.listing_lines.specs.Instructions.{key_label, pairs, lookup, constant, load_long, field_use, method_use}
+use Rattle.listing_lines.specs.Instructions.{interface_use}
+use Rattle.listing_lines.specs.Lines.{class_line, field, sizes, method, method_line, meaning, line_of, lines_from}
+use Rattle.listing_lines.specs.Lines.{listing_lines}
 use Rattle.listing_lines.specs.Rows.{AreLines, AreWrong, new_line, plain_lines, instruction_lines, wrong_lines}
 
 pub plain_lines_are : AreLines plain_lines

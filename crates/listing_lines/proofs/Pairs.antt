@@ -1,5 +1,6 @@
 -- Pairs that are read one after the other.
-use Rattle.std.proofs.Common.{◌≡◌, ℕ, ◌-◌, ◌≤◌, List, [], ◌∷◌, ◌++◌, length, get_or, take, drop, Result, Ok, Err, refl, sym, ◌∙◌, ap, append_assoc, arith}
+use Rattle.std.proofs.Common.{◌≡◌, ℕ, ◌-◌, ◌≤◌, List, [], ◌∷◌, ◌++◌, length, get_or, take, drop, Result, Ok, Err, refl, sym}
+use Rattle.std.proofs.Common.{◌∙◌, ap, append_assoc, arith}
 use Rattle.std.proofs.lemmas.List.{take_rest}
 use Rattle.parsing.specs.Results.{◌>>=◌}
 use Rattle.listing_lines.specs.declared.lines.KeyLabel.{KeyLabel}

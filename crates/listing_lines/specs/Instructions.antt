@@ -1,5 +1,6 @@
 -- The instructions of a listing, each a word and its operands (JVMS 6.5).
-use Rattle.std.specs.Prelude.{ℕ, ◌+◌, ◌==◌, ◌&&◌, not, ℤ, pos, negsuc, ◌-ℤ◌, int_le, unsigned_abs, Bool, true, false, List, [], ◌∷◌, length, codes, Option, Some, None, Result, Ok, Err, if◌then◌else◌, sum_by}
+use Rattle.std.specs.Prelude.{ℕ, ◌+◌, ◌==◌, ◌&&◌, not, ℤ, pos, negsuc, ◌-ℤ◌, int_le, unsigned_abs, Bool, true, false, List, []}
+use Rattle.std.specs.Prelude.{◌∷◌, length, codes, Option, Some, None, Result, Ok, Err, if◌then◌else◌, sum_by}
 use Rattle.std.specs.Int.{w8, w16, cast_unsigned}
 use Rattle.std.specs.Str.{bytes_eq}
 use Rattle.byteorder.specs.Endian.{big_bytes}
@@ -23,7 +24,8 @@ use Rattle.listing_lines.specs.declared.mnemonics.Operands.{Operands}
 use Rattle.listing_lines.specs.declared.mnemonics.Operands.TheVariants as operands
 use Rattle.listing_lines.specs.Numbers.{number, at_most}
 use Rattle.listing_lines.specs.Texts.{begins_text, text}
-use Rattle.listing_lines.specs.Reading.{or_fault, unless, no_operand, one_operand, two_operands, three_operands, natural, descriptor_of, field_type, parameters}
+use Rattle.listing_lines.specs.Reading.{or_fault, unless, no_operand, one_operand, two_operands, three_operands, natural}
+use Rattle.listing_lines.specs.Reading.{descriptor_of, field_type, parameters}
 
 abbrev pub Read : Type 0
 Read = Result Instruction LineRefusal

@@ -1,5 +1,6 @@
 -- The lines of a listing, each with what it means by itself.
-use Rattle.std.specs.Prelude.{ℕ, ◌+◌, ◌-◌, ◌==◌, ◌&&◌, ◌||◌, not, Bool, true, false, List, [], ◌∷◌, ◌++◌, length, take, slice_index, codes, Option, Some, None, Result, Ok, Err, if◌then◌else◌}
+use Rattle.std.specs.Prelude.{ℕ, ◌+◌, ◌-◌, ◌==◌, ◌&&◌, ◌||◌, not, Bool, true, false, List, [], ◌∷◌, ◌++◌, length, take}
+use Rattle.std.specs.Prelude.{slice_index, codes, Option, Some, None, Result, Ok, Err, if◌then◌else◌}
 use Rattle.std.specs.List.{list_any, list_all}
 use Rattle.std.specs.Str.{bytes_eq}
 use Rattle.const_pool.specs.declared.descriptor.ElementType.{ElementType}
@@ -15,7 +16,8 @@ use Rattle.listing_lines.specs.declared.directives.Directive.{Directive}
 use Rattle.listing_lines.specs.declared.directives.Directive.TheVariants as directive
 use Rattle.listing_lines.specs.declared.mnemonics.Operands.{Operands}
 use Rattle.listing_lines.specs.Words.{words}
-use Rattle.listing_lines.specs.Reading.{or_fault, unless, no_operand, one_operand, taken, natural, is_ascii, descriptor_of, field_type, parameters}
+use Rattle.listing_lines.specs.Reading.{or_fault, unless, no_operand, one_operand, taken, natural, is_ascii, descriptor_of}
+use Rattle.listing_lines.specs.Reading.{field_type, parameters}
 use Rattle.listing_lines.specs.Mnemonics.{instruction_named}
 use Rattle.listing_lines.specs.Instructions.{instruction_with}
 

@@ -1,7 +1,8 @@
 -- Rows of lines: what each means by itself, and which fault it has.
 use Rattle.std.specs.Prelude.{◌≡◌, ℕ, pos, negsuc, true, false, List, [], ◌∷◌, ◌++◌, codes, map, Some, None}
 use Rattle.listing_lines.specs.declared.refusal.ListingFault.{ListingFault}
-use Rattle.listing_lines.specs.declared.refusal.ListingFault.TheVariants.{Syntax, UnknownWord, BadNumber, BadDescriptor, BadText}
+use Rattle.listing_lines.specs.declared.refusal.ListingFault.TheVariants.{Syntax, UnknownWord, BadNumber, BadDescriptor}
+use Rattle.listing_lines.specs.declared.refusal.ListingFault.TheVariants.{BadText}
 use Rattle.listing_lines.specs.declared.lines.MemberKind.TheVariants as member
 use Rattle.listing_lines.specs.declared.lines.Wanted.TheVariants as wanted
 use Rattle.listing_lines.specs.declared.lines.Instruction.TheVariants as instruction

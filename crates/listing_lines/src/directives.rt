@@ -3,7 +3,10 @@
 ghost use Rattle.std.specs.Prelude.{◌≡◌, ◌≤◌, IfOk};
 ghost use Rattle.std.specs.List.{list_any};
 ghost use Rattle.listing_lines.specs.Reading.{Answers, Gives};
-ghost use Rattle.listing_lines.specs.Lines.{is_barred_in_class, class_line, super_line, implements_line, flag, is_barred_in_field, is_class, is_reference, field_options, field, field_line, method_options, sizes, method, method_line, catch_class, catch_line, end_line, directive_named, directive_line};
+ghost use Rattle.listing_lines.specs.Lines.{is_barred_in_class, class_line, super_line, implements_line, flag};
+ghost use Rattle.listing_lines.specs.Lines.{is_barred_in_field, is_class, is_reference, field_options, field, field_line};
+ghost use Rattle.listing_lines.specs.Lines.{method_options, sizes, method, method_line, catch_class, catch_line, end_line};
+ghost use Rattle.listing_lines.specs.Lines.{directive_named, directive_line};
 
 use crate::lines::Line;
 use crate::operands::{

@@ -3,7 +3,10 @@
 ghost use Rattle.std.specs.Prelude.{◌≡◌, ◌≤◌, IfOk, Ok};
 ghost use Rattle.listing_lines.specs.Numbers.{number as number_of};
 ghost use Rattle.listing_lines.specs.Reading.{Answers, Gives, or_fault};
-ghost use Rattle.listing_lines.specs.Instructions.{bare, byte_number, short_number, local_index, increment, primitive_code, new_array, jump, has_each_key, keys, table, key_label, pairs, lookup, constant, load_constant, load_long, class_use, named, field_use, method_use, is_long, cell_count, interface_count, interface_use, instruction_with};
+ghost use Rattle.listing_lines.specs.Instructions.{bare, byte_number, short_number, local_index, increment, primitive_code};
+ghost use Rattle.listing_lines.specs.Instructions.{new_array, jump, has_each_key, keys, table, key_label, pairs, lookup};
+ghost use Rattle.listing_lines.specs.Instructions.{constant, load_constant, load_long, class_use, named, field_use, method_use};
+ghost use Rattle.listing_lines.specs.Instructions.{is_long, cell_count, interface_count, interface_use, instruction_with};
 
 use crate::lines::{Instruction, KeyLabel, MemberKind, MemberName, Wanted};
 use crate::mnemonics::Operands;

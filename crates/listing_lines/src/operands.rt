@@ -3,7 +3,8 @@
 ghost use Rattle.std.specs.Prelude.{◌≡◌, IfOk};
 ghost use Rattle.std.specs.List.{list_all};
 ghost use Rattle.std.specs.Str.{bytes_eq};
-ghost use Rattle.listing_lines.specs.Reading.{Answers, Gives, or_fault, no_operand, one_operand, two_operands, three_operands, taken, natural, is_ascii, descriptor_of, field_type, parameters};
+ghost use Rattle.listing_lines.specs.Reading.{Answers, Gives, or_fault, no_operand, one_operand, two_operands, three_operands};
+ghost use Rattle.listing_lines.specs.Reading.{taken, natural, is_ascii, descriptor_of, field_type, parameters};
 
 use crate::numbers::number;
 use crate::refusal::{LineRefusal, ListingFault};

@@ -3,7 +3,8 @@
 ghost use Rattle.std.specs.Prelude.{◌≡◌, IfOk};
 ghost use Rattle.std.specs.Option.{option_map};
 ghost use Rattle.listing_lines.specs.Reading.{Gives};
-ghost use Rattle.listing_lines.specs.Lines.{instruction_line, directive_or_instruction, before_colon, label_line, label_or_other, meaning, is_comment, line_of, cut_off, lines_from, listing_lines};
+ghost use Rattle.listing_lines.specs.Lines.{instruction_line, directive_or_instruction, before_colon, label_line};
+ghost use Rattle.listing_lines.specs.Lines.{label_or_other, meaning, is_comment, line_of, cut_off, lines_from, listing_lines};
 
 use crate::directives::{Directive, directive_line, directive_named};
 use crate::instructions::instruction_with;

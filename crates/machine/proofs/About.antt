@@ -1,5 +1,6 @@
 -- What the thread has asked, after further acts.
-use Rattle.std.proofs.Common.{◌≡◌, ℕ, true, ◌&&◌, List, [], ◌∷◌, ◌++◌, Option, Some, None, refl, sym, ◌∙◌, ap, subst, if◌then◌else◌}
+use Rattle.std.proofs.Common.{◌≡◌, ℕ, true, ◌&&◌, List, [], ◌∷◌, ◌++◌, Option, Some, None, refl, sym, ◌∙◌, ap, subst}
+use Rattle.std.proofs.Common.{if◌then◌else◌}
 use Rattle.std.proofs.lemmas.Bool.{and_parts}
 use Rattle.ap_base.specs.declared.place.Place.{Place}
 use Rattle.ap_base.specs.declared.place.Place.TheVariants.{Static, Slot}
@@ -21,13 +22,13 @@ use Rattle.step_forms.specs.Follows.{stored_as}
 use Rattle.run_forms.specs.Views.{PlainFrames}
 use Rattle.run_forms.specs.Standing.{Launch, known_at, plain_code}
 use Rattle.run_forms.specs.Volatile.{act_of}
-use Rattle.stop_invariant.specs.Layouts.{Layout}
+use Rattle.stop_theorem.specs.Layouts.{Layout}
 use Rattle.twin_forms.specs.Table.{Entry}
 use Rattle.machine_forms.specs.declared.doing.Doing.{Doing}
 use Rattle.machine_forms.specs.declared.doing.Doing.TheVariants.{Nothing, Converting, Writing, Fencing}
 use Rattle.machine_forms.specs.Machines.{Opening, Machine, known_in, doing_of, layout_in}
 use Rattle.machine_forms.specs.Keeping.{IsDoing, KeepsRun}
-use Rattle.machine_asks.proofs.Acts.{pending-own}
+use Rattle.machine_laws.proofs.Acts.{pending-own}
 use Rattle.machine.specs.Running.{IsAboutItsStore}
 use Rattle.machine.proofs.Basics.{no-some, some-same}
 

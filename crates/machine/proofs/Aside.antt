@@ -1,5 +1,6 @@
 -- A machine whose monitors, classes and threads are kept otherwise, but show the same world, keeps its run.
-use Rattle.std.proofs.Common.{◌≡◌, inl, inr, ℕ, ◌+◌, ◌*◌, ◌≤◌, ltb, true, false, List, [], ◌∷◌, ◌++◌, length, map, refl, sym, ◌∙◌, ap, subst, arith, if◌then◌else◌}
+use Rattle.std.proofs.Common.{◌≡◌, inl, inr, ℕ, ◌+◌, ◌*◌, ◌≤◌, ltb, true, false, List, [], ◌∷◌, ◌++◌, length, map, refl, sym}
+use Rattle.std.proofs.Common.{◌∙◌, ap, subst, arith, if◌then◌else◌}
 use Rattle.std.specs.Prelude.{All}
 use Rattle.std.specs.List.{AllByRecursion}
 use Rattle.std.proofs.lemmas.List.Elements.{All-nil, All-cons, All-head, All-tail, All-map}
@@ -29,7 +30,7 @@ use Rattle.converter.specs.Stepping.{keys_of, key_words}
 use Rattle.converter.proofs.Calling.{key_cons}
 use Rattle.machine_forms.specs.Machines.{Opening, Machine, roots_in, scene_of, shown_in}
 use Rattle.machine_forms.specs.Keeping.{KeepsRun, KeepsHeap, KeepsWorld, KeepsAsked}
-use Rattle.machine_runs.specs.Frames.{RunsAsPlain}
+use Rattle.machine_laws.specs.Frames.{RunsAsPlain}
 
 -- ---- keys of monitors
 

@@ -1,5 +1,6 @@
 -- What is asked before a store, and how the conversion of that begins.
-use Rattle.std.proofs.Common.{◌≡◌, inl, inr, ℕ, ◌-◌, ◌<◌, true, List, [], ◌∷◌, ◌++◌, length, Some, refl, sym, ◌∙◌, ap, subst, arith, lit<}
+use Rattle.std.proofs.Common.{◌≡◌, inl, inr, ℕ, ◌-◌, ◌<◌, true, List, [], ◌∷◌, ◌++◌, length, Some, refl, sym, ◌∙◌, ap, subst}
+use Rattle.std.proofs.Common.{arith, lit<}
 use Rattle.ap_base.specs.References.{reference_word}
 use Rattle.ap_base.specs.declared.place.Place.{Place}
 use Rattle.ap_base.specs.declared.reference.Ref.{Ref}
@@ -28,7 +29,7 @@ use Rattle.machine_forms.specs.declared.doing.Doing.TheVariants.{Nothing, Conver
 use Rattle.machine_forms.specs.Machines.{Opening, Machine, doing_of, known_in, layout_in, memory_of}
 use Rattle.machine_forms.specs.Keeping.{IsDoing}
 use Rattle.machine_forms.specs.Events.{AsksFor, BeginsOn, IsSlotOfClaimed, act_in, value_in, with_asked}
-use Rattle.machine_runs.specs.Frames.{IsReady}
+use Rattle.machine_laws.specs.Frames.{IsReady}
 use Rattle.machine_ends.specs.Stores.{StoresFreely}
 use Rattle.object_steps.specs.declared.storing.Store.{Store}
 use Rattle.object_steps.specs.Stores.{place_of}
@@ -47,10 +48,11 @@ use Rattle.machine.proofs.About.{IsIdle, about-asked, idle-asks}
 use Rattle.machine.proofs.Basics.{doing-set, not-longer, shared-is}
 use Rattle.machine.proofs.Faults.{none-more}
 use Rattle.machine.proofs.Freely.{freely-volatile}
-use Rattle.machine.proofs.Leaving.{ends-same, few, goes-on, same-room, same-size}
+use Rattle.machine.proofs.Leaving.{ends-same, few, goes-on, same-room, same-size, happened}
 use Rattle.machine.proofs.Memory.{same-image}
 use Rattle.machine.proofs.Names.{none-queued-now, unclaimed}
 use Rattle.machine.proofs.Planned.{is-store, plain-asks, plain-stores, same-value}
+use Rattle.machine_forms.specs.Happening as event
 
 -- a ready thread that isn't converting is about nothing
 abbrev pub IsReadyToAsk : Shared → Type 0
@@ -119,21 +121,15 @@ module _ (laws : Laws) (o : Opening) (first : ℕ) (set : SetFacts) (s : Shared)
 
     asked-comes : Comes o first fs request Micro s asked_now
     asked-comes =
-        let kept = laws.keep.asked o s.machine es h.due.running.keeps 0 request goal store.kept asks-for in
+        let now = happened laws o first set s es fs request h.due (event.asked request goal store.kept asks-for) [] h.due.asks tt in let kept = now.keeps in
         record {
           goes = record {
             es = es;
             running = goes-on o first s es fs h.due.running asked_now es fs (record {
               keeps = kept;
-              plain = laws.frames.asked o s.machine es (fs ∷ []) h.due.running.keeps h.due.running.plain 0
-                  fs request
-                  goal store.kept h.due.asks asks-for;
-              taken = laws.lines.asked o s.machine es first h.due.running.keeps h.due.running.taken 0
-                  request goal
-                  store.kept asks-for;
-              unwritten = laws.unwritten.asked o s.machine es h.due.running.keeps h.due.running.unwritten 0
-                  request
-                  goal store.kept asks-for;
+              plain = now.plain;
+              taken = now.taken;
+              unwritten = now.unwritten;
               names = record {
                 once = h.due.running.names.once;
                 those = h.due.running.names.those;
@@ -155,8 +151,7 @@ module _ (laws : Laws) (o : Opening) (first : ℕ) (set : SetFacts) (s : Shared)
               numbers = refl;
               unfaulted = none-more o.launch s.machine.acts act h.due.running.unfaulted (λ lines.
                   laws.ends.stores_meet o s.machine es (fs ∷ []) h.due.running.keeps h.due.running.plain
-                  lines 0 _
-                  fs request goal store.kept h.ready h.due.asks
+                  lines 0 fs request goal store.kept h.ready h.due.asks
                   (is-store laws o first set s es fs request store h)
                   free (few laws o first set s es fs request h.due room));
             });
@@ -227,8 +222,9 @@ module _ (laws : Laws) (o : Opening) (first : ℕ) (set : SetFacts) (s : Shared)
     module _ (b : BeginsOnce 0 number begun.Claimed s new es) where
       claim-room : (memory_of new.machine).size - new.machine.free < new.history.room
       claim-room =
-          let kept = laws.keep.begins o s.machine es h.due.running.keeps new.machine b.after 0 number
-          (reference_word object) begun.Claimed (begins-on begun.Claimed b) in
+          let now = happened laws o first set s es fs request h.due
+          (event.begun new.machine b.after number (reference_word object) begun.Claimed (begins-on begun.Claimed b)) []
+          refl tt in let kept = now.keeps in
           let size = same-size o first s es fs h.due.running new.machine b.after kept in
           let room_is = ap (λ (y : History). y.room) b.history in
           let free = b.begins.says.free in
@@ -239,20 +235,15 @@ module _ (laws : Laws) (o : Opening) (first : ℕ) (set : SetFacts) (s : Shared)
       pub claimed-comes : Comes o first fs request Micro s new
       claimed-comes =
           let on = begins-on begun.Claimed b in
-          let kept = laws.keep.begins o s.machine es h.due.running.keeps new.machine b.after 0 number
-          (reference_word object) begun.Claimed on in
+          let now = happened laws o first set s es fs request h.due (event.begun new.machine b.after number (reference_word object) begun.Claimed on) [] refl tt in let kept = now.keeps in
           record {
             goes = record {
               es = b.after;
               running = goes-on o first s es fs h.due.running new b.after fs (record {
                 keeps = kept;
-                plain = laws.frames.begins o s.machine es (fs ∷ []) h.due.running.keeps h.due.running.plain
-                    new.machine b.after 0 number (reference_word object) begun.Claimed on;
-                taken = laws.lines.begins o s.machine es first h.due.running.keeps h.due.running.taken
-                    new.machine
-                    b.after 0 number (reference_word object) begun.Claimed on;
-                unwritten = laws.unwritten.begins o s.machine es h.due.running.keeps h.due.running.unwritten
-                    new.machine b.after 0 number (reference_word object) begun.Claimed on;
+                plain = now.plain;
+                taken = now.taken;
+                unwritten = now.unwritten;
                 names = b.alone.names;
                 about = subst (IsAboutItsStore o.launch) (sym (acts-same begun.Claimed b))
                     h.due.running.about;

@@ -1,5 +1,6 @@
 -- A region begins.
-use Rattle.std.proofs.Common.{◌≡◌, inl, inr, ℕ, ◌-◌, ◌<◌, ◌≤◌, ◌^◌, List, [], ◌∷◌, ◌++◌, length, map, Option, refl, sym, ◌∙◌, ap, subst, arith, lit<}
+use Rattle.std.proofs.Common.{◌≡◌, inl, inr, ℕ, ◌-◌, ◌<◌, ◌≤◌, ◌^◌, List, [], ◌∷◌, ◌++◌, length, map, Option, refl, sym, ◌∙◌}
+use Rattle.std.proofs.Common.{ap, subst, arith, lit<}
 use Rattle.std.specs.Prelude.{All, slice_index_or, slice_get, slice_set}
 use Rattle.std.proofs.lemmas.List.{get_or-set_same, length-map}
 use Rattle.ap_base.specs.declared.reference.Ref.{Ref}
@@ -13,24 +14,22 @@ use Rattle.run_history.specs.Recorded.{History, Recorded}
 use Rattle.run_history.specs.Worlds.{World, depth_in}
 use Rattle.plain_model.specs.Facts.{SetFacts}
 use Rattle.shared_objects.specs.declared.threads.ThreadState.{ThreadState}
-use Rattle.shared_objects.specs.Worlds.{plain_monitor, plain_thread, world_of}
+use Rattle.shared_objects.specs.Worlds.{plain_thread, world_of}
 use Rattle.step_forms.specs.declared.stepped.Stepped.{Stepped}
 use Rattle.step_forms.specs.declared.stepped.Stepped.TheVariants as stepped
 use Rattle.step_forms.specs.Becomes.{IsNoStore}
 use Rattle.run_forms.specs.Views.{ThreadFrames}
-use Rattle.run_forms.specs.Standing.{known_at}
-use Rattle.run_forms.specs.Ends.{MeetsNoFault}
 use Rattle.region_log.specs.declared.entry.Underway.TheVariants.{Nothing as Idle}
 use Rattle.region_log.specs.Log.{Log}
 use Rattle.region_events.specs.Laws.{MayBegin, one_deeper}
 use Rattle.twin_forms.specs.Table.{Entry}
+use Rattle.convert_queue.specs.Queues.{Queues}
 use Rattle.machine_forms.specs.declared.doing.Doing.{Doing}
 use Rattle.machine_forms.specs.declared.doing.Doing.TheVariants.{Nothing}
 use Rattle.machine_forms.specs.Machines.{Opening, Machine, doing_of, empty_log, known_in, log_of, memory_of, shown_in}
-use Rattle.machine_forms.specs.Keeping.{KeepsRun}
 use Rattle.machine_forms.specs.Events.{BeginsRegion, DoesRequest, RegionStep, act_in}
 use Rattle.machine_forms.specs.Events as region
-use Rattle.machine_runs.specs.Frames.{IsReady}
+use Rattle.machine_laws.specs.Frames.{IsReady}
 use Rattle.shared_heap.specs.Shared.{Shared}
 use Rattle.shared_heap.specs.Regions.{with_log_of}
 use Rattle.shared_heap.specs.Requests.{StepsTo}
@@ -42,12 +41,13 @@ use Rattle.machine.specs.Running.{HadNoFault, IsDue, LagsByItsStore}
 use Rattle.machine.proofs.About.{IsIdle, about-idle}
 use Rattle.machine.proofs.Answering.{IsDueFor, spared-serves}
 use Rattle.machine.proofs.Faults.{none-more}
-use Rattle.machine.proofs.Leaving.{ends-idle, few, goes-on, same-room}
+use Rattle.machine.proofs.Leaving.{ends-idle, few, goes-on, same-room, happened}
 use Rattle.machine.proofs.Marks.{IsRegional, begins, marks, regional-whole}
 use Rattle.machine.proofs.Memory.{does-stay}
 use Rattle.machine.proofs.Names.{names-same}
 use Rattle.machine.proofs.Stepping
 use Rattle.machine.proofs.Stepping.{threads-length}
+use Rattle.machine_forms.specs.Happening as event
 
 -- no region is deeper than there were acts
 depth-most : (threads : List ThreadState) (n : ℕ) → All (λ (t : ThreadState). t.depth ≤ n) threads
@@ -120,8 +120,8 @@ module _ (laws : Laws) (o : Opening) (first : ℕ) (set : SetFacts) (s : Shared)
     doing = ap (λ (m : Machine). m.doing) x.machine;
   }
 
-  region-step : RegionStep o s.machine es opened.machine
-  region-step = region.begun opened.machine 0 request reply region-begins
+  abbrev region-step : RegionStep o 0 s.machine es opened.machine
+  region-step = region.begun opened.machine request reply region-begins
 
   abbrev act : Recorded
   act = act_in s.machine 0 op.Begin []
@@ -148,7 +148,7 @@ module _ (laws : Laws) (o : Opening) (first : ℕ) (set : SetFacts) (s : Shared)
 
   opened-comes : Comes o first fs request (Did reply) s opened
   opened-comes =
-      let kept = laws.keep.regions o s.machine es due.running.keeps opened.machine region-step in
+      let now = happened laws o first set s es fs request due (event.region _ region-step) [] due.asks tt in let kept = now.keeps in
       let stays = does-stay s.machine.spaces between.machine.spaces es op.Begin reply
       due.running.keeps.heap.whole steps.heap in
       let is_idle : IsIdle (doing_of opened.machine 0) = subst IsIdle (sym nothing-now) tt in
@@ -157,14 +157,11 @@ module _ (laws : Laws) (o : Opening) (first : ℕ) (set : SetFacts) (s : Shared)
           es = es;
           running = goes-on o first s es fs due.running opened es _ (record {
             keeps = kept;
-            plain = laws.frames.regions.begins o s.machine es (fs ∷ []) due.running.keeps due.running.plain
-                opened.machine 0 fs request reply due.asks region-begins;
-            taken = laws.lines.regions o s.machine es first due.running.keeps due.running.taken
-                opened.machine region-step;
-            unwritten = laws.unwritten.regions o s.machine es due.running.keeps due.running.unwritten
-                opened.machine region-step;
+            plain = now.plain;
+            taken = now.taken;
+            unwritten = now.unwritten;
             names = names-same s opened es (ap (λ (h : History). h.named) steps.history) x.named
-                region-begins.queue due.running.names;
+                (ap (λ (q : Queues). q.queues) region-begins.queue) due.running.names;
             about = about-idle o opened.machine es kept is_idle;
             lags = subst (λ d. LagsByItsStore o.launch d (answered o.launch fs reply)) (sym nothing-now) tt;
             ends = ends-idle o.launch opened.machine _ log-idle;
@@ -178,11 +175,10 @@ module _ (laws : Laws) (o : Opening) (first : ℕ) (set : SetFacts) (s : Shared)
             numbers = stays.numbers;
             unfaulted = subst (HadNoFault o.launch) (sym does.acts)
                 (none-more o.launch s.machine.acts act due.running.unfaulted (λ lines.
-                subst (MeetsNoFault o.launch lines s.machine.acts 0) (sym (monitors-now kept))
-                (laws.ends.steps_meet o s.machine es (fs ∷ []) due.running.keeps due.running.plain lines 0 fs
+                laws.ends.steps_meet o s.machine es (fs ∷ []) due.running.keeps due.running.plain lines 0 fs
                 request op.Begin reply (shown_in between.machine) between.machine.rest ready due.asks
                 (Stepping.is laws o first set s es fs request due room ready between op.Begin reply steps tt)
-                tt (few laws o first set s es fs request due room))));
+                tt (few laws o first set s es fs request due room)));
           });
           idle = nothing-now;
         };
@@ -193,14 +189,6 @@ module _ (laws : Laws) (o : Opening) (first : ℕ) (set : SetFacts) (s : Shared)
         numbers = stays.numbers;
         quiet = λ micro same. absurd (let no = micro in cc);
       }
-    where
-      monitors-now : KeepsRun o opened.machine es
-          → length (known_at o.launch (s.machine.acts ++ act ∷ [])).world.monitors
-          ≡ length between.machine.rest.monitors
-      monitors-now kept =
-          ap (λ (acts : List Recorded). length (known_at o.launch acts).world.monitors) (sym does.acts)
-          ∙ ap (λ (w : World). length w.monitors) kept.world.world
-          ∙ length-map between.machine.rest.monitors (plain_monitor (shown_in between.machine).number)
 
   pub begun-comes : (new : Shared) → new ≡ opened → Comes o first fs request (event_of request result) s new
   begun-comes new is = subst (λ y. Comes o first fs request (event_of request y) s new) (sym is-did.1)

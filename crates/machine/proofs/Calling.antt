@@ -4,7 +4,7 @@ use Rattle.std.specs.Prelude.{IsSome}
 use Rattle.ap_base.specs.Causes.{Rose}
 use Rattle.ap_base.specs.declared.reference.Ref.{Ref}
 use Rattle.ap_base.specs.declared.reference.Item.{Item}
-use Rattle.run_types.specs.declared.fault.RunFault.TheVariants as fault
+use Rattle.run_types.specs.declared.fault.StepFault.TheVariants as met
 use Rattle.natives.specs.declared.requests.Request.{Request}
 use Rattle.natives.specs.declared.requests.Request.TheVariants as ask
 use Rattle.natives.specs.declared.requests.Reply.TheVariants as reply
@@ -22,6 +22,7 @@ use Rattle.machine_forms.specs.Machines.{Opening, doing_of, log_of, memory_of}
 use Rattle.machine_forms.specs.Events.{with_twin, with_write, with_fence}
 use Rattle.shared_heap.specs.Shared.{Shared, Failed, TellsFence, Writes}
 use Rattle.machine.specs.declared.events.Event.TheVariants.{Did, Micro, Over}
+use Rattle.machine.specs.declared.events.Halt.TheVariants.{Met}
 use Rattle.machine.specs.Ended.{ComesTo}
 use Rattle.machine.specs.Events.{Comes, IsBroken, answered}
 use Rattle.machine.specs.Laws.{Laws}
@@ -29,8 +30,9 @@ use Rattle.machine.specs.Running.{AsksItsEnd, AsksSomeStore, IsDue, LagsByItsSto
 use Rattle.machine.proofs.About.{IsIdle, about-idle}
 use Rattle.machine.proofs.Basics.{doing-set, shared-is, some-same}
 use Rattle.machine.proofs.Faults.{none-more}
-use Rattle.machine.proofs.Leaving.{few, goes-on, lives, same-room}
+use Rattle.machine.proofs.Leaving.{few, goes-on, lives, same-room, happened}
 use Rattle.machine.proofs.Steps.{given-whole}
+use Rattle.machine_forms.specs.Happening as event
 
 module _ (laws : Laws) (o : Opening) (first : ℕ) (set : SetFacts) (s : Shared) (es : List Entry)
     (fs : ThreadFrames) (request : Request Ref Item) (due : IsDue o first set s es fs request) where
@@ -74,18 +76,14 @@ module _ (laws : Laws) (o : Opening) (first : ℕ) (set : SetFacts) (s : Shared)
     wrote-now : (memory_of s.machine).faults ≤ w.twin.memory.faults
         → Comes o first fs request Micro s written
     wrote-now later_now =
-        let kept = laws.keep.writes o s.machine es due.running.keeps w.twin 0 w.wrote in record {
+        let now = happened laws o first set s es fs request due (event.written w.twin w.wrote) [] refl tt in let kept = now.keeps in record {
           goes = record {
             es = es;
             running = goes-on o first s es fs due.running written es fs (record {
               keeps = kept;
-              plain = laws.frames.writes o s.machine es (fs ∷ []) due.running.keeps due.running.plain w.twin 0
-                  w.wrote;
-              taken = laws.lines.writes o s.machine es first due.running.keeps due.running.taken w.twin 0
-                  w.wrote;
-              unwritten = laws.unwritten.writes o s.machine es due.running.keeps due.running.unwritten
-                  w.twin 0
-                  w.wrote;
+              plain = now.plain;
+              taken = now.taken;
+              unwritten = now.unwritten;
               names = record {
                 once = due.running.names.once;
                 those = due.running.names.those;
@@ -149,20 +147,15 @@ module _ (laws : Laws) (o : Opening) (first : ℕ) (set : SetFacts) (s : Shared)
     fenced-comes : (memory_of s.machine).faults ≤ f.twin.memory.faults
         → Comes o first fs request (Did reply.Done) s fenced_now
     fenced-comes later_now =
-        let kept = laws.keep.fences o s.machine es due.running.keeps f.twin 0 f.made in
+        let now = happened laws o first set s es fs request due (event.fenced f.twin f.made) [] refl tt in let kept = now.keeps in
         record {
           goes = record {
             es = es;
             running = goes-on o first s es fs due.running fenced_now es _ (record {
               keeps = kept;
-              plain = laws.frames.fences o s.machine es (fs ∷ []) due.running.keeps due.running.plain
-                  f.twin 0 fs
-                  refl f.made;
-              taken = laws.lines.fences o s.machine es first due.running.keeps due.running.taken f.twin 0
-                  f.made;
-              unwritten = laws.unwritten.fences o s.machine es due.running.keeps due.running.unwritten
-                  f.twin 0
-                  f.made;
+              plain = now.plain;
+              taken = now.taken;
+              unwritten = now.unwritten;
               names = record {
                 once = due.running.names.once;
                 those = due.running.names.those;
@@ -180,7 +173,7 @@ module _ (laws : Laws) (o : Opening) (first : ℕ) (set : SetFacts) (s : Shared)
               room = same-room o first s es fs due.running (with_fence s.machine f.twin 0) es kept refl;
               numbers = refl;
               unfaulted = none-more o.launch s.machine.acts fence_recorded due.running.unfaulted (λ lines.
-                  laws.ends.fences_meet o s.machine es (fs ∷ []) due.running.keeps due.running.plain lines 0 _
+                  laws.ends.fences_meet o s.machine es (fs ∷ []) due.running.keeps due.running.plain lines 0
                   (inr f.made.doing) (few laws o first set s es fs request due room));
             });
             idle = idle-now;
@@ -214,12 +207,12 @@ module _ (laws : Laws) (o : Opening) (first : ℕ) (set : SetFacts) (s : Shared)
     failed-is = shared-is new _ _ _ _ f.machine f.history f.lines f.named
 
     failed-comes : Rose (memory_of s.machine).faults f.twin.memory.faults
-        → Comes o first fs request (Over fault.ImageFault) s failed_now
-    failed-comes rose_now = record {
+        → Comes o first fs request (Over (Met met.ImageFault)) s failed_now
+    failed-comes rose_now = let now = happened laws o first set s es fs request due (event.called f.twin f.calls) [] refl tt in record {
       goes = record {
         es = es;
-        keeps = laws.keep.calls o s.machine es due.running.keeps f.twin f.calls;
-        plain = laws.frames.calls o s.machine es (fs ∷ []) due.running.keeps due.running.plain f.twin f.calls;
+        keeps = now.keeps;
+        plain = now.plain;
         history = refl;
         acts = refl;
         ends = laws.ends.image o s.machine es (fs ∷ []) due.running.keeps due.running.plain
@@ -234,8 +227,8 @@ module _ (laws : Laws) (o : Opening) (first : ℕ) (set : SetFacts) (s : Shared)
       quiet = λ micro same. absurd (let no = micro in cc);
     }
 
-    pub call-failed : Comes o first fs request (Over fault.ImageFault) s new
-    call-failed = subst (Comes o first fs request (Over fault.ImageFault) s) (sym failed-is)
+    pub call-failed : Comes o first fs request (Over (Met met.ImageFault)) s new
+    call-failed = subst (Comes o first fs request (Over (Met met.ImageFault)) s) (sym failed-is)
         (failed-comes (subst (λ (x : Shared). Rose (memory_of s.machine).faults (memory_of x.machine).faults)
         failed-is rose))
 
@@ -257,7 +250,7 @@ fenced-comes-to laws s new f room later = record {
 
 pub failed-comes-to : Laws → (s new : Shared) → Failed s new → length s.history.acts < s.history.limit
     → Rose (memory_of s.machine).faults (memory_of new.machine).faults
-    → ComesTo (Over fault.ImageFault) s new
+    → ComesTo (Over (Met met.ImageFault)) s new
 failed-comes-to laws s new f room rose = record {
   comes = λ o first set es fs request due. call-failed laws o first set s es fs request due new f room rose;
   sink = record { acts = inl (ap (λ (h : History). h.acts) f.history); fault = tt };

@@ -1,11 +1,12 @@
 -- A region ends, a part with each call, and at last by its act.
-use Rattle.std.proofs.Common.{◌≡◌, ◌⊎◌, inl, inr, ℕ, ◌-◌, ◌<◌, ◌≤◌, ◌^◌, List, [], ◌∷◌, ◌++◌, length, map, Option, Some, None, refl, sym, ◌∙◌, ap, subst, arith, lit<}
+use Rattle.std.proofs.Common.{◌≡◌, ◌⊎◌, inl, inr, ℕ, ◌-◌, ◌<◌, ◌≤◌, ◌^◌, List, [], ◌∷◌, ◌++◌, length, map, Option, Some, None}
+use Rattle.std.proofs.Common.{refl, sym, ◌∙◌, ap, subst, arith, lit<}
 use Rattle.std.specs.Prelude.{slice_index_or}
 use Rattle.std.proofs.lemmas.List.{length-map}
 use Rattle.ap_base.specs.Causes.{Rose}
 use Rattle.ap_base.specs.declared.reference.Ref.{Ref}
 use Rattle.ap_base.specs.declared.reference.Item.{Item}
-use Rattle.run_types.specs.declared.fault.RunFault.TheVariants as fault
+use Rattle.run_types.specs.declared.fault.StepFault.TheVariants as met
 use Rattle.run_types.specs.declared.resolved.At.{At}
 use Rattle.natives.specs.declared.requests.Request.{Request}
 use Rattle.natives.specs.declared.requests.Request.TheVariants as ask
@@ -27,23 +28,27 @@ use Rattle.region_log.specs.declared.entry.Underway.TheVariants.{Nothing as Idle
 use Rattle.region_log.specs.Log.{Log}
 use Rattle.twin_forms.specs.Sights.{Twin}
 use Rattle.twin_forms.specs.Table.{Entry}
+use Rattle.convert_queue.specs.Queues.{Queues}
 use Rattle.two_spaces.specs.Seen.{Spaces}
 use Rattle.two_spaces.specs.Whole.{IsWhole}
 use Rattle.monitors.specs.Indexed.{AreSound}
 use Rattle.machine_forms.specs.declared.doing.Doing.{Doing}
 use Rattle.machine_forms.specs.declared.doing.Doing.TheVariants.{Nothing, Converting}
-use Rattle.machine_forms.specs.Machines.{Opening, Machine, doing_of, empty_log, known_in, layout_in, log_of, memory_of, shown_in}
+use Rattle.machine_forms.specs.Machines.{Opening, Machine, doing_of, empty_log, known_in, layout_in, log_of, memory_of}
+use Rattle.machine_forms.specs.Machines.{shown_in}
 use Rattle.machine_forms.specs.Keeping.{IsDoing}
-use Rattle.machine_forms.specs.Events.{AsksEnd, CallsEnd, ClosesRegion, DoesRequest, EndsPart, EndsByAct, IsFree, LeavesLog, RegionStep, act_in, with_closing, with_logged}
+use Rattle.machine_forms.specs.Events.{AsksEnd, CallsEnd, ClosesRegion, DoesRequest, EndsPart, EndsByAct, IsFree, LeavesLog}
+use Rattle.machine_forms.specs.Events.{RegionStep, act_in, with_closing, with_logged}
 use Rattle.machine_forms.specs.Events as region
-use Rattle.machine_heaps.specs.Laws.{KeepsShared}
-use Rattle.machine_heaps.proofs.Regions.{left_goes_on, over_log}
-use Rattle.machine_runs.specs.Frames.{IsReady}
+use Rattle.machine_laws.specs.HeapLaws.{KeepsShared}
+use Rattle.machine_laws.proofs.HeapRegions.{left_goes_on}
+use Rattle.machine_laws.specs.Frames.{IsReady}
 use Rattle.shared_heap.specs.Shared.{Shared}
 use Rattle.shared_heap.specs.Regions.{ClosesTo, EndingFailsTo, EndsOnTo, IsEndCall, LeavesTo}
 use Rattle.shared_heap.specs.Requests.{MayRequest, StepsTo}
 use Rattle.machine.specs.declared.events.Event.{Event}
 use Rattle.machine.specs.declared.events.Event.TheVariants.{Did, Micro, Over}
+use Rattle.machine.specs.declared.events.Halt.TheVariants.{Met}
 use Rattle.machine.specs.Ended.{Serves, event_of}
 use Rattle.machine.specs.Events.{Comes, SparesSink, answered}
 use Rattle.machine.specs.Laws.{Laws}
@@ -53,12 +58,14 @@ use Rattle.machine.proofs.Answering.{IsDueFor, spared-serves}
 use Rattle.machine.proofs.Basics.{not-longer, shared-is}
 use Rattle.machine.proofs.Faults.{none-more}
 use Rattle.machine.proofs.Given.{counts}
-use Rattle.machine.proofs.Leaving.{asked, ends-idle, few, fits, goes-on, lives, same-room}
+use Rattle.machine.proofs.Leaving.{asked, ends-idle, few, fits, goes-on, lives, same-room, happened}
 use Rattle.machine.proofs.Logging.{log-now}
-use Rattle.machine.proofs.Marks.{IsRegional, end-stores-none, ends, marks, regional-fits, regional-gives, regional-known, regional-whole}
+use Rattle.machine.proofs.Marks.{IsRegional, end-stores-none, ends, marks, regional-fits, regional-gives, regional-known}
+use Rattle.machine.proofs.Marks.{regional-whole}
 use Rattle.machine.proofs.Memory.{same-image}
 use Rattle.machine.proofs.Names.{names-same}
 use Rattle.machine.proofs.Stepping.{threads-length}
+use Rattle.machine_forms.specs.Happening as event
 
 module _ (laws : Laws) (o : Opening) (first : ℕ) (set : SetFacts) (s : Shared) (es : List Entry)
     (fs : ThreadFrames) (request : Request Ref Item) (due : IsDue o first set s es fs request)
@@ -135,21 +142,19 @@ module _ (laws : Laws) (o : Opening) (first : ℕ) (set : SetFacts) (s : Shared)
       went = elim l.made [ inl touches ↦ inl touches | inr on ↦ inr (inl on) ];
     }
 
-    part-step : RegionStep o s.machine es part_now.machine
-    part-step = region.ending l.twin 0 request l.log part
+    abbrev part-step : RegionStep o 0 s.machine es part_now.machine
+    part-step = region.ending l.twin request l.log part
 
     part-comes : (memory_of s.machine).faults ≤ l.twin.memory.faults → Comes o first fs request Micro s part_now
     part-comes later =
-        let kept = laws.keep.regions o s.machine es due.running.keeps _ part-step in record {
+        let now = happened laws o first set s es fs request due (event.region _ part-step) [] due.asks tt in let kept = now.keeps in record {
           goes = record {
             es = es;
             running = goes-on o first s es fs due.running part_now es fs (record {
               keeps = kept;
-              plain = laws.frames.regions.ending o s.machine es (fs ∷ []) due.running.keeps due.running.plain
-                  l.twin 0 request l.log part;
-              taken = laws.lines.regions o s.machine es first due.running.keeps due.running.taken _ part-step;
-              unwritten = laws.unwritten.regions o s.machine es due.running.keeps due.running.unwritten _
-                  part-step;
+              plain = now.plain;
+              taken = now.taken;
+              unwritten = now.unwritten;
               names = names-same s part_now es refl refl refl due.running.names;
               about = due.running.about;
               lags = due.running.lags;
@@ -203,22 +208,20 @@ module _ (laws : Laws) (o : Opening) (first : ℕ) (set : SetFacts) (s : Shared)
     closes : ClosesRegion o s.machine l.twin 0 request l.log
     closes = record { calls = calls-end l.twin l.log l.call; fences = l.fences }
 
-    closes-step : RegionStep o s.machine es closed_now.machine
-    closes-step = region.closing l.twin 0 request l.log closes
+    abbrev closes-step : RegionStep o 0 s.machine es closed_now.machine
+    closes-step = region.closing l.twin request l.log closes
 
     closed-comes : (memory_of s.machine).faults ≤ l.twin.memory.faults
         → Comes o first fs request Micro s closed_now
     closed-comes later =
-        let kept = laws.keep.regions o s.machine es due.running.keeps _ closes-step in record {
+        let now = happened laws o first set s es fs request due (event.region _ closes-step) [] due.asks tt in let kept = now.keeps in record {
           goes = record {
             es = es;
             running = goes-on o first s es fs due.running closed_now es fs (record {
               keeps = kept;
-              plain = laws.frames.regions.closing o s.machine es (fs ∷ []) due.running.keeps due.running.plain
-                  l.twin 0 fs request l.log due.asks closes;
-              taken = laws.lines.regions o s.machine es first due.running.keeps due.running.taken _ closes-step;
-              unwritten = laws.unwritten.regions o s.machine es due.running.keeps due.running.unwritten _
-                  closes-step;
+              plain = now.plain;
+              taken = now.taken;
+              unwritten = now.unwritten;
               names = names-same s closed_now es refl refl refl due.running.names;
               about = about-idle o closed_now.machine es kept idle;
               lags = due.running.lags;
@@ -230,7 +233,7 @@ module _ (laws : Laws) (o : Opening) (first : ℕ) (set : SetFacts) (s : Shared)
               room = same-room o first s es fs due.running closed_now.machine es kept refl;
               numbers = refl;
               unfaulted = none-more o.launch s.machine.acts act due.running.unfaulted (λ lines.
-                  laws.ends.ends_meet o s.machine es (fs ∷ []) due.running.keeps due.running.plain lines 0 _ fs
+                  laws.ends.ends_meet o s.machine es (fs ∷ []) due.running.keeps due.running.plain lines 0 fs
                   request due.asks asks-end (few laws o first set s es fs request due room));
             });
             threads = refl;
@@ -267,14 +270,12 @@ module _ (laws : Laws) (o : Opening) (first : ℕ) (set : SetFacts) (s : Shared)
     failed-part = record { calls = calls-end f.twin f.log f.call; went = inr (inr f.fails) }
 
     failed-comes : Rose (memory_of s.machine).faults f.twin.memory.faults
-        → Comes o first fs request (Over fault.ImageFault) s failed_now
+        → Comes o first fs request (Over (Met met.ImageFault)) s failed_now
     failed-comes rose = record {
       goes = record {
         es = es;
-        keeps = laws.keep.regions o s.machine es due.running.keeps _ (region.ending f.twin 0 request f.log
-            failed-part);
-        plain = laws.frames.regions.ending o s.machine es (fs ∷ []) due.running.keeps due.running.plain f.twin
-            0 request f.log failed-part;
+        keeps = (happened laws o first set s es fs request due (event.region _ (region.ending f.twin request f.log failed-part)) [] due.asks tt).keeps;
+        plain = (happened laws o first set s es fs request due (event.region _ (region.ending f.twin request f.log failed-part)) [] due.asks tt).plain;
         history = refl;
         acts = refl;
         ends = laws.ends.image o s.machine es (fs ∷ []) due.running.keeps due.running.plain
@@ -290,8 +291,8 @@ module _ (laws : Laws) (o : Opening) (first : ℕ) (set : SetFacts) (s : Shared)
     }
 
     pub ending-failed : Rose (memory_of s.machine).faults (memory_of new.machine).faults
-        → Comes o first fs request (Over fault.ImageFault) s new
-    ending-failed rose = subst (Comes o first fs request (Over fault.ImageFault) s) (sym failed-is)
+        → Comes o first fs request (Over (Met met.ImageFault)) s new
+    ending-failed rose = subst (Comes o first fs request (Over (Met met.ImageFault)) s) (sym failed-is)
         (failed-comes (subst (λ (x : Shared). Rose (memory_of s.machine).faults (memory_of x.machine).faults)
         failed-is rose))
 
@@ -320,8 +321,7 @@ module _ (laws : Laws) (o : Opening) (first : ℕ) (set : SetFacts) (s : Shared)
 
     -- heap and world are as they were
     pub left-keeps : KeepsShared o left_machine es
-    left-keeps = over_log o s.machine es due.running.keeps l.twin 0 l.log
-        (left_goes_on o s.machine es due.running.keeps l.twin 0 request leaves).kept
+    left-keeps = (left_goes_on o s.machine es due.running.keeps l.twin 0 request leaves).kept
 
     same-size : (memory_of left_machine).size ≡ (memory_of s.machine).size
     same-size = left-keeps.0.size ∙ sym due.running.keeps.heap.size
@@ -419,8 +419,8 @@ module _ (laws : Laws) (o : Opening) (first : ℕ) (set : SetFacts) (s : Shared)
         doing = ap (λ (m : Machine). m.doing) steps.machine;
       }
 
-      region-step : RegionStep o s.machine es new.machine
-      region-step = region.ended new.machine 0 request reply region-ends
+      abbrev region-step : RegionStep o 0 s.machine es new.machine
+      region-step = region.ended new.machine request reply region-ends
 
       nothing-now : doing_of new.machine 0 ≡ Nothing
       nothing-now = ap (λ (ds : List Doing). slice_index_or ds 0 Nothing) region-ends.doing ∙ nothing
@@ -448,22 +448,19 @@ module _ (laws : Laws) (o : Opening) (first : ℕ) (set : SetFacts) (s : Shared)
       did-comes : (memory_of s.machine).faults ≤ (memory_of between.machine).faults
           → Comes o first fs request (Did reply) s new
       did-comes later =
-          let kept = laws.keep.regions o s.machine es due.running.keeps new.machine region-step in
+          let now = happened laws o first set s es fs request due (event.region _ region-step) [] due.asks tt in let kept = now.keeps in
           let is_idle : IsIdle (doing_of new.machine 0) = subst IsIdle (sym nothing-now) tt in
           record {
             goes = record {
               es = es;
               running = goes-on o first s es fs due.running new es _ (record {
                 keeps = kept;
-                plain = laws.frames.regions.ends o s.machine es (fs ∷ []) due.running.keeps due.running.plain
-                    new.machine 0 fs request reply due.asks region-ends;
-                taken = laws.lines.regions o s.machine es first due.running.keeps due.running.taken
-                    new.machine region-step;
-                unwritten = laws.unwritten.regions o s.machine es due.running.keeps due.running.unwritten
-                    new.machine region-step;
+                plain = now.plain;
+                taken = now.taken;
+                unwritten = now.unwritten;
                 names = names-same s new es (ap (λ (h : History). h.named) steps.history
                     ∙ ap (λ (h : History). h.named) l.left.history) (steps.named ∙ l.left.named)
-                    region-ends.queue due.running.names;
+                    (ap (λ (q : Queues). q.queues) region-ends.queue) due.running.names;
                 about = about-idle o new.machine es kept is_idle;
                 lags = subst (λ d. LagsByItsStore o.launch d (answered o.launch fs reply)) (sym nothing-now)
                     tt;
@@ -478,8 +475,8 @@ module _ (laws : Laws) (o : Opening) (first : ℕ) (set : SetFacts) (s : Shared)
                 numbers = ap (λ (y : Spaces). y.numbers) same-spaces;
                 unfaulted = subst (HadNoFault o.launch) (sym machine-acts)
                     (none-more o.launch s.machine.acts end_act due.running.unfaulted (λ lines.
-                    laws.ends.ends_meet o s.machine es (fs ∷ []) due.running.keeps due.running.plain lines 0 _
-                    fs request due.asks asks-end (few laws o first set s es fs request due room)));
+                    laws.ends.ends_meet o s.machine es (fs ∷ []) due.running.keeps due.running.plain lines 0 fs
+                    request due.asks asks-end (few laws o first set s es fs request due room)));
               });
               idle = nothing-now;
             };
@@ -526,8 +523,8 @@ module _ (laws : Laws) (set : SetFacts) (s : Shared) (request : Request Ref Item
 
   pub failed-serves : (new : Shared) → EndingFailsTo 0 s new
       → Rose (memory_of s.machine).faults (memory_of new.machine).faults
-      → ServesBy (Over fault.ImageFault) new
-  failed-serves new f rose = spared-serves set s new request (Over fault.ImageFault)
+      → ServesBy (Over (Met met.ImageFault)) new
+  failed-serves new f rose = spared-serves set s new request (Over (Met met.ImageFault))
       (λ o first es fs due. ending-failed laws o first set s es fs request due room ready is_open from is_end new f
       rose)
       (record { acts = inl (ap (λ (h : History). h.acts) f.left.history); fault = tt })

@@ -1,9 +1,12 @@
 -- Steps of conversions, and seals.
-use Rattle.std.proofs.Common.{◌≡◌, ◌⊎◌, inl, inr, ℕ, ◌-◌, ◌<◌, ◌≤◌, List, [], ◌∷◌, ◌++◌, length, refl, sym, ◌∙◌, ap, subst, arith}
+use Rattle.std.proofs.Common.{◌≡◌, ◌⊎◌, inl, inr, ℕ, ◌-◌, ◌<◌, ◌≤◌, List, [], ◌∷◌, ◌++◌, length, refl, sym, ◌∙◌, ap, subst}
+use Rattle.std.proofs.Common.{arith}
 use Rattle.ap_base.specs.Causes.{Rose}
 use Rattle.ap_base.specs.declared.reference.Ref.{Ref}
 use Rattle.ap_base.specs.declared.reference.Item.{Item}
 use Rattle.run_types.specs.declared.fault.RunFault.TheVariants as fault
+use Rattle.run_types.specs.declared.fault.StepFault.TheVariants as met
+use Rattle.run_types.specs.declared.fault.Which.TheVariants as which
 use Rattle.natives.specs.declared.requests.Request.{Request}
 use Rattle.line_memory.specs.Memory.{Memory, SameImage, OneCall}
 use Rattle.run_history.specs.declared.act.Op.TheVariants as op
@@ -20,13 +23,9 @@ use Rattle.convert_words.specs.Scenes.{Scene}
 use Rattle.convert_words.specs.Converting.{Says}
 use Rattle.machine_forms.specs.declared.doing.Doing.TheVariants.{Converting}
 use Rattle.machine_forms.specs.Machines.{Opening, Machine, doing_of, memory_of, scene_of}
-use Rattle.machine_forms.specs.Keeping.{KeepsRun}
 use Rattle.machine_forms.specs.Events.{Converted, act_in, value_in}
-use Rattle.machine_runs.specs.Frames.{RunsAsPlain}
-use Rattle.machine_asks.proofs.Converted.{counted}
-use Rattle.machine_lines.specs.Lines.{TakesLines, lines_fault}
-use Rattle.machine_lines.specs.Unwritten.{HasUnwritten}
-use Rattle.machine_lines.specs.Work.{lowering}
+use Rattle.machine_laws.proofs.Converted.{counted}
+use Rattle.machine_ends.specs.Work.{lowering}
 use Rattle.machine_ends.specs.Stores.{StoresFreely}
 use Rattle.object_steps.specs.declared.storing.Store.{Store}
 use Rattle.object_steps.specs.Stores.{place_of}
@@ -37,6 +36,8 @@ use Rattle.shared_heap.specs.declared.conversions.Conversion.TheVariants as did
 use Rattle.shared_heap.specs.Shared.{Shared}
 use Rattle.shared_heap.specs.Conversions.{ConvertsAlone, FailsTo, GoesOnce, GoesTo, JoinsOnce, MovesOn, NamesNext}
 use Rattle.machine.specs.declared.events.Event.TheVariants.{Micro, Over}
+use Rattle.machine.specs.declared.events.Halt.TheVariants.{Met}
+use Rattle.machine.specs.Halts.{lacks}
 use Rattle.machine.specs.Ended.{HasPlanned, HasSomePlanned, IsThread, StoreComesTo, went_event}
 use Rattle.machine.specs.Events.{Comes, SparesSink}
 use Rattle.machine.specs.Laws.{Laws}
@@ -45,10 +46,11 @@ use Rattle.machine.proofs.About.{about-joined}
 use Rattle.machine.proofs.Basics.{not-longer}
 use Rattle.machine.proofs.Faults.{none-more}
 use Rattle.machine.proofs.Freely.{freely-volatile}
-use Rattle.machine.proofs.Leaving.{converts-alone, ends-same, few, goes-on, lives, same-room, same-size}
+use Rattle.machine.proofs.Leaving.{converts-alone, ends-same, few, goes-on, lives, same-room, same-size, happened, Kept}
 use Rattle.machine.proofs.Planned.{is-store}
 use Rattle.machine.proofs.Refusing.{refused-over}
 use Rattle.machine.proofs.Waiting.{touches-none, waits-none}
+use Rattle.machine_forms.specs.Happening as event
 
 -- ---- histories
 
@@ -150,7 +152,7 @@ module _ (laws : Laws) (o : Opening) (first : ℕ) (set : SetFacts) (s : Shared)
         → Comes o first fs request Micro s new
     went-comes moves later =
         let c = g.converts in
-        let kept = laws.keep.steps o s.machine es h.due.running.keeps new.machine 0 answer c g.other in
+        let now = happened laws o first set s es fs request h.due (event.converted new.machine answer c g.other) [] refl tt in let kept = now.keeps in
         let size = same-size o first s es fs h.due.running new.machine c.event.after kept in
         let same = acts-stay new.machine c.same in
         record {
@@ -158,14 +160,9 @@ module _ (laws : Laws) (o : Opening) (first : ℕ) (set : SetFacts) (s : Shared)
             es = c.event.after;
             running = goes-on o first s es fs h.due.running new c.event.after fs (record {
               keeps = kept;
-              plain = laws.frames.steps o s.machine es (fs ∷ []) h.due.running.keeps h.due.running.plain
-                  new.machine
-                  0 answer c g.other;
-              taken = laws.lines.steps o s.machine es first h.due.running.keeps h.due.running.taken
-                  new.machine 0
-                  answer c;
-              unwritten = laws.unwritten.steps o s.machine es h.due.running.keeps h.due.running.unwritten
-                  new.machine 0 answer c;
+              plain = now.plain;
+              taken = now.taken;
+              unwritten = now.unwritten;
               names = g.alone.names;
               about = subst (IsAboutItsStore o.launch) (sym same) h.due.running.about;
               lags = subst (λ d. LagsByItsStore o.launch d fs) (sym (doing-stays new.machine c.same)) tt;
@@ -194,14 +191,12 @@ module _ (laws : Laws) (o : Opening) (first : ℕ) (set : SetFacts) (s : Shared)
 
   module _ (need left : ℕ) (g : GoesOnce 0 (step.Full need left) s new es) where
     full-comes : (memory_of s.machine).faults ≤ (memory_of new.machine).faults
-        → Comes o first fs request (Over (lines_fault need left)) s new
+        → Comes o first fs request (Over (Met (lacks which.ImageLines need left))) s new
     full-comes later =
-        let c = g.converts in record {
+        let c = g.converts in let now = happened laws o first set s es fs request h.due (event.converted new.machine (step.Full need left) c tt) [] refl tt in record {
           goes = refused-over laws o first set s es fs request store h free room need left new c.event.after
-              (laws.keep.steps o s.machine es h.due.running.keeps new.machine 0 (step.Full need left) c tt)
-              (laws.frames.steps o s.machine es (fs ∷ []) h.due.running.keeps h.due.running.plain
-              new.machine 0
-              (step.Full need left) c tt)
+              now.keeps
+              now.plain
               g.history (acts-stay new.machine c.same)
               (laws.ends.refused_steps o s.machine es first h.due.running.keeps h.due.running.taken
               new.machine 0
@@ -248,25 +243,18 @@ module _ (laws : Laws) (o : Opening) (first : ℕ) (set : SetFacts) (s : Shared)
     joined-comes later =
         let c = j.seals.converts in
         let after = c.event.after in
-        let kept = subst (λ (m : Machine). KeepsRun o m after) (sym j.machine)
-        (laws.keep.seals o s.machine es h.due.running.keeps j.between 0 j.set named j.seals) in
+        let was = happened laws o first set s es fs request h.due (event.sealed j.between j.set named j.seals) [] refl tt
+        in let now = subst (λ (m : Machine). Kept o first m after (fs ∷ [])) (sym j.machine) was in let kept =
+        now.keeps in
         let size = same-size o first s es fs h.due.running new.machine after kept in
         record {
           goes = record {
             es = after;
             running = goes-on o first s es fs h.due.running new after fs (record {
               keeps = kept;
-              plain = subst (λ (m : Machine). RunsAsPlain o m (fs ∷ [])) (sym j.machine)
-                  (laws.frames.seals o s.machine es (fs ∷ []) h.due.running.keeps h.due.running.plain
-                  j.between 0
-                  j.set named j.seals);
-              taken = subst (λ (m : Machine). TakesLines o first m after) (sym j.machine)
-                  (laws.lines.seals o s.machine es first h.due.running.keeps h.due.running.taken j.between
-                  0 j.set
-                  named j.seals);
-              unwritten = subst (λ (m : Machine). HasUnwritten m after) (sym j.machine)
-                  (laws.unwritten.seals o s.machine es h.due.running.keeps h.due.running.unwritten j.between 0
-                  j.set named j.seals);
+              plain = now.plain;
+              taken = now.taken;
+              unwritten = now.unwritten;
               names = j.alone.names;
               about = subst (IsAboutItsStore o.launch) (sym acts-now)
                   (about-joined o.launch s.machine.acts (memory_of j.between).calls named
@@ -287,8 +275,7 @@ module _ (laws : Laws) (o : Opening) (first : ℕ) (set : SetFacts) (s : Shared)
               unfaulted = subst (HadNoFault o.launch) (sym acts-now)
                   (none-more o.launch s.machine.acts joined h.due.running.unfaulted (λ lines.
                   laws.ends.stores_meet o s.machine es (fs ∷ []) h.due.running.keeps h.due.running.plain
-                  lines 0 _
-                  fs request _ store.kept h.ready h.due.asks
+                  lines 0 fs request _ store.kept h.ready h.due.asks
                   (is-store laws o first set s es fs request store h)
                   free (few laws o first set s es fs request h.due room)));
             });
@@ -308,18 +295,16 @@ module _ (laws : Laws) (o : Opening) (first : ℕ) (set : SetFacts) (s : Shared)
 
   module _ (f : FailsTo 0 s new es) where
     failed-comes : Rose (memory_of s.machine).faults (memory_of new.machine).faults
-        → Comes o first fs request (Over fault.ImageFault) s new
+        → Comes o first fs request (Over (Met met.ImageFault)) s new
     failed-comes rose =
         let c = f.fails in
         let memory : c.event.at.heap.memory ≡ memory_of s.machine =
         ap (λ (x : Twin). x.memory) c.event.goes_on.heap in
-        let same = acts-stay new.machine c.same in record {
+        let now = happened laws o first set s es fs request h.due (event.failed new.machine c) [] refl tt in let same = acts-stay new.machine c.same in record {
           goes = record {
             es = es;
-            keeps = laws.keep.failed o s.machine es h.due.running.keeps new.machine 0 c;
-            plain = laws.frames.failed o s.machine es (fs ∷ []) h.due.running.keeps h.due.running.plain
-                new.machine
-                0 c;
+            keeps = now.keeps;
+            plain = now.plain;
             history = f.history;
             acts = same;
             ends = subst (λ (xs : List Recorded). IsEndedBy o.launch ((memory_of new.machine).size - first)
@@ -394,7 +379,7 @@ pub failed-comes-of : Laws → (s new : Shared) (store : Store) (object : Ref)
     → doing_of s.machine 0 ≡ Converting
     → ((es : List Entry) → ConvertsAlone 0 s es → FailsTo 0 s new es)
     → Rose (memory_of s.machine).faults (memory_of new.machine).faults → HasSomePlanned s store
-    → StoreComesTo store (Over fault.ImageFault) s new
+    → StoreComesTo store (Over (Met met.ImageFault)) s new
 failed-comes-of laws s new store object apart convert room converting fails rose
     (o, first, set, es, fs, request, h) = record {
       comes = λ o2 first2 set2 es2 fs2 request2 h2. failed-comes laws o2 first2 set2 s es2 fs2 request2 store

@@ -9,7 +9,6 @@ use Rattle.run_history.specs.declared.act.Op.{Op}
 use Rattle.run_history.specs.Recorded.{Recorded}
 use Rattle.plain_model.specs.Facts.{SetFacts}
 use Rattle.run_forms.specs.Views.{ThreadFrames}
-use Rattle.run_forms.specs.Standing.{known_at}
 use Rattle.run_forms.specs.Ends.{MeetsNoFault}
 use Rattle.twin_forms.specs.Table.{Entry}
 use Rattle.machine_forms.specs.declared.doing.Doing.{Doing}
@@ -18,8 +17,8 @@ use Rattle.region_log.specs.declared.entry.Underway.TheVariants.{Nothing as Idle
 use Rattle.region_log.specs.Log.{Log}
 use Rattle.machine_forms.specs.Machines.{Opening, doing_of, empty_log, log_of, memory_of}
 use Rattle.machine_forms.specs.Events.{ActsBeside, act_in, left_by}
-use Rattle.machine_runs.specs.Frames.{Begins, IsReady}
-use Rattle.machine_asks.proofs.Doing.{holds-nothing}
+use Rattle.machine_laws.specs.Frames.{Begins, IsReady}
+use Rattle.machine_laws.proofs.Doing.{holds-nothing}
 use Rattle.shared_heap.specs.Shared.{Shared}
 use Rattle.machine.specs.declared.events.Event.TheVariants.{Did}
 use Rattle.machine.specs.Events.{Comes, IsBroken, answered}
@@ -28,9 +27,12 @@ use Rattle.machine.specs.Running.{HadNoFault, IsDue, LagsByItsStore}
 use Rattle.machine.proofs.About.{IsIdle, about-idle}
 use Rattle.machine.proofs.Basics.{doing-set}
 use Rattle.machine.proofs.Faults.{none-more}
-use Rattle.machine.proofs.Leaving.{ends-idle, goes-on, same-room}
+use Rattle.machine.proofs.Leaving.{ends-idle, goes-on, same-room, happened}
 use Rattle.machine.proofs.Memory.{does-stay}
 use Rattle.machine.proofs.Names.{names-none, none-queued-now}
+use Rattle.machine_forms.specs.Happening as event
+use Rattle.machine_forms.specs.Happening.{table_after}
+use Rattle.machine_forms.proofs.Happening.{table-is}
 
 module _ (laws : Laws) (o : Opening) (first : ℕ) (set : SetFacts) (s : Shared) (es : List Entry)
     (fs : ThreadFrames) (request : Request Ref Item) (due : IsDue o first set s es fs request) (new : Shared)
@@ -46,7 +48,6 @@ module _ (laws : Laws) (o : Opening) (first : ℕ) (set : SetFacts) (s : Shared)
     pub left : left_by operation (doing_of s.machine 0) ≡ Nothing
     pub begun : Begins o new.machine operation []
     pub meets : (lines : ℕ) → MeetsNoFault o.launch lines s.machine.acts 0
-        (length (known_at o.launch (s.machine.acts ++ act ∷ [])).world.monitors)
     pub threads : length new.machine.rest.threads ≡ 1
     pub lines : new.lines ≡ s.lines
     pub history : new.history.acts ≡ new.machine.acts
@@ -63,9 +64,9 @@ module _ (laws : Laws) (o : Opening) (first : ℕ) (set : SetFacts) (s : Shared)
 
     pub answers : Comes o first fs request (Did r) s new
     answers =
-        let (es', after, kept) = laws.keep.beside o s.machine es due.running.keeps new.machine 0 request
-        operation r
-        acts in
+        let now = happened laws o first set s es fs request due (event.acted new.machine request operation r acts) []
+        due.asks a.begun in let es' = table_after s.machine operation es in let after = table-is s.machine operation es
+        in let kept = now.keeps in
         let stays = does-stay s.machine.spaces new.machine.spaces es operation r due.running.keeps.heap.whole
         acts.does.heap in
         let idle : IsIdle (doing_of new.machine 0) = subst IsIdle (sym idle-now) tt in
@@ -74,15 +75,9 @@ module _ (laws : Laws) (o : Opening) (first : ℕ) (set : SetFacts) (s : Shared)
             es = es';
             running = goes-on o first s es fs due.running new es' _ (record {
               keeps = kept;
-              plain = laws.frames.beside o s.machine es (fs ∷ []) due.running.keeps due.running.plain
-                  new.machine 0
-                  fs request operation r [] due.asks acts a.begun;
-              taken = laws.lines.beside o s.machine es first due.running.keeps due.running.taken
-                  new.machine es' 0
-                  request operation r acts after;
-              unwritten = laws.unwritten.beside o s.machine es due.running.keeps due.running.unwritten
-                  new.machine
-                  es' 0 request operation r acts after;
+              plain = now.plain;
+              taken = now.taken;
+              unwritten = now.unwritten;
               names = names-none o s new operation es es' due.running.keeps kept after
                   (holds-nothing o s.machine new.machine es 0 request operation r due.running.keeps acts.does)
                   (none-queued-now o new.machine es' kept idle) a.named a.count due.running.names;

@@ -2,7 +2,7 @@
 use Rattle.std.proofs.Common.{◌≡◌, ◌⊎◌, inl, inr, ℕ, List, [], ◌∷◌, ◌++◌, length, sym, subst, ap, arith}
 use Rattle.std.proofs.lemmas.List.{length-append}
 use Rattle.run_history.specs.Recorded.{Recorded}
-use Rattle.run_forms.specs.Standing.{Launch, known_at}
+use Rattle.run_forms.specs.Standing.{Launch}
 use Rattle.run_forms.specs.Ends.{MeetsNoFault}
 use Rattle.machine.specs.Running.{HadNoFault}
 
@@ -30,14 +30,11 @@ pub none-yet : (launch : Launch) → HadNoFault launch []
 none-yet launch lines front a rest e = nil-more front rest a e
 
 pub none-more : (launch : Launch) (acts : List Recorded) (a : Recorded) → HadNoFault launch acts
-    → ((lines : ℕ) → MeetsNoFault launch lines acts a.act.thread
-    (length (known_at launch (acts ++ a ∷ [])).world.monitors))
+    → ((lines : ℕ) → MeetsNoFault launch lines acts a.act.thread)
     → HadNoFault launch (acts ++ a ∷ [])
 none-more launch acts a had meets lines front b rest e = elim (last-or acts a front b rest e) [
   | inl it ↦
-      subst (λ (xs : List Recorded). MeetsNoFault launch lines xs b.act.thread
-      (length (known_at launch (xs ++ b ∷ [])).world.monitors)) (sym it.0)
-      (subst (λ (c : Recorded). MeetsNoFault launch lines acts c.act.thread
-      (length (known_at launch (acts ++ c ∷ [])).world.monitors)) (sym it.1) (meets lines))
+      subst (λ (xs : List Recorded). MeetsNoFault launch lines xs b.act.thread) (sym it.0)
+      (subst (λ (c : Recorded). MeetsNoFault launch lines acts c.act.thread) (sym it.1) (meets lines))
   | inr it ↦ had lines front b it.0 it.1
 ]

@@ -1,5 +1,6 @@
 -- No fault comes before the acts of a store: no guard is in its way, and none is lacking.
-use Rattle.std.proofs.Common.{◌≡◌, ◌⊎◌, inl, inr, ℕ, ◌<◌, Bool, true, false, not, List, Option, Some, None, refl, sym, ◌∙◌, ap, subst, arith, lit<}
+use Rattle.std.proofs.Common.{◌≡◌, ◌⊎◌, inl, inr, ℕ, ◌<◌, Bool, true, false, not, List, Option, Some, None, refl, sym, ◌∙◌, ap}
+use Rattle.std.proofs.Common.{subst, arith, lit<}
 use Rattle.ap_base.specs.declared.place.Place.{Place}
 use Rattle.ap_base.specs.declared.place.Place.TheVariants as place
 use Rattle.ap_base.specs.declared.place.Spot.{Spot}
@@ -22,7 +23,8 @@ use Rattle.object_steps.specs.Stores.{place_of}
 use Rattle.two_spaces.specs.declared.spaces.Static.{Static as Field}
 use Rattle.two_spaces.specs.declared.spaces.Static.TheVariants.{Beside, Root}
 use Rattle.two_spaces.specs.Seen.{Spaces}
-use Rattle.store_barrier.specs.Barriers.{ConvertsFirst, IsDurablePlace, IsSpotAt, line_of_place, static_at, word_of_place, word_of_static}
+use Rattle.store_barrier.specs.Barriers.{ConvertsFirst, IsDurablePlace, IsSpotAt, line_of_place, static_at, word_of_place}
+use Rattle.store_barrier.specs.Barriers.{word_of_static}
 use Rattle.store_barrier.specs.Laws.{GuardedBy}
 use Rattle.store_barrier.specs.Regions.{IsApart}
 use Rattle.shared_heap.specs.Shared.{Shared}

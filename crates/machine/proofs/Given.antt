@@ -15,7 +15,7 @@ use Rattle.two_spaces.specs.Whole.{IsWhole}
 use Rattle.machine_forms.specs.declared.doing.Doing.TheVariants.{Writing}
 use Rattle.machine_forms.specs.Machines.{Opening, doing_of, known_in, layout_in, memory_of, shown_in}
 use Rattle.machine_forms.specs.Keeping.{IsDoing, KeepsRun}
-use Rattle.machine_runs.specs.Frames.{IsReady}
+use Rattle.machine_laws.specs.Frames.{IsReady}
 use Rattle.store_barrier.specs.Barriers.{AgreesWith}
 use Rattle.converter.specs.Stepping.{keys_of}
 use Rattle.shared_heap.specs.Shared.{Shared}

@@ -1,5 +1,6 @@
 -- A place that a region guards before its store: the act, a full log, and a race.
-use Rattle.std.proofs.Common.{◌≡◌, inl, inr, ℕ, ◌<◌, ◌≤◌, true, false, List, [], ◌∷◌, ◌++◌, length, Some, None, refl, sym, ◌∙◌, ap, subst, arith, lit<}
+use Rattle.std.proofs.Common.{◌≡◌, inl, inr, ℕ, ◌<◌, ◌≤◌, true, false, List, [], ◌∷◌, ◌++◌, length, Some, None, refl, sym, ◌∙◌}
+use Rattle.std.proofs.Common.{ap, subst, arith, lit<}
 use Rattle.std.proofs.lemmas.Bool.{cases_lt}
 use Rattle.std.proofs.lemmas.List.{get_or-set_same}
 use Rattle.ap_base.specs.declared.place.Place.{Place}
@@ -7,16 +8,15 @@ use Rattle.ap_base.specs.declared.place.Spot.{Spot}
 use Rattle.ap_base.specs.declared.reference.Ref.{Ref}
 use Rattle.ap_base.specs.declared.reference.Item.{Item}
 use Rattle.graph_model.specs.declared.types.Value.{Value}
-use Rattle.image_layout.specs.Places.{log_entries}
 use Rattle.natives.specs.declared.requests.Request.{Request}
-use Rattle.run_types.specs.declared.fault.RunFault.{RunFault}
-use Rattle.run_types.specs.declared.fault.RunFault.TheVariants as fault
+use Rattle.run_types.specs.declared.fault.StepFault.{StepFault}
+use Rattle.run_types.specs.declared.fault.StepFault.TheVariants as met
+use Rattle.run_types.specs.Faults.{run_fault}
 use Rattle.run_types.specs.declared.fault.Which.TheVariants as which
 use Rattle.run_history.specs.declared.act.Op.TheVariants as op
 use Rattle.run_history.specs.Recorded.{History, Recorded, with_act}
 use Rattle.run_history.specs.Knowing.{durable_at, guard_of}
 use Rattle.plain_model.specs.Facts.{SetFacts}
-use Rattle.plain_model.specs.Ends.{full}
 use Rattle.plain_model.specs.Runs.{is_volatile}
 use Rattle.run_forms.specs.Views.{ThreadFrames}
 use Rattle.run_forms.specs.Ends.{IsEndedBy}
@@ -24,7 +24,7 @@ use Rattle.region_log.specs.declared.entry.Entry.{Entry as LogEntry}
 use Rattle.region_log.specs.declared.entry.Underway.{Underway}
 use Rattle.region_log.specs.declared.entry.Underway.TheVariants.{Nothing as Idle}
 use Rattle.region_log.specs.Guarding.{IsGuarded, is_adding}
-use Rattle.region_log.specs.Log.{Log}
+use Rattle.region_log.specs.Log.{Log, most_entries}
 use Rattle.region_log.specs.Readers.{is_ending}
 use Rattle.region_events.specs.Guards.{named_count}
 use Rattle.region_events.specs.Laws.{with_entry}
@@ -33,15 +33,17 @@ use Rattle.two_spaces.specs.Whole.{Stands}
 use Rattle.machine_forms.specs.Machines.{Opening, Machine, empty_log, known_in, log_of, memory_of}
 use Rattle.machine_forms.specs.Events.{GuardsPlace, RegionStep, act_in, value_in, with_guarded}
 use Rattle.machine_forms.specs.Events as region
-use Rattle.machine_asks.proofs.Places.{place-inside}
+use Rattle.machine_laws.proofs.Places.{place-inside}
 use Rattle.machine_ends.specs.Stores.{StoresFreely, room as has_room}
 use Rattle.object_steps.specs.declared.storing.Store.{Store}
 use Rattle.object_steps.specs.Stores.{place_of}
 use Rattle.store_barrier.specs.Barriers.{MayFollow}
 use Rattle.store_barrier.specs.Regions.{IsApart, LogsFirst, Races}
 use Rattle.shared_heap.specs.Shared.{Shared}
-use Rattle.shared_heap.specs.Regions.{GuardsTo, entry_at}
+use Rattle.shared_heap.specs.Regions.{GuardsTo, LiesAt, entry_at}
 use Rattle.machine.specs.declared.events.Event.TheVariants.{Micro, Over}
+use Rattle.machine.specs.declared.events.Halt.TheVariants.{Met}
+use Rattle.machine.specs.Halts.{lacks}
 use Rattle.machine.specs.Ended.{HasPlanned, HasSomePlanned, StoreComesTo}
 use Rattle.machine.specs.Events.{Comes, HasImageCause}
 use Rattle.machine.specs.Laws.{Laws}
@@ -50,12 +52,13 @@ use Rattle.machine.proofs.About.{about-guarded}
 use Rattle.machine.proofs.Basics.{not-longer, shared-is}
 use Rattle.machine.proofs.Faults.{none-more}
 use Rattle.machine.proofs.Freely.{freely, guarded-by}
-use Rattle.machine.proofs.Leaving.{few, goes-on, same-room}
+use Rattle.machine.proofs.Leaving.{few, goes-on, same-room, happened}
 use Rattle.machine.proofs.Memory.{same-image}
 use Rattle.machine.proofs.Planned.{is-free, is-store, kept-durable}
+use Rattle.machine_forms.specs.Happening as event
 
-unfailed : (f : RunFault) (before : ℕ) → (f ≡ fault.ImageFault → ⊥) → HasImageCause (Over f) before before
-unfailed fault.ImageFault before other = absurd (other refl)
+unfailed : (f : StepFault) (before : ℕ) → (f ≡ met.ImageFault → ⊥) → HasImageCause (Over (Met f)) before before
+unfailed met.ImageFault before other = absurd (other refl)
 unfailed f before other = omega arith
 
 -- an entry that is being added isn't an end
@@ -86,8 +89,8 @@ module _ (laws : Laws) (o : Opening) (first : ℕ) (set : SetFacts) (s : Shared)
   value = value_in s.machine store.kept
 
   -- a run that the store's request ends, with nothing done
-  pub store-over : (f : RunFault) → ((lines : ℕ) → IsEndedBy o.launch lines s.machine.acts 0 f)
-      → (f ≡ fault.ImageFault → ⊥) → Comes o first fs request (Over f) s s
+  pub store-over : (f : StepFault) → ((lines : ℕ) → IsEndedBy o.launch lines s.machine.acts 0 (run_fault f))
+      → (f ≡ met.ImageFault → ⊥) → Comes o first fs request (Over (Met f)) s s
   store-over f ends other = record {
     goes = record {
       es = es;
@@ -114,8 +117,8 @@ module _ (laws : Laws) (o : Opening) (first : ℕ) (set : SetFacts) (s : Shared)
         (laws.barriers.words o s.machine es h.due.running.keeps goal races.spot races.place)).by other).0
         races.guards
 
-    pub race-comes : Comes o first fs request (Over (fault.RegionRace 0 other goal)) s s
-    race-comes = store-over (fault.RegionRace 0 other goal) (λ lines. laws.ends.races o s.machine es (fs ∷ [])
+    pub race-comes : Comes o first fs request (Over (Met (met.RegionRace 0 other goal))) s s
+    race-comes = store-over (met.RegionRace 0 other goal) (λ lines. laws.ends.races o s.machine es (fs ∷ [])
         h.due.running.keeps h.due.running.plain lines 0 other fs request goal store.kept h.ready h.due.asks
         (is-store laws o first set s es fs request store h) guard-races races.differs
         (few laws o first set s es fs request h.due room)) (λ e. let no = e in cc)
@@ -145,9 +148,9 @@ module _ (laws : Laws) (o : Opening) (first : ℕ) (set : SetFacts) (s : Shared)
 
     -- ---- the log is full
 
-    module _ (enough : length (log_of s.machine 0).entries ≡ log_entries) where
-      pub full-comes : Comes o first fs request (Over (full which.LogEntries 1 0)) s s
-      full-comes = store-over (full which.LogEntries 1 0) (λ lines. laws.ends.logs o s.machine es (fs ∷ [])
+    module _ (enough : length (log_of s.machine 0).entries ≡ most_entries) where
+      pub full-comes : Comes o first fs request (Over (Met (lacks which.LogEntries 1 0))) s s
+      full-comes = store-over (lacks which.LogEntries 1 0) (λ lines. laws.ends.logs o s.machine es (fs ∷ [])
           h.due.running.keeps h.due.running.plain lines 0 fs request goal store.kept h.ready h.due.asks
           (is-store laws o first set s es fs request store h) (record {
             is_open = logs.is_open;
@@ -159,7 +162,7 @@ module _ (laws : Laws) (o : Opening) (first : ℕ) (set : SetFacts) (s : Shared)
 
     -- ---- the log has room
 
-    module _ (log_room : length (log_of s.machine 0).entries < log_entries) (new : Shared)
+    module _ (log_room : length (log_of s.machine 0).entries < most_entries) (new : Shared)
         (x : GuardsTo 0 goal spot s new) where
       abbrev word : LogEntry
       word = entry_at s spot
@@ -176,8 +179,8 @@ module _ (laws : Laws) (o : Opening) (first : ℕ) (set : SetFacts) (s : Shared)
             (idle-not-ending (log_of s.machine 0).underway h.idle) log_room refl;
       }
 
-      region-step : RegionStep o s.machine es (with_guarded s.machine 0 goal word)
-      region-step = region.guarded 0 request goal store.kept word guards
+      abbrev region-step : RegionStep o 0 s.machine es (with_guarded s.machine 0 goal word)
+      region-step = region.guarded request goal store.kept word guards
 
       abbrev act : Recorded
       act = act_in s.machine 0 (op.Guarded goal) []
@@ -199,18 +202,15 @@ module _ (laws : Laws) (o : Opening) (first : ℕ) (set : SetFacts) (s : Shared)
 
       guarded-comes : Comes o first fs request Micro s guarded_now
       guarded-comes =
-          let kept_run = laws.keep.regions o s.machine es h.due.running.keeps _ region-step in
+          let now = happened laws o first set s es fs request h.due (event.region _ region-step) [] h.due.asks tt in let kept_run = now.keeps in
           record {
             goes = record {
               es = es;
               running = goes-on o first s es fs h.due.running guarded_now es fs (record {
                 keeps = kept_run;
-                plain = laws.frames.regions.guarded o s.machine es (fs ∷ []) h.due.running.keeps
-                    h.due.running.plain 0 fs request goal store.kept word h.due.asks guards;
-                taken = laws.lines.regions o s.machine es first h.due.running.keeps h.due.running.taken
-                    _ region-step;
-                unwritten = laws.unwritten.regions o s.machine es h.due.running.keeps
-                    h.due.running.unwritten _ region-step;
+                plain = now.plain;
+                taken = now.taken;
+                unwritten = now.unwritten;
                 names = record {
                   once = h.due.running.names.once;
                   those = h.due.running.names.those;
@@ -230,7 +230,7 @@ module _ (laws : Laws) (o : Opening) (first : ℕ) (set : SetFacts) (s : Shared)
                 numbers = refl;
                 unfaulted = none-more o.launch s.machine.acts act h.due.running.unfaulted (λ lines.
                     laws.ends.stores_meet o s.machine es (fs ∷ []) h.due.running.keeps h.due.running.plain
-                    lines 0 _ fs request goal store.kept h.ready h.due.asks
+                    lines 0 fs request goal store.kept h.ready h.due.asks
                     (is-store laws o first set s es fs request store h) free
                     (few laws o first set s es fs request h.due room));
               });
@@ -266,7 +266,7 @@ module _ (laws : Laws) (o : Opening) (first : ℕ) (set : SetFacts) (s : Shared)
 pub race-comes-to : Laws → (s : Shared) (store : Store) (other : ℕ) → length s.history.acts < s.history.limit
     → ((es : List Entry) → Stands s.machine.spaces es
     → Races s.machine.spaces es s.machine.logs 0 (place_of store.target) other)
-    → StoreComesTo store (Over (fault.RegionRace 0 other (place_of store.target))) s s
+    → StoreComesTo store (Over (Met (met.RegionRace 0 other (place_of store.target)))) s s
 race-comes-to laws s store other room races = record {
   comes = λ o first set es fs request h. race-comes laws o first set s es fs request store h room other
       (races es h.due.running.keeps.heap.whole);
@@ -278,15 +278,15 @@ module _ (laws : Laws) (s : Shared) (store : Store) (room : length s.history.act
     (follows : MayFollow s.machine.spaces store) (spot : Spot)
     (logs : (es : List Entry) → Stands s.machine.spaces es
     → LogsFirst s.machine.spaces es s.machine.logs 0 (place_of store.target) spot) where
-  pub full-comes-to : length (log_of s.machine 0).entries ≡ log_entries
-      → StoreComesTo store (Over (full which.LogEntries 1 0)) s s
+  pub full-comes-to : length (log_of s.machine 0).entries ≡ most_entries
+      → StoreComesTo store (Over (Met (lacks which.LogEntries 1 0))) s s
   full-comes-to enough = record {
     comes = λ o first set es fs request h. full-comes laws o first set s es fs request store h room apart follows
         spot (logs es h.due.running.keeps.heap.whole) enough;
     sink = record { acts = inl refl; fault = tt };
   }
 
-  pub guarded-comes-to : length (log_of s.machine 0).entries < log_entries → (new : Shared)
+  pub guarded-comes-to : length (log_of s.machine 0).entries < most_entries → (new : Shared)
       → GuardsTo 0 (place_of store.target) spot s new → StoreComesTo store Micro s new
   guarded-comes-to log_room new x = record {
     comes = λ o first set es fs request h. guarded-store laws o first set s es fs request store h room apart
@@ -300,6 +300,13 @@ module _ (laws : Laws) (s : Shared) (store : Store) (room : length s.history.act
   is-inside (o, first, set, es, fs, request, h) = spot-inside laws o first set s es fs request store h room apart
       follows spot (logs es h.due.running.keeps.heap.whole)
 
+  pub lies-at : HasSomePlanned s store → LiesAt s.machine.spaces (place_of store.target) spot
+  lies-at (o, first, set, es, fs, request, h) = record {
+    es = es;
+    stands = h.due.running.keeps.heap.whole;
+    at = (logs es h.due.running.keeps.heap.whole).place;
+  }
+
   pub is-free-of : HasSomePlanned s store → (t : ℕ) → IsGuarded (log_of s.machine t) spot → ⊥
   is-free-of (o, first, set, es, fs, request, h) = spot-free laws o first set s es fs request store h room apart
       follows spot (logs es h.due.running.keeps.heap.whole)
@@ -307,10 +314,10 @@ module _ (laws : Laws) (s : Shared) (store : Store) (room : length s.history.act
   pub is-open : HasSomePlanned s store → 0 < (log_of s.machine 0).depth
   is-open (o, first, set, es, fs, request, h) = (logs es h.due.running.keeps.heap.whole).is_open
 
-  pub has-log-room : HasSomePlanned s store → (length (log_of s.machine 0).entries ≡ log_entries → ⊥)
-      → length (log_of s.machine 0).entries < log_entries
+  pub has-log-room : HasSomePlanned s store → (length (log_of s.machine 0).entries ≡ most_entries → ⊥)
+      → length (log_of s.machine 0).entries < most_entries
   has-log-room (o, first, set, es, fs, request, h) not_full =
-      less (length (log_of s.machine 0).entries) log_entries
+      less (length (log_of s.machine 0).entries) most_entries
       (h.due.running.keeps.asked.regions.each 0 (lit< tt)).keeps.room not_full
     where
       less : (n m : ℕ) → n ≤ m → (n ≡ m → ⊥) → n < m

@@ -13,14 +13,37 @@ use Rattle.region_log.specs.Log.{Log}
 use Rattle.machine_forms.specs.Machines.{Opening, Machine, doing_of, empty_log, log_of, memory_of, shown_in}
 use Rattle.machine_forms.specs.Keeping.{KeepsRun}
 use Rattle.machine_forms.specs.Events.{IsFitRequest}
-use Rattle.machine_runs.specs.Frames.{IsReady, RunsAsPlain}
-use Rattle.machine_lines.specs.Lines.{TakesLines}
-use Rattle.machine_lines.specs.Unwritten.{HasUnwritten}
+use Rattle.machine_laws.specs.Frames.{AsksIts, BeginsBy, IsReady, RunsAsPlain, frames_by}
+use Rattle.machine_forms.specs.Happening.{Happens, request_of}
+use Rattle.machine_ends.specs.Lines.{TakesLines}
+use Rattle.machine_ends.specs.Unwritten.{HasUnwritten}
 use Rattle.machine_ends.specs.Laws.{Lives}
 use Rattle.shared_heap.specs.Shared.{Shared}
 use Rattle.shared_heap.specs.Conversions.{ConvertsAlone, NamesClaimed}
 use Rattle.machine.specs.Laws.{Laws}
 use Rattle.machine.specs.Running.{AsksItsEnd, HadNoFault, IsAboutItsStore, IsDue, IsRunning, LagsByItsStore}
+
+-- ---- what is kept
+
+-- what an event leaves of all that laws of events speak of
+pub record Kept (o : Opening) (first : ℕ) (m : Machine) (es : List Entry) (threads : List ThreadFrames)
+    : Type 0 where
+  pub keeps : KeepsRun o m es
+  pub plain : RunsAsPlain o m threads
+  pub taken : TakesLines o first m es
+  pub unwritten : HasUnwritten m es
+
+pub happened : Laws → (o : Opening) (first : ℕ) (set : SetFacts) (s : Shared) (es : List Entry)
+    (fs : ThreadFrames) (request : Request Ref Item) → IsDue o first set s es fs request → {m' : Machine}
+    {es' : List Entry} (e : Happens o 0 s.machine es m' es') (begun : List ThreadFrames)
+    → AsksIts o s.machine (fs ∷ []) 0 fs (request_of e) → BeginsBy e begun
+    → Kept o first m' es' (frames_by e (fs ∷ []) fs begun)
+happened laws o first set s es fs request due e begun asks begins = record {
+  keeps = laws.keep o 0 s.machine _ es _ due.running.keeps e;
+  plain = laws.frames o 0 s.machine _ es _ (fs ∷ []) due.running.keeps due.running.plain e fs begun asks begins;
+  taken = laws.lines o 0 s.machine _ es _ due.running.keeps e first due.running.taken;
+  unwritten = laws.unwritten o 0 s.machine _ es _ due.running.keeps e due.running.unwritten;
+}
 
 -- ---- what is left
 
@@ -109,7 +132,7 @@ module _ (laws : Laws) (o : Opening) (first : ℕ) (set : SetFacts) (s : Shared)
 
   pub asked : IsReady (doing_of s.machine 0)
       → IsAsked o.launch s.machine.acts (shown_in s.machine) s.machine.rest 0 request
-  asked ready = laws.frames.alike o s.machine es (fs ∷ []) due.running.keeps due.running.plain 0 fs request
+  asked ready = laws.alike o s.machine es (fs ∷ []) due.running.keeps due.running.plain 0 fs request
       ready due.asks
 
   pub fits : IsReady (doing_of s.machine 0) → IsFitRequest o s.machine 0 request

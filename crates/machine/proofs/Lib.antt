@@ -24,3 +24,4 @@ pub mod Stepping
 pub mod Steps
 pub mod Stores
 pub mod Waiting
+pub mod Passed

@@ -1,11 +1,12 @@
 -- The word that a region has guarded last is logged, a part with each call.
-use Rattle.std.proofs.Common.{◌≡◌, ◌⊎◌, inl, inr, ℕ, ◌-◌, ◌<◌, ◌≤◌, true, false, List, [], ◌∷◌, length, refl, sym, ◌∙◌, ap, subst, arith, lit<}
+use Rattle.std.proofs.Common.{◌≡◌, ◌⊎◌, inl, inr, ℕ, ◌-◌, ◌<◌, ◌≤◌, true, false, List, [], ◌∷◌, length, refl, sym, ◌∙◌, ap}
+use Rattle.std.proofs.Common.{subst, arith, lit<}
 use Rattle.std.proofs.lemmas.Bool.{cases_lt}
 use Rattle.std.proofs.lemmas.List.{get_or-set_same}
 use Rattle.ap_base.specs.Causes.{Rose}
 use Rattle.ap_base.specs.declared.reference.Ref.{Ref}
 use Rattle.ap_base.specs.declared.reference.Item.{Item}
-use Rattle.run_types.specs.declared.fault.RunFault.TheVariants as fault
+use Rattle.run_types.specs.declared.fault.StepFault.TheVariants as met
 use Rattle.natives.specs.declared.requests.Request.{Request}
 use Rattle.run_history.specs.Recorded.{History}
 use Rattle.plain_model.specs.Facts.{SetFacts}
@@ -24,12 +25,14 @@ use Rattle.machine_forms.specs.Events as region
 use Rattle.shared_heap.specs.Shared.{Shared}
 use Rattle.shared_heap.specs.Regions.{IsLeft, LoggingFailsTo, LogsTo}
 use Rattle.machine.specs.declared.events.Event.TheVariants.{Micro, Over}
+use Rattle.machine.specs.declared.events.Halt.TheVariants.{Met}
 use Rattle.machine.specs.Ended.{ComesTo, IsSomeDue}
 use Rattle.machine.specs.Events.{Comes}
 use Rattle.machine.specs.Laws.{Laws}
 use Rattle.machine.specs.Running.{AsksItsEnd, IsDue}
 use Rattle.machine.proofs.Basics.{shared-is}
-use Rattle.machine.proofs.Leaving.{few, goes-on, lives, same-room}
+use Rattle.machine.proofs.Leaving.{few, goes-on, lives, same-room, happened}
+use Rattle.machine_forms.specs.Happening as event
 
 -- the log of the thread is what it became
 pub log-now : (m : Machine) (twin : Twin) (log : Log) → length m.logs ≡ 64
@@ -63,8 +66,8 @@ module _ (laws : Laws) (o : Opening) (first : ℕ) (set : SetFacts) (s : Shared)
       logged-is : new ≡ logged_now
       logged-is = shared-is new _ _ _ _ l.left.machine l.left.history l.left.lines l.left.named
 
-      region-step : RegionStep o s.machine es logged_now.machine
-      region-step = region.logged l.twin 0 l.log l.logs
+      abbrev region-step : RegionStep o 0 s.machine es logged_now.machine
+      region-step = region.logged l.twin l.log l.logs
 
       no-end : AsksItsEnd o.launch l.log.underway fs
       no-end = elim l.made [
@@ -78,17 +81,14 @@ module _ (laws : Laws) (o : Opening) (first : ℕ) (set : SetFacts) (s : Shared)
       logged-comes : (memory_of s.machine).faults ≤ l.twin.memory.faults
           → Comes o first fs request Micro s logged_now
       logged-comes later =
-          let kept = laws.keep.regions o s.machine es due.running.keeps _ region-step in record {
+          let now = happened laws o first set s es fs request due (event.region _ region-step) [] refl tt in let kept = now.keeps in record {
             goes = record {
               es = es;
               running = goes-on o first s es fs due.running logged_now es fs (record {
                 keeps = kept;
-                plain = laws.frames.regions.logged o s.machine es (fs ∷ []) due.running.keeps
-                    due.running.plain l.twin 0 l.log l.logs;
-                taken = laws.lines.regions o s.machine es first due.running.keeps due.running.taken _
-                    region-step;
-                unwritten = laws.unwritten.regions o s.machine es due.running.keeps due.running.unwritten _
-                    region-step;
+                plain = now.plain;
+                taken = now.taken;
+                unwritten = now.unwritten;
                 names = record {
                   once = due.running.names.once;
                   those = due.running.names.those;
@@ -161,13 +161,12 @@ module _ (laws : Laws) (o : Opening) (first : ℕ) (set : SetFacts) (s : Shared)
       failed-is = shared-is new _ _ _ _ f.left.machine f.left.history f.left.lines f.left.named
 
       failed-comes : Rose (memory_of s.machine).faults f.twin.memory.faults
-          → Comes o first fs request (Over fault.ImageFault) s failed_now
+          → Comes o first fs request (Over (Met met.ImageFault)) s failed_now
       failed-comes rose = record {
         goes = record {
           es = es;
-          keeps = laws.keep.regions o s.machine es due.running.keeps _ (region.logged f.twin 0 f.log f.logs);
-          plain = laws.frames.regions.logged o s.machine es (fs ∷ []) due.running.keeps due.running.plain
-              f.twin 0 f.log f.logs;
+          keeps = (happened laws o first set s es fs request due (event.region _ (region.logged f.twin f.log f.logs)) [] refl tt).keeps;
+          plain = (happened laws o first set s es fs request due (event.region _ (region.logged f.twin f.log f.logs)) [] refl tt).plain;
           history = refl;
           acts = refl;
           ends = laws.ends.image o s.machine es (fs ∷ []) due.running.keeps due.running.plain
@@ -183,8 +182,8 @@ module _ (laws : Laws) (o : Opening) (first : ℕ) (set : SetFacts) (s : Shared)
       }
 
       pub logging-failed : Rose (memory_of s.machine).faults (memory_of new.machine).faults
-          → Comes o first fs request (Over fault.ImageFault) s new
-      logging-failed rose = subst (Comes o first fs request (Over fault.ImageFault) s) (sym failed-is)
+          → Comes o first fs request (Over (Met met.ImageFault)) s new
+      logging-failed rose = subst (Comes o first fs request (Over (Met met.ImageFault)) s) (sym failed-is)
           (failed-comes (subst (λ (x : Shared). Rose (memory_of s.machine).faults (memory_of x.machine).faults)
           failed-is rose))
 
@@ -204,7 +203,7 @@ logged-comes-to laws s new step l later = record {
 
 pub logging-failed-comes-to : Laws → (s new : Shared) → LoggingFailsTo 0 s new
     → length s.history.acts < s.history.limit → Rose (memory_of s.machine).faults (memory_of new.machine).faults
-    → ComesTo (Over fault.ImageFault) s new
+    → ComesTo (Over (Met met.ImageFault)) s new
 logging-failed-comes-to laws s new f room rose = record {
   comes = λ o first set es fs request due. logging-failed laws o first set s es fs request due new f room rose;
   sink = record { acts = inl (ap (λ (h : History). h.acts) f.left.history); fault = tt };

@@ -6,8 +6,8 @@ use Rattle.ap_base.specs.declared.reference.Item.{Item}
 use Rattle.graph_model.specs.declared.types.Value.{Value}
 use Rattle.graph_model.specs.declared.types.Root.{Root}
 use Rattle.run_types.specs.declared.fault.Full.{Full}
-use Rattle.run_types.specs.declared.fault.RunFault.{RunFault}
-use Rattle.run_types.specs.declared.fault.RunFault.TheVariants as fault
+use Rattle.run_types.specs.declared.fault.StepFault.{StepFault}
+use Rattle.run_types.specs.declared.fault.StepFault.TheVariants as fault
 use Rattle.run_types.specs.declared.fault.Which.{Which}
 use Rattle.run_types.specs.declared.fault.Which.TheVariants as which
 use Rattle.run_types.specs.declared.resolved.At.{At}
@@ -52,7 +52,7 @@ no-full world left op.End full which.Monitors mark is = let no = is.takes.1 in c
 no-full world left o full which.Monitors mark is = absurd mark
 no-full world left o full w mark is = is
 
-no-limit : (world : World) (left : ℕ) (o : Op) (f : RunFault) → IsMark o
+no-limit : (world : World) (left : ℕ) (o : Op) (f : StepFault) → IsMark o
     → IsLimit world left (Does o reply.Done) f → ⊥
 no-limit world left o (fault.Full full) mark is = no-full world left o full full.which mark is
 no-limit world left op.Begin fault.SinkFault mark is = is

@@ -8,13 +8,13 @@ use Rattle.run_history.specs.declared.act.Op.{Op}
 use Rattle.run_history.specs.declared.act.Op.TheVariants as op
 use Rattle.twin_forms.specs.Table.{Entry, IsClaimed, no_entry}
 use Rattle.twin_forms.specs.Moves.{fresh}
-use Rattle.convert_queue.specs.Queues.{queue_of}
+use Rattle.convert_queue.specs.Queues.{Queued, queue_in, queue_of}
 use Rattle.convert_words.specs.Agreeing.{Is}
 use Rattle.machine_forms.specs.Machines.{Opening, Machine, doing_of}
 use Rattle.machine_forms.specs.Keeping.{KeepsRun}
 use Rattle.machine_forms.specs.Events.{IsWithFresh, TableAfter}
-use Rattle.machine_asks.proofs.Beside.{OnlyAdds, claimed-was}
-use Rattle.machine_asks.proofs.Keeping.{none-queued}
+use Rattle.machine_laws.proofs.Beside.{OnlyAdds, claimed-was}
+use Rattle.machine_laws.proofs.AskKeeping.{none-queued}
 use Rattle.shared_heap.specs.Shared.{Shared}
 use Rattle.shared_heap.specs.Conversions.{NamesClaimed}
 use Rattle.machine.proofs.About.{IsIdle, idle-asks}
@@ -84,9 +84,9 @@ names-none o s new operation es es' k k' after none none' history named x = reco
   count = named ∙ x.count ∙ empty-queue o s.machine es k none ∙ sym (empty-queue o new.machine es' k' none');
 }
 
--- where nothing more is named, and the queues are as they were
+-- where nothing more is named, and the same objects are queued
 pub names-same : (s new : Shared) (es : List Entry) → new.history.named ≡ s.history.named → new.named ≡ s.named
-    → new.machine.queue ≡ s.machine.queue → NamesClaimed 0 s es → NamesClaimed 0 new es
+    → new.machine.queue.queues ≡ s.machine.queue.queues → NamesClaimed 0 s es → NamesClaimed 0 new es
 names-same s new es history named queue x = record {
   once = subst (AllPairs (λ m n. m ≢ n)) (sym history) x.once;
   those = λ n. (
@@ -94,5 +94,5 @@ names-same s new es history named queue x = record {
     λ c. subst (λ (ns : List ℕ). has_number ns n ≡ true) (sym history) ((x.those n).1 c),
   );
   alone = x.alone;
-  count = named ∙ x.count ∙ ap (λ q. length (queue_of q 0)) (sym queue);
+  count = named ∙ x.count ∙ ap (λ (qs : List (List Queued)). length (queue_in qs 0)) (sym queue);
 }

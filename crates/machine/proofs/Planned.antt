@@ -22,8 +22,8 @@ use Rattle.machine_forms.specs.declared.doing.Doing.{Doing}
 use Rattle.machine_forms.specs.declared.doing.Doing.TheVariants.{Nothing, Converting, Writing, Fencing}
 use Rattle.machine_forms.specs.Machines.{Opening, doing_of, known_in, roots_in, shown_in}
 use Rattle.machine_forms.specs.Events.{IsFree, IsStoreOf, value_in}
-use Rattle.machine_runs.specs.Frames.{IsReady}
-use Rattle.machine_asks.proofs.Asking.{stores-anyhow}
+use Rattle.machine_laws.specs.Frames.{IsReady}
+use Rattle.machine_laws.proofs.Asking.{stores-anyhow}
 use Rattle.object_steps.specs.declared.storing.Store.{Store}
 use Rattle.object_steps.specs.Stores.{place_of}
 use Rattle.store_barrier.specs.Barriers.{HoldsDurable, IsDurablePlace, MayFollow}

@@ -1,5 +1,6 @@
 -- What a step puts into the sink.
-use Rattle.std.proofs.Common.{◌≡◌, inl, inr, ℕ, ◌≤◌, Bool, true, false, List, [], ◌∷◌, ◌++◌, Option, Some, None, refl, sym, ◌∙◌, ap, subst, arith, if◌then◌else◌}
+use Rattle.std.proofs.Common.{◌≡◌, inl, inr, ℕ, ◌≤◌, Bool, true, false, List, [], ◌∷◌, ◌++◌, Option, Some, None, refl, sym, ◌∙◌}
+use Rattle.std.proofs.Common.{ap, subst, arith, if◌then◌else◌}
 use Rattle.std.specs.Prelude.{IsSome}
 use Rattle.std.proofs.lemmas.List.{append-nil}
 use Rattle.ap_base.specs.Causes.{Rose}
@@ -7,8 +8,8 @@ use Rattle.ap_base.specs.Sinks.{with_bytes}
 use Rattle.ap_base.specs.declared.reference.Ref.{Ref}
 use Rattle.ap_base.specs.declared.reference.Item.{Item}
 use Rattle.run_types.specs.declared.resolved.At.{At}
-use Rattle.run_types.specs.declared.fault.RunFault.{RunFault}
-use Rattle.run_types.specs.declared.fault.RunFault.TheVariants as fault
+use Rattle.run_types.specs.declared.fault.StepFault.{StepFault}
+use Rattle.run_types.specs.declared.fault.StepFault.TheVariants as fault
 use Rattle.run_types.specs.declared.fault.Which.{Which}
 use Rattle.run_types.specs.declared.fault.Which.TheVariants as which
 use Rattle.run_types.specs.declared.fault.Full.{Full}
@@ -37,6 +38,7 @@ use Rattle.shared_steps.specs.Output.{FaultsGo, OutputGoes, SharesGo}
 use Rattle.run_forms.proofs.Visible.{is_print, prints}
 use Rattle.machine.specs.declared.events.Event.{Event}
 use Rattle.machine.specs.declared.events.Event.TheVariants.{Did, Micro, Over}
+use Rattle.machine.specs.declared.events.Halt.TheVariants.{Met}
 use Rattle.machine.specs.Events.{HasSinkCause, IsNoPrint, IsNoSinkFault, IsShare, SparesSink, TakesOutput}
 use Rattle.machine.proofs.Basics.{no-some, not-longer}
 
@@ -88,8 +90,8 @@ spares-share result old new q takes spares act is = elim spares.acts [
 pub spares-cause : (result : Event) (before : ℕ) → IsNoSinkFault result → HasSinkCause result before before
 spares-cause (Did r) before none = omega arith
 spares-cause Micro before none = omega arith
-spares-cause (Over fault.SinkFault) before none = absurd none
-spares-cause (Over f) before none = omega arith
+spares-cause (Over (Met fault.SinkFault)) before none = absurd none
+spares-cause (Over halt) before none = omega arith
 
 -- ---- a step
 
@@ -156,7 +158,7 @@ print-no-full world left bytes taken false full which.Monitors is = let no = is.
 print-no-full world left bytes taken b full w is = is
 
 -- a print is over by the sink alone
-print-over : (world : World) (left : ℕ) (bytes : List ℕ) (taken : ℕ) (b : Bool) (f : RunFault)
+print-over : (world : World) (left : ℕ) (bytes : List ℕ) (taken : ℕ) (b : Bool) (f : StepFault)
     → IsLimit world left (if b then Does (op.Print bytes) (reply.Printed taken) else WrongOperand) f
     → f ≡ fault.SinkFault
 print-over world left bytes taken b (fault.Full full) is =
@@ -164,13 +166,13 @@ print-over world left bytes taken b (fault.Full full) is =
 print-over world left bytes taken b fault.SinkFault is = refl
 print-over world left bytes taken b f is = absurd is
 
-no-over : (bytes : List ℕ) (taken : ℕ) (b : Bool) (f : RunFault)
+no-over : (bytes : List ℕ) (taken : ℕ) (b : Bool) (f : StepFault)
     → (if b then Does (op.Print bytes) (reply.Printed taken) else WrongOperand) ≡ IsOver f → ⊥
 no-over bytes taken true f e = let no = e in cc
 no-over bytes taken false f e = let no = e in cc
 
 print-step : (set : SetFacts) (t : ℕ) (from : At) (piece : List ℕ) (before : Shown) (rest : Rest) (f :
-    RunFault)
+    StepFault)
     (now : Shown) (rest_now : Rest)
     → IsStep set t (ask.Print from piece) before rest (stepped.Over f) now rest_now → f ≡ fault.SinkFault
 unfolding step
@@ -189,7 +191,7 @@ sink-rose number q before now e h = absurd (let no : false ≡ true = e in cc)
 prints-it : (q : PlainRequest) → Prints (Some q) → prints q ≡ true
 prints-it q (from, piece, e) = let same : q ≡ ask.Print from piece = cc in ap prints same
 
-unmoved : (set : SetFacts) (t : ℕ) (q : Request Ref Item) (shown : Shown) (rest : Rest) (f : RunFault)
+unmoved : (set : SetFacts) (t : ℕ) (q : Request Ref Item) (shown : Shown) (rest : Rest) (f : StepFault)
     (now : Shown) (rest_now : Rest) → IsStep set t q shown rest (stepped.Over f) now rest_now
     → (f ≡ fault.SinkFault → ⊥) → (before after : ℕ) → FaultsGo q before (stepped.Over f) after
     → before ≤ after
@@ -198,10 +200,10 @@ unmoved set t (ask.Print from piece) shown rest f now rest_now is other before a
 unmoved set t q shown rest f now rest_now is other before after go = omega (arith, go)
 
 -- A step that is over by the sink was a print's, and the sink's count rose.
-pub over-cause : (set : SetFacts) (t : ℕ) (q : Request Ref Item) (shown : Shown) (rest : Rest) (f : RunFault)
+pub over-cause : (set : SetFacts) (t : ℕ) (q : Request Ref Item) (shown : Shown) (rest : Rest) (f : StepFault)
     (now : Shown) (rest_now : Rest) → IsStep set t q shown rest (stepped.Over f) now rest_now
     → (f ≡ fault.SinkFault → Prints (Some (plain_request shown.number q))) → (before after : ℕ)
-    → FaultsGo q before (stepped.Over f) after → HasSinkCause (Over f) before after
+    → FaultsGo q before (stepped.Over f) after → HasSinkCause (Over (Met f)) before after
 over-cause set t q shown rest fault.SinkFault now rest_now is prints before after go =
     sink-rose shown.number q before after (prints-it (plain_request shown.number q) (prints refl)) go
 over-cause set t q shown rest f now rest_now is prints before after go =

@@ -1,9 +1,10 @@
 -- A claim that is refused for want of lines ends the run; and what begins so.
-use Rattle.std.proofs.Common.{◌≡◌, inl, inr, ℕ, ◌-◌, ◌<◌, List, [], ◌∷◌, length, Option, None, sym, ap, subst, arith}
+use Rattle.std.proofs.Common.{◌≡◌, refl, inl, ℕ, ◌-◌, ◌<◌, List, [], ◌∷◌, length, None, sym, ap, subst, arith}
 use Rattle.ap_base.specs.References.{reference_word}
 use Rattle.ap_base.specs.declared.reference.Ref.{Ref}
 use Rattle.ap_base.specs.declared.reference.Item.{Item}
 use Rattle.run_types.specs.declared.fault.RunFault.{RunFault}
+use Rattle.run_types.specs.declared.fault.Which.TheVariants as which
 use Rattle.natives.specs.declared.requests.Request.{Request}
 use Rattle.line_memory.specs.Memory.{Memory}
 use Rattle.run_history.specs.Recorded.{History, Recorded}
@@ -11,7 +12,7 @@ use Rattle.plain_model.specs.Facts.{SetFacts}
 use Rattle.plain_model.specs.Ends.{fault_after}
 use Rattle.run_forms.specs.Views.{ThreadFrames}
 use Rattle.run_forms.specs.Standing.{plain_code}
-use Rattle.run_forms.specs.Ends.{IsEndedBy, IsNoFault}
+use Rattle.run_forms.specs.Ends.{IsEndedBy}
 use Rattle.twin_forms.specs.Table.{Entry}
 use Rattle.two_spaces.specs.Whole.{Stands}
 use Rattle.converter.specs.Beginning.{IsAsked}
@@ -19,8 +20,8 @@ use Rattle.converter.specs.declared.begin.Begun.TheVariants as begun_as
 use Rattle.machine_forms.specs.declared.doing.Doing.TheVariants.{Converting}
 use Rattle.machine_forms.specs.Machines.{Opening, Machine, doing_of, memory_of}
 use Rattle.machine_forms.specs.Keeping.{KeepsRun}
-use Rattle.machine_runs.specs.Frames.{RunsAsPlain}
-use Rattle.machine_lines.specs.Lines.{IsRefused, lines_fault, lines_from}
+use Rattle.machine_laws.specs.Frames.{RunsAsPlain}
+use Rattle.machine_ends.specs.Lines.{IsRefused, lines_fault, lines_from}
 use Rattle.machine_ends.specs.Stores.{StoresFreely}
 use Rattle.machine_forms.specs.Events.{value_in}
 use Rattle.object_steps.specs.declared.storing.Store.{Store}
@@ -32,19 +33,17 @@ use Rattle.shared_heap.specs.declared.conversions.Conversion.TheVariants as did
 use Rattle.shared_heap.specs.Shared.{Shared}
 use Rattle.shared_heap.specs.Conversions.{BeginsOnce, BeginsTo, ConvertsAlone}
 use Rattle.machine.specs.declared.events.Event.TheVariants.{Over}
+use Rattle.machine.specs.declared.events.Halt.TheVariants.{Met}
+use Rattle.machine.specs.Halts.{lacks}
 use Rattle.machine.specs.Ended.{HasPlanned, HasSomePlanned, StoreComesTo, went_event}
 use Rattle.machine.specs.Events.{Comes, IsOver, SparesSink}
 use Rattle.machine.specs.Laws.{Laws}
 use Rattle.machine.proofs.Asking.{acts-same, begins-on, claimed-comes}
 use Rattle.machine.proofs.Freely.{freely-volatile}
-use Rattle.machine.proofs.Leaving.{converts-alone, few, same-size}
+use Rattle.machine.proofs.Leaving.{converts-alone, few, same-size, happened}
 use Rattle.machine.proofs.Memory.{same-image}
 use Rattle.machine.proofs.Planned.{is-store}
-
--- no fault, where no monitor is held
-no-fault : (met : Option RunFault) → IsNoFault met 0 → met ≡ None
-no-fault met (inl none) = none
-no-fault met (inr over) = absurd (let more = over.1 in omega (arith, more))
+use Rattle.machine_forms.specs.Happening as event
 
 module _ (laws : Laws) (o : Opening) (first : ℕ) (set : SetFacts) (s : Shared) (es : List Entry)
     (fs : ThreadFrames) (request : Request Ref Item) (store : Store)
@@ -55,8 +54,8 @@ module _ (laws : Laws) (o : Opening) (first : ℕ) (set : SetFacts) (s : Shared)
       → fault_after o.launch.set o.launch.main o.launch.opening (plain_code o.launch) o.launch.limits lines
       s.machine.acts 0
       ≡ None
-  none-met lines = no-fault _ (laws.ends.stores_meet o s.machine es (fs ∷ []) h.due.running.keeps
-      h.due.running.plain lines 0 0 fs request _ store.kept h.ready h.due.asks
+  none-met lines = (laws.ends.stores_meet o s.machine es (fs ∷ []) h.due.running.keeps
+      h.due.running.plain lines 0 fs request _ store.kept h.ready h.due.asks
       (is-store laws o first set s es fs request store h)
       free (few laws o first set s es fs request h.due room)).1
 
@@ -85,19 +84,18 @@ module _ (laws : Laws) (o : Opening) (first : ℕ) (set : SetFacts) (s : Shared)
   module _ (object : Ref) (converting : doing_of s.machine 0 ≡ Converting)
       (convert : ConvertsFirst s.machine.spaces es store object) (unnamed : s.named ≡ 0) (new : Shared)
       (need left : ℕ) (b : BeginsOnce 0 convert.item.number (begun_as.Full need left) s new es) where
-    refused-comes : Comes o first fs request (Over (lines_fault need left)) s new
+    refused-comes : Comes o first fs request (Over (Met (lacks which.ImageLines need left))) s new
     refused-comes =
         let on = begins-on laws o first set s es fs request store h free room object converting convert unnamed new
         (begun_as.Full need left) b in
         let same = acts-same laws o first set s es fs request store h free room object converting convert
         unnamed new
         (begun_as.Full need left) b in
+        let now = happened laws o first set s es fs request h.due (event.begun new.machine b.after convert.item.number (reference_word object) (begun_as.Full need left) on) [] refl tt in
         record {
           goes = refused-over need left new b.after
-              (laws.keep.begins o s.machine es h.due.running.keeps new.machine b.after 0 convert.item.number
-              (reference_word object) (begun_as.Full need left) on)
-              (laws.frames.begins o s.machine es (fs ∷ []) h.due.running.keeps h.due.running.plain new.machine
-              b.after 0 convert.item.number (reference_word object) (begun_as.Full need left) on)
+              now.keeps
+              now.plain
               b.history same
               (laws.ends.refused_begins o s.machine es first h.due.running.keeps h.due.running.taken
               new.machine

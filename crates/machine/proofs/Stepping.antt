@@ -1,12 +1,14 @@
 -- Steps of requests that store nothing.
-use Rattle.std.proofs.Common.{◌≡◌, inl, inr, ℕ, zero, suc, ◌-◌, ◌<◌, true, false, List, [], ◌∷◌, ◌++◌, length, map, unwrap_or, Option, Some, refl, sym, ◌∙◌, ap, subst, arith, lit<}
+use Rattle.std.proofs.Common.{◌≡◌, inl, inr, ℕ, zero, suc, ◌-◌, ◌<◌, true, false, List, [], ◌∷◌, ◌++◌, length, map, unwrap_or}
+use Rattle.std.proofs.Common.{Option, Some, refl, sym, ◌∙◌, ap, subst, arith, lit<}
 use Rattle.std.specs.Prelude.{slice_set}
 use Rattle.std.proofs.lemmas.List.{append-nil, length-map}
 use Rattle.ap_base.specs.Sinks.{with_bytes}
 use Rattle.ap_base.specs.declared.reference.Ref.{Ref}
 use Rattle.ap_base.specs.declared.reference.Item.{Item}
-use Rattle.run_types.specs.declared.fault.RunFault.{RunFault}
 use Rattle.run_types.specs.declared.fault.RunFault.TheVariants as fault
+use Rattle.run_types.specs.declared.fault.StepFault.{StepFault}
+use Rattle.run_types.specs.declared.fault.StepFault.TheVariants as met
 use Rattle.run_types.specs.declared.resolved.At.{At}
 use Rattle.graph_model.specs.declared.types.Root.{Root}
 use Rattle.natives.specs.declared.requests.Request.{Request}
@@ -22,15 +24,15 @@ use Rattle.plain_model.specs.Ends.{Prints}
 use Rattle.plain_model.specs.Runs.{printed_by}
 use Rattle.plain_model.specs.Steps.{Does, step}
 use Rattle.shared_objects.specs.Plain.{plain_request, plain_reply}
-use Rattle.shared_objects.specs.Worlds.{KnowsMonitors, plain_monitor, plain_thread, world_of}
+use Rattle.shared_objects.specs.Worlds.{KnowsMonitors, plain_thread, world_of}
 use Rattle.step_forms.specs.declared.stepped.Stepped.{Stepped}
 use Rattle.step_forms.specs.declared.stepped.Stepped.TheVariants as stepped
 use Rattle.step_forms.specs.Becomes.{IsNoStore}
 use Rattle.step_forms.specs.Follows.{IsStep, stored_as}
 use Rattle.shared_steps.specs.Output.{FaultsGo, OutputGoes, SharesGo}
 use Rattle.run_forms.specs.Views.{ThreadFrames}
-use Rattle.run_forms.specs.Standing.{known_at, plain_code}
-use Rattle.run_forms.specs.Ends.{Ends, IsEndedBy, MeetsNoFault, from_in}
+use Rattle.run_forms.specs.Standing.{plain_code}
+use Rattle.run_forms.specs.Ends.{Ends, IsEndedBy, from_in}
 use Rattle.run_forms.proofs.Visible.{is_print, prints, step-inside, step-silent, step-visible}
 use Rattle.twin_forms.specs.Table.{Entry}
 use Rattle.convert_queue.specs.Queues.{Queues}
@@ -41,11 +43,15 @@ use Rattle.region_log.specs.declared.entry.Underway.TheVariants.{Nothing as Idle
 use Rattle.machine_ends.specs.Stores.{IsFreeOp}
 use Rattle.machine_forms.specs.Machines.{Opening, Machine, doing_of, known_in, layout_in, log_of, memory_of, roots_in, shown_in}
 use Rattle.machine_forms.specs.Keeping.{IsDoing, KeepsRun}
-use Rattle.machine_forms.specs.Events.{ActsBeside, DoesRequest, IsFree, IsListed, LeavesRegions, MakesListed, NotesStore, StoresBeside, act_in, left_by}
-use Rattle.machine_runs.specs.Frames.{IsReady, RunsAsPlain}
+use Rattle.machine_forms.specs.Events.{ActsBeside, DoesRequest, IsFree, IsListed, LeavesRegions, MakesListed, NotesStore}
+use Rattle.machine_forms.specs.Events.{StoresBeside, act_in, left_by}
+use Rattle.machine_laws.specs.Frames.{IsReady, RunsAsPlain}
 use Rattle.shared_heap.specs.Shared.{Shared}
 use Rattle.shared_heap.specs.Requests.{StepsTo}
 use Rattle.machine.specs.declared.events.Event.TheVariants.{Did, Micro, Over}
+use Rattle.machine.specs.declared.events.Halt.{Halt}
+use Rattle.machine.specs.declared.events.Halt.TheVariants.{Met, Stuck}
+use Rattle.machine.specs.Halts.{fault_of_halt}
 use Rattle.machine.specs.Ended.{IsOutside, event_of, nowhere}
 use Rattle.machine.specs.Events.{Comes, HasImageCause, HasSinkCause, IsOver, IsShare, TakesOutput}
 use Rattle.machine.specs.Laws.{Laws}
@@ -57,6 +63,7 @@ use Rattle.machine.proofs.Leaving.{asked, few, fits}
 use Rattle.machine.proofs.Memory.{stays}
 use Rattle.machine.proofs.Printing.{bytes-none, last-same, other-cause, over-cause, printed-not, printed-so, share-so}
 use Rattle.machine.proofs.Steps.{DoesFine, MayMake, broken-over, did-fine, may-make, stores-alone}
+use Rattle.machine_forms.specs.Happening as event
 
 -- ---- operations that store nothing
 
@@ -102,14 +109,14 @@ fine-listed set o m may operation fine = tt
 
 -- ---- faults
 
-abbrev IsNoImageFault : RunFault → Type 0
-IsNoImageFault fault.ImageFault = ⊥
-IsNoImageFault f = Unit {0}
+abbrev IsNoImageFault : Halt → Type 0
+IsNoImageFault (Met met.ImageFault) = ⊥
+IsNoImageFault halt = Unit {0}
 
-unfailed : (f : RunFault) (before after : ℕ) → IsNoImageFault f → before ≡ after
-    → HasImageCause (Over f) before after
-unfailed fault.ImageFault before after other same = absurd other
-unfailed f before after other same = omega (arith, same)
+unfailed : (halt : Halt) (before after : ℕ) → IsNoImageFault halt → before ≡ after
+    → HasImageCause (Over halt) before after
+unfailed (Met met.ImageFault) before after other same = absurd other
+unfailed halt before after other same = omega (arith, same)
 
 no-image : true ≡ false → ⊥
 no-image e = let no = e in cc
@@ -261,16 +268,6 @@ module _ (laws : Laws) (o : Opening) (first : ℕ) (set : SetFacts) (s : Shared)
         begun-none (op.Start n child) fine' = absurd fine'
         begun-none operation' fine' = refl
 
-        monitors-now : length (known_at o.launch (s.machine.acts ++ act ∷ [])).world.monitors
-            ≡ length new.machine.rest.monitors
-        monitors-now =
-            let kept = laws.keep.beside o s.machine es due.running.keeps new.machine 0 request operation r
-            acts-beside
-            in
-            ap (λ (acts : List Recorded). length (known_at o.launch acts).world.monitors) (sym machine-acts)
-            ∙ ap (λ (w : World). length w.monitors) kept.2.world.world
-            ∙ length-map new.machine.rest.monitors (plain_monitor (shown_in new.machine).number)
-
         alone-now : length new.machine.rest.threads ≡ 1
         alone-now =
             sym (length-map new.machine.rest.threads plain_thread)
@@ -286,11 +283,11 @@ module _ (laws : Laws) (o : Opening) (first : ℕ) (set : SetFacts) (s : Shared)
           left = left-same operation r (doing_of s.machine 0) none
               ∙ nothing (stepped.Did operation r) x none;
           begun = begun-none operation fine;
-          meets = λ lines. subst (MeetsNoFault o.launch lines s.machine.acts 0) (sym monitors-now)
-              (laws.ends.steps_meet o s.machine es (fs ∷ []) due.running.keeps due.running.plain lines 0 fs
+          meets = λ lines.
+              laws.ends.steps_meet o s.machine es (fs ∷ []) due.running.keeps due.running.plain lines 0 fs
               request
               operation r (shown_in new.machine) new.machine.rest ready due.asks is
-              (free-op o s.machine operation r none) (few laws o first set s es fs request due room));
+              (free-op o s.machine operation r none) (few laws o first set s es fs request due room);
           threads = alone-now;
           lines = x.lines;
           history = sym (ap (λ (m : Machine). m.acts) x.machine);
@@ -358,9 +355,10 @@ module _ (laws : Laws) (o : Opening) (first : ℕ) (set : SetFacts) (s : Shared)
               ≡ world_of roots (shown_in s.machine) s.machine.rest) spaces (world roots);
         }
 
-    module _ (result : Stepped) (x : StepsTo set 0 request result s new) (st : Stops result) (f : RunFault)
-        (ended : (lines : ℕ) → IsEndedBy o.launch lines s.machine.acts 0 f) (other : IsNoImageFault f) where
-      aside-keeps : IsOver o first f s new fs
+    module _ (result : Stepped) (x : StepsTo set 0 request result s new) (st : Stops result)
+        (halt : Halt) (ended : (lines : ℕ) → IsEndedBy o.launch lines s.machine.acts 0 (fault_of_halt halt))
+        (other : IsNoImageFault halt) where
+      aside-keeps : IsOver o first (fault_of_halt halt) s new fs
       aside-keeps = record {
         es = es;
         keeps = subst (λ (m : Machine). KeepsRun o m es) (sym st.machine)
@@ -371,17 +369,17 @@ module _ (laws : Laws) (o : Opening) (first : ℕ) (set : SetFacts) (s : Shared)
         history = st.history;
         acts = ap (λ (m : Machine). m.acts) st.machine;
         ends = subst (λ (xs : List Recorded). IsEndedBy o.launch ((memory_of new.machine).size - first) xs
-            0 f)
+            0 (fault_of_halt halt))
             (sym (ap (λ (m : Machine). m.acts) st.machine)) (ended _);
       }
 
-      stops-comes : Comes o first fs request (Over f) s new
+      stops-comes : Comes o first fs request (Over halt) s new
       stops-comes =
           let put = stays s.machine.spaces new.machine.spaces st.spaces in record {
             goes = aside-keeps;
             acts = ap (λ (y : History). y.acts) st.history;
             calls = inl put.image;
-            cause = unfailed f _ _ other (sym put.image.faults);
+            cause = unfailed halt _ _ other (sym put.image.faults);
             answers = tt;
             numbers = put.numbers;
             quiet = λ micro same. absurd (let no = micro in cc);
@@ -395,12 +393,12 @@ module _ (laws : Laws) (o : Opening) (first : ℕ) (set : SetFacts) (s : Shared)
     stepped-comes idle outside (stepped.Did operation r) x none = did-comes operation r x none idle outside
     stepped-comes idle outside (stepped.Waits on) x none =
         stops-comes (stepped.Waits on) x
-        (stops (stepped.Waits on) x none x.heap x.history (λ roots. (x.step.follows roots).1)) _
+        (stops (stepped.Waits on) x none x.heap x.history (λ roots. (x.step.follows roots).1)) (Stuck on)
         (λ lines. ends (stepped.Waits on) x none lines due.running.alone refl) tt
     stepped-comes idle outside stepped.Wrong x none =
         stops-comes stepped.Wrong x
-        (stops stepped.Wrong x none x.heap x.history (λ roots. (x.step.follows roots).1)) _
-        (λ lines. wrong lines (ends stepped.Wrong x none lines)) tt
+        (stops stepped.Wrong x none x.heap x.history (λ roots. (x.step.follows roots).1))
+        (Met (met.BadCode (unwrap_or (from_in request) nowhere))) (λ lines. wrong lines (ends stepped.Wrong x none lines)) tt
       where
         wrong : (lines : ℕ) → ((from : At) × (from_in request ≡ Some from)
             × IsEndedBy o.launch lines s.machine.acts 0 (fault.BadCode from))
@@ -410,16 +408,16 @@ module _ (laws : Laws) (o : Opening) (first : ℕ) (set : SetFacts) (s : Shared)
             (sym (ap (λ (a : Option At). unwrap_or a nowhere) is_from)) ended
     stepped-comes idle outside (stepped.Over f) x none =
         stops-comes (stepped.Over f) x
-        (stops (stepped.Over f) x none x.heap x.history (λ roots. (x.step.follows roots).1)) f
+        (stops (stepped.Over f) x none x.heap x.history (λ roots. (x.step.follows roots).1)) (Met f)
         (λ lines. ends (stepped.Over f) x none lines) (inside f x none)
       where
-        inside : (g : RunFault) → StepsTo set 0 request (stepped.Over g) s new → IsNoStore (stepped.Over g)
-            → IsNoImageFault g
-        inside fault.ImageFault y none2 = elim ((is-step (stepped.Over fault.ImageFault) y none2).follows
+        inside : (g : StepFault) → StepsTo set 0 request (stepped.Over g) s new → IsNoStore (stepped.Over g)
+            → IsNoImageFault (Met g)
+        inside met.ImageFault y none2 = elim ((is-step (stepped.Over met.ImageFault) y none2).follows
             []).0 [
               | inl limit ↦ limit
               | inr over ↦ no-image (step-inside o.launch.set
-                  (world_of [] (shown_in s.machine) s.machine.rest) 0 1 plain fault.ImageFault (asked laws o first set s es fs request due ready).fit (over 1))
+                  (world_of [] (shown_in s.machine) s.machine.rest) 0 1 plain met.ImageFault (asked laws o first set s es fs request due ready).fit (over 1))
             ]
         inside g y none2 = tt
 
@@ -472,7 +470,7 @@ module _ (laws : Laws) (o : Opening) (first : ℕ) (set : SetFacts) (s : Shared)
         over-cause o.launch.set 0 request (shown_in s.machine) s.machine.rest f (shown_in new.machine)
         new.machine.rest (is-step (stepped.Over f) x none)
         (λ sink. subst Prints (asked laws o first set s es fs request due ready).plain
-        (subst (λ (g : RunFault). Ends o.launch 0 s.machine.acts s.machine.rest 0 request (stepped.Over g))
+        (subst (λ (g : StepFault). Ends o.launch 0 s.machine.acts s.machine.rest 0 request (stepped.Over g))
         sink
         (ends (stepped.Over f) x none 0)).0)
         before after go

@@ -1,6 +1,8 @@
 -- What the steps of requests do that aren't stores, and neither begin nor end a region: they start no thread,
 -- and make objects of listed classes alone.
-use Rattle.std.proofs.Common.{◌≡◌, inl, inr, ℕ, ◌+◌, ◌-◌, ◌<◌, ℤ, pos, negsuc, ◌&&◌, ◌||◌, Bool, true, false, not, List, length, take, nat_eq, nat_lt, nat_le, Option, Some, None, refl, sym, ◌∙◌, ap, subst, if◌then◌else◌, arith, lit<}
+use Rattle.std.proofs.Common.{◌≡◌, inl, inr, ℕ, ◌+◌, ◌-◌, ◌<◌, ℤ, pos, negsuc, ◌&&◌, ◌||◌, Bool, true, false, not, List, length}
+use Rattle.std.proofs.Common.{take, nat_eq, nat_lt, nat_le, Option, Some, None, refl, sym, ◌∙◌, ap, subst, if◌then◌else◌, arith}
+use Rattle.std.proofs.Common.{lit<}
 use Rattle.std.specs.Prelude.{slice_get, slice_index_or, IsSome}
 use Rattle.std.proofs.lemmas.Bool.{cases_lt}
 use Rattle.ap_base.specs.declared.kind.Kind.{Kind}
@@ -9,8 +11,8 @@ use Rattle.ap_base.specs.declared.place.Place.TheVariants.{Slot}
 use Rattle.ap_base.specs.declared.reference.Ref.{Ref}
 use Rattle.ap_base.specs.declared.reference.Item.{Item}
 use Rattle.run_types.specs.declared.key.Key.TheVariants as key
-use Rattle.run_types.specs.declared.fault.RunFault.{RunFault}
-use Rattle.run_types.specs.declared.fault.RunFault.TheVariants as fault
+use Rattle.run_types.specs.declared.fault.StepFault.{StepFault}
+use Rattle.run_types.specs.declared.fault.StepFault.TheVariants as fault
 use Rattle.run_types.specs.declared.fault.Which.{Which}
 use Rattle.run_types.specs.declared.fault.Which.TheVariants as which
 use Rattle.run_types.specs.declared.fault.Full.{Full}
@@ -28,7 +30,10 @@ use Rattle.run_history.specs.declared.plain.Progress.{Progress}
 use Rattle.run_history.specs.declared.plain.Progress.TheVariants.{Untouched, BegunBy, Finished}
 use Rattle.run_history.specs.Worlds.{Thread, World, depth_of}
 use Rattle.plain_model.specs.declared.throws.Throws.{Throws}
-use Rattle.plain_model.specs.declared.throws.Throws.TheVariants.{NegativeArraySize, NullPointer, ArrayIndexOutOfBounds, StringIndexOutOfBounds, ArrayStore, ClassCast, IllegalMonitorState, IllegalThreadState, IllegalState, Arithmetic}
+use Rattle.plain_model.specs.declared.throws.Throws.TheVariants.{NegativeArraySize, NullPointer, ArrayIndexOutOfBounds}
+use Rattle.plain_model.specs.declared.throws.Throws.TheVariants.{StringIndexOutOfBounds, ArrayStore, ClassCast}
+use Rattle.plain_model.specs.declared.throws.Throws.TheVariants.{IllegalMonitorState, IllegalThreadState, IllegalState}
+use Rattle.plain_model.specs.declared.throws.Throws.TheVariants.{Arithmetic}
 use Rattle.plain_model.specs.BuiltIn.{built_in_classes, chars_array}
 use Rattle.plain_model.specs.Classes.{ClassFacts, is_made, no_class}
 use Rattle.plain_model.specs.Facts.{SetFacts, built_in_number, class_at, class_count, string_number, thrown_class}
@@ -266,7 +271,7 @@ no-full world left place value full which.VolatileWords is = no-some full.need i
 no-full world left place value full which.Monitors is = let no = is.takes.1 in cc
 no-full world left place value full w is = is
 
-no-limit : (world : World) (left : ℕ) (place : Place) (value : Value) (f : RunFault)
+no-limit : (world : World) (left : ℕ) (place : Place) (value : Value) (f : StepFault)
     → IsLimit world left (stored_as place value) f → ⊥
 no-limit world left place value (fault.Full full) is = no-full world left place value full full.which is
 no-limit world left place value f is = is

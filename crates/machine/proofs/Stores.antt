@@ -1,5 +1,6 @@
 -- Stores before which nothing is to be converted.
-use Rattle.std.proofs.Common.{◌≡◌, ◌⊎◌, inl, inr, ℕ, zero, suc, ◌-◌, ◌<◌, Bool, true, false, List, [], ◌∷◌, ◌++◌, length, Option, Some, None, refl, sym, ◌∙◌, ap, subst, arith, lit<}
+use Rattle.std.proofs.Common.{◌≡◌, ◌⊎◌, inl, inr, ℕ, zero, suc, ◌-◌, ◌<◌, Bool, true, false, List, [], ◌∷◌, ◌++◌, length}
+use Rattle.std.proofs.Common.{Option, Some, None, refl, sym, ◌∙◌, ap, subst, arith, lit<}
 use Rattle.std.specs.Prelude.{slice_index_or, slice_set}
 use Rattle.ap_base.specs.declared.place.Place.{Place}
 use Rattle.ap_base.specs.declared.place.Place.TheVariants as place
@@ -15,14 +16,15 @@ use Rattle.run_history.specs.Knowing.{durable_at}
 use Rattle.plain_model.specs.Facts.{SetFacts}
 use Rattle.run_forms.specs.Views.{ThreadFrames}
 use Rattle.run_forms.specs.Ends.{MeetsNoFault}
-use Rattle.stop_invariant.specs.Events.{line_at}
+use Rattle.stop_theorem.specs.InvariantEvents.{line_at}
 use Rattle.twin_forms.specs.Table.{Entry, line_of}
 use Rattle.two_spaces.specs.Whole.{Stands}
 use Rattle.machine_forms.specs.declared.doing.Doing.{Doing}
 use Rattle.machine_forms.specs.declared.doing.Doing.TheVariants.{Nothing, Writing}
 use Rattle.region_log.specs.Log.{Log}
 use Rattle.machine_forms.specs.Machines.{Opening, Machine, doing_of, empty_log, known_in, layout_in, log_of, memory_of}
-use Rattle.machine_forms.specs.Events.{ActsBeside, DoesRequest, RegionStep, StoresBeside, StoresDurably, StoresLogged, act_in, value_in}
+use Rattle.machine_forms.specs.Events.{ActsBeside, DoesRequest, RegionStep, StoresBeside, StoresDurably, StoresLogged, act_in}
+use Rattle.machine_forms.specs.Events.{value_in}
 use Rattle.machine_forms.specs.Events as region
 use Rattle.machine_ends.specs.Stores.{StoresFreely, beside, own}
 use Rattle.object_steps.specs.declared.storing.Store.{Store}
@@ -42,12 +44,13 @@ use Rattle.machine.proofs.Basics.{doing-set, no-some, not-longer, some-same}
 use Rattle.machine.proofs.Doing.{answers}
 use Rattle.machine.proofs.Faults.{none-more}
 use Rattle.machine.proofs.Freely.{freely-outside, true-or-false}
-use Rattle.machine.proofs.Leaving.{ends-idle, ends-same, few, goes-on, same-room}
+use Rattle.machine.proofs.Leaving.{ends-idle, ends-same, few, goes-on, same-room, happened}
 use Rattle.machine.proofs.Memory.{does-stay}
 use Rattle.machine.proofs.Names.{names-none, none-queued-now}
 use Rattle.machine.proofs.Planned.{asks-store, is-free, is-store, kept-durable}
 use Rattle.machine.proofs.Steps.{given-whole}
-use Rattle.machine_asks.proofs.Doing.{holds-nothing}
+use Rattle.machine_laws.proofs.Doing.{holds-nothing}
+use Rattle.machine_forms.specs.Happening as event
 
 module _ (laws : Laws) (o : Opening) (first : ℕ) (set : SetFacts) (s : Shared) (es : List Entry)
     (fs : ThreadFrames) (request : Request Ref Item) (store : Store)
@@ -100,10 +103,10 @@ module _ (laws : Laws) (o : Opening) (first : ℕ) (set : SetFacts) (s : Shared)
     acts = machine-acts;
   }
 
-  meets : (lines monitors : ℕ) → MeetsNoFault o.launch lines s.machine.acts 0 monitors
-  meets lines monitors = laws.ends.stores_meet o s.machine es (fs ∷ []) h.due.running.keeps
+  meets : (lines : ℕ) → MeetsNoFault o.launch lines s.machine.acts 0
+  meets lines = laws.ends.stores_meet o s.machine es (fs ∷ []) h.due.running.keeps
       h.due.running.plain
-      lines 0 monitors fs request goal store.kept h.ready h.due.asks
+      lines 0 fs request goal store.kept h.ready h.due.asks
       (is-store laws o first set s es fs request store h) free
       (few laws o first set s es fs request h.due room)
 
@@ -140,7 +143,7 @@ module _ (laws : Laws) (o : Opening) (first : ℕ) (set : SetFacts) (s : Shared)
           idle = h.idle;
           left = refl;
           begun = refl;
-          meets = λ lines. meets lines _;
+          meets = meets;
           threads = ap (λ (m : Machine). length m.rest.threads) x.machine ∙ h.due.running.alone;
           lines = x.lines;
           history = same-acts;
@@ -184,8 +187,7 @@ module _ (laws : Laws) (o : Opening) (first : ℕ) (set : SetFacts) (s : Shared)
 
     pub stored-durably : Comes o first fs request Micro s new
     stored-durably =
-        let kept = laws.keep.durable o s.machine es h.due.running.keeps new.machine 0 request goal store.kept
-        stores in
+        let now = happened laws o first set s es fs request h.due (event.stored new.machine request goal store.kept stores) [] h.due.asks tt in let kept = now.keeps in
         let stays = does-stay s.machine.spaces new.machine.spaces es operation reply.Done
         h.due.running.keeps.heap.whole does.heap in
         let idle : IsIdle (doing_of new.machine 0) = subst IsIdle (sym writing-now) tt in
@@ -194,14 +196,9 @@ module _ (laws : Laws) (o : Opening) (first : ℕ) (set : SetFacts) (s : Shared)
             es = es;
             running = goes-on o first s es fs h.due.running new es fs (record {
               keeps = kept;
-              plain = laws.frames.durable o s.machine es (fs ∷ []) h.due.running.keeps h.due.running.plain
-                  new.machine
-                  0 fs request goal store.kept h.due.asks stores;
-              taken = laws.lines.durable o s.machine es first h.due.running.keeps h.due.running.taken
-                  new.machine 0
-                  request goal store.kept stores;
-              unwritten = laws.unwritten.durable o s.machine es h.due.running.keeps h.due.running.unwritten
-                  new.machine 0 request goal store.kept stores;
+              plain = now.plain;
+              taken = now.taken;
+              unwritten = now.unwritten;
               names = names-none o s new operation es es h.due.running.keeps kept refl
                   (holds-nothing o s.machine new.machine es 0 request operation reply.Done
                   h.due.running.keeps does)
@@ -221,7 +218,7 @@ module _ (laws : Laws) (o : Opening) (first : ℕ) (set : SetFacts) (s : Shared)
                   (same-room o first s es fs h.due.running new.machine es kept does.free);
               numbers = stays.numbers;
               unfaulted = subst (HadNoFault o.launch) (sym machine-acts)
-                  (none-more o.launch s.machine.acts act h.due.running.unfaulted (λ lines. meets lines _));
+                  (none-more o.launch s.machine.acts act h.due.running.unfaulted meets);
             });
             threads = ap (λ (m : Machine). m.rest.threads) x.machine;
           };
@@ -255,8 +252,8 @@ module _ (laws : Laws) (o : Opening) (first : ℕ) (set : SetFacts) (s : Shared)
       doing = new-doing ∙ ap (λ (l : Option ℕ). slice_set s.machine.doing 0 (doing_stored l)) none;
     }
 
-    region-step : RegionStep o s.machine es new.machine
-    region-step = region.stored new.machine 0 request goal store.kept logs-store
+    abbrev region-step : RegionStep o 0 s.machine es new.machine
+    region-step = region.stored new.machine request goal store.kept logs-store
 
     nothing-now : doing_of new.machine 0 ≡ Nothing
     nothing-now = ap (λ (ds : List Doing). slice_index_or ds 0 Nothing) new-doing
@@ -265,7 +262,7 @@ module _ (laws : Laws) (o : Opening) (first : ℕ) (set : SetFacts) (s : Shared)
 
     pub stored-logged : Comes o first fs request (Did reply.Done) s new
     stored-logged =
-        let kept = laws.keep.regions o s.machine es h.due.running.keeps new.machine region-step in
+        let now = happened laws o first set s es fs request h.due (event.region new.machine region-step) [] h.due.asks tt in let kept = now.keeps in
         let stays = does-stay s.machine.spaces new.machine.spaces es operation reply.Done
         h.due.running.keeps.heap.whole does.heap in
         let idle : IsIdle (doing_of new.machine 0) = subst IsIdle (sym nothing-now) tt in
@@ -274,12 +271,9 @@ module _ (laws : Laws) (o : Opening) (first : ℕ) (set : SetFacts) (s : Shared)
             es = es;
             running = goes-on o first s es fs h.due.running new es _ (record {
               keeps = kept;
-              plain = laws.frames.regions.stored o s.machine es (fs ∷ []) h.due.running.keeps
-                  h.due.running.plain new.machine 0 fs request goal store.kept h.due.asks logs-store;
-              taken = laws.lines.regions o s.machine es first h.due.running.keeps h.due.running.taken
-                  new.machine region-step;
-              unwritten = laws.unwritten.regions o s.machine es h.due.running.keeps h.due.running.unwritten
-                  new.machine region-step;
+              plain = now.plain;
+              taken = now.taken;
+              unwritten = now.unwritten;
               names = names-none o s new operation es es h.due.running.keeps kept refl
                   (holds-nothing o s.machine new.machine es 0 request operation reply.Done
                   h.due.running.keeps does)
@@ -300,7 +294,7 @@ module _ (laws : Laws) (o : Opening) (first : ℕ) (set : SetFacts) (s : Shared)
                   (same-room o first s es fs h.due.running new.machine es kept does.free);
               numbers = stays.numbers;
               unfaulted = subst (HadNoFault o.launch) (sym machine-acts)
-                  (none-more o.launch s.machine.acts act h.due.running.unfaulted (λ lines. meets lines _));
+                  (none-more o.launch s.machine.acts act h.due.running.unfaulted meets);
             });
             idle = nothing-now;
           };

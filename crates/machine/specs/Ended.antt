@@ -1,8 +1,9 @@
 -- What the step of a request comes to as an event; and what an event is given further.
-use Rattle.std.specs.Prelude.{◌≡◌, ℕ, ◌<◌, List, [], ◌∷◌, ◌++◌, replicate, slice_set, unwrap_or, Option, Some, None, IsSome}
+use Rattle.std.specs.Prelude.{◌≡◌, ℕ, ◌<◌, List, [], ◌∷◌, ◌++◌, unwrap_or, Option, IsSome}
 use Rattle.ap_base.specs.declared.reference.Ref.{Ref}
 use Rattle.ap_base.specs.declared.reference.Item.{Item}
-use Rattle.run_types.specs.declared.fault.RunFault.TheVariants as fault
+use Rattle.run_types.specs.declared.fault.StepFault.TheVariants as met
+use Rattle.run_types.specs.declared.fault.Which.TheVariants as which
 use Rattle.run_types.specs.declared.resolved.At.{At}
 use Rattle.natives.specs.declared.requests.Request.{Request}
 use Rattle.natives.specs.declared.requests.Request.TheVariants as ask
@@ -16,15 +17,16 @@ use Rattle.run_forms.specs.Ends.{from_in}
 use Rattle.twin_forms.specs.Table.{Entry}
 use Rattle.region_log.specs.declared.entry.Underway.TheVariants.{Nothing as Idle}
 use Rattle.machine_forms.specs.Machines.{Opening, doing_of, log_of}
-use Rattle.machine_runs.specs.Frames.{IsReady}
+use Rattle.machine_laws.specs.Frames.{IsReady}
 use Rattle.object_steps.specs.declared.storing.Store.{Store}
-use Rattle.machine_lines.specs.Lines.{lines_fault}
 use Rattle.shared_heap.specs.declared.conversions.Conversion.{Conversion}
 use Rattle.shared_heap.specs.declared.conversions.Conversion.TheVariants as did
 use Rattle.shared_heap.specs.Shared.{Shared}
 use Rattle.shared_heap.specs.Requests.{IsPlannedFor}
 use Rattle.machine.specs.declared.events.Event.{Event}
 use Rattle.machine.specs.declared.events.Event.TheVariants.{Did, Micro, Over}
+use Rattle.machine.specs.declared.events.Halt.TheVariants.{Met, Stuck}
+use Rattle.machine.specs.Halts.{lacks}
 use Rattle.machine.specs.Events.{Comes, HasSinkCause, IsShare, SparesSink, TakesOutput}
 use Rattle.machine.specs.Running.{IsDue}
 
@@ -34,13 +36,13 @@ nowhere = record { class = 0; method = 0; pc = 0 }
 -- A reply answers; a wrong operand names the instruction that asks; a thread alone that waits is stuck.
 abbrev pub event_of : Request Ref Item → Stepped → Event
 event_of request (stepped.Did operation r) = Did r
-event_of request (stepped.Waits on) = Over (fault.Stuck (slice_set (replicate 64 None) 0 (Some on)))
-event_of request stepped.Wrong = Over (fault.BadCode (unwrap_or (from_in request) nowhere))
-event_of request (stepped.Over f) = Over f
+event_of request (stepped.Waits on) = Over (Stuck on)
+event_of request stepped.Wrong = Over (Met (met.BadCode (unwrap_or (from_in request) nowhere)))
+event_of request (stepped.Over f) = Over (Met f)
 
 -- A conversion that needs more lines than are left ends the run; any other event of it goes on.
 abbrev pub went_event : Conversion → Event
-went_event (did.Full need left) = Over (lines_fault need left)
+went_event (did.Full need left) = Over (Met (lacks which.ImageLines need left))
 went_event other = Micro
 
 -- the thread that is waited for is one of the 64

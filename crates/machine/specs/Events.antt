@@ -5,7 +5,7 @@ use Rattle.ap_base.specs.Sinks.{with_bytes}
 use Rattle.ap_base.specs.declared.reference.Ref.{Ref}
 use Rattle.ap_base.specs.declared.reference.Item.{Item}
 use Rattle.run_types.specs.declared.fault.RunFault.{RunFault}
-use Rattle.run_types.specs.declared.fault.RunFault.TheVariants as fault
+use Rattle.run_types.specs.declared.fault.StepFault.TheVariants as met
 use Rattle.natives.specs.declared.requests.Request.{Request}
 use Rattle.natives.specs.declared.requests.Request.TheVariants as ask
 use Rattle.natives.specs.declared.requests.Reply.{Reply}
@@ -22,11 +22,13 @@ use Rattle.twin_forms.specs.Table.{Entry}
 use Rattle.machine_forms.specs.declared.doing.Doing.TheVariants.{Nothing}
 use Rattle.machine_forms.specs.Machines.{Opening, doing_of, memory_of}
 use Rattle.machine_forms.specs.Keeping.{KeepsRun}
-use Rattle.machine_runs.specs.Frames.{RunsAsPlain}
-use Rattle.machine_lines.specs.Work.{measure}
+use Rattle.machine_laws.specs.Frames.{RunsAsPlain}
+use Rattle.machine_ends.specs.Work.{measure}
 use Rattle.shared_heap.specs.Shared.{Shared}
 use Rattle.machine.specs.declared.events.Event.{Event}
 use Rattle.machine.specs.declared.events.Event.TheVariants.{Did, Micro, Over}
+use Rattle.machine.specs.declared.events.Halt.TheVariants.{Met}
+use Rattle.machine.specs.Halts.{fault_of_halt}
 use Rattle.machine.specs.Running.{IsRunning}
 
 -- ---- what an event comes to
@@ -62,7 +64,7 @@ pub record IsOver (o : Opening) (first : ℕ) (f : RunFault) (old new : Shared) 
 abbrev pub GoesTo : Opening → ℕ → Event → Shared → Shared → ThreadFrames → Type 0
 GoesTo o first (Did r) old new fs = GoesOn o first r new fs
 GoesTo o first Micro old new fs = AsksOn o first old new fs
-GoesTo o first (Over f) old new fs = IsOver o first f old new fs
+GoesTo o first (Over halt) old new fs = IsOver o first (fault_of_halt halt) old new fs
 
 -- ---- acts
 
@@ -76,7 +78,7 @@ pub record AddsOne (old new : List Recorded) : Type 0 where
 abbrev pub AddsActs : Event → List Recorded → List Recorded → Type 0
 AddsActs (Did r) old new = AddsOne old new
 AddsActs Micro old new = (new ≡ old) ⊎ AddsOne old new
-AddsActs (Over f) old new = new ≡ old
+AddsActs (Over halt) old new = new ≡ old
 
 -- The sink took the output of the acts that were added, and nothing else.
 pub record TakesOutput (old new : List Recorded) (takes takes' : Option (List ℕ)) : Type 0 where
@@ -95,12 +97,12 @@ IsShare request takes operation = Unit {0}
 
 -- The sink's count of faults never falls, and where the run is over by the sink it rose.
 abbrev pub HasSinkCause : Event → ℕ → ℕ → Type 0
-HasSinkCause (Over fault.SinkFault) before now = Rose before now
+HasSinkCause (Over (Met met.SinkFault)) before now = Rose before now
 HasSinkCause result before now = before ≤ now
 
 -- the same of the image
 abbrev pub HasImageCause : Event → ℕ → ℕ → Type 0
-HasImageCause (Over fault.ImageFault) before now = Rose before now
+HasImageCause (Over (Met met.ImageFault)) before now = Rose before now
 HasImageCause result before now = before ≤ now
 
 -- a turn that broke
@@ -138,7 +140,7 @@ IsNoPrint (op.Print bytes) = ⊥
 IsNoPrint operation = Unit {0}
 
 abbrev pub IsNoSinkFault : Event → Type 0
-IsNoSinkFault (Over fault.SinkFault) = ⊥
+IsNoSinkFault (Over (Met met.SinkFault)) = ⊥
 IsNoSinkFault result = Unit {0}
 
 -- It has no part in the sink: it prints nothing, and isn't over by the sink.

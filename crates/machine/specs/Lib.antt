@@ -1,4 +1,6 @@
 pub mod Ended
 pub mod Events
+pub mod Halts
 pub mod Laws
 pub mod Running
+pub mod Passed

@@ -25,9 +25,9 @@ use Rattle.machine_forms.specs.declared.doing.Doing.TheVariants.{Nothing, Conver
 use Rattle.machine_forms.specs.Machines.{Opening, Machine, doing_of, log_of, memory_of}
 use Rattle.machine_forms.specs.Keeping.{KeepsRun}
 use Rattle.machine_forms.specs.Events.{IsListed}
-use Rattle.machine_runs.specs.Frames.{Asks, RunsAsPlain}
-use Rattle.machine_lines.specs.Lines.{TakesLines}
-use Rattle.machine_lines.specs.Unwritten.{HasUnwritten}
+use Rattle.machine_laws.specs.Frames.{Asks, RunsAsPlain}
+use Rattle.machine_ends.specs.Lines.{TakesLines}
+use Rattle.machine_ends.specs.Unwritten.{HasUnwritten}
 use Rattle.shared_heap.specs.Shared.{Shared}
 use Rattle.shared_heap.specs.Conversions.{NamesClaimed}
 
@@ -80,11 +80,11 @@ AsksItsEnd launch (Adding e stage) fs = Unit {0}
 AsksItsEnd launch (Ending stage) fs = (from : At) × ((turn (setting_of launch) fs).asks ≡ Some (ask.End from))
 
 -- Before each of these acts the history had room, and by what acts tell the event of its thread ended the run
--- by no fault, unless more monitors were held after it than may be; however many lines an image has for objects.
+-- by no fault, however many lines an image has for objects.
 abbrev pub HadNoFault : Launch → List Recorded → Type 0
 HadNoFault launch acts = (lines : ℕ) (front : List Recorded) (a : Recorded) (rest : List Recorded)
     → acts ≡ front ++ a ∷ rest
-    → MeetsNoFault launch lines front a.act.thread (length (known_at launch (front ++ a ∷ [])).world.monitors)
+    → MeetsNoFault launch lines front a.act.thread
 
 -- Between events: the machine keeps its run, and with these frames of its thread, its first and only one, it
 -- runs as the plain machine does. `first` is the first line that was free when the run began.

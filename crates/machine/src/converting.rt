@@ -10,13 +10,13 @@ ghost use Rattle.store_barrier.specs.Barriers.{ConvertsFirst};
 ghost use Rattle.store_barrier.specs.Regions.{IsApart};
 ghost use Rattle.machine.specs.Ended.{HasSomePlanned, IsThread, StoreComesTo, went_event};
 
-use crate::Event;
 use crate::laws::laws;
+use crate::{Event, Halt};
 use ap_base::{Ref, ThreadNo};
 use line_image::Image;
 use machine_forms::Doing;
 use object_steps::Store;
-use run_types::{Full, RunFault, Which};
+use run_types::{Full, StepFault, Which};
 use shared_heap::{Conversion, SharedHeap};
 
 /// The next event of the conversion of this object, which comes before the store: it is asked, or
@@ -48,11 +48,11 @@ fn went(did: Conversion) -> Event
     ensures thread { IsThread did }
 {
     match did {
-        Conversion::Full { need, left } => Event::Over(RunFault::Full(Full {
+        Conversion::Full { need, left } => Event::Over(Halt::Met(StepFault::Full(Full {
             which: Which::ImageLines,
             need: u64::from(need),
             left: u64::from(left),
-        })),
+        }))),
         Conversion::Waits(_) => Event::Micro,
         Conversion::Went | Conversion::Joined => Event::Micro,
     }
@@ -88,6 +88,6 @@ fn step<I: Image>(heap: &mut SharedHeap<I>, store: &Store) -> Event
     laws();
     match heap.convert(ThreadNo::main()) {
         Ok(did) => went(did),
-        Err(_) => Event::Over(RunFault::ImageFault),
+        Err(_) => Event::Over(Halt::Met(StepFault::ImageFault)),
     }
 }

@@ -8,17 +8,13 @@ pub(crate) fn laws()
     line_memory::every_line_is_resident();
     machine_ends::acts_meet_no_fault();
     machine_ends::machines_end_by_their_faults();
-    machine_lines::calls_of_regions_lower_the_measure();
-    machine_lines::events_keep_lines();
-    machine_lines::lines_stay_unwritten();
-    machine_lines::quiet_events_lower_the_measure();
-    machine_lines::refusals_fill_the_image();
-    machine_runs::events_keep_runs();
-    machine_runs::events_without_acts_leave_frames();
-    machine_runs::machines_ask_as_plain_runs();
-    machine_runs::persistence_leaves_frames();
-    machine_runs::regions_go_on_as_plain_runs();
-    machine_runs::regions_keep_runs();
-    machine_runs::requests_go_on_as_plain_runs();
+    machine_ends::calls_of_regions_lower_the_measure();
+    machine_ends::events_keep_lines();
+    machine_ends::lines_stay_unwritten();
+    machine_ends::quiet_events_lower_the_measure();
+    machine_ends::refusals_fill_the_image();
+    machine_laws::events_go_on_as_plain_runs();
+    machine_laws::events_keep_runs();
+    machine_laws::machines_ask_as_plain_runs();
     store_barrier::answers_serve_machines();
 }

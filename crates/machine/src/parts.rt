@@ -1,22 +1,12 @@
 // What the end of a step comes to.
-ghost use Rattle.std.specs.Prelude.{◌≡◌, Some, None, replicate, slice_set};
+ghost use Rattle.std.specs.Prelude.{◌≡◌};
 ghost use Rattle.run_forms.specs.Ends.{from_in};
 ghost use Rattle.machine.specs.Ended.{event_of};
 
-use crate::Event;
-use ap_base::ThreadNo;
+use crate::{Event, Halt};
 use natives::Request;
-use run_types::{At, On, RunFault, Waits};
+use run_types::{At, StepFault};
 use step_forms::Stepped;
-
-// Thread 0 alone waits, so that the run is stuck.
-fn stuck(on: On) -> RunFault
-    ensures { result ≡ RunFault.Stuck (slice_set (replicate 64 None) 0 (Some on)) }
-{
-    let mut waits = Waits::none();
-    waits.set(ThreadNo::main(), on);
-    RunFault::Stuck(waits)
-}
 
 // The instruction that asks; pauses, faults and leaves have none.
 fn from_in(request: &Request) -> Option<At>
@@ -51,13 +41,13 @@ fn from_in(request: &Request) -> Option<At>
     }
 }
 
-/// What the step of a request comes to: its reply, or the fault by which the run is over.
+/// What the step of a request comes to: its reply, or that by which the run is over.
 pub(crate) fn ended(request: &Request, step: Stepped) -> Event
     ensures { result ≡ event_of request.now step }
 {
     match step {
         Stepped::Did { reply, .. } => Event::Did(reply),
-        Stepped::Waits(on) => Event::Over(stuck(on)),
+        Stepped::Waits(on) => Event::Over(Halt::Stuck(on)),
         Stepped::Wrong => {
             // a request that finds a wrong operand is an instruction's
             let nowhere = At {
@@ -65,8 +55,9 @@ pub(crate) fn ended(request: &Request, step: Stepped) -> Event
                 method: 0,
                 pc: 0,
             };
-            Event::Over(RunFault::BadCode(from_in(request).unwrap_or(nowhere)))
+            let from = from_in(request).unwrap_or(nowhere);
+            Event::Over(Halt::Met(StepFault::BadCode(from)))
         }
-        Stepped::Over(fault) => Event::Over(fault),
+        Stepped::Over(fault) => Event::Over(Halt::Met(fault)),
     }
 }

@@ -8,18 +8,18 @@ ghost use Rattle.region_log.specs.Stages.{CanEnd};
 ghost use Rattle.run_forms.specs.Views.{ThreadFrames};
 ghost use Rattle.twin_forms.specs.Table.{Entry};
 ghost use Rattle.machine_forms.specs.Machines.{Opening, doing_of, log_of};
-ghost use Rattle.machine_runs.specs.Frames.{IsReady};
+ghost use Rattle.machine_laws.specs.Frames.{IsReady};
 ghost use Rattle.machine.specs.Ended.{ComesTo, IsSomeDue, Serves};
 ghost use Rattle.machine.specs.Running.{IsDue};
 
-use crate::Event;
 use crate::laws::laws;
 use crate::parts::ended;
+use crate::{Event, Halt};
 use ap_base::{Sink, ThreadNo};
 use line_image::Image;
 use natives::Request;
 use region_log::EndStep;
-use run_types::RunFault;
+use run_types::StepFault;
 use shared_heap::SharedHeap;
 use shared_objects::Types;
 
@@ -33,7 +33,7 @@ pub(crate) fn log<I: Image>(heap: &mut SharedHeap<I>) -> Event
     laws();
     match heap.log_next(ThreadNo::main()) {
         Ok(_) => Event::Micro,
-        Err(_) => Event::Over(RunFault::ImageFault),
+        Err(_) => Event::Over(Halt::Met(StepFault::ImageFault)),
     }
 }
 
@@ -91,6 +91,6 @@ pub(crate) fn end<C: Types, I: Image, S: Sink>(
         }
         Ok(EndStep::More) => Event::Micro,
         Ok(EndStep::AllFenced) => Event::Micro,
-        Err(_) => Event::Over(RunFault::ImageFault),
+        Err(_) => Event::Over(Halt::Met(StepFault::ImageFault)),
     }
 }

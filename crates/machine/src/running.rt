@@ -3,27 +3,29 @@ ghost use Rattle.std.specs.Prelude.{◌≡◌, ◌<◌, ◌≤◌, ◌^◌, ◌+
 ghost use Rattle.run_history.specs.Recorded.{Recorded};
 ghost use Rattle.run_forms.specs.Views.{ThreadFrames};
 ghost use Rattle.run_types.specs.declared.fault.Which.TheVariants as which;
-ghost use Rattle.plain_model.specs.Ends.{full};
 ghost use Rattle.twin_forms.specs.Table.{Entry};
 ghost use Rattle.machine_forms.specs.declared.doing.Doing.TheVariants.{Fencing, Writing};
 ghost use Rattle.region_log.specs.declared.entry.Underway.TheVariants as underway;
 ghost use Rattle.machine_forms.specs.Machines.{Opening, doing_of, log_of, memory_of};
-ghost use Rattle.machine_runs.specs.Frames.{IsReady};
-ghost use Rattle.machine_lines.specs.Work.{measure};
+ghost use Rattle.machine_laws.specs.Frames.{IsReady};
+ghost use Rattle.machine_ends.specs.Work.{measure};
+ghost use Rattle.machine.specs.declared.events.Halt.TheVariants.{Met};
+ghost use Rattle.machine.specs.Halts.{lacks};
 ghost use Rattle.machine.specs.Ended.{ComesTo, IsOutside, IsSomeDue, Serves};
-ghost use Rattle.machine.specs.Events.{AddsActs, CallsAtMostOnce, GoesTo, HasImageCause, HasSinkCause, IsAnswerTo, IsShare, TakesOutput};
+ghost use Rattle.machine.specs.Events.{AddsActs, CallsAtMostOnce, GoesTo, HasImageCause, HasSinkCause, IsAnswerTo, IsShare};
+ghost use Rattle.machine.specs.Events.{TakesOutput};
 ghost use Rattle.machine.specs.Running.{IsDue};
 
-use crate::Event;
 use crate::laws::laws;
 use crate::parts::ended;
 use crate::regions::{begin, end, log};
 use crate::storing::store;
+use crate::{Event, Halt};
 use ap_base::{Sink, ThreadNo};
 use line_image::Image;
 use machine_forms::Doing;
 use natives::{Reply, Request};
-use run_types::{Full, RunFault, Which};
+use run_types::{Full, StepFault, Which};
 use shared_heap::{Plan, SharedHeap};
 use shared_objects::Types;
 
@@ -56,7 +58,7 @@ pub fn event<C: Types, I: Image, S: Sink>(
     ensures calls { CallsAtMostOnce heap.old heap.new }
     // A history without room for an act ends the run before all else.
     ensures full { heap.old.history.limit ≤ length heap.old.history.acts
-        → result ≡ Event.Over (full which.Acts 1 0) }
+        → result ≡ Event.Over (Met (lacks which.Acts 1 0)) }
     ensures answers { IsAnswerTo result request.now }
     ensures numbers { heap.new.machine.spaces.numbers ≡ heap.old.machine.spaces.numbers }
     // So a loop over events of one request ends, within the acts that the history may have.
@@ -65,11 +67,11 @@ pub fn event<C: Types, I: Image, S: Sink>(
 {
     laws();
     if heap.is_full() {
-        return Event::Over(RunFault::Full(Full {
+        return Event::Over(Halt::Met(StepFault::Full(Full {
             which: Which::Acts,
             need: 1,
             left: 0,
-        }));
+        })));
     }
     match heap.doing(ThreadNo::main()) {
         Doing::Writing(line) => write_back(heap, line),
@@ -88,7 +90,7 @@ fn write_back<I: Image>(heap: &mut SharedHeap<I>, line: u32) -> Event
     laws();
     match heap.write_back(ThreadNo::main(), line) {
         Ok(()) => Event::Micro,
-        Err(_) => Event::Over(RunFault::ImageFault),
+        Err(_) => Event::Over(Halt::Met(StepFault::ImageFault)),
     }
 }
 
@@ -102,7 +104,7 @@ fn fence<I: Image>(heap: &mut SharedHeap<I>) -> Event
     laws();
     match heap.fence(ThreadNo::main()) {
         Ok(()) => Event::Did(Reply::Done),
-        Err(_) => Event::Over(RunFault::ImageFault),
+        Err(_) => Event::Over(Halt::Met(StepFault::ImageFault)),
     }
 }
 

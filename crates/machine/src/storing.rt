@@ -7,14 +7,14 @@ ghost use Rattle.store_barrier.specs.Barriers.{MayFollow};
 ghost use Rattle.store_barrier.specs.Regions.{HasLogged, IsApart, IsLineLeft, LogsFirst};
 ghost use Rattle.machine.specs.Ended.{HasSomePlanned, StoreComesTo};
 
-use crate::Event;
 use crate::converting::convert;
 use crate::laws::laws;
+use crate::{Event, Halt};
 use ap_base::{Spot, ThreadNo};
 use line_image::Image;
 use natives::Reply;
 use object_steps::Store;
-use run_types::{Full, RunFault, Which};
+use run_types::{Full, StepFault, Which};
 use shared_heap::{SharedHeap, place_of};
 use store_barrier::Barrier;
 
@@ -26,11 +26,11 @@ pub(crate) fn store<I: Image>(heap: &mut SharedHeap<I>, store: Store) -> Event
 {
     laws();
     match heap.barrier(ThreadNo::main(), &store) {
-        Barrier::Race(other) => Event::Over(RunFault::RegionRace {
+        Barrier::Race(other) => Event::Over(Halt::Met(StepFault::RegionRace {
             thread: ThreadNo::main(),
             other,
             place: place_of(store.target),
-        }),
+        })),
         Barrier::ConvertFirst(object) => convert(heap, &store, object),
         Barrier::LogFirst(spot) => guard(heap, &store, spot),
         Barrier::Store(line) => make(heap, store, line),
@@ -49,11 +49,11 @@ fn guard<I: Image>(heap: &mut SharedHeap<I>, store: &Store, spot: Spot) -> Event
 {
     laws();
     if heap.log_is_full(ThreadNo::main()) {
-        return Event::Over(RunFault::Full(Full {
+        return Event::Over(Halt::Met(StepFault::Full(Full {
             which: Which::LogEntries,
             need: 1,
             left: 0,
-        }));
+        })));
     }
     heap.guard(ThreadNo::main(), store, spot);
     Event::Micro

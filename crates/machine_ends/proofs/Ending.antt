@@ -15,7 +15,7 @@ use Rattle.run_history.specs.Worlds.{World}
 use Rattle.plain_model.specs.Limits.{words_left}
 use Rattle.plain_model.specs.Steps.{Does, step}
 use Rattle.plain_model.specs.Ends.{full, fault_of_store}
-use Rattle.stop_invariant.specs.Layouts.{Layout}
+use Rattle.stop_theorem.specs.Layouts.{Layout}
 use Rattle.shared_objects.specs.Plain.{plain_request}
 use Rattle.shared_objects.specs.Worlds.{world_of}
 use Rattle.run_forms.specs.Views.{ThreadFrames}
@@ -23,16 +23,18 @@ use Rattle.run_forms.specs.Standing.{IsAsked}
 use Rattle.run_forms.specs.Ends.{IsEndedBy, MeetsNoFault}
 use Rattle.run_forms.proofs.Visible.{is_outside}
 use Rattle.twin_forms.specs.Table.{Entry}
-use Rattle.machine_asks.proofs.Acts.{owes_some}
-use Rattle.machine_asks.proofs.Asking.{stores-anyhow}
+use Rattle.machine_laws.proofs.Acts.{owes_some}
+use Rattle.machine_laws.proofs.Asking.{stores-anyhow}
 use Rattle.machine_forms.specs.declared.doing.Doing.{Doing}
 use Rattle.machine_forms.specs.Machines.{Opening, Machine, known_in, roots_in, shown_in, doing_of, layout_in}
 use Rattle.machine_forms.specs.Keeping.{IsDoing, KeepsRun}
 use Rattle.machine_forms.specs.Events.{IsStoreOf, value_in}
-use Rattle.machine_runs.specs.Frames.{Asks, IsReady, ReadyThreadsAskAlike, RunsAsPlain}
-use Rattle.machine_ends.specs.Laws.{OwesFence, FullHistoriesEnd, StepsEnd, ImageFaultsEnd, FullLogsEnd, RacesEnd, StepsMeetNoFault, FencesMeetNoFault, StoresMeetNoFault, EndsMeetNoFault}
+use Rattle.machine_laws.specs.Frames.{Asks, IsReady, ReadyThreadsAskAlike, RunsAsPlain}
+use Rattle.machine_ends.specs.Laws.{OwesFence, FullHistoriesEnd, StepsEnd, ImageFaultsEnd, FullLogsEnd, RacesEnd}
+use Rattle.machine_ends.specs.Laws.{StepsMeetNoFault, FencesMeetNoFault, StoresMeetNoFault, EndsMeetNoFault}
 use Rattle.machine_ends.specs.Stores.{IsFreeOp}
-use Rattle.machine_ends.proofs.Faults.{MeetsNone, ShowsRun, step-ends, step-meets-none, store-ends, store-meets-none, end-meets-none}
+use Rattle.machine_ends.proofs.Faults.{MeetsNone, ShowsRun, step-ends, step-meets-none, store-ends, store-meets-none}
+use Rattle.machine_ends.proofs.Faults.{end-meets-none}
 use Rattle.machine_ends.proofs.Living.{asked_then, lives-asks}
 use Rattle.machine_ends.proofs.Regions.{free-met, full-log-met, race-met, end-does}
 use Rattle.machine_ends.proofs.Rooms.{full-history, image-fails, fence-meets-none}
@@ -105,11 +107,11 @@ module _ (law : ReadyThreadsAskAlike) (o : Opening) (m : Machine) (es : List Ent
       store-ends o.launch m.acts (shown_in m) m.rest lines t request asked here room place (value_in m item) f
       inside does met
 
-  meets-none : MeetsNone o.launch m.acts t (op.Stored place (value_in m item)) → (monitors : ℕ)
-      → MeetsNoFault o.launch lines m.acts t monitors
-  meets-none met monitors =
+  meets-none : MeetsNone o.launch m.acts t (op.Stored place (value_in m item))
+      → MeetsNoFault o.launch lines m.acts t
+  meets-none met =
       store-meets-none o.launch m.acts (shown_in m) m.rest lines t request asked here room place
-      (value_in m item) does met monitors
+      (value_in m item) does met
 
 pub full-logs-end : ReadyThreadsAskAlike → FullLogsEnd
 full-logs-end law o m es threads run plain lines t fs request place item ready asks store full_log room =
@@ -138,19 +140,19 @@ steps-meet-none law o m es threads run plain lines t fs request operation r now 
     rest_now steps (free-none o m es run t operation free)
 
 pub fences-meet-none : FencesMeetNoFault
-fences-meet-none o m es threads run plain lines t monitors owes room =
+fences-meet-none o m es threads run plain lines t owes room =
     fence-meets-none o.launch m.acts lines t room
-    (lagging-owes (known_in o m) (layout_in o es) t (doing_of m t) owes (run.asked.doing t)) monitors
+    (lagging-owes (known_in o m) (layout_in o es) t (doing_of m t) owes (run.asked.doing t))
 
 pub stores-meet-none : ReadyThreadsAskAlike → StoresMeetNoFault
-stores-meet-none law o m es threads run plain lines t monitors fs request place item ready asks store free
+stores-meet-none law o m es threads run plain lines t fs request place item ready asks store free
     room =
     meets-none law o m es threads run plain lines t fs request place item ready asks store room
-    (free-met o m es run t place (value_in m item) free) monitors
+    (free-met o m es run t place (value_in m item) free)
 
 pub ends-meet-none : ReadyThreadsAskAlike → EndsMeetNoFault
-ends-meet-none law o m es threads run plain lines t monitors fs request asks ends room =
+ends-meet-none law o m es threads run plain lines t fs request asks ends room =
     let here = shows o m es run t (inl ends.doing) in
     end-meets-none o.launch m.acts (shown_in m) m.rest lines t request
     (law o m es threads run plain t fs request (inl ends.doing) asks) here room
-    (end-does o m es run t request here.roots here.world ends) monitors
+    (end-does o m es run t request here.roots here.world ends)

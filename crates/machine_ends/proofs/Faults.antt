@@ -1,6 +1,7 @@
 -- The fault of a step is that by which the event ends the plain run, and a step that does an operation met
 -- none; of a thread that owes no fence.
-use Rattle.std.proofs.Common.{◌≡◌, ℕ, ◌<◌, ◌≤◌, ◌&&◌, ◌||◌, Bool, true, false, not, List, ◌∷◌, length, map, replicate, nat_le, is_some, Option, Some, None, inl, inr, refl, ap, sym, subst, ◌∙◌, arith, if◌then◌else◌}
+use Rattle.std.proofs.Common.{◌≡◌, ℕ, ◌<◌, ◌≤◌, ◌&&◌, ◌||◌, Bool, true, false, not, List, ◌∷◌, length, map, replicate, nat_le}
+use Rattle.std.proofs.Common.{is_some, Option, Some, None, inl, inr, refl, ap, sym, subst, ◌∙◌, arith, if◌then◌else◌}
 use Rattle.std.specs.Prelude.{slice_get, slice_set}
 use Rattle.std.proofs.lemmas.Bool.Decides.{nat_tests}
 use Rattle.std.proofs.lemmas.List.{length-map}
@@ -10,6 +11,9 @@ use Rattle.ap_base.specs.declared.reference.Ref.{Ref}
 use Rattle.ap_base.specs.declared.reference.Item.{Item}
 use Rattle.run_types.specs.declared.fault.RunFault.{RunFault}
 use Rattle.run_types.specs.declared.fault.RunFault.TheVariants as fault
+use Rattle.run_types.specs.declared.fault.StepFault.{StepFault}
+use Rattle.run_types.specs.declared.fault.StepFault.TheVariants as met
+use Rattle.run_types.specs.Faults.{run_fault}
 use Rattle.run_types.specs.declared.fault.Which.{Which}
 use Rattle.run_types.specs.declared.fault.Which.TheVariants as which
 use Rattle.run_types.specs.declared.wait.On.{On}
@@ -18,31 +22,31 @@ use Rattle.graph_model.specs.declared.types.Value.{Value}
 use Rattle.natives.specs.declared.requests.Request.{Request}
 use Rattle.natives.specs.declared.requests.Reply.{Reply}
 use Rattle.natives.specs.declared.requests.Reply.TheVariants as reply
-use Rattle.run_history.specs.declared.act.PlainKey.{PlainKey}
 use Rattle.run_history.specs.declared.act.Op.{Op}
 use Rattle.run_history.specs.declared.act.Op.TheVariants as op
 use Rattle.run_history.specs.declared.plain.Monitor.{Monitor}
 use Rattle.run_history.specs.Recorded.{Recorded}
-use Rattle.run_history.specs.Worlds.{World, entered, held, monitors_after_op}
+use Rattle.run_history.specs.Worlds.{World, held}
 use Rattle.run_history.specs.Knowing.{Knowledge, owes_fence}
 use Rattle.plain_model.specs.Requests.{PlainRequest}
 use Rattle.plain_model.specs.Limits.{words_made, words_left, monitors_left}
 use Rattle.plain_model.specs.Steps.{Step, Does, Waits, WrongOperand, IsOver, step}
 use Rattle.plain_model.specs.Codes.{asks_live, taken_by}
 use Rattle.plain_model.specs.Duties.{IsFit}
-use Rattle.plain_model.specs.Ends.{full, full_unless, bad_code, all_wait, waits_from, waits_of, wait_at, wait_of, fault_of_op, fault_of_words, fault_of_enter, fault_of_store, Prints}
+use Rattle.plain_model.specs.Ends.{full, full_unless, bad_code, all_wait, waits_from, waits_of, wait_at, wait_of, fault_of_op}
+use Rattle.plain_model.specs.Ends.{fault_of_words, fault_of_enter, fault_of_store, Prints}
 use Rattle.shared_objects.specs.declared.rest.Rest.{Rest}
 use Rattle.shared_objects.specs.Shown.{Shown}
 use Rattle.shared_objects.specs.Plain.{plain_request, plain_reply}
-use Rattle.shared_objects.specs.Worlds.{plain_monitor, plain_thread, world_of}
+use Rattle.shared_objects.specs.Worlds.{plain_thread, world_of}
 use Rattle.step_forms.specs.declared.stepped.Stepped.{Stepped}
 use Rattle.step_forms.specs.declared.stepped.Stepped.TheVariants as stepped
-use Rattle.step_forms.specs.Follows.{IsStep, IsFullOf, IsLimit, DoesPrint, TakesWords, words_of_step}
+use Rattle.step_forms.specs.Follows.{FindsMonitor, IsStep, IsFullOf, IsLimit, DoesPrint, TakesWords, words_of_step}
 use Rattle.run_forms.specs.Standing.{Launch, IsAsked, plain_code, known_at, frames_at}
-use Rattle.run_forms.specs.Ends.{IsEndedBy, IsNoFault, Ends, MeetsNoFault}
+use Rattle.run_forms.specs.Ends.{IsEndedBy, Ends, MeetsNoFault}
 use Rattle.run_forms.proofs.Visible.{is_outside, prints, step-silent, step-inside}
 use Rattle.machine_ends.proofs.Rooms.{requests as asked_after, fault_here, fault_so, has-room, paid-steps}
-use Rattle.machine_ends.proofs.Steps.{no-false, none-some, wrong-asks, printing, print-does, taken-one, none-from, none-left, entered-free}
+use Rattle.machine_ends.proofs.Steps.{no-false, none-some, wrong-asks, printing, print-does, taken-one, none-from}
 
 -- What the faults of thread t's steps depend on: the thread owes no fence, heap and rest show the plain run's
 -- world, and what is left of the words is what the limits leave.
@@ -182,19 +186,18 @@ module _ (launch : Launch) (acts : List Recorded) (shown : Shown) (rest : Rest) 
   print-faultless (IsOver f) h = absurd h
   print-faultless (Does o r) h = absurd h
 
-  limit-comes : (f : RunFault) → IsLimit world shown.left (step launch.set world t 1 pq) f
-      → IsEndedBy launch lines acts t f
-  limit-comes (fault.Full it) h = inl (full-of it.which it.need it.left h)
-  limit-comes fault.SinkFault h = (
+  limit-comes : (f : StepFault) → IsLimit world shown.left (step launch.set world t 1 pq) f
+      → IsEndedBy launch lines acts t (run_fault f)
+  limit-comes (met.Full it) h = inl (full-of it.which it.need it.left h)
+  limit-comes met.SinkFault h = (
     subst Prints (sym asked.plain) (printing pq (prints-it (step launch.set world t 1 pq) refl h)),
     tells-of (step launch.set world t 1 pq) refl ∙ print-faultless (step launch.set world t 1 pq) h,
     here.paid,
   )
-  limit-comes (fault.BadCode from) h = absurd h
-  limit-comes (fault.RegionRace u v place) h = absurd h
-  limit-comes fault.ImageFault h = absurd h
-  limit-comes (fault.Stuck waits) h = absurd h
-  limit-comes (fault.LinkFault kind class index) h = absurd h
+  limit-comes (met.BadCode from) h = absurd h
+  limit-comes (met.RegionRace u v place) h = absurd h
+  limit-comes met.ImageFault h = absurd h
+  limit-comes (met.LinkFault kind class index) h = absurd h
 
   -- ---- waiting
 
@@ -250,7 +253,7 @@ module _ (launch : Launch) (acts : List Recorded) (shown : Shown) (rest : Rest) 
       elim (steps.follows here.roots).0 [
         | inl limit ↦ limit-comes f limit
         | inr over ↦
-            comes f (step-inside launch.set world t 1 pq f fit-shown (over 1)) (tells-of (IsOver f) (over 1))
+            comes (run_fault f) (step-inside launch.set world t 1 pq f fit-shown (over 1)) (tells-of (IsOver f) (over 1))
       ]
   step-ends (stepped.Waits on) now rest_now steps = λ one first.
       inl (tells-of (Waits on) ((steps.follows here.roots).0 1)
@@ -266,20 +269,15 @@ module _ (launch : Launch) (acts : List Recorded) (shown : Shown) (rest : Rest) 
   store-ends place value f inside does met =
       comes f inside (tells-of (Does (op.Stored place value) reply.Done) does ∙ met)
 
-  -- however many monitors are held
   pub store-meets-none : (place : Place) (value : Value)
       → step launch.set world t 1 pq ≡ Does (op.Stored place value) reply.Done
-      → MeetsNone launch acts t (op.Stored place value) → (monitors : ℕ)
-      → MeetsNoFault launch lines acts t monitors
-  store-meets-none place value does met monitors = (
-    has-room launch acts lines t room,
-    inl (tells-of (Does (op.Stored place value) reply.Done) does ∙ met),
-  )
+      → MeetsNone launch acts t (op.Stored place value) → MeetsNoFault launch lines acts t
+  store-meets-none place value does met =
+      (has-room launch acts lines t room, tells-of (Does (op.Stored place value) reply.Done) does ∙ met)
 
-  pub end-meets-none : step launch.set world t 1 pq ≡ Does op.End reply.Done → (monitors : ℕ)
-      → MeetsNoFault launch lines acts t monitors
-  end-meets-none does monitors =
-      (has-room launch acts lines t room, inl (tells-of (Does op.End reply.Done) does))
+  pub end-meets-none : step launch.set world t 1 pq ≡ Does op.End reply.Done
+      → MeetsNoFault launch lines acts t
+  end-meets-none does = (has-room launch acts lines t room, tells-of (Does op.End reply.Done) does)
 
   enough : (w : Which) (need there : ℕ) → need ≤ there → full_unless w need there ≡ None
   enough w need there fit =
@@ -293,43 +291,25 @@ module _ (launch : Launch) (acts : List Recorded) (shown : Shown) (rest : Rest) 
       ap (full_unless which.VolatileWords need) here.words
       ∙ enough which.VolatileWords need shown.left takes.0
 
-  enter-free : (key : PlainKey) → held world.monitors key ≡ None → (b : Bool)
-      → nat_le 1 (monitors_left world.monitors) ≡ b
-      → IsNoFault (full_unless which.Monitors 1 (monitors_left world.monitors))
-      (length (entered world.monitors key t))
-  enter-free key e true is =
-      inl (ap (λ b. if b then None else Some (full which.Monitors 1 (monitors_left world.monitors))) is)
-  enter-free key e false is =
-      let none : monitors_left world.monitors ≡ 0 = none-left (monitors_left world.monitors) is in
-      inr (
-        ap (λ b. if b then None else Some (full which.Monitors 1 (monitors_left world.monitors))) is
-            ∙ ap (λ n. Some (full which.Monitors 1 n)) none,
-        omega (arith, none, entered-free world.monitors key t e),
-      )
+  enter-met : (m : Option Monitor) → (m ≡ None → 0 < monitors_left world.monitors)
+      → fault_of_enter launch.set launch.opening launch.limits known m ≡ None
+  enter-met (Some m) found = refl
+  enter-met None found =
+      ap (λ (w : World). full_unless which.Monitors 1 (monitors_left w.monitors)) here.world
+      ∙ enough which.Monitors 1 (monitors_left world.monitors) (found refl)
 
-  enter-met : (key : PlainKey) (m : Option Monitor) → held world.monitors key ≡ m
-      → IsNoFault (fault_of_enter launch.set launch.opening launch.limits known m)
-      (length (entered world.monitors key t))
-  enter-met key (Some m) e = inl refl
-  enter-met key None e =
-      subst (λ (w : World). IsNoFault (full_unless which.Monitors 1 (monitors_left w.monitors))
-      (length (entered world.monitors key t))) (sym here.world)
-      (enter-free key e (nat_le 1 (monitors_left world.monitors)) refl)
-
-  op-met : (o : Op) (left_now : ℕ) → MeetsNone launch acts t o
-      → TakesWords (words_made world.heap o) shown.left left_now
-      → IsNoFault (fault_of_op launch.set launch.opening launch.limits known t o)
-      (length (monitors_after_op world.monitors t o))
-  op-met (op.Stored place value) left_now met takes = inl met
-  op-met (op.Enter key) left_now met takes =
-      subst (λ (w : World). IsNoFault
-      (fault_of_enter launch.set launch.opening launch.limits known (held w.monitors key))
-      (length (entered world.monitors key t))) (sym here.world)
-      (enter-met key (held world.monitors key) refl)
-  op-met o left_now met takes =
-      inl (ap (λ (w : World). fault_of_words launch.set launch.opening launch.limits known
-      (words_made w.heap o)) here.world
-      ∙ words-none (words_made world.heap o) left_now takes)
+  op-met : (o : Op) (r : Reply Ref Item) (left_now : ℕ) → MeetsNone launch acts t o
+      → TakesWords (words_made world.heap o) shown.left left_now → FindsMonitor world (stepped.Did o r)
+      → fault_of_op launch.set launch.opening launch.limits known t o ≡ None
+  op-met (op.Stored place value) r left_now met takes found = met
+  op-met (op.Enter key) r left_now met takes found =
+      ap (λ (w : World). fault_of_enter launch.set launch.opening launch.limits known (held w.monitors key))
+      here.world
+      ∙ enter-met (held world.monitors key) found
+  op-met o r left_now met takes found =
+      ap (λ (w : World). fault_of_words launch.set launch.opening launch.limits known (words_made w.heap o))
+      here.world
+      ∙ words-none (words_made world.heap o) left_now takes
 
   module _ (o : Op) (r : Reply Ref Item) (now : Shown) (rest_now : Rest)
       (steps : IsStep launch.set t q shown rest (stepped.Did o r) now rest_now)
@@ -337,25 +317,17 @@ module _ (launch : Launch) (acts : List Recorded) (shown : Shown) (rest : Rest) 
     does : step launch.set world t (taken_by o) pq ≡ Does o (plain_reply now.number r)
     does = (steps.follows here.roots).0
 
-    count : length (monitors_after_op world.monitors t o) ≡ length rest_now.monitors
-    count =
-        let same = ap (λ (w : World). length w.monitors) (steps.follows here.roots).2 in
-        let own = length-map rest_now.monitors (plain_monitor now.number) in
-        omega (arith, same, own)
-
-    no-fault : (b : Bool) → prints pq ≡ b → IsNoFault fault_now (length rest_now.monitors)
+    no-fault : (b : Bool) → prints pq ≡ b → fault_now ≡ None
     no-fault true is =
-        inl (tells-of (step launch.set world t 1 pq) refl ∙ print-faultless (step launch.set world t 1 pq)
-        (print-does launch.set world t (taken_by o) pq o (plain_reply now.number r) is does))
+        tells-of (step launch.set world t 1 pq) refl ∙ print-faultless (step launch.set world t 1 pq)
+        (print-does launch.set world t (taken_by o) pq o (plain_reply now.number r) is does)
     no-fault false is =
         let one : taken_by o ≡ 1 = taken-one o (step-silent launch.set world t (taken_by o) pq o
         (plain_reply now.number r) fit-shown is does).1 in
         let so : fault_now ≡ fault_of_op launch.set launch.opening launch.limits known t o =
         tells-of (Does o (plain_reply now.number r)) (subst (λ n. step launch.set world t n pq
         ≡ Does o (plain_reply now.number r)) one does) in
-        subst (λ met. IsNoFault met (length rest_now.monitors)) (sym so)
-        (subst (IsNoFault (fault_of_op launch.set launch.opening launch.limits known t o)) count
-        (op-met o now.left met steps.words))
+        so ∙ op-met o r now.left met steps.words steps.monitor
 
-    pub step-meets-none : MeetsNoFault launch lines acts t (length rest_now.monitors)
+    pub step-meets-none : MeetsNoFault launch lines acts t
     step-meets-none = (has-room launch acts lines t room, no-fault (prints pq) refl)

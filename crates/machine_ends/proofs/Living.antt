@@ -13,8 +13,8 @@ use Rattle.shared_objects.specs.Worlds.{plain_thread}
 use Rattle.run_forms.specs.Views.{ThreadFrames, PlainFrames, plain_frames}
 use Rattle.run_forms.specs.Standing.{plain_code, known_at, frames_at}
 use Rattle.machine_forms.specs.Machines.{Opening, Machine, doing_of, shown_in}
-use Rattle.machine_runs.specs.Frames.{RunsAsPlain, Asks, acted_frames, all_acted}
-use Rattle.machine_runs.proofs.Lagging.{frames-at}
+use Rattle.machine_laws.specs.Frames.{RunsAsPlain, Asks, acted_frames, all_acted}
+use Rattle.machine_laws.proofs.Lagging.{frames-at}
 use Rattle.machine_ends.specs.Laws.{Lives}
 use Rattle.machine_ends.proofs.Rooms.{requests}
 

@@ -1,5 +1,6 @@
 -- Whether a history has room for an act, and what it comes to where it has none, or where a fence is owed.
-use Rattle.std.proofs.Common.{◌≡◌, ℕ, ◌<◌, ◌≤◌, true, false, List, length, nat_le, Option, Some, None, inl, refl, ap, sym, subst, ◌∙◌, arith, if◌then◌else◌}
+use Rattle.std.proofs.Common.{◌≡◌, ℕ, ◌<◌, ◌≤◌, true, false, List, length, nat_le, Option, Some, None, inl, refl, ap, sym}
+use Rattle.std.proofs.Common.{subst, ◌∙◌, arith, if◌then◌else◌}
 use Rattle.std.specs.Prelude.{IsSome}
 use Rattle.std.proofs.lemmas.Bool.Decides.{nat_tests}
 use Rattle.run_types.specs.declared.fault.RunFault.{RunFault}
@@ -80,6 +81,5 @@ module _ (launch : Launch) (acts : List Recorded) (lines t : ℕ) where
     owing-none owes (Some pq) =
         opens pq ∙ ap (λ b. if b then None else fault_so pq (step launch.set known.world t 1 pq)) owes
 
-    pub fence-meets-none : owes_fence known.unfenced t ≡ true → (monitors : ℕ)
-        → MeetsNoFault launch lines acts t monitors
-    fence-meets-none owes monitors = (has-room, inl (owing-none owes (requests t)))
+    pub fence-meets-none : owes_fence known.unfenced t ≡ true → MeetsNoFault launch lines acts t
+    fence-meets-none owes = (has-room, owing-none owes (requests t))

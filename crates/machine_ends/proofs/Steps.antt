@@ -1,5 +1,6 @@
 -- What plain steps of single requests come to.
-use Rattle.std.proofs.Common.{◌≡◌, ℕ, zero, suc, ◌≤◌, ◌&&◌, Bool, true, false, List, [], ◌∷◌, length, replicate, take, nat_le, nat_lt, is_some, Option, Some, None, refl, ap, sym, subst, ◌∙◌, arith, if◌then◌else◌}
+use Rattle.std.proofs.Common.{◌≡◌, ℕ, zero, suc, ◌≤◌, ◌&&◌, Bool, true, false, List, [], ◌∷◌, length, replicate, take, nat_le}
+use Rattle.std.proofs.Common.{nat_lt, is_some, Option, Some, None, refl, ap, sym, subst, ◌∙◌, arith, if◌then◌else◌}
 use Rattle.std.proofs.lemmas.Bool.Decides.{nat_tests}
 use Rattle.ap_base.specs.declared.reference.Ref.{Ref}
 use Rattle.ap_base.specs.declared.reference.Item.{Item}
@@ -9,11 +10,9 @@ use Rattle.graph_model.specs.declared.types.Value.{Value}
 use Rattle.natives.specs.declared.requests.Request.{Request}
 use Rattle.natives.specs.declared.requests.Request.TheVariants as ask
 use Rattle.natives.specs.declared.requests.Reply.TheVariants as reply
-use Rattle.run_history.specs.declared.act.PlainKey.{PlainKey}
 use Rattle.run_history.specs.declared.act.Op.{Op}
 use Rattle.run_history.specs.declared.act.Op.TheVariants as op
-use Rattle.run_history.specs.declared.plain.Monitor.{Monitor}
-use Rattle.run_history.specs.Worlds.{World, entered, held, key_is}
+use Rattle.run_history.specs.Worlds.{World}
 use Rattle.plain_model.specs.Facts.{SetFacts}
 use Rattle.plain_model.specs.Requests.{PlainReply, PlainRequest, from_of}
 use Rattle.plain_model.specs.Steps.{Does, WrongOperand, step}
@@ -94,24 +93,3 @@ none-from waits (suc n) t none =
     let first = none t (omega arith) in
     let others = none-from waits n (suc t) (λ u more. none u (omega (arith, more))) in
     λ i. first i ∷ others i
-
--- ---- monitors
-
-pub none-left : (n : ℕ) → nat_le 1 n ≡ false → n ≡ 0
-none-left zero e = refl
-none-left (suc n) e =
-    let some : nat_le 1 (suc n) ≡ true = grind (arith, nat_tests) in
-    no-false (sym some ∙ e)
-
--- a monitor that nobody held is one more
-pub entered-free : (ms : List Monitor) (key : PlainKey) (t : ℕ) → held ms key ≡ None
-    → length (entered ms key t) ≡ suc (length ms)
-entered-free [] key t e = refl
-entered-free (m ∷ ms) key t e = by-key (key_is m.key key) e (λ free. ap suc (entered-free ms key t free))
-  where
-    by-key : (b : Bool) → (if b then Some m else held ms key) ≡ None
-        → (held ms key ≡ None → suc (length (entered ms key t)) ≡ suc (suc (length ms)))
-        → length (if b then record m { count = suc m.count } ∷ ms else m ∷ entered ms key t)
-        ≡ suc (suc (length ms))
-    by-key true is others = none-some m (sym is)
-    by-key false is others = others is

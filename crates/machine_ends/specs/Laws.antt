@@ -25,7 +25,7 @@ use Rattle.machine_forms.specs.declared.doing.Doing.{Doing}
 use Rattle.machine_forms.specs.declared.doing.Doing.TheVariants.{Writing, Fencing}
 use Rattle.machine_forms.specs.Machines.{Machine, doing_of, known_in, shown_in}
 use Rattle.machine_forms.specs.Events.{IsStoreOf, AsksEnd, value_in}
-use Rattle.machine_runs.specs.Frames.{OfPlain, Asks, IsReady}
+use Rattle.machine_laws.specs.Frames.{OfPlain, Asks, IsReady}
 use Rattle.machine_ends.specs.Stores.{StoresFreely, IsFreeOp, FillsLogOf}
 
 -- ---- threads
@@ -87,27 +87,27 @@ StepsMeetNoFault = OfPlain (λ o m es threads. (lines t : ℕ) (fs : ThreadFrame
     → Asks o m threads t fs request
     → IsStep o.launch.set t request (shown_in m) m.rest (stepped.Did operation r) now rest_now
     → IsFreeOp o m t operation → length m.acts < o.launch.limits.acts
-    → MeetsNoFault o.launch lines m.acts t (length rest_now.monitors))
+    → MeetsNoFault o.launch lines m.acts t)
 
--- Nor does an event of a thread that owes a fence, however many monitors are held.
+-- Nor does an event of a thread that owes a fence.
 abbrev pub FencesMeetNoFault : Type 0
-FencesMeetNoFault = OfPlain (λ o m es threads. (lines t monitors : ℕ) → OwesFence (doing_of m t)
-    → length m.acts < o.launch.limits.acts → MeetsNoFault o.launch lines m.acts t monitors)
+FencesMeetNoFault = OfPlain (λ o m es threads. (lines t : ℕ) → OwesFence (doing_of m t)
+    → length m.acts < o.launch.limits.acts → MeetsNoFault o.launch lines m.acts t)
 
 -- Nor one of a thread whose request is such a store: what is asked for it, the seal of a group, the place that
 -- is guarded for it, or the store.
 abbrev pub StoresMeetNoFault : Type 0
-StoresMeetNoFault = OfPlain (λ o m es threads. (lines t monitors : ℕ) (fs : ThreadFrames)
+StoresMeetNoFault = OfPlain (λ o m es threads. (lines t : ℕ) (fs : ThreadFrames)
     (request : Request Ref Item) (place : Place) (item : Item) → IsReady (doing_of m t)
     → Asks o m threads t fs request → IsStoreOf o m t request place item
     → StoresFreely o m t place (value_in m item) → length m.acts < o.launch.limits.acts
-    → MeetsNoFault o.launch lines m.acts t monitors)
+    → MeetsNoFault o.launch lines m.acts t)
 
 -- Nor one of a thread that asks to end a region: its closing, or its end.
 abbrev pub EndsMeetNoFault : Type 0
-EndsMeetNoFault = OfPlain (λ o m es threads. (lines t monitors : ℕ) (fs : ThreadFrames)
+EndsMeetNoFault = OfPlain (λ o m es threads. (lines t : ℕ) (fs : ThreadFrames)
     (request : Request Ref Item) → Asks o m threads t fs request → AsksEnd o m t request
-    → length m.acts < o.launch.limits.acts → MeetsNoFault o.launch lines m.acts t monitors)
+    → length m.acts < o.launch.limits.acts → MeetsNoFault o.launch lines m.acts t)
 
 -- ---- the end of a run
 

@@ -2,7 +2,7 @@
 use Rattle.std.specs.Prelude.{◌≡◌, ℕ, ◌<◌, ◌≤◌, true, false, Some, None}
 use Rattle.ap_base.specs.declared.place.Place.{Place}
 use Rattle.graph_model.specs.declared.types.Value.{Value}
-use Rattle.image_layout.specs.Places.{log_entries}
+use Rattle.region_log.specs.Log.{most_entries}
 use Rattle.run_history.specs.declared.act.Op.{Op}
 use Rattle.run_history.specs.declared.act.Op.TheVariants as op
 use Rattle.run_history.specs.Knowing.{durable_at, guard_of}
@@ -19,7 +19,7 @@ pub data StoresFreely (o : Opening) (m : Machine) (t : ℕ) (place : Place) (val
       → StoresFreely o m t place value
   volatile : guard_of (known_in o m).guards place ≡ None
       → is_volatile (known_in o m).durable value ≡ true → StoresFreely o m t place value
-  room : guard_of (known_in o m).guards place ≡ None → named_count (log_of m t) < log_entries
+  room : guard_of (known_in o m).guards place ≡ None → named_count (log_of m t) < most_entries
       → StoresFreely o m t place value
 
 -- It is no store, or such a one.
@@ -31,7 +31,7 @@ IsFreeOp o m t operation = Unit {0}
 -- log is full.
 pub record FillsLogOf (o : Opening) (m : Machine) (t : ℕ) (place : Place) (value : Value) : Type 0 where
   pub is_open : 0 < (log_of m t).depth
-  pub full : log_entries ≤ named_count (log_of m t)
+  pub full : most_entries ≤ named_count (log_of m t)
   pub durable : durable_at (known_in o m) place ≡ true
   pub unguarded : guard_of (known_in o m).guards place ≡ None
   pub kept : is_volatile (known_in o m).durable value ≡ false

@@ -1,5 +1,7 @@
 // How events end a run, which acts met no fault, and how a run finishes.
-ghost use Rattle.machine_ends.specs.Laws.{EndsMeetNoFault, FencesMeetNoFault, FullHistoriesEnd, FullLogsEnd, ImageFaultsEnd, RacesEnd, RunsFinish, SingleThreadsFinish, StepsEnd, StepsMeetNoFault, StoresMeetNoFault};
+ghost use Rattle.machine_ends.specs.Laws.{EndsMeetNoFault, FencesMeetNoFault, FullHistoriesEnd, FullLogsEnd, ImageFaultsEnd};
+ghost use Rattle.machine_ends.specs.Laws.{RacesEnd, RunsFinish, SingleThreadsFinish, StepsEnd, StepsMeetNoFault};
+ghost use Rattle.machine_ends.specs.Laws.{StoresMeetNoFault};
 
 /// What a step finds wrong, lacks or waits for is the fault by which the event ends the plain run; a full
 /// history ends it before all else, and the image may fail while it isn't full. A full log ends it, and a
@@ -11,7 +13,7 @@ pub fn machines_end_by_their_faults()
     ensures logs { FullLogsEnd }
     ensures races { RacesEnd }
 {
-    machine_runs::machines_ask_as_plain_runs();
+    machine_laws::machines_ask_as_plain_runs();
 }
 
 /// While there is room for an act, an event meets no fault whose act is of a step, of a store, a fence
@@ -22,7 +24,7 @@ pub fn acts_meet_no_fault()
     ensures stores { StoresMeetNoFault }
     ensures ends { EndsMeetNoFault }
 {
-    machine_runs::machines_ask_as_plain_runs();
+    machine_laws::machines_ask_as_plain_runs();
 }
 
 /// Where all threads have ended, so has the run: by a throwable that ended one, or normally.

@@ -1,9 +1,10 @@
 -- The layout of a table depends on its durable objects alone.
-use Rattle.std.proofs.Common.{◌≡◌, inl, inr, ℕ, zero, suc, ◌<◌, ◌≤◌, ◌==◌, ltb, Bool, true, false, List, [], ◌∷◌, length, refl, ◌∙◌, ap, arith, if◌then◌else◌}
+use Rattle.std.proofs.Common.{◌≡◌, inl, inr, ℕ, zero, suc, ◌<◌, ◌≤◌, ◌==◌, ltb, Bool, true, false, List, [], ◌∷◌, length, refl}
+use Rattle.std.proofs.Common.{◌∙◌, ap, arith, if◌then◌else◌}
 use Rattle.std.proofs.lemmas.Bool.{and_parts, and_from, cases_order, ltb-true, lt-ltb, eqb-true, eq-eqb}
 use Rattle.std.proofs.Math.Path.{fun_ext}
 use Rattle.twin_forms.specs.Table.{Entry, entry, head_word, InP, no_entry}
-use Rattle.stop_invariant.specs.Layouts.{Layout}
+use Rattle.stop_theorem.specs.Layouts.{Layout}
 use Rattle.machine_forms.specs.Machines.{Opening, is_durable, layout_in, SameDurable, LayoutsFollowTables}
 
 -- behind the table's end there is no object

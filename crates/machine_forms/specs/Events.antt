@@ -1,5 +1,6 @@
 -- The events of a machine: what each does to its parts, as the layers below tell it.
-use Rattle.std.specs.Prelude.{◌≡◌, ◌≢◌, ◌⊎◌, ◌↔◌, ℕ, ◌+◌, ◌-◌, ◌<◌, ◌≤◌, true, false, List, [], ◌∷◌, ◌++◌, length, slice_index, slice_set, None, Some, AllPairs}
+use Rattle.std.specs.Prelude.{◌≡◌, ◌≢◌, ◌⊎◌, ◌↔◌, ℕ, ◌+◌, ◌-◌, ◌<◌, ◌≤◌, true, false, List, [], ◌∷◌, ◌++◌, length, slice_index}
+use Rattle.std.specs.Prelude.{slice_set, None, Some, AllPairs, if◌then◌else◌}
 use Rattle.ap_base.specs.declared.reference.Ref.{Ref}
 use Rattle.ap_base.specs.declared.reference.Item.{Item}
 use Rattle.ap_base.specs.declared.place.Place.{Place}
@@ -20,7 +21,7 @@ use Rattle.run_history.specs.Recorded.{Recorded}
 use Rattle.run_history.specs.Knowing.{Pending, pending_of, durable_at, guard_of}
 use Rattle.plain_model.specs.Duties.{IsFit}
 use Rattle.plain_model.specs.Runs.{is_volatile}
-use Rattle.stop_invariant.specs.Events.{line_at}
+use Rattle.stop_theorem.specs.InvariantEvents.{line_at}
 use Rattle.shared_objects.specs.Shown.{item_value}
 use Rattle.shared_objects.specs.Plain.{plain_request, KnowsRequest}
 use Rattle.shared_objects.specs.Worlds.{world_of}
@@ -33,6 +34,7 @@ use Rattle.twin_forms.specs.Sights.{Twin, AllKnown}
 use Rattle.two_spaces.specs.Seen.{shown_of}
 use Rattle.two_spaces.specs.Whole.{StoresIn, MakesIn}
 use Rattle.two_spaces.specs.Quiet.{IsImageCall}
+use Rattle.convert_queue.specs.Marks.{with_fence as marks_fenced}
 use Rattle.convert_queue.specs.Queues.{Queues, queue_of}
 use Rattle.convert_words.specs.declared.step.ConvertStep.{ConvertStep}
 use Rattle.convert_words.specs.declared.step.ConvertStep.TheVariants as step
@@ -45,6 +47,7 @@ use Rattle.machine_forms.specs.declared.doing.Doing.{Doing}
 use Rattle.machine_forms.specs.declared.doing.Doing.TheVariants.{Nothing, Converting, Writing, Fencing}
 use Rattle.region_log.specs.declared.entry.Entry.{Entry as LogEntry}
 use Rattle.region_log.specs.declared.entry.Underway.TheVariants.{Nothing as Idle}
+use Rattle.region_log.specs.Fencing.{makes_fence}
 use Rattle.region_log.specs.Log.{Log}
 use Rattle.region_log.specs.Stages.{EndsAtOnce}
 use Rattle.region_log.specs.Steps.{EndsLog, EndsOn, FailsToEnd, FencesRegion, TouchesToEnd}
@@ -341,8 +344,15 @@ pub record LogsWord (m : Machine) (twin : Twin) (t : ℕ) (log' : Log) : Type 0 
   pub only : OnlyImage m twin
   pub known : AllKnown twin.memory
 
+-- the queues behind a call that made one log of the other: told of its fence, where it made one
+abbrev pub told_of_log : Queues → Log → Log → Queues
+told_of_log q before after =
+    record q { marks = if makes_fence before after then marks_fenced q.marks else q.marks }
+
+-- Conversions are told of each fence that the log's call made, and of no other.
 abbrev pub with_logged : Machine → Twin → ℕ → Log → Machine
-with_logged m twin t log' = with_log (with_twin m twin) t log'
+with_logged m twin t log' =
+    with_log (record (with_twin m twin) { queue = told_of_log m.queue (log_of m t) log' }) t log'
 
 -- A durable store in the thread's region, whose log has the place's word.
 pub record StoresLogged (o : Opening) (m m' : Machine) (es : List Entry) (t : ℕ) (request : Request Ref Item)
@@ -412,22 +422,22 @@ pub record EndsByAct (o : Opening) (m m' : Machine) (es : List Entry) (t : ℕ) 
   pub leaves : LeavesLog o m twin t request log
   pub does : DoesRequest o (with_logged m twin t log) m' es t request op.End r
   pub logs : m'.logs ≡ (with_logged m twin t log).logs
-  pub queue : m'.queue ≡ m.queue
+  pub queue : m'.queue ≡ (with_logged m twin t log).queue
   pub doing : m'.doing ≡ m.doing
 
--- What an event of a region makes of a machine. Objects lie where they lay.
-pub data RegionStep (o : Opening) (m : Machine) (es : List Entry) : Machine → Type 0 where
-  begun : (m' : Machine) (t : ℕ) (request : Request Ref Item) (r : Reply Ref Item)
-      → BeginsRegion o m m' es t request r → RegionStep o m es m'
-  guarded : (t : ℕ) (request : Request Ref Item) (place : Place) (item : Item) (e : LogEntry)
-      → GuardsPlace o m es t request place item e → RegionStep o m es (with_guarded m t place e)
-  logged : (twin : Twin) (t : ℕ) (log' : Log) → LogsWord m twin t log'
-      → RegionStep o m es (with_logged m twin t log')
-  stored : (m' : Machine) (t : ℕ) (request : Request Ref Item) (place : Place) (item : Item)
-      → StoresLogged o m m' es t request place item → RegionStep o m es m'
-  ending : (twin : Twin) (t : ℕ) (request : Request Ref Item) (log' : Log)
-      → EndsPart o m twin t request log' → RegionStep o m es (with_logged m twin t log')
-  closing : (twin : Twin) (t : ℕ) (request : Request Ref Item) (log' : Log)
-      → ClosesRegion o m twin t request log' → RegionStep o m es (with_closing m twin t log')
-  ended : (m' : Machine) (t : ℕ) (request : Request Ref Item) (r : Reply Ref Item)
-      → EndsByAct o m m' es t request r → RegionStep o m es m'
+-- What an event of thread t's region makes of a machine. Objects lie where they lay.
+pub data RegionStep (o : Opening) (t : ℕ) (m : Machine) (es : List Entry) : Machine → Type 0 where
+  begun : (m' : Machine) (request : Request Ref Item) (r : Reply Ref Item)
+      → BeginsRegion o m m' es t request r → RegionStep o t m es m'
+  guarded : (request : Request Ref Item) (place : Place) (item : Item) (e : LogEntry)
+      → GuardsPlace o m es t request place item e → RegionStep o t m es (with_guarded m t place e)
+  logged : (twin : Twin) (log' : Log) → LogsWord m twin t log'
+      → RegionStep o t m es (with_logged m twin t log')
+  stored : (m' : Machine) (request : Request Ref Item) (place : Place) (item : Item)
+      → StoresLogged o m m' es t request place item → RegionStep o t m es m'
+  ending : (twin : Twin) (request : Request Ref Item) (log' : Log)
+      → EndsPart o m twin t request log' → RegionStep o t m es (with_logged m twin t log')
+  closing : (twin : Twin) (request : Request Ref Item) (log' : Log)
+      → ClosesRegion o m twin t request log' → RegionStep o t m es (with_closing m twin t log')
+  ended : (m' : Machine) (request : Request Ref Item) (r : Reply Ref Item)
+      → EndsByAct o m m' es t request r → RegionStep o t m es m'

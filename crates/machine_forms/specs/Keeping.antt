@@ -1,7 +1,8 @@
 -- What a machine keeps of its plain run and of each stop, at every point of its run.
 --
 -- A table says where the objects lie; whatever table it is, each event leads to one again.
-use Rattle.std.specs.Prelude.{◌≡◌, ◌↔◌, ℕ, ◌<◌, ◌≤◌, ◌^◌, Bool, true, false, ◌&&◌, ◌||◌, nat_eq, List, [], ◌∷◌, length, slice_index, slice_index_or, None, Some}
+use Rattle.std.specs.Prelude.{◌≡◌, ◌↔◌, ℕ, ◌<◌, ◌≤◌, ◌^◌, Bool, true, false, ◌&&◌, ◌||◌, nat_eq, List, [], ◌∷◌, length}
+use Rattle.std.specs.Prelude.{slice_index, slice_index_or, None, Some}
 use Rattle.ap_base.specs.declared.kind.Kind.{Kind}
 use Rattle.ap_base.specs.declared.place.Place.{Place}
 use Rattle.graph_model.specs.declared.types.Value.TheVariants.{Obj as Object}
@@ -17,8 +18,8 @@ use Rattle.run_history.specs.Wanted.{IsClosed}
 use Rattle.run_history.specs.Worlds.{depth_of}
 use Rattle.plain_model.specs.Facts.{classes_of}
 use Rattle.plain_model.specs.Limits.{words_left}
-use Rattle.stop_invariant.specs.Layouts.{Layout, HasRootSlots}
-use Rattle.stop_invariant.specs.Events.{line_at}
+use Rattle.stop_theorem.specs.Layouts.{Layout, HasRootSlots}
+use Rattle.stop_theorem.specs.InvariantEvents.{line_at}
 use Rattle.stop_theorem.specs.Running.{Runs}
 use Rattle.shared_objects.specs.Worlds.{world_of, heap_of, KnowsMonitors}
 use Rattle.shared_steps.specs.Lasting.{AtMost}
@@ -36,7 +37,8 @@ use Rattle.machine_forms.specs.declared.doing.Doing.{Doing}
 use Rattle.machine_forms.specs.declared.doing.Doing.TheVariants.{Nothing, Converting, Writing, Fencing}
 use Rattle.region_log.specs.Kept.{KeepsLog, KeepsRegion}
 use Rattle.region_events.specs.Guards.{HasOld, KeepsGuards}
-use Rattle.machine_forms.specs.Machines.{Opening, Machine, first_of, known_in, wants_in, roots_in, memory_of, shown_in, scene_of, doing_of, log_of, layout_in, state_in}
+use Rattle.machine_forms.specs.Machines.{Opening, Machine, first_of, known_in, wants_in, roots_in, memory_of, shown_in}
+use Rattle.machine_forms.specs.Machines.{scene_of, doing_of, log_of, layout_in, state_in}
 
 -- ---- the heap
 
@@ -162,7 +164,7 @@ pub record KeepsAsked (o : Opening) (m : Machine) (es : List Entry) : Type 0 whe
 -- Whatever a stop leaves, now or within each call so far, is allowed, where the image tells what is done to it.
 abbrev pub KeepsStops : Opening → Machine → List Entry → Type 0
 KeepsStops o m es = IsTelling o.start.image.trace
-    → Runs (first_of o) o.start.size o.begin o.start (state_in o m es)
+    → Runs (first_of o) o.start.size o.directory o.begin o.start (state_in o m es)
 
 -- ---- all of it
 

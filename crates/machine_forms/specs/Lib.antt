@@ -1,3 +1,4 @@
 pub mod Events
 pub mod Keeping
 pub mod Machines
+pub mod Happening

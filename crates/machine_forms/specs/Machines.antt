@@ -1,5 +1,6 @@
 -- What a machine of threads over a shared heap is made of, and what its run began with.
-use Rattle.std.specs.Prelude.{◌≡◌, ◌↔◌, ℕ, ◌==◌, ◌&&◌, ltb, Bool, true, false, List, [], slice_index_or, slice_set, if◌then◌else◌}
+use Rattle.std.specs.Prelude.{◌≡◌, ◌↔◌, ℕ, ◌==◌, ◌&&◌, ltb, Bool, true, false, List, [], slice_index_or, slice_set}
+use Rattle.std.specs.Prelude.{if◌then◌else◌}
 use Rattle.graph_model.specs.declared.types.Root.{Root}
 use Rattle.line_memory.specs.Memory.{Memory}
 use Rattle.image_meaning.specs.Directories.{Directory}
@@ -7,8 +8,8 @@ use Rattle.run_history.specs.Recorded.{Recorded}
 use Rattle.run_history.specs.Knowing.{Knowledge, known_after}
 use Rattle.run_history.specs.Wanted.{Wishes, NoWish, WantsAfter}
 use Rattle.plain_model.specs.First.{first_known}
-use Rattle.kept_places.specs.Choices.{Threads}
-use Rattle.stop_invariant.specs.Layouts.{Layout}
+use Rattle.stop_theorem.specs.Choices.{Threads}
+use Rattle.stop_theorem.specs.Layouts.{Layout}
 use Rattle.stop_theorem.specs.Running.{State}
 use Rattle.shared_objects.specs.declared.rest.Rest.{Rest}
 use Rattle.shared_objects.specs.Shown.{Shown}

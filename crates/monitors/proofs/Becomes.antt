@@ -1,7 +1,10 @@
 -- What an entry, an exit and another key leave.
-use Rattle.std.proofs.Common.{◌≡◌, ◌≢◌, ℕ, zero, suc, pred, ◌<◌, ◌≤◌, ◌+◌, ◌-◌, true, false, cond, nat_eq, List, [], ◌∷◌, ◌++◌, length, get_or, set, take, drop, Some, None, refl, ap, ◌∙◌, sym, arith, subst, sub-one, eq-eqb, inl, inr, ◌↔◌}
+use Rattle.std.proofs.Common.{◌≡◌, ◌≢◌, ℕ, zero, suc, pred, ◌<◌, ◌≤◌, ◌+◌, ◌-◌, true, false, cond, nat_eq, List, [], ◌∷◌, ◌++◌}
+use Rattle.std.proofs.Common.{length, get_or, set, take, drop, Some, None, refl, ap, ◌∙◌, sym, arith, subst, sub-one, eq-eqb}
+use Rattle.std.proofs.Common.{inl, inr, ◌↔◌}
 use Rattle.std.proofs.lemmas.Bool.{cases_eq, ne_eqb, false≢true}
-use Rattle.std.proofs.lemmas.List.{get_or_append_left, get_or-take, get_or-set_other, get_or-set_same, get_or_read, length-set, length-append, length-take, length-drop}
+use Rattle.std.proofs.lemmas.List.{get_or_append_left, get_or-take, get_or-set_other, get_or-set_same, get_or_read, length-set}
+use Rattle.std.proofs.lemmas.List.{length-append, length-take, length-drop}
 use Rattle.ap_base.specs.Causes.{next_count}
 use Rattle.monitors.specs.declared.monitor.Monitor.{Monitor}
 use Rattle.monitors.specs.declared.monitor.Enter.TheVariants.{Taken, Held}

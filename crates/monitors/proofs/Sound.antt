@@ -1,5 +1,6 @@
 -- Each key has one monitor, and what is done keeps that.
-use Rattle.std.proofs.Common.{◌≡◌, ℕ, zero, suc, pred, ◌<◌, Bool, true, false, cond, List, [], ◌∷◌, length, get_or, nat_eq, Option, Some, None, refl, ap, ◌∙◌, sym, arith, subst, inl, inr, rules}
+use Rattle.std.proofs.Common.{◌≡◌, ℕ, zero, suc, pred, ◌<◌, Bool, true, false, cond, List, [], ◌∷◌, length, get_or, nat_eq}
+use Rattle.std.proofs.Common.{Option, Some, None, refl, ap, ◌∙◌, sym, arith, subst, inl, inr, rules}
 use Rattle.std.proofs.lemmas.Bool.{cases_Bool, false≢true, false_from_ne_true}
 use Rattle.ap_base.specs.Causes.{next_count}
 use Rattle.monitors.specs.declared.monitor.Monitor.{Monitor}

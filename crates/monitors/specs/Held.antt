@@ -1,5 +1,6 @@
 -- Monitors that are held, in the order in which they were taken (JVMS 2.11.10).
-use Rattle.std.specs.Prelude.{◌≡◌, ◌<◌, ℕ, pred, true, false, ltb, nat_eq, List, [], ◌∷◌, length, get_or, Option, Some, None, if◌then◌else◌}
+use Rattle.std.specs.Prelude.{◌≡◌, ◌<◌, ℕ, pred, true, false, ltb, nat_eq, List, [], ◌∷◌, length, get_or, Option, Some, None}
+use Rattle.std.specs.Prelude.{if◌then◌else◌}
 use Rattle.ap_base.specs.Causes.{next_count}
 use Rattle.monitors.specs.declared.monitor.Monitor.{Monitor}
 use Rattle.monitors.specs.declared.monitor.Enter.{Enter}

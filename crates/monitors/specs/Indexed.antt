@@ -1,5 +1,6 @@
 -- The index of held monitors by the buckets of their keys.
-use Rattle.std.specs.Prelude.{◌≡◌, ◌<◌, ◌≤◌, ℕ, zero, suc, nat_eq, List, [], ◌∷◌, length, get_or, slice_index, None, if◌then◌else◌}
+use Rattle.std.specs.Prelude.{◌≡◌, ◌<◌, ◌≤◌, ℕ, zero, suc, nat_eq, List, [], ◌∷◌, length, get_or, slice_index, None}
+use Rattle.std.specs.Prelude.{if◌then◌else◌}
 use Rattle.run_types.specs.declared.key.Key.TheVariants.{Class}
 use Rattle.monitors.specs.declared.monitor.Monitor.{Monitor}
 use Rattle.monitors.specs.Held.{monitor_of}

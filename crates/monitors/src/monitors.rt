@@ -1,5 +1,5 @@
 // The monitors that threads hold.
-ghost use Rattle.std.specs.Prelude.{◌≡◌, ◌≢◌, ◌↔◌, [], IfOk, IsOk, IsErr, None};
+ghost use Rattle.std.specs.Prelude.{◌≡◌, ◌≢◌, ◌≤◌, ◌↔◌, [], length, IfOk, IsOk, IsErr, None};
 ghost use Rattle.monitors.specs.Held.{enter_answer, entered, exited, monitor_of, rekeyed, IsHeldBy};
 
 use crate::index::Index;
@@ -51,6 +51,7 @@ impl Monitors {
         ensures answer { result ≡ enter_answer t self.old key }
         ensures taken { result ≡ Enter.Taken → self.new ≡ entered self.old key t }
         ensures same { result ≢ Enter.Taken → self.new ≡ self.old }
+        ensures few { length self.new ≤ 4096 }
     {
         let Some(at) = self.index.find(&self.held, key) else {
             return self.take(t, key);
@@ -69,6 +70,7 @@ impl Monitors {
         ensures answer { result ≡ enter_answer owner self.old key }
         ensures taken { result ≡ Enter.Taken → self.new ≡ entered self.old key owner }
         ensures same { result ≢ Enter.Taken → self.new ≡ self.old }
+        ensures few { length self.new ≤ 4096 }
     {
         let n = self.held.len();
         if n >= MOST_MONITORS {

@@ -1,5 +1,6 @@
 -- Where nothing is left: no chars, no bytes of a piece, no full piece.
-use Rattle.std.proofs.Common.{◌≡◌, refl, ℕ, ◌+◌, ◌<◌, ◌≤◌, max, Bool, true, false, List, [], ◌∷◌, length, drop, ℤ, pos, ◌+ℤ◌, int_lt, Option, Some, None, if◌then◌else◌, ap, sym, ◌∙◌, arith}
+use Rattle.std.proofs.Common.{◌≡◌, refl, ℕ, ◌+◌, ◌<◌, ◌≤◌, max, Bool, true, false, List, [], ◌∷◌, length, drop, ℤ, pos, ◌+ℤ◌}
+use Rattle.std.proofs.Common.{int_lt, Option, Some, None, if◌then◌else◌, ap, sym, ◌∙◌, arith}
 use Rattle.std.proofs.lemmas.List.{drop_all}
 use Rattle.ap_base.specs.declared.reference.Ref.{Ref}
 use Rattle.natives.specs.declared.utf8.Poured.{Poured}

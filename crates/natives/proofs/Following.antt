@@ -1,5 +1,7 @@
 -- Each method makes its request list, position by position.
-use Rattle.std.proofs.Common.{◌≡◌, refl, ℕ, zero, suc, ◌+◌, ◌-◌, ◌<◌, ◌≤◌, max, Bool, true, false, List, [], ◌∷◌, ◌++◌, length, drop, ℤ, pos, negsuc, ◌+ℤ◌, int_lt, nat_lt, Option, Some, None, if◌then◌else◌, slice_index, get_or, ap, sym, ◌∙◌, arith, add-one, append_assoc, All, length-drop, drop-cons}
+use Rattle.std.proofs.Common.{◌≡◌, refl, ℕ, zero, suc, ◌+◌, ◌-◌, ◌<◌, ◌≤◌, max, Bool, true, false, List, [], ◌∷◌, ◌++◌, length}
+use Rattle.std.proofs.Common.{drop, ℤ, pos, negsuc, ◌+ℤ◌, int_lt, nat_lt, Option, Some, None, if◌then◌else◌, slice_index}
+use Rattle.std.proofs.Common.{get_or, ap, sym, ◌∙◌, arith, add-one, append_assoc, All, length-drop, drop-cons}
 use Rattle.std.specs.Ordering.{int_eq}
 use Rattle.ap_base.specs.declared.kind.Kind.TheVariants.{C}
 use Rattle.run_types.specs.declared.known.Known.{Known}
@@ -34,8 +36,11 @@ use Rattle.natives.specs.declared.positions.Moved.TheVariants.{Asks, Calls, Give
 use Rattle.natives.specs.Values.{Values, char_of, int_in, reference_in, is_yes, printed_in}
 use Rattle.std.specs.List.{concat}
 use Rattle.std.proofs.lemmas.List.{append-nil}
-use Rattle.natives.specs.Texts.{chars_of, number_text, boolean_text, char_text, null_text, line_feed, string_text, characters, held_after, last_characters, spelled_bytes, fits}
-use Rattle.natives.proofs.Wholes.{by_bool, IsWhole, IsWholeText, AreWhole, shorter, fits_so, together, apart, fewer, longer, longer_too, alone_fits, characters_whole, characters_few, last_whole, last_few, whole_text, number_piece, boolean_piece, char_piece, string_piece}
+use Rattle.natives.specs.Texts.{chars_of, number_text, boolean_text, char_text, null_text, line_feed, string_text, characters}
+use Rattle.natives.specs.Texts.{held_after, last_characters, spelled_bytes, fits}
+use Rattle.natives.proofs.Wholes.{by_bool, IsWhole, IsWholeText, AreWhole, shorter, fits_so, together, apart, fewer, longer}
+use Rattle.natives.proofs.Wholes.{longer_too, alone_fits, characters_whole, characters_few, last_whole, last_few, whole_text}
+use Rattle.natives.proofs.Wholes.{number_piece, boolean_piece, char_piece, string_piece}
 use Rattle.natives.specs.Scripts as script
 use Rattle.natives.specs.Scripts.{Script, sum, larger, count_of}
 use Rattle.natives.specs.Positions as move

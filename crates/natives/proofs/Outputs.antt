@@ -1,5 +1,7 @@
 -- What is printed of a String is its text in UTF-8.
-use Rattle.std.proofs.Common.{◌≡◌, refl, ℕ, zero, suc, ◌+◌, ◌-◌, ◌*◌, ◌%◌, ◌^◌, ◌<◌, ◌≤◌, max, ◌&&◌, Bool, true, false, List, [], ◌∷◌, ◌++◌, length, take, drop, map, nat_lt, nat_le, ℤ, pos, Option, Some, None, if◌then◌else◌, slice_index, get_or, ap, sym, ◌∙◌, subst, arith, add-one, append_assoc, length-drop, drop-cons}
+use Rattle.std.proofs.Common.{◌≡◌, refl, ℕ, zero, suc, ◌+◌, ◌-◌, ◌*◌, ◌%◌, ◌^◌, ◌<◌, ◌≤◌, max, ◌&&◌, Bool, true, false, List}
+use Rattle.std.proofs.Common.{[], ◌∷◌, ◌++◌, length, take, drop, map, nat_lt, nat_le, ℤ, pos, Option, Some, None, if◌then◌else◌}
+use Rattle.std.proofs.Common.{slice_index, get_or, ap, sym, ◌∙◌, subst, arith, add-one, append_assoc, length-drop, drop-cons}
 use Rattle.std.specs.Prelude.{All}
 use Rattle.std.specs.List.{concat}
 use Rattle.std.specs.Char.{encode_utf8}
@@ -10,7 +12,8 @@ use Rattle.run_types.specs.declared.known.Known.{Known}
 use Rattle.run_types.specs.declared.resolved.At.{At}
 use Rattle.natives.specs.declared.texts.Text.TheVariants.{String}
 use Rattle.natives.specs.Values.{Values, char_of, int_in}
-use Rattle.natives.specs.Texts.{question, lone_bytes, lone_characters, characters, held_after, held_character, line_end, last_characters, fits}
+use Rattle.natives.specs.Texts.{question, lone_bytes, lone_characters, characters, held_after, held_character, line_end}
+use Rattle.natives.specs.Texts.{last_characters, fits}
 use Rattle.natives.specs.Scripts.{Script, count_of, is_empty, prints, prints_all, gathers, leaves, ends, reads, prints_held}
 use Rattle.natives.specs.Printed.{Prints, text_bytes, TextsArePrinted}
 use Rattle.natives.proofs.Wholes.{by_bool}

@@ -1,5 +1,7 @@
 -- Texts, characters and pieces that have bytes, and not too many.
-use Rattle.std.proofs.Common.{◌≡◌, refl, ℕ, zero, suc, ◌+◌, ◌-◌, ◌^◌, ◌<◌, ◌≤◌, max, ◌&&◌, Bool, true, false, List, [], ◌∷◌, ◌++◌, length, drop, ℤ, pos, negsuc, Option, Some, None, if◌then◌else◌, ap, sym, ◌∙◌, subst, arith, length-append, length-drop}
+use Rattle.std.proofs.Common.{◌≡◌, refl, ℕ, zero, suc, ◌+◌, ◌-◌, ◌^◌, ◌<◌, ◌≤◌, max, ◌&&◌, Bool, true, false, List, [], ◌∷◌}
+use Rattle.std.proofs.Common.{◌++◌, length, drop, ℤ, pos, negsuc, Option, Some, None, if◌then◌else◌, ap, sym, ◌∙◌, subst, arith}
+use Rattle.std.proofs.Common.{length-append, length-drop}
 use Rattle.std.specs.List.{concat}
 use Rattle.std.specs.Ordering.{int_eq}
 use Rattle.std.specs.Int.{w64, int_wrap}
@@ -17,7 +19,9 @@ use Rattle.natives.specs.declared.texts.Spelling.TheVariants.{Ascii, Char}
 use Rattle.natives.specs.declared.texts.Text.{Text}
 use Rattle.natives.specs.declared.texts.Text.TheVariants.{Spelled, String}
 use Rattle.natives.specs.Values.{Values, char_of}
-use Rattle.natives.specs.Texts.{number_text, boolean_text, char_text, null_text, line_feed, string_text, question, lone_bytes, lone_characters, characters, held_after, held_character, line_end, last_characters, spelled_bytes, fits}
+use Rattle.natives.specs.Texts.{number_text, boolean_text, char_text, null_text, line_feed, string_text, question, lone_bytes}
+use Rattle.natives.specs.Texts.{lone_characters, characters, held_after, held_character, line_end, last_characters}
+use Rattle.natives.specs.Texts.{spelled_bytes, fits}
 
 -- a piece that is gathered has bytes, if there is one
 abbrev pub IsWhole : Option (List ℕ) → Type 0

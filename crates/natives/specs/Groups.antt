@@ -1,6 +1,8 @@
 -- The built-in classes by the methods that they declare.
 use Rattle.std.specs.Prelude.{[], ◌∷◌, Some, None}
-use Rattle.natives.specs.declared.methods.Native.TheVariants.{ObjectEquals, StringLength, StringCharAt, StringEquals, ThreadInit, ThreadStart, ThreadRun, ThreadJoin, ThrowableInit, ThrowableGetMessage, RegionBegin, RegionEnd}
+use Rattle.natives.specs.declared.methods.Native.TheVariants.{ObjectEquals, StringLength, StringCharAt, StringEquals}
+use Rattle.natives.specs.declared.methods.Native.TheVariants.{ThreadInit, ThreadStart, ThreadRun, ThreadJoin, ThrowableInit}
+use Rattle.natives.specs.declared.methods.Native.TheVariants.{ThrowableGetMessage, RegionBegin, RegionEnd}
 use Rattle.natives.specs.declared.methods.Group.{Group}
 use Rattle.natives.specs.declared.methods.Group.TheVariants as group
 use Rattle.natives.specs.Methods.{Natives, throwable, prints, builds}

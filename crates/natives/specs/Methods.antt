@@ -1,7 +1,14 @@
 -- Which methods of the built-in classes ask something of the heap (docs/MODEL.md, "Built-in methods").
 use Rattle.std.specs.Prelude.{ℕ, List, [], ◌∷◌, slice_index_or, Option, Some, None}
 use Rattle.natives.specs.declared.methods.Native.{Native}
-use Rattle.natives.specs.declared.methods.Native.TheVariants.{ObjectEquals, StringLength, StringCharAt, StringEquals, BuilderInit, BuilderInitString, AppendInt, AppendLong, AppendChar, AppendBoolean, AppendString, AppendObject, BuilderToString, PrintInt, PrintLong, PrintChar, PrintBoolean, PrintString, PrintObject, PrintLineInt, PrintLineLong, PrintLineChar, PrintLineBoolean, PrintLineString, PrintLineObject, PrintLine, ThreadInit, ThreadStart, ThreadRun, ThreadJoin, ThrowableInit, ThrowableGetMessage, RegionBegin, RegionEnd}
+use Rattle.natives.specs.declared.methods.Native.TheVariants.{ObjectEquals, StringLength, StringCharAt, StringEquals}
+use Rattle.natives.specs.declared.methods.Native.TheVariants.{BuilderInit, BuilderInitString, AppendInt, AppendLong, AppendChar}
+use Rattle.natives.specs.declared.methods.Native.TheVariants.{AppendBoolean, AppendString, AppendObject, BuilderToString}
+use Rattle.natives.specs.declared.methods.Native.TheVariants.{PrintInt, PrintLong, PrintChar, PrintBoolean, PrintString}
+use Rattle.natives.specs.declared.methods.Native.TheVariants.{PrintObject, PrintLineInt, PrintLineLong, PrintLineChar}
+use Rattle.natives.specs.declared.methods.Native.TheVariants.{PrintLineBoolean, PrintLineString, PrintLineObject, PrintLine}
+use Rattle.natives.specs.declared.methods.Native.TheVariants.{ThreadInit, ThreadStart, ThreadRun, ThreadJoin, ThrowableInit}
+use Rattle.natives.specs.declared.methods.Native.TheVariants.{ThrowableGetMessage, RegionBegin, RegionEnd}
 
 -- the methods of a class, by their numbers
 abbrev pub Natives : Type 0

@@ -1,6 +1,7 @@
 -- The positions of built-in methods: the request for whose reply each waits, and what comes of a reply. That
 -- they make the request lists of `Scripts` is a law.
-use Rattle.std.specs.Prelude.{ℕ, ◌+◌, max, nat_lt, Bool, true, false, List, [], ◌∷◌, ◌++◌, length, drop, slice_index, ℤ, pos, ◌+ℤ◌, int_lt, Option, Some, None, if◌then◌else◌}
+use Rattle.std.specs.Prelude.{ℕ, ◌+◌, max, nat_lt, Bool, true, false, List, [], ◌∷◌, ◌++◌, length, drop, slice_index, ℤ, pos}
+use Rattle.std.specs.Prelude.{◌+ℤ◌, int_lt, Option, Some, None, if◌then◌else◌}
 use Rattle.std.specs.List.{concat}
 use Rattle.std.specs.Ordering.{int_eq}
 use Rattle.ap_base.specs.declared.kind.Kind.{Kind}
@@ -50,8 +51,10 @@ use Rattle.natives.specs.declared.positions.Position.{Position}
 use Rattle.natives.specs.declared.positions.Position.TheVariants as position
 use Rattle.natives.specs.declared.positions.Moved.{Moved}
 use Rattle.natives.specs.declared.positions.Moved.TheVariants.{Asks, Calls, Gives}
-use Rattle.natives.specs.Values.{Values, char_of, int_in, reference_in, is_yes, int_at, long_at, reference_at, item_in, class_in, printed_in}
-use Rattle.natives.specs.Texts.{chars_of, number_text, boolean_text, char_text, null_text, line_feed, string_text, characters, held_after, last_characters, spelled_bytes, fits}
+use Rattle.natives.specs.Values.{Values, char_of, int_in, reference_in, is_yes, int_at, long_at, reference_at, item_in}
+use Rattle.natives.specs.Values.{class_in, printed_in}
+use Rattle.natives.specs.Texts.{chars_of, number_text, boolean_text, char_text, null_text, line_feed, string_text, characters}
+use Rattle.natives.specs.Texts.{held_after, last_characters, spelled_bytes, fits}
 use Rattle.natives.specs.Scripts.{sum, larger, is_empty, value_field, count_field, target_field, message_field}
 
 -- which chars are copied, and from where on they are put

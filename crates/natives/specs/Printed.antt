@@ -1,5 +1,6 @@
 -- What a request list prints of a String, whatever part of a piece each print takes.
-use Rattle.std.specs.Prelude.{◌≡◌, ℕ, ◌<◌, ◌≤◌, ◌^◌, Bool, List, [], ◌∷◌, ◌++◌, length, take, map, slice_index, ℤ, pos, negsuc, Option, All}
+use Rattle.std.specs.Prelude.{◌≡◌, ℕ, ◌<◌, ◌≤◌, ◌^◌, Bool, List, [], ◌∷◌, ◌++◌, length, take, map, slice_index, ℤ, pos, negsuc}
+use Rattle.std.specs.Prelude.{Option, All}
 use Rattle.std.specs.List.{concat}
 use Rattle.std.specs.Char.Utf16.{utf16_chars}
 use Rattle.run_types.specs.declared.known.Known.{Known}

@@ -1,7 +1,8 @@
 -- What each built-in method that asks something asks, one request after the other, and what it gives back:
 -- its request list (docs/MODEL.md, "Built-in methods"). The methods do what those of their names do in Java
 -- SE 8, but that a StringBuilder is made of a null String as of the text `null`, as `append` takes it.
-use Rattle.std.specs.Prelude.{ℕ, zero, suc, ◌+◌, max, Bool, true, false, List, [], ◌∷◌, ◌++◌, length, drop, ℤ, pos, negsuc, int_lt, Option, Some, None, if◌then◌else◌}
+use Rattle.std.specs.Prelude.{ℕ, zero, suc, ◌+◌, max, Bool, true, false, List, [], ◌∷◌, ◌++◌, length, drop, ℤ, pos, negsuc}
+use Rattle.std.specs.Prelude.{int_lt, Option, Some, None, if◌then◌else◌}
 use Rattle.std.specs.Int.{w32, int_wrapping_add}
 use Rattle.std.specs.Ordering.{int_eq}
 use Rattle.ap_base.specs.declared.kind.Kind.{Kind}
@@ -20,8 +21,10 @@ use Rattle.natives.specs.declared.positions.Called.TheVariants.{Run, ToString}
 use Rattle.natives.specs.declared.texts.Spelling.{Spelling}
 use Rattle.natives.specs.declared.texts.Text.{Text}
 use Rattle.natives.specs.declared.texts.Text.TheVariants.{Spelled, String}
-use Rattle.natives.specs.Values.{Values, char_of, int_in, reference_in, is_yes, int_at, long_at, reference_at, item_in, class_in, printed_in}
-use Rattle.natives.specs.Texts.{chars_of, number_text, boolean_text, char_text, null_text, string_text, characters, held_after, last_characters, line_feed, spelled_bytes, fits}
+use Rattle.natives.specs.Values.{Values, char_of, int_in, reference_in, is_yes, int_at, long_at, reference_at, item_in}
+use Rattle.natives.specs.Values.{class_in, printed_in}
+use Rattle.natives.specs.Texts.{chars_of, number_text, boolean_text, char_text, null_text, string_text, characters, held_after}
+use Rattle.natives.specs.Texts.{last_characters, line_feed, spelled_bytes, fits}
 
 -- A method asks, and goes on by the reply; calls a method of a class for a receiver, and goes on by what
 -- that gives, as if it were a reply; or gives a value back, if it gives one.

@@ -2,7 +2,8 @@
 ghost use Rattle.std.specs.Prelude.{◌≡◌, ◌+◌, pos, slice_index};
 ghost use Rattle.natives.specs.Scripts.{larger, sum};
 ghost use Rattle.natives.specs.Texts.{chars_of};
-ghost use Rattle.natives.specs.Positions.{copies_from, new_asks, new_next, appends_if, append_asks, append_next, puts_from, writes, makes_room, measures, given_back, built_asks, built_next};
+ghost use Rattle.natives.specs.Positions.{copies_from, new_asks, new_next, appends_if, append_asks, append_next, puts_from};
+ghost use Rattle.natives.specs.Positions.{writes, makes_room, measures, given_back, built_asks, built_next};
 ghost use Rattle.natives.specs.Coded.{items};
 
 use crate::chars_copy::copies_from;

@@ -3,7 +3,8 @@
 ghost use Rattle.natives.specs.Values.{Values};
 ghost use Rattle.natives.specs.Follows.{MakeTheirRequestLists};
 ghost use Rattle.natives.specs.Printed.{TextsArePrinted};
-ghost use Rattle.natives.specs.Rows.{AreSteps, singles, equal_texts, built, printed_numbers, printed_texts, long_texts, threads};
+ghost use Rattle.natives.specs.Rows.{AreSteps, singles, equal_texts, built, printed_numbers, printed_texts, long_texts};
+ghost use Rattle.natives.specs.Rows.{threads};
 
 /// Each built-in method asks, calls and gives back what its request list says, whatever the
 /// replies are.

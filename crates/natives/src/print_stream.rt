@@ -1,7 +1,8 @@
 // `PrintStream.print` and `println`.
 ghost use Rattle.std.specs.Prelude.{◌≡◌, max, drop};
 ghost use Rattle.natives.specs.Texts.{characters};
-ghost use Rattle.natives.specs.Positions.{printing_asks, printing_next, entered, finishes, ends, reads, reads_on, with_held, resumes, gathers, prints};
+ghost use Rattle.natives.specs.Positions.{printing_asks, printing_next, entered, finishes, ends, reads, reads_on, with_held};
+ghost use Rattle.natives.specs.Positions.{resumes, gathers, prints};
 ghost use Rattle.natives.specs.Coded.{items};
 
 use crate::positions::{Moved, Position, Printing, Reading, Stream};

@@ -1,6 +1,7 @@
 // What replies and arguments hold.
 ghost use Rattle.std.specs.Prelude.{◌≡◌};
-ghost use Rattle.natives.specs.Values.{int_in, reference_in, is_yes, int_at, long_at, reference_at, item_in, class_in, printed_in, char_of};
+ghost use Rattle.natives.specs.Values.{int_in, reference_in, is_yes, int_at, long_at, reference_at, item_in, class_in};
+ghost use Rattle.natives.specs.Values.{printed_in, char_of};
 ghost use Rattle.natives.specs.Coded.{items, next_index, is_null, int_of, reference_of};
 
 use super::Reply;

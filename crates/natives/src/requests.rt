@@ -1,7 +1,7 @@
 // Requests and replies, over references R and values V: those of the code, or those of the plain
 // heap.
 use ap_base::{Item, Kind, Piece, Ref};
-use run_types::{At, FieldAt, Key, RunFault};
+use run_types::{At, FieldAt, Key, StepFault};
 
 /// What one shared instruction, or a step of a native method, asks of the heap. `from` is the
 /// instruction that asks.
@@ -13,7 +13,7 @@ pub enum Request<R = Ref, V = Item> {
     /// A turn ended without a shared instruction.
     Pause,
     /// The turn ends the run by this fault.
-    Broken(RunFault),
+    Broken(StepFault),
     /// A new object of a class (JVMS 6.5, new).
     New {
         from: At,

@@ -1,6 +1,7 @@
 // Texts that built-in methods append and print.
 ghost use Rattle.std.specs.Prelude.{◌≡◌, ◌<◌, ◌≤◌, length, slice_get};
-ghost use Rattle.natives.specs.Texts.{chars_of, number_text, boolean_text, char_text, null_text, line_feed, string_text, spelled_bytes};
+ghost use Rattle.natives.specs.Texts.{chars_of, number_text, boolean_text, char_text, null_text, line_feed, string_text};
+ghost use Rattle.natives.specs.Texts.{spelled_bytes};
 ghost use Rattle.natives.specs.Coded.{items};
 
 use crate::replies::char_of;

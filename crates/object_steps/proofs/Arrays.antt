@@ -1,5 +1,6 @@
 -- Elements and lengths by the plain step.
-use Rattle.std.proofs.Common.{◌≡◌, ℕ, ℤ, pos, negsuc, ◌<◌, ◌≤◌, Bool, true, false, not, ◌&&◌, nat_eq, nat_lt, length, Option, Some, None, is_some, unwrap_or, if◌then◌else◌, refl, ap, ◌∙◌, sym, subst, rules}
+use Rattle.std.proofs.Common.{◌≡◌, ℕ, ℤ, pos, negsuc, ◌<◌, ◌≤◌, Bool, true, false, not, ◌&&◌, nat_eq, nat_lt, length, Option}
+use Rattle.std.proofs.Common.{Some, None, is_some, unwrap_or, if◌then◌else◌, refl, ap, ◌∙◌, sym, subst, rules}
 use Rattle.ap_base.specs.declared.kind.Kind.{Kind}
 use Rattle.ap_base.specs.declared.kind.Kind.TheVariants.{Z, B, C, S, I, J, L, Text}
 use Rattle.ap_base.specs.declared.place.Place.TheVariants.{Slot}
@@ -14,7 +15,9 @@ use Rattle.plain_model.specs.declared.throws.Throws.{Throws}
 use Rattle.plain_model.specs.declared.throws.Throws.TheVariants as exception
 use Rattle.plain_model.specs.Facts.{SetFacts, element_of, may_hold, string_number}
 use Rattle.plain_model.specs.Kinds.{narrowed}
-use Rattle.plain_model.specs.Steps.{Step, WrongOperand, step, throws, with_object, with_index, has_elements, has_length, past_end, reads, measures, shape_of, next_number, is_array_of, puts_element, may_store, own_kind, stores}
+use Rattle.plain_model.specs.Steps.{Step, WrongOperand, step, throws, with_object, with_index, has_elements, has_length}
+use Rattle.plain_model.specs.Steps.{past_end, reads, measures, shape_of, next_number, is_array_of, puts_element, may_store}
+use Rattle.plain_model.specs.Steps.{own_kind, stores}
 use Rattle.shared_objects.specs.Shown.{Shown, number_value, object_in}
 use Rattle.step_forms.specs.Follows.{stored_as}
 use Rattle.object_steps.specs.Stores.{holds_by_class}

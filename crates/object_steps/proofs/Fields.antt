@@ -8,7 +8,8 @@ use Rattle.natives.specs.declared.requests.Request.TheVariants as ask
 use Rattle.run_history.specs.Worlds.{World}
 use Rattle.plain_model.specs.declared.throws.Throws.TheVariants as exception
 use Rattle.plain_model.specs.Facts.{SetFacts, is_sub}
-use Rattle.plain_model.specs.Steps.{WrongOperand, step, throws, with_object, with_class, is_of, reads, stores, shape_of, next_number}
+use Rattle.plain_model.specs.Steps.{WrongOperand, step, throws, with_object, with_class, is_of, reads, stores, shape_of}
+use Rattle.plain_model.specs.Steps.{next_number}
 use Rattle.shared_objects.specs.Shown.{number_value}
 use Rattle.step_forms.proofs.Ways.{object_none, object_wrong, object_right}
 

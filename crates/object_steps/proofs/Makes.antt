@@ -1,5 +1,6 @@
 -- New objects by the plain step.
-use Rattle.std.proofs.Common.{◌≡◌, ℕ, ℤ, pos, negsuc, true, List, [], length, Option, Some, None, IsSome, refl, ap, ◌∙◌, sym, subst, rules}
+use Rattle.std.proofs.Common.{◌≡◌, ℕ, ℤ, pos, negsuc, true, List, [], length, Option, Some, None, IsSome, refl, ap, ◌∙◌, sym}
+use Rattle.std.proofs.Common.{subst, rules}
 use Rattle.ap_base.specs.declared.kind.Kind.{Kind}
 use Rattle.run_types.specs.declared.resolved.At.{At}
 use Rattle.graph_model.specs.declared.types.Shape.{Shape}

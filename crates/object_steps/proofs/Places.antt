@@ -1,5 +1,6 @@
 -- Kinds of values, and which places take them.
-use Rattle.std.proofs.Common.{◌≡◌, ℕ, pos, ◌<◌, [], true, not, ◌&&◌, nat_eq, length, slice_get, Option, Some, None, refl, ap, ◌∙◌, sym, subst}
+use Rattle.std.proofs.Common.{◌≡◌, ℕ, pos, ◌<◌, [], true, not, ◌&&◌, nat_eq, length, slice_get, Option, Some, None, refl, ap}
+use Rattle.std.proofs.Common.{◌∙◌, sym, subst}
 use Rattle.std.proofs.lemmas.Bool.{false≢true, eqb-true, and_parts}
 use Rattle.std.proofs.lemmas.List.Elements.{All-get_or}
 use Rattle.std.proofs.lemmas.Option.{slice_get_within}

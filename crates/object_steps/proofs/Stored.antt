@@ -34,7 +34,7 @@ read_goes set shown place item value is held same known =
     heap_did (λ world. reads set world place) (op.Read place value) (reply.Item item)
     (λ roots rest. ap (λ (v : Value). Does (op.Read place v) (reply.Item v)) (same roots ∙ sym held)
     ∙ ap (λ (v : Value). Does (op.Read place v) (reply.Item (item_value shown.number item))) (sym is))
-    known refl (λ world t. refl)
+    known refl (λ world. tt) (λ world t. refl)
 
 module _ (before now : Shown) (kept : Item) (value : Value) (is : value ≡ item_value before.number kept) where
   stored_goes : (place : Place) → GoesOn before now → now.left ≡ before.left
@@ -48,6 +48,7 @@ module _ (before now : Shown) (kept : Item) (value : Value) (is : value ≡ item
       world_is roots before now rest (stored (heap_of roots before) place value) goes (heap roots) known,
     );
     words = left;
+    monitor = tt;
     goes_on = goes;
     monitors = kept_known before now rest.monitors goes known;
   }

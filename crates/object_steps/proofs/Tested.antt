@@ -8,7 +8,8 @@ use Rattle.run_history.specs.declared.act.Op.TheVariants as op
 use Rattle.run_history.specs.Worlds.{World}
 use Rattle.plain_model.specs.declared.throws.Throws.TheVariants as exception
 use Rattle.plain_model.specs.Facts.{SetFacts, is_sub}
-use Rattle.plain_model.specs.Steps.{Does, WrongOperand, step, throws, with_object, with_reference, is_of, class_act, null_class, shape_of, next_number, casts, tests, compares, is_same, bool_value}
+use Rattle.plain_model.specs.Steps.{Does, WrongOperand, step, throws, with_object, with_reference, is_of, class_act, null_class}
+use Rattle.plain_model.specs.Steps.{shape_of, next_number, casts, tests, compares, is_same, bool_value}
 use Rattle.shared_objects.specs.Shown.{Numbers, IsKnownItem, number_value, item_value}
 use Rattle.step_forms.proofs.Ways.{object_none, object_wrong, object_right, reference_none, reference_some}
 use Rattle.object_steps.specs.Tests.{same_number, item_of}

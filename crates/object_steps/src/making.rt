@@ -16,7 +16,7 @@ use ap_base::ThreadNo;
 use natives::Reply;
 use plain_model::Throws;
 use run_history::Op;
-use run_types::RunFault;
+use run_types::StepFault;
 use shared_objects::{Objects, Rest, Types};
 use step_forms::{Stepped, initialise_first, throw};
 
@@ -32,7 +32,7 @@ fn allocate<C: Types, O: Objects>(set: &C, objects: &mut O, shape: u32, slots: u
     ensures heap { Becomes O.shown O.stores O.makes objects.old result objects.new }
 {
     match objects.alloc(shape, slots) {
-        Err(full) => Stepped::Over(RunFault::Full(full)),
+        Err(full) => Stepped::Over(StepFault::Full(full)),
         Ok(object) => Stepped::Did {
             op: Op::Alloc {
                 object: objects.number_of(object),

@@ -8,7 +8,8 @@ ghost use Rattle.shared_objects.specs.Shown.{IsKnown, IsKnownItem, item_value, s
 ghost use Rattle.step_forms.specs.Becomes.{IsNoStore, IsQuiet};
 ghost use Rattle.step_forms.specs.Follows.{IsHeapOf};
 ghost use Rattle.step_forms.specs.Needs.{ElementIsHere, HeadIsHere, ItemIsHere, SlotIsHere};
-ghost use Rattle.object_steps.specs.Stores.{IsPlan, IsStaticPlan, IfEnds, IfStores, IsKeptOf, IsStoreHere, PlanBecomes, holds_by_class};
+ghost use Rattle.object_steps.specs.Stores.{IsPlan, IsStaticPlan, IfEnds, IfStores, IsKeptOf, IsStoreHere, PlanBecomes};
+ghost use Rattle.object_steps.specs.Stores.{holds_by_class};
 
 use crate::finding::{has_elements, index_below};
 use crate::{Planned, Store, Target};

@@ -11,7 +11,8 @@ ghost use Rattle.shared_objects.specs.Shown.{IsKnown, object_in, slot_in, static
 ghost use Rattle.shared_objects.specs.Worlds.{KnowsMonitors};
 ghost use Rattle.step_forms.specs.Becomes.{Becomes, IsQuiet};
 ghost use Rattle.step_forms.specs.Follows.{HeapGoes, IsHeapOf, IsHeapStep, IsStep};
-ghost use Rattle.step_forms.specs.Needs.{ElementIsHere, HeadIsHere, ReferredElementIsHere, ReferredIsHere, SlotIsHere, ValueIsHere};
+ghost use Rattle.step_forms.specs.Needs.{ElementIsHere, HeadIsHere, ReferredElementIsHere, ReferredIsHere, SlotIsHere};
+ghost use Rattle.step_forms.specs.Needs.{ValueIsHere};
 
 use crate::finding::{has_elements, index_below, past_end};
 use ap_base::{Item, Kind, Place, Ref, ThreadNo};

@@ -1,6 +1,9 @@
 -- One more object behind all others.
-use Rattle.std.proofs.Common.{◌≡◌, inl, inr, ℕ, zero, suc, ◌+◌, ◌-◌, ◌*◌, ◌/◌, ◌%◌, ◌^◌, ◌<◌, ◌≤◌, true, List, [], ◌∷◌, ◌++◌, length, map, replicate, get_or, set, slice_get, slice_index_or, Option, Some, None, is_some, refl, ap, ◌∙◌, sym, subst, arith, rules, length-append}
-use Rattle.std.proofs.lemmas.List.{get_or-set_same, get_or-set_other, length-set, length-replicate, get_or_append_left, get_or-append_right, get_or_at, get_or_past, map-append}
+use Rattle.std.proofs.Common.{◌≡◌, inl, inr, ℕ, zero, suc, ◌+◌, ◌-◌, ◌*◌, ◌/◌, ◌%◌, ◌^◌, ◌<◌, ◌≤◌, true, List, [], ◌∷◌, ◌++◌}
+use Rattle.std.proofs.Common.{length, map, replicate, get_or, set, slice_get, slice_index_or, Option, Some, None, is_some, refl}
+use Rattle.std.proofs.Common.{ap, ◌∙◌, sym, subst, arith, rules, length-append}
+use Rattle.std.proofs.lemmas.List.{get_or-set_same, get_or-set_other, length-set, length-replicate, get_or_append_left}
+use Rattle.std.proofs.lemmas.List.{get_or-append_right, get_or_at, get_or_past, map-append}
 use Rattle.ap_base.specs.declared.kind.Kind.{Kind}
 use Rattle.ap_base.specs.declared.kind.Kind.TheVariants.{Z, B, C, S, I, J, L, Text}
 use Rattle.graph_model.specs.declared.types.Field.{Field}
@@ -13,7 +16,8 @@ use Rattle.ap_base.specs.declared.reference.Item.{Item}
 use Rattle.ap_base.specs.declared.reference.Item.TheVariants.{Int as IntItem, Long as LongItem, Ref as RefItem}
 use Rattle.run_history.specs.Worlds.{may_have}
 use Rattle.shared_objects.specs.Shown.{Numbers, Keeps, kind_in, field_kind, item_value, number_value}
-use Rattle.one_space.specs.Layout.{word_at, count_at, shape_at_word, number_in, item_at, item_in, object_from, row, IsLaid, is_known_item}
+use Rattle.one_space.specs.Layout.{word_at, count_at, shape_at_word, number_in, item_at, item_in, object_from, row, IsLaid}
+use Rattle.one_space.specs.Layout.{is_known_item}
 use Rattle.one_space.specs.Laws.{begins, none_is_not}
 use Rattle.one_space.proofs.Laid.{stands, lt_or_is}
 use Rattle.one_space.proofs.Stores.{begins_back, row_same}

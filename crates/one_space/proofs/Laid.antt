@@ -1,5 +1,7 @@
 -- Objects that are laid.
-use Rattle.std.proofs.Common.{◌≡◌, ℕ, zero, suc, ◌+◌, ◌%◌, ◌^◌, ◌<◌, ◌≤◌, true, List, [], ◌∷◌, length, map, get_or, slice_get, slice_index_or, Option, Some, None, IsSome, refl, ap, ◌∙◌, sym, subst, arith, add-one, length-append, ◌⊎◌, inl, inr}
+use Rattle.std.proofs.Common.{◌≡◌, ℕ, zero, suc, ◌+◌, ◌%◌, ◌^◌, ◌<◌, ◌≤◌, true, List, [], ◌∷◌, length, map, get_or, slice_get}
+use Rattle.std.proofs.Common.{slice_index_or, Option, Some, None, IsSome, refl, ap, ◌∙◌, sym, subst, arith, add-one}
+use Rattle.std.proofs.Common.{length-append, ◌⊎◌, inl, inr}
 use Rattle.std.proofs.lemmas.List.{get_or_at, get_or_append_left}
 use Rattle.ap_base.specs.declared.reference.Ref.{Ref}
 use Rattle.ap_base.specs.declared.reference.Ref.TheVariants.{Null as NoRef, Persistent, Volatile}
@@ -11,7 +13,8 @@ use Rattle.graph_model.specs.declared.types.Value.TheVariants.{Null}
 use Rattle.graph_model.specs.Heaps.{no_object, no_shape}
 use Rattle.ap_base.specs.declared.kind.Kind.{Kind}
 use Rattle.shared_objects.specs.Shown.{Numbers, IfNumber, HasSlot, IsKnownItem, item_value, object_in, slot_in, kind_in}
-use Rattle.one_space.specs.Layout.{word_at, count_at, number_in, item_at, item_in, row, object_from, shown_by, IsLaid, is_known_item}
+use Rattle.one_space.specs.Layout.{word_at, count_at, number_in, item_at, item_in, row, object_from, shown_by, IsLaid}
+use Rattle.one_space.specs.Layout.{is_known_item}
 use Rattle.one_space.specs.Laws.{begins, none_is_not, some_same}
 
 pub length-row : {A : Type 0} (n : ℕ) (f : ℕ → A) → length (row n f) ≡ n

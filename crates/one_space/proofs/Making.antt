@@ -1,7 +1,11 @@
 -- Objects that are made one after another.
-use Rattle.std.proofs.Common.{◌≡◌, ◌⊎◌, inl, inr, ℕ, ℤ, zero, suc, ◌+◌, ◌-◌, ◌<◌, ◌≤◌, pos, List, [], ◌∷◌, ◌++◌, map, take, drop, length, get_or, set, replicate, slice_index_or, slice_get, Option, Some, None, refl, ap, ◌∙◌, sym, subst, arith, length-append, append_assoc}
+use Rattle.std.proofs.Common.{◌≡◌, ◌⊎◌, inl, inr, ℕ, ℤ, zero, suc, ◌+◌, ◌-◌, ◌<◌, ◌≤◌, pos, List, [], ◌∷◌, ◌++◌, map, take}
+use Rattle.std.proofs.Common.{drop, length, get_or, set, replicate, slice_index_or, slice_get, Option, Some, None, refl, ap}
+use Rattle.std.proofs.Common.{◌∙◌, sym, subst, arith, length-append, append_assoc}
 use Rattle.std.specs.Prelude.{sum_by}
-use Rattle.std.proofs.lemmas.List.{get_or-set_same, get_or_past, get_or_at, set-set, set_at, take_more, take_at, take-append-le, take-append-drop, drop_more, drop_all, map-append, length-map, length-take-le, length-replicate, length-drop}
+use Rattle.std.proofs.lemmas.List.{get_or-set_same, get_or_past, get_or_at, set-set, set_at, take_more, take_at, take-append-le}
+use Rattle.std.proofs.lemmas.List.{take-append-drop, drop_more, drop_all, map-append, length-map, length-take-le}
+use Rattle.std.proofs.lemmas.List.{length-replicate, length-drop}
 use Rattle.std.proofs.lemmas.List.Sums.{sum_by_push}
 use Rattle.ap_base.specs.declared.kind.Kind.{Kind}
 use Rattle.ap_base.specs.declared.kind.Kind.TheVariants.{C}
@@ -15,7 +19,8 @@ use Rattle.graph_model.specs.declared.types.Obj.{Obj}
 use Rattle.graph_model.specs.declared.types.Shape.{Shape}
 use Rattle.graph_model.specs.Heaps.{no_object, no_shape, with_slot, default_of, fresh_values}
 use Rattle.plain_model.specs.Limits.{words_of}
-use Rattle.shared_objects.specs.Shown.{Shown, IfNumber, IsOfKindIn, HasSlot, IsOfSlot, object_in, shape_in, slot_kind, kind_in, field_kind}
+use Rattle.shared_objects.specs.Shown.{Shown, IfNumber, IsOfKindIn, HasSlot, IsOfSlot, object_in, shape_in, slot_kind, kind_in}
+use Rattle.shared_objects.specs.Shown.{field_kind}
 use Rattle.shared_objects.specs.Changes.{GoesOn, StoresSlot, Allocates}
 use Rattle.one_space.specs.declared.space.OneSpace.{OneSpace}
 use Rattle.one_space.specs.Shows.{shown_of}

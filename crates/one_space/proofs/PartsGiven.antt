@@ -1,5 +1,6 @@
 -- The parts of the first heap of a class set.
-use Rattle.std.proofs.Common.{◌≡◌, ℕ, ◌<◌, ◌^◌, true, List, [], ◌∷◌, map, length, slice_index_or, Option, Some, None, refl, ap, ◌∙◌, sym, subst, arith}
+use Rattle.std.proofs.Common.{◌≡◌, ℕ, ◌<◌, ◌^◌, true, List, [], ◌∷◌, map, length, slice_index_or, Option, Some, None, refl, ap}
+use Rattle.std.proofs.Common.{◌∙◌, sym, subst, arith}
 use Rattle.std.specs.Prelude.{All}
 use Rattle.std.specs.Option.{option_map}
 use Rattle.std.proofs.lemmas.List.{length-map, get_or-map}
@@ -10,7 +11,8 @@ use Rattle.graph_model.specs.declared.types.Shape.{Shape}
 use Rattle.graph_model.specs.Heaps.{no_shape, fresh_values}
 use Rattle.run_history.specs.Worlds.{may_have}
 use Rattle.plain_model.specs.Classes.{ClassFacts, no_class}
-use Rattle.plain_model.specs.Facts.{SetFacts, StaticFacts, Constant, classes_of, class_at, shapes_of, stream_class, arguments_class, string_number}
+use Rattle.plain_model.specs.Facts.{SetFacts, StaticFacts, Constant, classes_of, class_at, shapes_of, stream_class}
+use Rattle.plain_model.specs.Facts.{arguments_class, string_number}
 use Rattle.plain_model.specs.Consistent.{IsConsistent, IsConstantBelow}
 use Rattle.plain_model.proofs.Consistent.{stream_there, stream_shape, string_there, text_elements, arguments_there}
 use Rattle.plain_model.proofs.Given.{given_arrays_are_there}
@@ -18,7 +20,8 @@ use Rattle.one_space.specs.declared.parts.FirstParts.{FirstParts}
 use Rattle.one_space.specs.declared.parts.FirstStatic.{FirstStatic}
 use Rattle.one_space.specs.declared.parts.FirstConstant.{FirstConstant}
 use Rattle.one_space.specs.declared.parts.FirstConstant.TheVariants as constant
-use Rattle.one_space.specs.First.{CanBeFirst, IsFirstOf, IsPartBelow, constant_now, first_of_part, first_of_field, shape_of_part}
+use Rattle.one_space.specs.First.{CanBeFirst, IsFirstOf, IsPartBelow, constant_now, first_of_part, first_of_field}
+use Rattle.one_space.specs.First.{shape_of_part}
 
 -- ---- objects without slots
 

@@ -1,5 +1,6 @@
 -- The first heap of a class set.
-use Rattle.std.proofs.Common.{◌≡◌, ℕ, ◌<◌, false, List, [], ◌∷◌, ◌++◌, map, length, Option, Some, None, refl, ap, ◌∙◌, sym, subst, arith, if◌then◌else◌}
+use Rattle.std.proofs.Common.{◌≡◌, ℕ, ◌<◌, false, List, [], ◌∷◌, ◌++◌, map, length, Option, Some, None, refl, ap, ◌∙◌, sym}
+use Rattle.std.proofs.Common.{subst, arith, if◌then◌else◌}
 use Rattle.std.specs.Prelude.{All, sum_by}
 use Rattle.std.proofs.lemmas.List.Elements.{All-head, All-tail}
 use Rattle.ap_base.specs.declared.kind.Kind.{Kind}
@@ -11,7 +12,8 @@ use Rattle.graph_model.specs.declared.types.Obj.{Obj}
 use Rattle.graph_model.specs.declared.types.Shape.{Shape}
 use Rattle.graph_model.specs.declared.types.Heap.{Heap}
 use Rattle.graph_model.specs.Heaps.{default_of}
-use Rattle.plain_model.specs.Facts.{SetFacts, StaticFacts, Constant, IntConstant, LongConstant, LiteralConstant, shapes_of, stream_class, arguments_class, string_number}
+use Rattle.plain_model.specs.Facts.{SetFacts, StaticFacts, Constant, IntConstant, LongConstant, LiteralConstant, shapes_of}
+use Rattle.plain_model.specs.Facts.{stream_class, arguments_class, string_number}
 use Rattle.plain_model.specs.Kinds.{narrowed}
 use Rattle.plain_model.specs.First.{first_heap, first_objects, first_statics, static_value, constant_value, root_value}
 use Rattle.plain_model.specs.Limits.{words_of}
@@ -20,7 +22,8 @@ use Rattle.one_space.specs.declared.space.OneSpace.{OneSpace}
 use Rattle.one_space.specs.declared.parts.FirstParts.{FirstParts}
 use Rattle.one_space.specs.declared.parts.FirstStatic.{FirstStatic}
 use Rattle.one_space.specs.Layout.{full_shown, number_in}
-use Rattle.one_space.specs.First.{IsFirstOf, ShowsFirst, first_of_part, first_of_field, first_value, value_of, part_value, no_graph, index_in, objects_of, text_object}
+use Rattle.one_space.specs.First.{IsFirstOf, ShowsFirst, first_of_part, first_of_field, first_value, value_of, part_value}
+use Rattle.one_space.specs.First.{no_graph, index_in, objects_of, text_object}
 use Rattle.one_space.specs.Making.{HasMade}
 
 field_value : (set : SetFacts) (kind : Kind) (o : Option Constant)

@@ -13,7 +13,8 @@ use Rattle.plain_model.specs.Kinds.{HasKind}
 use Rattle.shared_objects.specs.Shown.{Numbers, IsOfKindIn, IsOfSlot, IsKnownItem, item_value, number_value, slot_kind, kind_in}
 use Rattle.shared_objects.specs.Changes.{StoresSlot}
 use Rattle.std.specs.Prelude.{All}
-use Rattle.one_space.specs.Layout.{shape_at_word, number_in, item_in, object_from, shown_by, full_shown, IsLaid, AreKnown, is_known_item, HasItemKind}
+use Rattle.one_space.specs.Layout.{shape_at_word, number_in, item_in, object_from, shown_by, full_shown, IsLaid, AreKnown}
+use Rattle.one_space.specs.Layout.{is_known_item, HasItemKind}
 use Rattle.one_space.specs.Laws.{some_same}
 use Rattle.one_space.proofs.Laid.{SlotOf, object_is, if_number, number_at}
 use Rattle.one_space.proofs.Stores.{objects_stored, numbers_same, numbers_path}

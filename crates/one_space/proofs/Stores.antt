@@ -1,5 +1,7 @@
 -- A store to a slot.
-use Rattle.std.proofs.Common.{◌≡◌, ◌≢◌, ◌⊎◌, inl, inr, ℕ, zero, suc, ◌+◌, ◌/◌, ◌%◌, ◌^◌, ◌<◌, ◌≤◌, true, List, [], ◌∷◌, ◌++◌, length, map, get_or, set, slice_get, slice_index_or, Option, Some, None, refl, ap, ◌∙◌, sym, subst, arith, rules, nat_eq, if◌then◌else◌}
+use Rattle.std.proofs.Common.{◌≡◌, ◌≢◌, ◌⊎◌, inl, inr, ℕ, zero, suc, ◌+◌, ◌/◌, ◌%◌, ◌^◌, ◌<◌, ◌≤◌, true, List, [], ◌∷◌, ◌++◌}
+use Rattle.std.proofs.Common.{length, map, get_or, set, slice_get, slice_index_or, Option, Some, None, refl, ap, ◌∙◌, sym}
+use Rattle.std.proofs.Common.{subst, arith, rules, nat_eq, if◌then◌else◌}
 use Rattle.std.proofs.Math.Path.{fun_ext}
 use Rattle.std.proofs.lemmas.List.{get_or-set_same, get_or-set_other, length-set, length-map, ext_get_or}
 use Rattle.ap_base.specs.declared.reference.Ref.{Ref}
@@ -10,7 +12,8 @@ use Rattle.graph_model.specs.declared.types.Obj.{Obj}
 use Rattle.graph_model.specs.declared.types.Value.{Value}
 use Rattle.graph_model.specs.Heaps.{no_object, no_shape, with_slot}
 use Rattle.shared_objects.specs.Shown.{Numbers, item_value, kind_in}
-use Rattle.one_space.specs.Layout.{word_at, count_at, shape_at_word, number_in, number_if, item_at, item_in, row, object_from, IsLaid, is_known_item}
+use Rattle.one_space.specs.Layout.{word_at, count_at, shape_at_word, number_in, number_if, item_at, item_in, row, object_from}
+use Rattle.one_space.specs.Layout.{IsLaid, is_known_item}
 use Rattle.one_space.specs.Laws.{begins}
 use Rattle.one_space.proofs.Laid.{SlotOf, length-row, get_or-row, get_or-map, got}
 

@@ -1,5 +1,6 @@
 -- The first heap of a class set without durable roots.
-use Rattle.std.specs.Prelude.{◌≡◌, ℕ, ◌+◌, ◌-◌, ◌<◌, ◌≤◌, ◌^◌, pos, true, false, List, [], ◌∷◌, map, length, take, sum_by, slice_index_or, Option, Some, None, All}
+use Rattle.std.specs.Prelude.{◌≡◌, ℕ, ◌+◌, ◌-◌, ◌<◌, ◌≤◌, ◌^◌, pos, true, false, List, [], ◌∷◌, map, length, take, sum_by}
+use Rattle.std.specs.Prelude.{slice_index_or, Option, Some, None, All}
 use Rattle.std.specs.Option.{option_map}
 use Rattle.ap_base.specs.declared.kind.Kind.{Kind}
 use Rattle.ap_base.specs.declared.kind.Kind.TheVariants.{C, L}
@@ -14,7 +15,8 @@ use Rattle.graph_model.specs.declared.types.Obj.{Obj}
 use Rattle.graph_model.specs.declared.types.Shape.{Shape}
 use Rattle.graph_model.specs.declared.types.Graph.{Graph}
 use Rattle.graph_model.specs.Heaps.{no_object, no_shape, default_of}
-use Rattle.plain_model.specs.Facts.{SetFacts, StaticFacts, Constant, IntConstant, LongConstant, LiteralConstant, shapes_of, stream_class, arguments_class, string_number}
+use Rattle.plain_model.specs.Facts.{SetFacts, StaticFacts, Constant, IntConstant, LongConstant, LiteralConstant, shapes_of}
+use Rattle.plain_model.specs.Facts.{stream_class, arguments_class, string_number}
 use Rattle.plain_model.specs.Kinds.{narrowed}
 use Rattle.plain_model.specs.First.{first_heap}
 use Rattle.plain_model.specs.Limits.{words_of, words_taken, words_left}

@@ -1,5 +1,6 @@
 -- Laws of what the words show.
-use Rattle.std.proofs.Common.{◌≡◌, ℕ, ◌+◌, true, false, Bool, nat_eq, List, Option, Some, None, slice_get, refl, ap, ◌∙◌, sym, rules, if◌then◌else◌}
+use Rattle.std.proofs.Common.{◌≡◌, ℕ, ◌+◌, true, false, Bool, nat_eq, List, Option, Some, None, slice_get, refl, ap, ◌∙◌, sym}
+use Rattle.std.proofs.Common.{rules, if◌then◌else◌}
 use Rattle.ap_base.specs.declared.reference.Ref.TheVariants.{Null as NoRef, Persistent, Volatile}
 use Rattle.graph_model.specs.declared.types.Shape.{Shape}
 use Rattle.shared_objects.specs.Shown.{HasOneKey}

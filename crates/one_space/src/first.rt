@@ -1,5 +1,6 @@
 // The first heap of a class set.
-ghost use Rattle.std.specs.Prelude.{◌≡◌, ◌<◌, ◌≤◌, ◌+◌, ◌-◌, ◌^◌, ◌++◌, ◌∷◌, ℕ, All, IfErr, IfOk, IsTrue, List, OnOk, None, Some, [], map, length, pos};
+ghost use Rattle.std.specs.Prelude.{◌≡◌, ◌<◌, ◌≤◌, ◌+◌, ◌-◌, ◌^◌, ◌++◌, ◌∷◌, ℕ, All, IfErr, IfOk, IsTrue, List, OnOk, None};
+ghost use Rattle.std.specs.Prelude.{Some, [], map, length, pos};
 ghost use Rattle.ap_base.specs.declared.kind.Kind.TheVariants.{C};
 ghost use Rattle.ap_base.specs.declared.reference.Item.TheVariants.{Int as IntItem};
 ghost use Rattle.ap_base.specs.declared.reference.Ref.TheVariants.{Null, Volatile};
@@ -10,7 +11,8 @@ ghost use Rattle.graph_model.specs.declared.types.Value.TheVariants.{Obj as Obje
 ghost use Rattle.plain_model.specs.Facts.{SetFacts};
 ghost use Rattle.run_history.specs.Worlds.{may_have};
 ghost use Rattle.shared_objects.specs.Shown.{IfNumber, IsKnownItem, Numbers, item_value, object_in, shape_in};
-ghost use Rattle.one_space.specs.First.{CanBeFirst, IfFull, IsFirstOf, IsPartBelow, LacksWords, ShowsFirst, objects_of, part_value, text_object};
+ghost use Rattle.one_space.specs.First.{CanBeFirst, IfFull, IsFirstOf, IsPartBelow, LacksWords, ShowsFirst, objects_of};
+ghost use Rattle.one_space.specs.First.{part_value, text_object};
 ghost use Rattle.one_space.specs.Layout.{AreKnown};
 ghost use Rattle.one_space.specs.Making.{Adds, CannotAdd, HasMade, PutsChars};
 ghost use Rattle.one_space.specs.Shows.{shown_of};

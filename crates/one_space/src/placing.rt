@@ -1,5 +1,6 @@
 // One more object.
-ghost use Rattle.std.specs.Prelude.{◌≡◌, ◌+◌, ◌-◌, ◌++◌, ◌<◌, ◌^◌, ◌≤◌, ◌↔◌, length, replicate, IfErr, IfOk, IsErr, IsTrue, OnErr, OnOk};
+ghost use Rattle.std.specs.Prelude.{◌≡◌, ◌+◌, ◌-◌, ◌++◌, ◌<◌, ◌^◌, ◌≤◌, ◌↔◌, length, replicate, IfErr, IfOk, IsErr, IsTrue};
+ghost use Rattle.std.specs.Prelude.{OnErr, OnOk};
 ghost use Rattle.ap_base.specs.declared.reference.Ref.TheVariants.{Volatile};
 ghost use Rattle.run_history.specs.Worlds.{may_have};
 ghost use Rattle.run_types.specs.declared.fault.Which.TheVariants.{VolatileWords};

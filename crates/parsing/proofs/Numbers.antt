@@ -1,5 +1,6 @@
 -- Bytes that are read as a number are written back as the same bytes.
-use Rattle.std.proofs.Common.{◌≡◌, ℕ, zero, suc, ◌+◌, ◌*◌, ◌^◌, ◌<◌, ◌≤◌, List, [], ◌∷◌, length, take, drop, refl, sym, ap, ◌∙◌, inl, inr, arith}
+use Rattle.std.proofs.Common.{◌≡◌, ℕ, zero, suc, ◌+◌, ◌*◌, ◌^◌, ◌<◌, ◌≤◌, List, [], ◌∷◌, length, take, drop, refl, sym, ap, ◌∙◌}
+use Rattle.std.proofs.Common.{inl, inr, arith}
 use Rattle.std.specs.Int.{byte_at}
 use Rattle.std.proofs.Math.Nat.{add-mul, mod-lt, mul-le-mul_right}
 use Rattle.std.proofs.lemmas.Bool.{cases_order, cases_lt}

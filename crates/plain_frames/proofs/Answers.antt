@@ -1,5 +1,6 @@
 -- An answer to a reply that names what is there leaves frames that are in the world.
-use Rattle.std.proofs.Common.{◌≡◌, ◌≢◌, ℕ, Bool, true, false, List, [], ◌∷◌, length, drop, Option, Some, None, refl, sym, subst, if◌then◌else◌}
+use Rattle.std.proofs.Common.{◌≡◌, ◌≢◌, ℕ, Bool, true, false, List, [], ◌∷◌, length, drop, Option, Some, None, refl, sym, subst}
+use Rattle.std.proofs.Common.{if◌then◌else◌}
 use Rattle.std.specs.Prelude.{All, IfSome}
 use Rattle.std.proofs.lemmas.List.Elements.{All-nil, All-cons, All-head}
 use Rattle.std.proofs.lemmas.List.Kept.{AllPairs-cons}
@@ -30,14 +31,20 @@ use Rattle.frames.specs.declared.program.Program.{Program}
 use Rattle.frames.specs.declared.program.Selector.{Selector}
 use Rattle.frames.specs.declared.program.Target.{Target}
 use Rattle.frames.specs.declared.program.Target.TheVariants as target
-use Rattle.frames.specs.Tables.{Caught, Passed, Goes, Fails, no_class, placed_at, method_at, class_at, selector_at, from_of, dispatched, program_class, first_initialised, caught_by}
-use Rattle.frames.specs.Settings.{Frame, Running, Native, Initialiser, Main, Doing, Runs, BeginsMain, BeginsThread, Enters, Unwinds, Initialises, Initialised, Ends, Frames, Setting}
-use Rattle.frames.specs.Calls.{Stepped, goes_on, asks_so, after, returns_to, calls, runs_method, initialises_first, begins_initialiser, initialises, resumes, leaves_method, caught, throws, result_of}
+use Rattle.frames.specs.Tables.{Caught, Passed, Goes, Fails, no_class, placed_at, method_at, class_at, selector_at, from_of}
+use Rattle.frames.specs.Tables.{dispatched, program_class, first_initialised, caught_by}
+use Rattle.frames.specs.Settings.{Frame, Running, Native, Initialiser, Main, Doing, Runs, BeginsMain, BeginsThread, Enters}
+use Rattle.frames.specs.Settings.{Unwinds, Initialises, Initialised, Ends, Frames, Setting}
+use Rattle.frames.specs.Calls.{Stepped, goes_on, asks_so, after, returns_to, calls, runs_method, initialises_first}
+use Rattle.frames.specs.Calls.{begins_initialiser, initialises, resumes, leaves_method, caught, throws, result_of}
 use Rattle.frames.specs.Requests.{taken_by}
-use Rattle.frames.specs.Turns.{at_of, class_of, is_yes, is_so, gives_back, throws_top, calls_selected, replied, instruction_answered, native_answered, frame_answered, answered, settled, answer_of, answer_if, answer}
+use Rattle.frames.specs.Turns.{at_of, class_of, is_yes, is_so, gives_back, throws_top, calls_selected, replied}
+use Rattle.frames.specs.Turns.{instruction_answered, native_answered, frame_answered, answered, settled, answer_of, answer_if}
+use Rattle.frames.specs.Turns.{answer}
 use Rattle.plain_frames.specs.Codes.{PlainNatives, plain_cells, plain_setting}
 use Rattle.plain_frames.specs.Tables.{NamesWhatIsThere}
-use Rattle.plain_frames.specs.Sound.{IsCellIn, IsOwnIn, IsGivenIn, IsNativeIn, IsHeldIn, IsBegun, IsFrameIn, IsInitialiser, IsDoingIn, AreIn, KeepIn, initialised_by}
+use Rattle.plain_frames.specs.Sound.{IsCellIn, IsOwnIn, IsGivenIn, IsNativeIn, IsHeldIn, IsBegun, IsFrameIn, IsInitialiser}
+use Rattle.plain_frames.specs.Sound.{IsDoingIn, AreIn, KeepIn, initialised_by}
 use Rattle.plain_frames.specs.DutyLaws.{IsFitIfAsked, IsTurnIn, IsAnswerIn}
 use Rattle.plain_frames.proofs.Cells.{reference-in, put-in, one-in, long-in, nothing-put}
 use Rattle.plain_frames.proofs.Frames as frames

@@ -1,11 +1,12 @@
 -- A turn ends with a request that its frames wait for: that of their last frame, or that of what the thread
 -- does in place of an instruction.
-use Rattle.std.proofs.Common.{◌≡◌, ℕ, zero, suc, ◌+◌, ◌-◌, nat_le, Bool, true, false, List, [], ◌∷◌, length, take, drop, Option, Some, None, refl, sym, subst, ◌⊎◌, inl, inr, if◌then◌else◌}
+use Rattle.std.proofs.Common.{◌≡◌, ℕ, zero, suc, ◌+◌, ◌-◌, nat_le, Bool, true, false, List, [], ◌∷◌, length, take, drop, Option}
+use Rattle.std.proofs.Common.{Some, None, refl, sym, subst, ◌⊎◌, inl, inr, if◌then◌else◌}
 use Rattle.ap_base.specs.declared.kind.Kind.{Kind}
 use Rattle.ap_base.specs.declared.kind.Kind.TheVariants as kinds
 use Rattle.run_types.specs.declared.resolved.At.{At}
 use Rattle.run_types.specs.declared.key.Key.{Key}
-use Rattle.run_types.specs.declared.fault.RunFault.{RunFault}
+use Rattle.run_types.specs.declared.fault.StepFault.{StepFault}
 use Rattle.code_form.specs.declared.ins.Access.TheVariants as access
 use Rattle.graph_model.specs.declared.types.Graph.{Graph}
 use Rattle.graph_model.specs.declared.types.Value.{Value}
@@ -27,10 +28,13 @@ use Rattle.frames.specs.declared.program.Program.{Program}
 use Rattle.frames.specs.declared.program.Target.{Target}
 use Rattle.frames.specs.declared.program.Target.TheVariants as target
 use Rattle.frames.specs.Tables.{placed_at, method_at, class_at, selector_at, field_at, from_of, dispatched}
-use Rattle.frames.specs.Settings.{Frame, Running, Native, Initialiser, Main, Doing, Runs, Frames, NativeStep, Asks, Calls, Gives, Setting, slots_left}
+use Rattle.frames.specs.Settings.{Frame, Running, Native, Initialiser, Main, Doing, Runs, Frames, NativeStep, Asks, Calls}
+use Rattle.frames.specs.Settings.{Gives, Setting, slots_left}
 use Rattle.frames.specs.Private.{private_step}
 use Rattle.frames.specs.Requests.{given, width_of, value_so, request_of}
-use Rattle.frames.specs.Calls.{Stepped, goes_on, asks_so, breaks, cells_taken, cells_of, arguments_on, result_of, reply_of, done_so, after, if_room, begins_body, begins, begins_found, signature_of, native_does, returns_to, calls_with, calls, returns_held, returns}
+use Rattle.frames.specs.Calls.{Stepped, goes_on, asks_so, breaks, cells_taken, cells_of, arguments_on, result_of, reply_of}
+use Rattle.frames.specs.Calls.{done_so, after, if_room, begins_body, begins, begins_found, signature_of, native_does}
+use Rattle.frames.specs.Calls.{returns_to, calls_with, calls, returns_held, returns}
 use Rattle.frames.specs.Turns.{asks_or, calls_special, does, frame_does, asked_by, one_of, one, turn_of, turn_if, turn}
 use Rattle.plain_frames.specs.Codes.{PlainNatives, is_null, plain_setting}
 
@@ -83,7 +87,7 @@ module _ (set : SetFacts) (opening : Graph) {M N : Type 0} (p : Program M) (nati
       → Waits (asks_so request frames)
   asks_so-waits request frames is = record { goes = refl; waited = inr (refl, is) }
 
-  breaks-waits : (f : RunFault) (frames : List (Frame Value N)) → Waits (breaks f frames)
+  breaks-waits : (f : StepFault) (frames : List (Frame Value N)) → Waits (breaks f frames)
   breaks-waits f frames = asks_so-waits (ask.Broken f) frames tt
 
   if-waits : (c : Bool) (y z : Stepped Value N Value) → Waits y → Waits z → Waits (if c then y else z)

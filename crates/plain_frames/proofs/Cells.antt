@@ -1,6 +1,7 @@
 -- Private instructions keep references within the world: each cell that they write was there, or holds a
 -- number.
-use Rattle.std.proofs.Common.{◌≡◌, ℕ, ℤ, ◌+◌, ◌-◌, nat_le, ◌&&◌, Bool, true, false, List, [], ◌∷◌, ◌++◌, length, take, drop, slice_get, slice_set, Option, Some, None, refl, subst, if◌then◌else◌}
+use Rattle.std.proofs.Common.{◌≡◌, ℕ, ℤ, ◌+◌, ◌-◌, nat_le, ◌&&◌, Bool, true, false, List, [], ◌∷◌, ◌++◌, length, take, drop}
+use Rattle.std.proofs.Common.{slice_get, slice_set, Option, Some, None, refl, subst, if◌then◌else◌}
 use Rattle.std.specs.Prelude.{All}
 use Rattle.std.proofs.lemmas.List.Elements.{All-nil, All-cons, All-head, All-tail, All-append, All-drop, All-take, All-set}
 use Rattle.std.proofs.lemmas.Option.{slice_get_within, get_or_from_slice_get}
@@ -26,9 +27,12 @@ use Rattle.frame_cells.specs.declared.cell.Cell.{Cell}
 use Rattle.frame_cells.specs.declared.cell.Cell.TheVariants.{Empty, Int, Long, Half, Reference}
 use Rattle.frame_cells.specs.declared.cell.Did.{Did}
 use Rattle.frame_cells.specs.declared.cell.Did.TheVariants.{Next}
-use Rattle.frame_cells.specs.Own.{Own, After, int_of, long_of, reference_of, int_at, long_at, reference_at, put, keep, written, is_whole}
+use Rattle.frame_cells.specs.Own.{Own, After, int_of, long_of, reference_of, int_at, long_at, reference_at, put, keep, written}
+use Rattle.frame_cells.specs.Own.{is_whole}
 use Rattle.frame_cells.specs.Numbers.{combined}
-use Rattle.frame_cells.specs.Families.{with, when, unless_divided, loads, stores, increments, combines, negates, shifts, converts, compares, branches, branches_on_two, branches_on_null, switches, looks_up, drops, copies, swaps, rearranges}
+use Rattle.frame_cells.specs.Families.{with, when, unless_divided, loads, stores, increments, combines, negates, shifts}
+use Rattle.frame_cells.specs.Families.{converts, compares, branches, branches_on_two, branches_on_null, switches, looks_up}
+use Rattle.frame_cells.specs.Families.{drops, copies, swaps, rearranges}
 use Rattle.plain_frames.specs.Sound.{IsCellIn, IsOwnIn}
 
 pub All-slice_get : {X : Type 0} (P : X → Type 0) (xs : List X) (n : ℕ) (x : X) → All P xs →

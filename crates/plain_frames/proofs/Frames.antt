@@ -1,11 +1,14 @@
 -- Turns of frames that are in a world: they stay in it, and what they ask is fit.
-use Rattle.std.proofs.Common.{◌≡◌, ℕ, zero, suc, ℤ, ◌+◌, ◌-◌, nat_le, Bool, true, false, List, [], ◌∷◌, length, take, drop, reverse, replicate, map, slice_get, slice_index_or, Option, Some, None, refl, sym, subst, if◌then◌else◌, arith, lit<}
+use Rattle.std.proofs.Common.{◌≡◌, ℕ, zero, suc, ℤ, ◌+◌, ◌-◌, nat_le, Bool, true, false, List, [], ◌∷◌, length, take, drop}
+use Rattle.std.proofs.Common.{reverse, replicate, map, slice_get, slice_index_or, Option, Some, None, refl, sym, subst}
+use Rattle.std.proofs.Common.{if◌then◌else◌, arith, lit<}
 use Rattle.std.specs.Prelude.{All, AllPairs, ◌≢◌}
 use Rattle.std.proofs.lemmas.Bool.{leb-false}
-use Rattle.std.proofs.lemmas.List.Elements.{All-nil, All-cons, All-head, All-tail, All-append, All-drop, All-take, All-replicate}
+use Rattle.std.proofs.lemmas.List.Elements.{All-nil, All-cons, All-head, All-tail, All-append, All-drop, All-take}
+use Rattle.std.proofs.lemmas.List.Elements.{All-replicate}
 use Rattle.std.proofs.lemmas.Grind.{reverse_onto}
 use Rattle.run_types.specs.declared.resolved.At.{At}
-use Rattle.run_types.specs.declared.fault.RunFault.TheVariants as fault
+use Rattle.run_types.specs.declared.fault.StepFault.TheVariants as fault
 use Rattle.run_types.specs.declared.fault.Which.TheVariants.{FrameSlots}
 use Rattle.run_types.specs.declared.key.Key.{Key}
 use Rattle.run_types.specs.declared.key.Key.TheVariants as key
@@ -37,11 +40,15 @@ use Rattle.frames.specs.declared.program.Program.{Program}
 use Rattle.frames.specs.declared.program.Target.{Target}
 use Rattle.frames.specs.declared.program.Target.TheVariants as target
 use Rattle.frames.specs.Tables.{no_method, method_at, start_of, dispatched}
-use Rattle.frames.specs.Settings.{Frame, Running, Native, Initialiser, Main, Doing, Runs, Enters, Initialised, Ends, NativeStep, Asks, Calls, Gives, Setting, slots_left}
-use Rattle.frames.specs.Calls.{Stepped, goes_on, asks_so, arguments_on, cells_taken, cells_of, given_of, result_of, object_in, monitor_of, first_own, value_of, reply_of, done_so, after, if_room, breaks, begins_body, begins, begins_with, begins_found, signature_of, native_does, returns_to, calls_with, calls}
+use Rattle.frames.specs.Settings.{Frame, Running, Native, Initialiser, Main, Doing, Runs, Enters, Initialised, Ends, NativeStep}
+use Rattle.frames.specs.Settings.{Asks, Calls, Gives, Setting, slots_left}
+use Rattle.frames.specs.Calls.{Stepped, goes_on, asks_so, arguments_on, cells_taken, cells_of, given_of, result_of, object_in}
+use Rattle.frames.specs.Calls.{monitor_of, first_own, value_of, reply_of, done_so, after, if_room, breaks, begins_body, begins}
+use Rattle.frames.specs.Calls.{begins_with, begins_found, signature_of, native_does, returns_to, calls_with, calls}
 use Rattle.plain_frames.specs.Codes.{PlainNatives, plain_setting}
 use Rattle.plain_frames.specs.Tables.{NamesWhatIsThere}
-use Rattle.plain_frames.specs.Sound.{IsCellIn, IsOwnIn, IsGivenIn, IsNativeIn, IsHeldIn, IsFrameIn, IsDoingIn, IsStepIn, IsResult, KeepIn, initialised_by}
+use Rattle.plain_frames.specs.Sound.{IsCellIn, IsOwnIn, IsGivenIn, IsNativeIn, IsHeldIn, IsFrameIn, IsDoingIn, IsStepIn}
+use Rattle.plain_frames.specs.Sound.{IsResult, KeepIn, initialised_by}
 use Rattle.plain_frames.specs.DutyLaws.{IsTurnIn}
 use Rattle.plain_frames.proofs.Cells.{All-slice_get, reference-in, put-in, one-in, long-in}
 

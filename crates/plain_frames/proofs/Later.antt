@@ -11,9 +11,11 @@ use Rattle.plain_model.specs.Facts.{SetFacts}
 use Rattle.plain_model.specs.Duties.{IsReferenceIn}
 use Rattle.frame_cells.specs.declared.cell.Cell.{Cell}
 use Rattle.frame_cells.specs.declared.cell.Cell.TheVariants.{Empty, Int, Long, Half, Reference}
-use Rattle.frames.specs.Settings.{Frame, Running, Native, Initialiser, Main, Doing, Runs, BeginsMain, BeginsThread, Enters, Unwinds, Initialises, Initialised, Breaks, Ends, Frames}
+use Rattle.frames.specs.Settings.{Frame, Running, Native, Initialiser, Main, Doing, Runs, BeginsMain, BeginsThread, Enters}
+use Rattle.frames.specs.Settings.{Unwinds, Initialises, Initialised, Breaks, Ends, Frames}
 use Rattle.plain_frames.specs.Codes.{PlainNatives}
-use Rattle.plain_frames.specs.Sound.{IsCellIn, IsHeldIn, IsBegun, IsFrameIn, IsInitialiser, IsDoingIn, AreIn, KeepIn, initialised_by}
+use Rattle.plain_frames.specs.Sound.{IsCellIn, IsHeldIn, IsBegun, IsFrameIn, IsInitialiser, IsDoingIn, AreIn, KeepIn}
+use Rattle.plain_frames.specs.Sound.{initialised_by}
 
 module _ (set : SetFacts) {M N : Type 0} (natives : PlainNatives M N) (is_in : ℕ → N →
     Bool) (keeps : KeepIn set natives is_in)

@@ -1,5 +1,6 @@
 -- What a step does to classes and threads, and what its reply says of classes.
-use Rattle.std.proofs.Common.{◌≡◌, ℕ, zero, suc, ◌<◌, ℤ, pos, negsuc, Bool, true, false, List, [], ◌∷◌, length, take, refl, ap, subst, if◌then◌else◌, ◌&&◌, nat_eq, nat_lt, nat_le, arith}
+use Rattle.std.proofs.Common.{◌≡◌, ℕ, zero, suc, ◌<◌, ℤ, pos, negsuc, Bool, true, false, List, [], ◌∷◌, length, take, refl, ap}
+use Rattle.std.proofs.Common.{subst, if◌then◌else◌, ◌&&◌, nat_eq, nat_lt, nat_le, arith}
 use Rattle.std.specs.Prelude.{◌≢◌, Option, Some, None, slice_get, slice_set}
 use Rattle.std.proofs.lemmas.Bool.{ltb-true, and_parts}
 use Rattle.std.proofs.lemmas.Option.{slice_get_within}
@@ -26,7 +27,11 @@ use Rattle.plain_model.specs.declared.throws.Throws.TheVariants as exception
 use Rattle.plain_model.specs.Facts.{SetFacts, string_number}
 use Rattle.plain_model.specs.Requests.{PlainRequest, PlainReply}
 use Rattle.plain_model.specs.Limits.{most_threads}
-use Rattle.plain_model.specs.Steps.{Step, Does, WrongOperand, step, throws, allocates, reads, stores, own_kind, with_object, with_reference, with_index, with_progress, with_class, new_array, new_length, enters_held, exits_held, starts_thread, joins_thread, thread_of, puts_element, may_store, compares, is_same, prints, ends_region, has_elements, past_end, is_of, casts, has_length, class_act, null_class, shape_of, bool_value, any_object, is_thread}
+use Rattle.plain_model.specs.Steps.{Step, Does, WrongOperand, step, throws, allocates, reads, stores, own_kind, with_object}
+use Rattle.plain_model.specs.Steps.{with_reference, with_index, with_progress, with_class, new_array, new_length, enters_held}
+use Rattle.plain_model.specs.Steps.{exits_held, starts_thread, joins_thread, thread_of, puts_element, may_store, compares}
+use Rattle.plain_model.specs.Steps.{is_same, prints, ends_region, has_elements, past_end, is_of, casts, has_length, class_act}
+use Rattle.plain_model.specs.Steps.{null_class, shape_of, bool_value, any_object, is_thread}
 
 -- ---- a list with one place changed
 

@@ -1,6 +1,7 @@
 -- Each reference of a heap names an object, however many objects there are: so it is at first, steps of fit
 -- requests keep it so, and what their replies name is there.
-use Rattle.std.proofs.Common.{◌≡◌, ℕ, ◌<◌, ◌≤◌, true, false, Bool, List, [], ◌∷◌, ◌++◌, length, map, length-append, arith, inl, inr}
+use Rattle.std.proofs.Common.{◌≡◌, ℕ, ◌<◌, ◌≤◌, true, false, Bool, List, [], ◌∷◌, ◌++◌, length, map, length-append, arith, inl}
+use Rattle.std.proofs.Common.{inr}
 use Rattle.std.specs.Prelude.{All, Some, None, slice_set, slice_index_or, replicate}
 use Rattle.std.proofs.lemmas.Bool.{cases_lt}
 use Rattle.std.proofs.lemmas.List.{length-map, length-set, get_or_past}
@@ -13,7 +14,8 @@ use Rattle.graph_model.specs.declared.types.Field.{Field}
 use Rattle.graph_model.specs.declared.types.Shape.{Shape}
 use Rattle.graph_model.specs.declared.types.Obj.{Obj}
 use Rattle.graph_model.specs.declared.types.Heap.{Heap}
-use Rattle.graph_model.specs.Heaps.{IsBelow, IsSound, default_of, fresh_values, shape_at, object_at, values_of, with_slot, with_fresh, stored, no_object}
+use Rattle.graph_model.specs.Heaps.{IsBelow, IsSound, default_of, fresh_values, shape_at, object_at, values_of, with_slot}
+use Rattle.graph_model.specs.Heaps.{with_fresh, stored, no_object}
 use Rattle.natives.specs.declared.requests.Reply.TheVariants as reply
 use Rattle.run_history.specs.declared.act.Op.{Op}
 use Rattle.run_history.specs.declared.act.Op.TheVariants as op

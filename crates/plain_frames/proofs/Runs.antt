@@ -1,5 +1,7 @@
 -- At every point of every plain run the frames of each thread are in the world, and so each request is fit.
-use Rattle.std.proofs.Common.{◌≡◌, ℕ, zero, suc, ◌+◌, ◌<◌, ◌≤◌, Bool, true, false, List, [], ◌∷◌, ◌++◌, length, map, append_assoc, length-append, Option, Some, None, refl, ap, sym, subst, ◌∙◌, ◌⊎◌, inl, inr, arith, if◌then◌else◌}
+use Rattle.std.proofs.Common.{◌≡◌, ℕ, zero, suc, ◌+◌, ◌<◌, ◌≤◌, Bool, true, false, List, [], ◌∷◌, ◌++◌, length, map}
+use Rattle.std.proofs.Common.{append_assoc, length-append, Option, Some, None, refl, ap, sym, subst, ◌∙◌, ◌⊎◌, inl, inr, arith}
+use Rattle.std.proofs.Common.{if◌then◌else◌}
 use Rattle.std.specs.Prelude.{◌≢◌, slice_get}
 use Rattle.std.proofs.lemmas.List.{append-nil, length-map}
 use Rattle.std.proofs.lemmas.List.Elements.{All-nil, All-cons}
@@ -14,10 +16,12 @@ use Rattle.run_history.specs.Worlds.{Thread, World, after}
 use Rattle.run_history.specs.Knowing.{Knowledge}
 use Rattle.plain_model.specs.Facts.{SetFacts, stream_class, arguments_class}
 use Rattle.plain_model.specs.Consistent.{IsConsistent}
-use Rattle.plain_model.specs.First.{IsOpening, first_heap, first_known, first_objects, first_world, arguments_number, literal_object, node_object}
+use Rattle.plain_model.specs.First.{IsOpening, first_heap, first_known, first_objects, first_world, arguments_number}
+use Rattle.plain_model.specs.First.{literal_object, node_object}
 use Rattle.plain_model.specs.Requests.{PlainRequest, PlainReply}
 use Rattle.plain_model.specs.Steps.{Does, step, reply_of}
-use Rattle.plain_model.specs.Codes.{Code, is_persistent, taken_by, asks_live, request_of, answered_by, answered, answered_at, begun_by, frames_after_op}
+use Rattle.plain_model.specs.Codes.{Code, is_persistent, taken_by, asks_live, request_of, answered_by, answered, answered_at}
+use Rattle.plain_model.specs.Codes.{begun_by, frames_after_op}
 use Rattle.plain_model.specs.Runs.{op_given, IsPlainRun, first_frames, frames_of, known_of, request_after}
 use Rattle.plain_model.specs.Duties.{IsClass, IsFit, KeepsDuties}
 use Rattle.plain_model.specs.Typed.{IsTyped}

@@ -1,5 +1,7 @@
 -- The small program meets all premises of the law on duties.
-use Rattle.std.proofs.Common.{◌≡◌, ℕ, zero, suc, ◌+◌, ◌<◌, ◌≤◌, Bool, true, false, nat_eq, ◌||◌, ◌&&◌, List, [], ◌∷◌, length, map, slice_index_or, nat_lt, inl, inr, ◌⊎◌, Option, Some, None, refl, ap, sym, subst, ◌∙◌, if◌then◌else◌, arith, lit<, lit≤}
+use Rattle.std.proofs.Common.{◌≡◌, ℕ, zero, suc, ◌+◌, ◌<◌, ◌≤◌, Bool, true, false, nat_eq, ◌||◌, ◌&&◌, List, [], ◌∷◌, length}
+use Rattle.std.proofs.Common.{map, slice_index_or, nat_lt, inl, inr, ◌⊎◌, Option, Some, None, refl, ap, sym, subst, ◌∙◌}
+use Rattle.std.proofs.Common.{if◌then◌else◌, arith, lit<, lit≤}
 use Rattle.std.specs.Prelude.{All, ◌≢◌, IfSome, Contains}
 use Rattle.std.specs.List.{list_any}
 use Rattle.std.proofs.lemmas.Bool.{eqb-true, eq-eqb, ltb-true, and_parts, cases_lt}
@@ -26,9 +28,11 @@ use Rattle.frames.specs.declared.program.Placed.{Placed}
 use Rattle.frames.specs.declared.program.Selector.{Selector}
 use Rattle.frames.specs.Tables.{no_class, target_of, dispatched, is_subtype}
 use Rattle.frames.specs.Tables as tables
-use Rattle.plain_frames.specs.Tables.{IsOpOf, IsOpIn, IsMethodOf, IsTarget, IsOwnTarget, IsClassOf, NamesWhatIsThere, IsProgramOf, IsMainOf, found_above}
+use Rattle.plain_frames.specs.Tables.{IsOpOf, IsOpIn, IsMethodOf, IsTarget, IsOwnTarget, IsClassOf, NamesWhatIsThere}
+use Rattle.plain_frames.specs.Tables.{IsProgramOf, IsMainOf, found_above}
 use Rattle.plain_frames.specs.Sound.{KeepIn}
-use Rattle.plain_frames.specs.Small.{Nothing, numbers_from, row_of, small_row, rows_from, small_program, pausing, any_state, MeetsAll}
+use Rattle.plain_frames.specs.Small.{Nothing, numbers_from, row_of, small_row, rows_from, small_program, pausing, any_state}
+use Rattle.plain_frames.specs.Small.{MeetsAll}
 
 -- ---- rows of classes
 

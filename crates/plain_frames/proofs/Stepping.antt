@@ -1,5 +1,6 @@
 -- Frames that are in a world stay in it when their thread's step is answered, and when another thread's is.
-use Rattle.std.proofs.Common.{◌≡◌, ℕ, suc, Bool, true, false, List, [], ◌∷◌, length, drop, Option, Some, None, refl, sym, subst, ◌∙◌, ◌⊎◌, inl, inr, arith}
+use Rattle.std.proofs.Common.{◌≡◌, ℕ, suc, Bool, true, false, List, [], ◌∷◌, length, drop, Option, Some, None, refl, sym, subst}
+use Rattle.std.proofs.Common.{◌∙◌, ◌⊎◌, inl, inr, arith}
 use Rattle.std.specs.Prelude.{All, AllPairs, ◌≢◌, slice_get, slice_index_or}
 use Rattle.std.proofs.lemmas.List.Elements.{All-nil, All-cons, All-head, All-tail}
 use Rattle.run_types.specs.declared.resolved.At.{At}
@@ -26,7 +27,8 @@ use Rattle.frames.specs.declared.op.Op.{Op as Instruction}
 use Rattle.frames.specs.declared.op.Op.TheVariants as does_op
 use Rattle.frames.specs.declared.program.Program.{Program}
 use Rattle.frames.specs.Tables.{placed_at}
-use Rattle.frames.specs.Settings.{Frame, Running, Native, Initialiser, Main, Doing, Runs, BeginsMain, BeginsThread, Enters, Unwinds, Initialises, Initialised, Breaks, Ends, Frames, Setting}
+use Rattle.frames.specs.Settings.{Frame, Running, Native, Initialiser, Main, Doing, Runs, BeginsMain, BeginsThread, Enters}
+use Rattle.frames.specs.Settings.{Unwinds, Initialises, Initialised, Breaks, Ends, Frames, Setting}
 use Rattle.frames.specs.Turns.{asked_by, at_of, class_of, turn, answer}
 use Rattle.plain_frames.specs.Codes.{PlainNatives, plain_setting, request_or_pause}
 use Rattle.plain_frames.specs.Tables.{NamesWhatIsThere}

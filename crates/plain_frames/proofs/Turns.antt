@@ -1,5 +1,6 @@
 -- A turn of frames that are in a world leaves frames that are in it, and its request is fit.
-use Rattle.std.proofs.Common.{◌≡◌, ℕ, zero, suc, ℤ, ◌-◌, Bool, true, false, List, [], ◌∷◌, slice_index_or, Option, Some, None, refl, sym, subst, if◌then◌else◌, lit<}
+use Rattle.std.proofs.Common.{◌≡◌, ℕ, zero, suc, ℤ, ◌-◌, Bool, true, false, List, [], ◌∷◌, slice_index_or, Option, Some, None}
+use Rattle.std.proofs.Common.{refl, sym, subst, if◌then◌else◌, lit<}
 use Rattle.std.proofs.lemmas.List.Elements.{All-head}
 use Rattle.ap_base.specs.declared.kind.Kind.{Kind}
 use Rattle.ap_base.specs.declared.kind.Kind.TheVariants as kinds
@@ -30,12 +31,15 @@ use Rattle.frames.specs.declared.program.Placed.{Placed}
 use Rattle.frames.specs.declared.program.Program.{Program}
 use Rattle.frames.specs.declared.program.Selector.{Selector}
 use Rattle.frames.specs.declared.program.Table.{Table}
-use Rattle.frames.specs.Tables.{no_placed, no_selector, no_table, no_lookup, placed_at, method_at, class_at, selector_at, field_at, from_of}
-use Rattle.frames.specs.Settings.{Frame, Running, Native, Initialiser, Main, Doing, Runs, BeginsMain, BeginsThread, Enters, Unwinds, Initialises, Initialised, Breaks, Ends, Frames, Setting}
+use Rattle.frames.specs.Tables.{no_placed, no_selector, no_table, no_lookup, placed_at, method_at, class_at, selector_at}
+use Rattle.frames.specs.Tables.{field_at, from_of}
+use Rattle.frames.specs.Settings.{Frame, Running, Native, Initialiser, Main, Doing, Runs, BeginsMain, BeginsThread, Enters}
+use Rattle.frames.specs.Settings.{Unwinds, Initialises, Initialised, Breaks, Ends, Frames, Setting}
 use Rattle.frames.specs.Private.{by_table, by_lookup, private_step}
 use Rattle.frames.specs.Requests.{given, value_so, request_of}
 use Rattle.frames.specs.Calls.{Stepped, asks_so, after, calls, cells_taken, result_of, returns_held, returns}
-use Rattle.frames.specs.Turns.{asks_or, calls_special, does, at_of, key_of, class_of, frame_does, asked_by, one_of, one, turn_of, turn_if, turn}
+use Rattle.frames.specs.Turns.{asks_or, calls_special, does, at_of, key_of, class_of, frame_does, asked_by, one_of, one}
+use Rattle.frames.specs.Turns.{turn_of, turn_if, turn}
 use Rattle.plain_frames.specs.Codes.{PlainNatives, is_null, plain_setting}
 use Rattle.plain_frames.specs.Tables.{IsOpOf, NamesWhatIsThere}
 use Rattle.plain_frames.specs.Sound.{IsOwnIn, IsGivenIn, IsHeldIn, IsFrameIn, IsInitialiser, IsDoingIn, AreIn, KeepIn}

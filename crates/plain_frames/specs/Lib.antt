@@ -1,6 +1,15 @@
+pub mod Coded
 pub mod Codes
-pub mod Tables
-pub mod Sound
 pub mod DutyLaws
+pub mod Keeping
+pub mod Machines
+pub mod Methods
+pub mod Moves
+pub mod NamedMethods
+pub mod RequestLists
+pub mod Rows
 pub mod Small
+pub mod Sound
+pub mod Tables
 pub mod ValueRows
+pub mod Worlds

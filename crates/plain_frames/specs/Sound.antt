@@ -17,7 +17,8 @@ use Rattle.frame_cells.specs.declared.cell.Cell.TheVariants.{Reference}
 use Rattle.frame_cells.specs.Own.{Own}
 use Rattle.frames.specs.declared.given.Given.{Given}
 use Rattle.frames.specs.declared.given.Given.TheVariants as given
-use Rattle.frames.specs.Settings.{Frame, Running, Native, Initialiser, Main, Doing, BeginsMain, BeginsThread, Unwinds, Initialises, Initialised, Breaks, Ends, Frames, NativeStep, Asks, Calls, Gives}
+use Rattle.frames.specs.Settings.{Frame, Running, Native, Initialiser, Main, Doing, BeginsMain, BeginsThread, Unwinds}
+use Rattle.frames.specs.Settings.{Initialises, Initialised, Breaks, Ends, Frames, NativeStep, Asks, Calls, Gives}
 use Rattle.plain_frames.specs.Codes.{PlainNatives}
 
 -- The classes whose initialisers stand among these frames.

@@ -1,12 +1,14 @@
 -- What the tables of a program owe the facts of its set (JVMS 5.4.3, 5.5, 6.5). Each clause is of one table.
 -- That they name what is there makes what the program asks fit (`NamesWhatIsThere`).
-use Rattle.std.specs.Prelude.{◌≡◌, ◌≢◌, ℕ, ◌<◌, ◌≤◌, ◌⊎◌, nat_lt, true, false, [], ◌∷◌, length, All, Option, Some, None, IsSome, IfSome}
+use Rattle.std.specs.Prelude.{◌≡◌, ◌≢◌, ℕ, ◌<◌, ◌≤◌, ◌⊎◌, nat_lt, true, false, [], ◌∷◌, length, All, Option, Some, None, IsSome}
+use Rattle.std.specs.Prelude.{IfSome}
 use Rattle.run_types.specs.declared.fault.LinkKind.TheVariants.{MissingMethod}
 use Rattle.code_form.specs.declared.ins.Sort.TheVariants as sort
 use Rattle.plain_model.specs.declared.throws.Throws.TheVariants.{NullPointer, Arithmetic}
 use Rattle.plain_model.specs.BuiltIn.{throwable_place, thread_place}
 use Rattle.plain_model.specs.Classes.{is_made}
-use Rattle.plain_model.specs.Facts.{SetFacts, built_in_number, class_count, classes_of, class_at, element_of, is_sub, string_number, thrown_class}
+use Rattle.plain_model.specs.Facts.{SetFacts, built_in_number, class_count, classes_of, class_at, element_of, is_sub}
+use Rattle.plain_model.specs.Facts.{string_number, thrown_class}
 use Rattle.plain_model.specs.Duties.{IsClass, IsStaticField, IsInstanceField}
 use Rattle.frames.specs.declared.op.Op.{Op}
 use Rattle.frames.specs.declared.op.Op.TheVariants as op

@@ -1,7 +1,10 @@
 -- What changes leave, and what it is to take them back.
-use Rattle.std.proofs.Common.{◌≡◌, ℕ, ◌+◌, ◌-◌, ◌<◌, ◌^◌, Bool, true, false, nat_lt, ◌&&◌, List, [], ◌∷◌, ◌++◌, length, map, replicate, take, set, get_or, Option, Some, None, IsTrue, refl, ap, sym, subst, ◌∙◌, arith, rules, if◌then◌else◌, length-append}
+use Rattle.std.proofs.Common.{◌≡◌, ℕ, ◌+◌, ◌-◌, ◌<◌, ◌^◌, Bool, true, false, nat_lt, ◌&&◌, List, [], ◌∷◌, ◌++◌, length, map}
+use Rattle.std.proofs.Common.{replicate, take, set, get_or, Option, Some, None, IsTrue, refl, ap, sym, subst, ◌∙◌, arith, rules}
+use Rattle.std.proofs.Common.{if◌then◌else◌, length-append}
 use Rattle.std.specs.Prelude.{All, slice_set, nat_eq}
-use Rattle.std.proofs.lemmas.List.{length-set, length-map, length-replicate, get_or_default, get_or-set_same, set-set, set-get_or, take_at}
+use Rattle.std.proofs.lemmas.List.{length-set, length-map, length-replicate, get_or_default, get_or-set_same, set-set}
+use Rattle.std.proofs.lemmas.List.{set-get_or, take_at}
 use Rattle.std.proofs.lemmas.List.Elements.{All-set, All-map, All-push, All-replicate, All-weaker, All-get_or}
 use Rattle.ap_base.specs.declared.kind.Kind.{Kind}
 use Rattle.ap_base.specs.declared.kind.Kind.TheVariants.{Z, B, C, S, I, J, L, Text}

@@ -1,5 +1,6 @@
 // Values of items, and values with which slots begin.
-ghost use Rattle.std.specs.Prelude.{◌≡◌, ◌<◌, ◌≤◌, ◌++◌, ℕ, IsTrue, true, length, map, replicate, vec_capacity, [], slice_index_or};
+ghost use Rattle.std.specs.Prelude.{◌≡◌, ◌<◌, ◌≤◌, ◌++◌, ℕ, IsTrue, true, length, map, replicate, vec_capacity, []};
+ghost use Rattle.std.specs.Prelude.{slice_index_or};
 ghost use Rattle.graph_model.specs.Heaps.{default_of, fresh_values};
 ghost use Rattle.graph_model.specs.declared.types.Field.{Field as FieldOf};
 ghost use Rattle.run_history.specs.Worlds.{is_below, may_have};

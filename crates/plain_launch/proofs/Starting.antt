@@ -15,7 +15,8 @@ use Rattle.graph_model.specs.declared.types.Value.TheVariants.{Int}
 use Rattle.plain_model.specs.Consistent.{IsConsistent}
 use Rattle.plain_model.specs.Duties.{IsClass}
 use Rattle.plain_model.specs.Facts.{SetFacts, arguments_class, shapes_of, stream_class, string_number}
-use Rattle.plain_model.specs.First.{IsOpening, arguments_number, first_objects, first_progress, first_statics, literal_number, literal_object, node_object, numbers_to}
+use Rattle.plain_model.specs.First.{IsOpening, arguments_number, first_objects, first_progress, first_statics, literal_number}
+use Rattle.plain_model.specs.First.{literal_object, node_object, numbers_to}
 use Rattle.plain_model.proofs.Places.{numbers-at, numbers-length}
 use Rattle.plain_frames.specs.Tables.{NamesWhatIsThere}
 use Rattle.class_set.specs.Facts.{facts_of}

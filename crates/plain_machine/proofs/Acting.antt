@@ -1,5 +1,6 @@
 -- What an act comes to.
-use Rattle.std.proofs.Common.{◌≡◌, ◌≢◌, ℕ, suc, ◌<◌, ◌+◌, Bool, true, false, List, [], Option, Some, None, ap, sym, subst, ◌∙◌, inl, inr, arith}
+use Rattle.std.proofs.Common.{◌≡◌, ◌≢◌, ℕ, suc, ◌<◌, ◌+◌, Bool, true, false, List, [], Option, Some, None, ap, sym, subst, ◌∙◌}
+use Rattle.std.proofs.Common.{inl, inr, arith}
 use Rattle.ap_base.specs.declared.reference.Ref.{Ref}
 use Rattle.ap_base.specs.declared.reference.Item.{Item}
 use Rattle.graph_model.specs.declared.types.Root.{Root}

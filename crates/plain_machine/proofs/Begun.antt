@@ -1,5 +1,6 @@
 -- The machine with a first heap stands for the empty run.
-use Rattle.std.proofs.Common.{◌≡◌, ℕ, ◌+◌, ◌<◌, ◌≤◌, ◌^◌, ◌-◌, List, [], ◌∷◌, map, length, replicate, Some, None, refl, ap, sym, subst, ◌∙◌, arith, rules, length-append, Bool, true, get_or, nat_lt, if◌then◌else◌}
+use Rattle.std.proofs.Common.{◌≡◌, ℕ, ◌+◌, ◌<◌, ◌≤◌, ◌^◌, ◌-◌, List, [], ◌∷◌, map, length, replicate, Some, None, refl, ap, sym}
+use Rattle.std.proofs.Common.{subst, ◌∙◌, arith, rules, length-append, Bool, true, get_or, nat_lt, if◌then◌else◌}
 use Rattle.std.specs.Prelude.{All}
 use Rattle.std.specs.List.{AllByRecursion}
 use Rattle.std.proofs.lemmas.List.{length-map, length-replicate}
@@ -20,7 +21,8 @@ use Rattle.run_history.specs.declared.plain.Progress.TheVariants.{Untouched, Fin
 use Rattle.run_history.specs.Worlds.{Thread, World, is_below, new_thread}
 use Rattle.plain_model.specs.BuiltIn.{built_in_count}
 use Rattle.plain_model.specs.Facts.{arguments_class, classes_of, shapes_of, stream_class}
-use Rattle.plain_model.specs.First.{arguments_number, first_heap, first_objects, first_progress, first_world, literal_number, literal_object, node_object}
+use Rattle.plain_model.specs.First.{arguments_number, first_heap, first_objects, first_progress, first_world, literal_number}
+use Rattle.plain_model.specs.First.{literal_object, node_object}
 use Rattle.plain_model.proofs.Consistent.{counted}
 use Rattle.frames.specs.Turns.{begun_main}
 use Rattle.plain_frames.specs.Codes.{code_of}

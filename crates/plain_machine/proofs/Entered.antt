@@ -1,5 +1,6 @@
 -- A monitor that was entered and left again.
-use Rattle.std.proofs.Common.{◌≡◌, ℕ, suc, pred, ◌<◌, ◌-◌, ◌^◌, Bool, true, false, nat_eq, List, [], ◌∷◌, length, Option, Some, None, refl, ap, sym, subst, ◌∙◌, arith, if◌then◌else◌}
+use Rattle.std.proofs.Common.{◌≡◌, ℕ, suc, pred, ◌<◌, ◌-◌, ◌^◌, Bool, true, false, nat_eq, List, [], ◌∷◌, length, Option, Some}
+use Rattle.std.proofs.Common.{None, refl, ap, sym, subst, ◌∙◌, arith, if◌then◌else◌}
 use Rattle.std.specs.Prelude.{All}
 use Rattle.std.proofs.lemmas.Bool.{eq-eqb, eqb-true, ne_eqb}
 use Rattle.std.proofs.lemmas.List.Elements.{All-head, All-tail}

@@ -1,5 +1,6 @@
 -- What following an act says and leaves.
-use Rattle.std.proofs.Common.{◌≡◌, ◌⊎◌, ◌↔◌, ◌≢◌, ℕ, ◌<◌, true, false, IsTrue, List, [], ◌∷◌, ◌++◌, length, get_or, set, Option, Some, None, refl, ap, sym, subst, ◌∙◌, inl, inr, arith, if◌then◌else◌}
+use Rattle.std.proofs.Common.{◌≡◌, ◌⊎◌, ◌↔◌, ◌≢◌, ℕ, ◌<◌, true, false, IsTrue, List, [], ◌∷◌, ◌++◌, length, get_or, set, Option}
+use Rattle.std.proofs.Common.{Some, None, refl, ap, sym, subst, ◌∙◌, inl, inr, arith, if◌then◌else◌}
 use Rattle.std.specs.Prelude.{slice_get, slice_set}
 use Rattle.ap_base.specs.declared.reference.Ref.{Ref}
 use Rattle.ap_base.specs.declared.reference.Ref.TheVariants.{Null}
@@ -44,7 +45,8 @@ use Rattle.plain_machine.specs.declared.lanes.Lane.{Lane}
 use Rattle.plain_machine.specs.Starts.{begun_of, has_frames}
 use Rattle.plain_machine.specs.Foreseeing.{step_in}
 use Rattle.plain_machine.specs.Ops.{is_live, is_start}
-use Rattle.plain_machine.specs.Standing.{AreAhead, AreOfProgram, IsAhead, IsNext, IsTurned, MayLack, NoMonitors, NoObject, NoSteps, Stands}
+use Rattle.plain_machine.specs.Standing.{AreAhead, AreOfProgram, IsAhead, IsNext, IsTurned, MayLack, NoMonitors, NoObject}
+use Rattle.plain_machine.specs.Standing.{NoSteps, Stands}
 use Rattle.plain_machine.specs.Trying.{DoesOr, IsKept, IsReady, IsShort, MakesObject, with_left}
 use Rattle.plain_machine.specs.Turns.{TurnsFrom}
 use Rattle.plain_machine.proofs.Ahead.{ahead-at, ahead-more, ahead-same, ahead-set, of-more, of-set}

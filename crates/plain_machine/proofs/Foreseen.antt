@@ -1,5 +1,6 @@
 -- What is foreseen of a request's step.
-use Rattle.std.proofs.Common.{◌≡◌, ℕ, zero, suc, Bool, true, false, nat_eq, nat_lt, ◌&&◌, List, [], map, length, Option, Some, None, IsSome, refl, ap, sym, subst, ◌∙◌, if◌then◌else◌}
+use Rattle.std.proofs.Common.{◌≡◌, ℕ, zero, suc, Bool, true, false, nat_eq, nat_lt, ◌&&◌, List, [], map, length, Option, Some}
+use Rattle.std.proofs.Common.{None, IsSome, refl, ap, sym, subst, ◌∙◌, if◌then◌else◌}
 use Rattle.std.specs.Prelude.{slice_get}
 use Rattle.std.proofs.lemmas.List.{length-map}
 use Rattle.ap_base.specs.declared.reference.Ref.{Ref}
@@ -9,7 +10,7 @@ use Rattle.run_types.specs.declared.key.Key.{Key}
 use Rattle.run_types.specs.declared.key.Key.TheVariants as key
 use Rattle.run_types.specs.declared.resolved.At.{At}
 use Rattle.run_types.specs.declared.resolved.FieldAt.{FieldAt}
-use Rattle.run_types.specs.declared.fault.RunFault.{RunFault}
+use Rattle.run_types.specs.declared.fault.StepFault.{StepFault}
 use Rattle.run_types.specs.declared.wait.On.TheVariants as on
 use Rattle.graph_model.specs.declared.types.Root.{Root}
 use Rattle.natives.specs.declared.requests.Request.{Request}
@@ -40,7 +41,8 @@ use Rattle.shared_objects.specs.Worlds.{IsHeldKey, KnowsMonitors, number_or, pla
 use Rattle.world_steps.proofs.Locking.{exit_goes, exit_throws}
 use Rattle.world_steps.proofs.Running.{found_plain, plain_started, depth_plain}
 use Rattle.plain_machine.specs.Exits.{OpExited}
-use Rattle.plain_machine.specs.Foreseeing.{Foresees, key_by, key_named, op_begun, op_entered, op_next, op_raised, op_started, op_unless, step_in}
+use Rattle.plain_machine.specs.Foreseeing.{Foresees, key_by, key_named, op_begun, op_entered, op_next, op_raised, op_started}
+use Rattle.plain_machine.specs.Foreseeing.{op_unless, step_in}
 use Rattle.plain_machine.specs.Ops.{changes_rest, is_print}
 use Rattle.plain_machine.proofs.Possible.{IsOneOf, could, mild, mild-is, own-fault, possible, possible-if}
 
@@ -117,7 +119,7 @@ module _ (set : SetFacts) (world : World) (t : ℕ) where
 
   -- ---- threads and regions
 
-  next-foreseen : (b : Bool) (n count : ℕ) (f : RunFault)
+  next-foreseen : (b : Bool) (n count : ℕ) (f : StepFault)
       → ForeseesStep (if b then Does (op.Start n count) reply.Done else IsOver f)
       (if b then Some (op.Start n count) else None)
   next-foreseen true n count f = (refl, λ p e. sym (some-same (op.Start n count) p e))

@@ -24,7 +24,7 @@ use Rattle.shared_objects.specs.Shown.{Shown}
 use Rattle.shared_objects.specs.Plain.{KnowsRequest, plain_request}
 use Rattle.shared_objects.specs.Worlds.{KnowsMonitors, plain_monitor, plain_thread, world_of}
 use Rattle.step_forms.specs.declared.stepped.Stepped.{Stepped}
-use Rattle.step_forms.specs.Follows.{Agrees, Follows, IsHeapOf, IsOutOfMonitors, IsStep}
+use Rattle.step_forms.specs.Follows.{FindsMonitor, Agrees, Follows, IsHeapOf, IsOutOfMonitors, IsStep}
 use Rattle.step_forms.specs.Needs.{IsAskable, IsHere}
 use Rattle.plain_machine.specs.Trying.{IsKept, IsNoStep, IsReady, IsShort, MakesObject, with_left}
 
@@ -156,6 +156,7 @@ module _ (set : SetFacts) (before : Shown) (rest : Rest) (now : Shown) (rest_now
             (λ taken. step set w t taken (plain_request before.number q)) t now.left w result then.number
             (world_of roots then rest_then)) (same roots) (moved.follows roots);
         words = moved.words;
+        monitor = subst (λ (w : World). FindsMonitor w result) (same []) moved.monitor;
         goes_on = moved.goes_on;
         monitors = moved.monitors;
       }

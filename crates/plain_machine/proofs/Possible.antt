@@ -1,5 +1,6 @@
 -- Which operations the step of a request can be, and that no step itself finds words or monitors lacking.
-use Rattle.std.proofs.Common.{◌≡◌, ℕ, zero, suc, ℤ, pos, negsuc, ◌&&◌, Bool, true, false, not, length, take, nat_eq, nat_lt, nat_le, Option, Some, None, refl, if◌then◌else◌, subst}
+use Rattle.std.proofs.Common.{◌≡◌, ℕ, zero, suc, ℤ, pos, negsuc, ◌&&◌, Bool, true, false, not, length, take, nat_eq, nat_lt}
+use Rattle.std.proofs.Common.{nat_le, Option, Some, None, refl, if◌then◌else◌, subst}
 use Rattle.std.specs.Prelude.{slice_get}
 use Rattle.run_types.specs.declared.key.Key.TheVariants as key
 use Rattle.graph_model.specs.declared.types.Value.{Value}
@@ -9,8 +10,8 @@ use Rattle.natives.specs.declared.requests.Reply.TheVariants as reply
 use Rattle.run_history.specs.declared.act.Op.{Op}
 use Rattle.run_history.specs.declared.act.Op.TheVariants as op
 use Rattle.run_history.specs.declared.act.Stage.TheVariants as stage
-use Rattle.run_types.specs.declared.fault.RunFault.{RunFault}
-use Rattle.run_types.specs.declared.fault.RunFault.TheVariants as fault
+use Rattle.run_types.specs.declared.fault.StepFault.{StepFault}
+use Rattle.run_types.specs.declared.fault.StepFault.TheVariants as fault
 use Rattle.run_types.specs.declared.fault.Which.{Which}
 use Rattle.run_types.specs.declared.fault.Which.TheVariants as which
 use Rattle.plain_model.specs.Limits.{most_threads, threads_left}
@@ -40,7 +41,7 @@ is_lack which.Monitors = true
 is_lack w = false
 
 -- want of words or of monitors
-abbrev pub is_lacking : RunFault → Bool
+abbrev pub is_lacking : StepFault → Bool
 is_lacking (fault.Full full) = is_lack full.which
 is_lacking f = false
 
@@ -96,7 +97,7 @@ IsOneOf ok (Does o r) = ok o ≡ true
 IsOneOf ok (IsOver f) = is_lacking f ≡ false
 IsOneOf ok s = Unit {0}
 
-inside-turn : (f : RunFault) → IsFaultOfTurn f → is_lacking f ≡ false
+inside-turn : (f : StepFault) → IsFaultOfTurn f → is_lacking f ≡ false
 inside-turn (fault.Full full) h = frames full.which h
   where
     frames : (w : Which) → IsLackOfFrames full.need full.left w → is_lack w ≡ false

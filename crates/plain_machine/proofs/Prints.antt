@@ -1,5 +1,6 @@
 -- What a print does, and which operations aren't one of its piece.
-use Rattle.std.proofs.Common.{◌≡◌, ℕ, ◌<◌, ◌≤◌, Bool, true, false, nat_lt, nat_le, ◌&&◌, List, length, take, Option, Some, None, refl, ap, sym, ◌∙◌, rules, if◌then◌else◌}
+use Rattle.std.proofs.Common.{◌≡◌, ℕ, ◌<◌, ◌≤◌, Bool, true, false, nat_lt, nat_le, ◌&&◌, List, length, take, Option, Some, None}
+use Rattle.std.proofs.Common.{refl, ap, sym, ◌∙◌, rules, if◌then◌else◌}
 use Rattle.ap_base.specs.declared.reference.Ref.{Ref}
 use Rattle.ap_base.specs.declared.reference.Item.{Item}
 use Rattle.run_types.specs.declared.resolved.At.{At}
@@ -63,7 +64,7 @@ print-is set t shown rest (ask.Print from piece) (op.Print bytes) n is known = d
     (sym is.0)
     ∙ printed-step set (world_of roots shown rest) t n shown.number from piece is.1 is.2
     ∙ ap (λ bs. Does (op.Print bs) (reply.Printed n)) is.3)
-    tt refl (λ roots. refl) known
+    tt refl tt (λ roots. refl) known
 print-is set t shown rest q o n is known = absurd is
 
 -- a print that isn't taken is none of the piece

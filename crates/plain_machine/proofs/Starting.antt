@@ -1,5 +1,6 @@
 -- The thread that a step starts.
-use Rattle.std.proofs.Common.{◌≡◌, ℕ, Bool, true, false, ◌&&◌, nat_lt, List, [], ◌∷◌, map, Option, Some, None, refl, ap, sym, subst, ◌∙◌, if◌then◌else◌, unwrap_or}
+use Rattle.std.proofs.Common.{◌≡◌, ℕ, Bool, true, false, ◌&&◌, nat_lt, List, [], ◌∷◌, map, Option, Some, None, refl, ap, sym}
+use Rattle.std.proofs.Common.{subst, ◌∙◌, if◌then◌else◌, unwrap_or}
 use Rattle.std.specs.Prelude.{length}
 use Rattle.ap_base.specs.declared.reference.Ref.{Ref}
 use Rattle.ap_base.specs.declared.reference.Ref.TheVariants.{Null as NoRef, Persistent, Volatile}
@@ -21,7 +22,7 @@ use Rattle.plain_model.specs.Steps
 use Rattle.plain_model.specs.Steps.{Does, IsOver, Step, WrongOperand, op_of, step}
 use Rattle.frames.specs.Turns.{begun_thread}
 use Rattle.plain_frames.specs.Codes.{code_of}
-use Rattle.plain_natives.specs.Coded.{plain_reference}
+use Rattle.plain_frames.specs.Coded.{plain_reference}
 use Rattle.shared_objects.specs.declared.rest.Rest.{Rest}
 use Rattle.shared_objects.specs.Shown.{Keeps, Numbers, Shown, number_value}
 use Rattle.shared_objects.specs.Plain.{plain_request}

@@ -11,8 +11,8 @@ use Rattle.graph_model.specs.declared.types.Value.{Value}
 use Rattle.graph_model.specs.declared.types.Value.TheVariants as value
 use Rattle.graph_model.specs.declared.types.Heap.{Heap}
 use Rattle.run_types.specs.declared.fault.Full.{Full}
-use Rattle.run_types.specs.declared.fault.RunFault.{RunFault}
-use Rattle.run_types.specs.declared.fault.RunFault.TheVariants as fault
+use Rattle.run_types.specs.declared.fault.StepFault.{StepFault}
+use Rattle.run_types.specs.declared.fault.StepFault.TheVariants as fault
 use Rattle.run_types.specs.declared.fault.Which.{Which}
 use Rattle.run_types.specs.declared.fault.Which.TheVariants as which
 use Rattle.natives.specs.declared.requests.Request.{Request}
@@ -64,7 +64,7 @@ became before now (stepped.Over f) h = ap shown_of h
 
 -- ---- what a try tells of the step
 
-not-made : (f : RunFault) (did : Did) → lacking f ≡ tried.Made did → ⊥
+not-made : (f : StepFault) (did : Did) → lacking f ≡ tried.Made did → ⊥
 not-made (fault.Full full) did e = by-which full.which e
   where
     by-which : (w : Which) → lacking_of full w ≡ tried.Made did → ⊥
@@ -128,7 +128,7 @@ words-object heap (Waits on) m e = none-some m e
 words-object heap WrongOperand m e = none-some m e
 words-object heap (IsOver f) m e = none-some m e
 
-limit-short : (world : World) (left : ℕ) (plain : Step) (f : RunFault) → is_short (lacking f) ≡ true
+limit-short : (world : World) (left : ℕ) (plain : Step) (f : StepFault) → is_short (lacking f) ≡ true
     → IsLimit world left plain f → IsShortStep world plain
 limit-short world left plain (fault.Full full) e h = by-which full.which e h
   where
@@ -139,7 +139,7 @@ limit-short world left plain (fault.Full full) e h = by-which full.which e h
     by-which w e h = no-false e
 limit-short world left plain f e h = no-false e
 
-lacking-is : (f : RunFault) → is_short (lacking f) ≡ true → is_lacking f ≡ true
+lacking-is : (f : StepFault) → is_short (lacking f) ≡ true → is_lacking f ≡ true
 lacking-is (fault.Full full) e = by-which full.which e
   where
     by-which : (w : Which) → is_short (lacking_of full w) ≡ true → is_lack w ≡ true
@@ -154,7 +154,7 @@ module _ (world : World) (left : ℕ) (plain : Step) where
   no-lack full which.Monitors e h = absurd (let no = e in cc)
   no-lack full w e h = h
 
-  no-limit : (f : RunFault) → lacking f ≡ tried.Idle → (DoesPrint plain → ⊥) → IsLimit world left plain f → ⊥
+  no-limit : (f : StepFault) → lacking f ≡ tried.Idle → (DoesPrint plain → ⊥) → IsLimit world left plain f → ⊥
   no-limit (fault.Full full) e silent h = no-lack full full.which e h
   no-limit fault.SinkFault e silent h = silent h
   no-limit f e silent h = h

@@ -1,5 +1,6 @@
 -- What a step that isn't the act's leaves once it is taken back.
-use Rattle.std.proofs.Common.{◌≡◌, ◌↔◌, ℕ, zero, suc, pred, ◌<◌, Bool, true, false, IsTrue, nat_lt, nat_eq, List, [], ◌∷◌, map, length, Some, None, refl, ap, sym, subst, ◌∙◌, inl, arith, rules, if◌then◌else◌}
+use Rattle.std.proofs.Common.{◌≡◌, ◌↔◌, ℕ, zero, suc, pred, ◌<◌, Bool, true, false, IsTrue, nat_lt, nat_eq, List, [], ◌∷◌, map}
+use Rattle.std.proofs.Common.{length, Some, None, refl, ap, sym, subst, ◌∙◌, inl, arith, rules, if◌then◌else◌}
 use Rattle.std.specs.Prelude.{All, IsSome}
 use Rattle.std.specs.List.{AllByRecursion}
 use Rattle.std.proofs.lemmas.Bool.{eq-eqb}
@@ -19,7 +20,8 @@ use Rattle.run_history.specs.declared.act.PlainKey.TheVariants as plain
 use Rattle.run_history.specs.declared.act.Stage.TheVariants as stage
 use Rattle.run_history.specs.declared.plain.Monitor.{Monitor as PlainMonitor}
 use Rattle.run_history.specs.declared.plain.Progress.{Progress}
-use Rattle.run_history.specs.Worlds.{Thread, World, after, classes_after_op, entered, exited, key_is, monitors_after_op, one_less, threads_after_op}
+use Rattle.run_history.specs.Worlds.{Thread, World, after, classes_after_op, entered, exited, key_is, monitors_after_op}
+use Rattle.run_history.specs.Worlds.{one_less, threads_after_op}
 use Rattle.plain_model.specs.Facts.{SetFacts}
 use Rattle.shared_objects.specs.declared.rest.Rest.{Rest}
 use Rattle.shared_objects.specs.Shown.{Shown}

@@ -3,8 +3,8 @@ use Rattle.std.specs.Prelude.{◌≡◌, ℕ, Bool, true, false, Option, Some, N
 use Rattle.ap_base.specs.declared.reference.Ref.{Ref}
 use Rattle.ap_base.specs.declared.reference.Item.{Item}
 use Rattle.run_types.specs.declared.fault.Full.{Full}
-use Rattle.run_types.specs.declared.fault.RunFault.{RunFault}
-use Rattle.run_types.specs.declared.fault.RunFault.TheVariants as fault
+use Rattle.run_types.specs.declared.fault.StepFault.{StepFault}
+use Rattle.run_types.specs.declared.fault.StepFault.TheVariants as fault
 use Rattle.run_types.specs.declared.fault.Which.{Which}
 use Rattle.run_types.specs.declared.fault.Which.TheVariants as which
 use Rattle.natives.specs.declared.requests.Request.{Request}
@@ -24,7 +24,7 @@ lacking_of full which.VolatileWords = tried.Words full.need
 lacking_of full which.Monitors = tried.Monitors
 lacking_of full w = tried.Idle
 
-abbrev pub lacking : RunFault → Tried
+abbrev pub lacking : StepFault → Tried
 lacking (fault.Full full) = lacking_of full full.which
 lacking f = tried.Idle
 

@@ -1,5 +1,6 @@
 // The plain run in code.
-ghost use Rattle.std.specs.Prelude.{◌≡◌, ◌≢◌, ◌<◌, ◌↔◌, ◌∷◌, ◌++◌, [], ℕ, List, length, IfOk, IsTrue, Ok, OnErr, true, vec_capacity};
+ghost use Rattle.std.specs.Prelude.{◌≡◌, ◌≢◌, ◌<◌, ◌↔◌, ◌∷◌, ◌++◌, [], ℕ, List, length, IfOk, IsTrue, Ok, OnErr, true};
+ghost use Rattle.std.specs.Prelude.{vec_capacity};
 ghost use Rattle.plain_heap.specs.Heaps.{shown_of};
 ghost use Rattle.run_history.specs.Recorded.{Recorded};
 ghost use Rattle.run_forms.specs.Standing.{IsRun, Launch};

@@ -12,7 +12,7 @@ use ap_base::ThreadNo;
 use natives::{Reply, Request};
 use plain_heap::PlainHeap;
 use run_history::Op;
-use run_types::{RunFault, Which};
+use run_types::{StepFault, Which};
 use shared_objects::{Rest, Types};
 use shared_steps::take_step;
 use std::alloc::{AllocError, Global};
@@ -37,11 +37,11 @@ pub(crate) enum Tried {
 }
 
 /// How a fault ends a try.
-fn lacking(fault: &RunFault) -> Tried
+fn lacking(fault: &StepFault) -> Tried
     ensures { result ≡ lacking fault.now }
 {
     match *fault {
-        RunFault::Full(full) => match full.which {
+        StepFault::Full(full) => match full.which {
             Which::VolatileWords => Tried::Words(full.need),
             Which::Monitors => Tried::Monitors,
             _ => Tried::Idle,

@@ -1,5 +1,6 @@
 -- Each fault that acts tell has its cause.
-use Rattle.std.proofs.Common.{◌≡◌, ℕ, zero, suc, ◌+◌, ◌<◌, ◌≤◌, Bool, true, false, nat_eq, nat_le, not, ◌||◌, List, length, refl, ap, sym, ◌∙◌, inl, inr, arith, if◌then◌else◌}
+use Rattle.std.proofs.Common.{◌≡◌, ℕ, zero, suc, ◌+◌, ◌<◌, ◌≤◌, Bool, true, false, nat_eq, nat_le, not, ◌||◌, List, length}
+use Rattle.std.proofs.Common.{refl, ap, sym, ◌∙◌, inl, inr, arith, if◌then◌else◌}
 use Rattle.std.specs.Prelude.{Option, Some, None, is_some, IsSome, slice_get}
 use Rattle.std.proofs.lemmas.Bool.{leb-false, eqb-false, and_parts, or_parts, false≢true, cases_lt}
 use Rattle.std.proofs.lemmas.Option.{slice_get_past}
@@ -9,6 +10,7 @@ use Rattle.run_types.specs.declared.wait.On.{On}
 use Rattle.run_types.specs.declared.limits.Limits.{Limits}
 use Rattle.run_types.specs.declared.fault.RunFault.{RunFault}
 use Rattle.run_types.specs.declared.fault.RunFault.TheVariants as fault
+use Rattle.run_types.specs.Faults.{run_fault}
 use Rattle.run_types.specs.declared.fault.Which.{Which}
 use Rattle.run_types.specs.declared.fault.Which.TheVariants as which
 use Rattle.graph_model.specs.declared.types.Value.{Value}
@@ -26,7 +28,8 @@ use Rattle.plain_model.specs.Limits.{most_threads, words_made, words_left, acts_
 use Rattle.plain_model.specs.Steps.{Step, Does, Waits, WrongOperand, IsOver, step, op_of}
 use Rattle.plain_model.specs.Codes.{Code, asks_live, taken_by}
 use Rattle.plain_model.specs.Runs.{IsAbout, is_volatile, is_guarded_by, known_of, frames_of, request_after}
-use Rattle.plain_model.specs.Ends.{full, full_unless, bad_code, all_wait, waits_from, fault_of_durable_store, fault_of_enter, fault_of_op, waits_of, fault_of_step, fault_of_request, fault_after}
+use Rattle.plain_model.specs.Ends.{full, full_unless, bad_code, all_wait, waits_from, fault_of_durable_store, fault_of_enter}
+use Rattle.plain_model.specs.Ends.{fault_of_op, waits_of, fault_of_step, fault_of_request, fault_after}
 use Rattle.plain_model.specs.Causes.{UsesUp, HasCause, HasCauseOfStep}
 
 no_fault : {C : Type 0} (f : RunFault) → ◌≡◌ {A = Option RunFault} None (Some f) → C
@@ -208,8 +211,13 @@ module _ (set : SetFacts) (opening : Graph) (limits : Limits) (known : Knowledge
   step_cause beyond request asks WrongOperand wrong is =
       operand_cause request asks wrong (from_of request) refl is
   step_cause beyond request asks (IsOver g) over is =
-      let same : f ≡ g = the_fault g f is in
-      inr (inl (record { asked = request; is_asked = asks; is_over = over ∙ ap IsOver (sym same) }))
+      inr (inl (record {
+        asked = request;
+        is_asked = asks;
+        met = g;
+        is_over = over;
+        names = the_fault (run_fault g) f is;
+      }))
 
   pub request_cause : ((u : ℕ) → length known.world.threads ≤ u → requests u ≡ None)
       → (request : Option PlainRequest) → requests t ≡ request

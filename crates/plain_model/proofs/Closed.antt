@@ -1,5 +1,6 @@
 -- What durable places refer to is durable: at first, and after each front of a run.
-use Rattle.std.proofs.Common.{◌≡◌, ℕ, zero, suc, ◌+◌, ◌<◌, true, false, List, [], ◌∷◌, ◌++◌, refl, ap, sym, ◌∙◌, nat_eq, ◌||◌, ◌&&◌, if◌then◌else◌, arith, length, map, subst}
+use Rattle.std.proofs.Common.{◌≡◌, ℕ, zero, suc, ◌+◌, ◌<◌, true, false, List, [], ◌∷◌, ◌++◌, refl, ap, sym, ◌∙◌, nat_eq, ◌||◌}
+use Rattle.std.proofs.Common.{◌&&◌, if◌then◌else◌, arith, length, map, subst}
 use Rattle.std.specs.Prelude.{All, Option, Some, None, slice_get, slice_index_or}
 use Rattle.std.proofs.lemmas.Bool.{eqb-true}
 use Rattle.std.proofs.lemmas.List.{get_or_append_left, length-map}
@@ -15,7 +16,9 @@ use Rattle.run_history.specs.Knowing.{Knowledge, next_known, known_after, is_roo
 use Rattle.run_history.specs.Wanted.{Wishes, WantsNow, IsClosed}
 use Rattle.plain_model.specs.Facts.{SetFacts, StaticFacts, stream_class, arguments_class}
 use Rattle.plain_model.specs.Kinds.{narrowed}
-use Rattle.plain_model.specs.First.{IsOpening, first_known, first_world, first_heap, first_objects, first_statics, node_object, literal_object, static_value, constant_value, root_static, root_value, roots_from, is_lacking, lacking_roots, name_is}
+use Rattle.plain_model.specs.First.{IsOpening, first_known, first_world, first_heap, first_objects, first_statics, node_object}
+use Rattle.plain_model.specs.First.{literal_object, static_value, constant_value, root_static, root_value, roots_from}
+use Rattle.plain_model.specs.First.{is_lacking, lacking_roots, name_is}
 use Rattle.plain_model.specs.Codes.{Code, frames_after_op}
 use Rattle.plain_model.specs.Runs.{GoesOn}
 use Rattle.plain_model.proofs.Durable.{below_from_has_number, has_number_from_below}

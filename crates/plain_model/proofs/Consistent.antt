@@ -1,5 +1,6 @@
 -- The classes of which the runtime makes objects are there.
-use Rattle.std.proofs.Common.{◌≡◌, ℕ, zero, suc, ◌+◌, ◌<◌, true, false, List, [], ◌∷◌, ◌++◌, map, length, refl, ap, ◌∙◌, arith, lit<, slice_index_or, if◌then◌else◌}
+use Rattle.std.proofs.Common.{◌≡◌, ℕ, zero, suc, ◌+◌, ◌<◌, true, false, List, [], ◌∷◌, ◌++◌, map, length, refl, ap, ◌∙◌, arith}
+use Rattle.std.proofs.Common.{lit<, slice_index_or, if◌then◌else◌}
 use Rattle.std.specs.Prelude.{codes, Some, None}
 use Rattle.std.specs.Str.{bytes_eq}
 use Rattle.std.proofs.lemmas.Slice.Eq.{bytes_eq-Decides}
@@ -7,10 +8,14 @@ use Rattle.std.proofs.lemmas.List.{get_or-map, length-append, length-map, get_or
 use Rattle.ap_base.specs.declared.kind.Kind.{Kind}
 use Rattle.ap_base.specs.declared.kind.Kind.TheVariants.{C}
 use Rattle.plain_model.specs.declared.throws.Throws.{Throws}
-use Rattle.plain_model.specs.declared.throws.Throws.TheVariants.{NegativeArraySize, NullPointer, ArrayIndexOutOfBounds, StringIndexOutOfBounds, ArrayStore, ClassCast, IllegalMonitorState, IllegalThreadState, IllegalState, Arithmetic}
+use Rattle.plain_model.specs.declared.throws.Throws.TheVariants.{NegativeArraySize, NullPointer, ArrayIndexOutOfBounds}
+use Rattle.plain_model.specs.declared.throws.Throws.TheVariants.{StringIndexOutOfBounds, ArrayStore, ClassCast}
+use Rattle.plain_model.specs.declared.throws.Throws.TheVariants.{IllegalMonitorState, IllegalThreadState, IllegalState}
+use Rattle.plain_model.specs.declared.throws.Throws.TheVariants.{Arithmetic}
 use Rattle.plain_model.specs.Classes.{ClassFacts, ArrayType, no_class, element_kind}
 use Rattle.plain_model.specs.BuiltIn.{built_in_classes, array_class, chars_array, arguments_array}
-use Rattle.plain_model.specs.Facts.{SetFacts, built_in_number, class_count, classes_of, class_at, element_of, array_place, string_number, stream_class, arguments_class, thrown_class, thrown_place}
+use Rattle.plain_model.specs.Facts.{SetFacts, built_in_number, class_count, classes_of, class_at, element_of, array_place}
+use Rattle.plain_model.specs.Facts.{string_number, stream_class, arguments_class, thrown_class, thrown_place}
 use Rattle.plain_model.specs.Consistent.{IsComplete}
 
 pub own_bytes : (name : List ℕ) → bytes_eq name name ≡ true

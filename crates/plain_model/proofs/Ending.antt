@@ -18,7 +18,9 @@ use Rattle.plain_model.specs.StepWorld.{boxes, main_class, runtime_exception}
 use Rattle.plain_model.specs.StepWorld.{here as asked_here}
 use Rattle.graph_model.specs.Reach.{here}
 use Rattle.plain_model.specs.RunRows.{two_boxes, both, started, puts_worker, asks_worker}
-use Rattle.plain_model.specs.EndRows.{RegionsRace, ThreadsAreStuck, RunsFill, LinesAreWanted, CausesAreInOrder, FencesComeFirst, FaultsCome, ThreadsEnd}
+use Rattle.plain_model.specs.EndRows.{RegionsRace, ThreadsAreStuck, RunsFill, LinesAreWanted, CausesAreInOrder, FencesComeFirst}
+use Rattle.plain_model.specs.EndRows.{FaultsCome, ThreadsEnd}
+use Rattle.plain_model.specs.EndRows.{LinesHoldEightWords, LogsFill}
 
 pub regions_race : RegionsRace
 unfolding first_world first_heap known_after_op frames_after_op step
@@ -31,6 +33,13 @@ threads_are_stuck = record { crosswise = inl refl; one_waits = refl; none_waits 
 pub runs_fill : RunsFill
 unfolding first_world first_heap known_after_op frames_after_op step
 runs_fill = record { history = inl refl; one_act_left = refl; heap = inl refl; enough_words = refl }
+
+pub lines_hold_eight_words : LinesHoldEightWords
+lines_hold_eight_words = record { lines = refl }
+
+pub logs_fill : LogsFill
+unfolding first_world first_heap known_after_op frames_after_op step
+logs_fill = record { volatile = refl; durable = refl; one_left = refl }
 
 distinct : (n : ℕ) → AllPairs (λ m k. m ≢ k) (n ∷ [])
 distinct n i j d before below = absurd (omega (arith, before, below))

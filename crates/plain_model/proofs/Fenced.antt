@@ -13,7 +13,8 @@ use Rattle.plain_model.specs.First.{first_world, first_heap}
 use Rattle.plain_model.specs.Steps.{step}
 use Rattle.plain_model.specs.Codes.{frames_after_op}
 use Rattle.plain_model.specs.StepWorld.{here as at_main, content}
-use Rattle.plain_model.specs.RunRows.{Do, RefuseToDo, by, joining, leaves, puts_amount, puts, fences, puts_worker, asks_worker, puts_in_box, puts_target, StoresAreFenced, OnlyDurablePlacesAreAsked}
+use Rattle.plain_model.specs.RunRows.{Do, RefuseToDo, by, joining, leaves, puts_amount, puts, fences, puts_worker, asks_worker}
+use Rattle.plain_model.specs.RunRows.{puts_in_box, puts_target, StoresAreFenced, OnlyDurablePlacesAreAsked}
 use Rattle.plain_model.proofs.RunParts.{◌▸◌, may, alone, ask_rule, join_rule}
 use Rattle.plain_model.proofs.Started.{go_on, gone_on}
 

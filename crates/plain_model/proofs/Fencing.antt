@@ -7,7 +7,8 @@ use Rattle.run_history.specs.Knowing.{known_after_op}
 use Rattle.run_history.specs.Worlds.{heap_after}
 use Rattle.plain_model.specs.First.{first_world, first_heap}
 use Rattle.plain_model.specs.Laws.{ops_of}
-use Rattle.plain_model.specs.Rows.{nodes, null_root, one_node, made_node, asked, joined, stored, fenced, LeavesEither, LeavesTheNode}
+use Rattle.plain_model.specs.Rows.{nodes, null_root, one_node, made_node, asked, joined, stored, fenced, LeavesEither}
+use Rattle.plain_model.specs.Rows.{LeavesTheNode}
 
 -- the operations up to the store, and with it
 abbrev unstored : List Op

@@ -1,5 +1,6 @@
 -- The first heap of a class set and its opening graph is sound.
-use Rattle.std.proofs.Common.{◌≡◌, ℕ, suc, ◌+◌, ◌<◌, ◌≤◌, pos, true, false, List, [], ◌∷◌, refl, length, map, cond, if◌then◌else◌, ◌&&◌, arith, length-append, get_or}
+use Rattle.std.proofs.Common.{◌≡◌, ℕ, suc, ◌+◌, ◌<◌, ◌≤◌, pos, true, false, List, [], ◌∷◌, refl, length, map, cond}
+use Rattle.std.proofs.Common.{if◌then◌else◌, ◌&&◌, arith, length-append, get_or}
 use Rattle.std.specs.Prelude.{All, Option, Some, None, filter}
 use Rattle.std.proofs.lemmas.List.{length-map}
 use Rattle.std.proofs.lemmas.List.Elements.{All-nil, All-cons, All-append, All-map, All-filter, All-weaker}
@@ -14,10 +15,13 @@ use Rattle.graph_model.specs.declared.types.NamedValue.{NamedValue}
 use Rattle.graph_model.specs.declared.types.Graph.{Graph}
 use Rattle.graph_model.specs.Heaps.{IsBelow, IsSound, default_of}
 use Rattle.plain_model.specs.Classes.{ClassFacts}
-use Rattle.plain_model.specs.Facts.{SetFacts, StaticFacts, classes_of, stream_class, arguments_class, Constant, IntConstant, LongConstant, LiteralConstant}
+use Rattle.plain_model.specs.Facts.{SetFacts, StaticFacts, classes_of, stream_class, arguments_class, Constant, IntConstant}
+use Rattle.plain_model.specs.Facts.{LongConstant, LiteralConstant}
 use Rattle.plain_model.specs.Kinds.{narrowed}
 use Rattle.plain_model.specs.Consistent.{IsConstantBelow, IsComplete}
-use Rattle.plain_model.specs.First.{IsOpening, first_heap, first_objects, first_statics, node_object, literal_object, static_value, constant_value, root_static, root_value, roots_from, is_lacking, lacking_roots, name_is, stream_number}
+use Rattle.plain_model.specs.First.{IsOpening, first_heap, first_objects, first_statics, node_object, literal_object}
+use Rattle.plain_model.specs.First.{static_value, constant_value, root_static, root_value, roots_from, is_lacking}
+use Rattle.plain_model.specs.First.{lacking_roots, name_is, stream_number}
 use Rattle.plain_model.proofs.Consistent.{string_there, stream_there, arguments_there}
 use Rattle.plain_model.proofs.Closed.{root_value_below}
 

@@ -94,7 +94,6 @@ turns_break_by = record {
   words = λ fit. fit.0;
   race = λ fit. fit;
   sink = λ fit. fit;
-  stuck = λ fit. fit;
 }
 
 pub pieces_are_printed : PiecesArePrinted

@@ -1,5 +1,6 @@
 -- The given array types have their numbers, and each type is a subtype of itself.
-use Rattle.std.proofs.Common.{◌≡◌, ℕ, zero, suc, ◌+◌, ◌-◌, ◌<◌, ◌≤◌, true, false, List, [], ◌∷◌, ◌++◌, refl, sym, ◌∙◌, ap, subst, arith, inl, inr, length, nat_eq, nat_lt, slice_index_or, if◌then◌else◌}
+use Rattle.std.proofs.Common.{◌≡◌, ℕ, zero, suc, ◌+◌, ◌-◌, ◌<◌, ◌≤◌, true, false, List, [], ◌∷◌, ◌++◌, refl, sym, ◌∙◌, ap}
+use Rattle.std.proofs.Common.{subst, arith, inl, inr, length, nat_eq, nat_lt, slice_index_or, if◌then◌else◌}
 use Rattle.std.specs.Prelude.{Option, Some, None, slice_get, Contains}
 use Rattle.std.specs.List.{flat_map}
 use Rattle.std.specs.Str.{bytes_eq}
@@ -12,7 +13,9 @@ use Rattle.ap_base.specs.declared.kind.Kind.TheVariants.{Z, B, C, S, I, J, L, Te
 use Rattle.graph_model.specs.Heaps.{has_number}
 use Rattle.plain_model.specs.Classes.{ClassFacts, ArrayType, Innermost, Numbers, Objects, Missing, no_class}
 use Rattle.plain_model.specs.BuiltIn.{array_class, chars_array, arguments_array}
-use Rattle.plain_model.specs.Facts.{SetFacts, class_count, classes_of, class_at, array_at, array_place, array_named, superclasses_from, superclasses_of, interfaces_of, is_subclass, is_same_kind, is_sub_innermost, is_sub, dimensions_of}
+use Rattle.plain_model.specs.Facts.{SetFacts, class_count, classes_of, class_at, array_at, array_place, array_named}
+use Rattle.plain_model.specs.Facts.{superclasses_from, superclasses_of, interfaces_of, is_subclass, is_same_kind}
+use Rattle.plain_model.specs.Facts.{is_sub_innermost, is_sub, dimensions_of}
 use Rattle.plain_model.specs.Consistent.{IsConsistent, IsInnermost, IsNumberKind, IsArrayType}
 use Rattle.plain_model.specs.SetLaws.{HasGivenArrays, IsArrayNumber}
 use Rattle.plain_model.proofs.Consistent.{counted, array_of_place, own_bytes}

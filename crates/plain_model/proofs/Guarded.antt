@@ -1,5 +1,6 @@
 -- A guarded place was guarded within the region that is open.
-use Rattle.std.proofs.Common.{◌≡◌, ◌⊎◌, ℕ, ◌<◌, Bool, true, false, List, [], ◌∷◌, ◌++◌, filter, refl, ap, sym, ◌∙◌, subst, arith, inl, inr, nat_eq, ◌||◌, if◌then◌else◌, append_assoc}
+use Rattle.std.proofs.Common.{◌≡◌, ◌⊎◌, ℕ, ◌<◌, Bool, true, false, List, [], ◌∷◌, ◌++◌, filter, refl, ap, sym, ◌∙◌, subst}
+use Rattle.std.proofs.Common.{arith, inl, inr, nat_eq, ◌||◌, if◌then◌else◌, append_assoc}
 use Rattle.std.specs.Prelude.{◌≢◌, Option, Some, None, All}
 use Rattle.std.proofs.lemmas.Bool.{eqb-true, eq-eqb, false≢true}
 use Rattle.std.proofs.lemmas.List.Elements.{All-nil, All-cons, All-head, All-tail, All-filter, All-push}
@@ -11,7 +12,8 @@ use Rattle.run_history.specs.declared.act.Op.{Op}
 use Rattle.run_history.specs.declared.act.Op.TheVariants as op
 use Rattle.run_history.specs.Recorded.{Recorded}
 use Rattle.run_history.specs.Worlds.{depth_of}
-use Rattle.run_history.specs.Knowing.{Knowledge, Guard, known_after_op, next_known, after_end, is_outermost, guard_of, has_guards, durable_at}
+use Rattle.run_history.specs.Knowing.{Knowledge, Guard, known_after_op, next_known, after_end, is_outermost, guard_of}
+use Rattle.run_history.specs.Knowing.{has_guards, durable_at}
 use Rattle.plain_model.specs.Facts.{SetFacts}
 use Rattle.plain_model.specs.Codes.{Code}
 use Rattle.plain_model.specs.Runs.{IsPlainRun, Rule, MayStore, known_of, wants_of, request_after, is_guarded_by}

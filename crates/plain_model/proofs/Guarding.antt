@@ -1,5 +1,6 @@
 -- Guards are of open regions, and a place has at most one.
-use Rattle.std.proofs.Common.{◌≡◌, ℕ, suc, ◌+◌, ◌≤◌, Bool, true, false, List, [], ◌∷◌, ◌++◌, filter, refl, ap, sym, ◌∙◌, subst, arith, nat_eq, not, ◌&&◌, cond, if◌then◌else◌}
+use Rattle.std.proofs.Common.{◌≡◌, ℕ, suc, ◌+◌, ◌≤◌, Bool, true, false, List, [], ◌∷◌, ◌++◌, filter, refl, ap, sym, ◌∙◌, subst}
+use Rattle.std.proofs.Common.{arith, nat_eq, not, ◌&&◌, cond, if◌then◌else◌}
 use Rattle.std.specs.Prelude.{◌≢◌, Option, Some, None}
 use Rattle.std.proofs.lemmas.Bool.{eqb-true, eq-eqb, and_parts, false≢true, or_parts}
 use Rattle.ap_base.specs.declared.place.Place.{Place}
@@ -10,7 +11,8 @@ use Rattle.run_history.specs.declared.act.Op.{Op}
 use Rattle.run_history.specs.declared.act.Op.TheVariants as op
 use Rattle.run_history.specs.Recorded.{Recorded}
 use Rattle.run_history.specs.Worlds.{depth_of}
-use Rattle.run_history.specs.Knowing.{Knowledge, next_known, Guard, known_after_op, after_end, is_outermost, guard_of, has_guards}
+use Rattle.run_history.specs.Knowing.{Knowledge, next_known, Guard, known_after_op, after_end, is_outermost, guard_of}
+use Rattle.run_history.specs.Knowing.{has_guards}
 use Rattle.run_history.specs.Wanted.{Wishes}
 use Rattle.plain_model.specs.Facts.{SetFacts}
 use Rattle.plain_model.specs.Requests.{PlainRequest}

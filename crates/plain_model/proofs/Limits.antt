@@ -1,5 +1,6 @@
 -- What is used up where a run is full.
-use Rattle.std.proofs.Common.{◌≡◌, ℕ, suc, ◌≤◌, ◌<◌, ◌-◌, Bool, true, false, List, [], ◌∷◌, ◌++◌, length, filter, nat_le, nat_eq, refl, ap, sym, ◌∙◌, arith, inl, inr, cond}
+use Rattle.std.proofs.Common.{◌≡◌, ℕ, suc, ◌≤◌, ◌<◌, ◌-◌, Bool, true, false, List, [], ◌∷◌, ◌++◌, length, filter, nat_le}
+use Rattle.std.proofs.Common.{nat_eq, refl, ap, sym, ◌∙◌, arith, inl, inr, cond}
 use Rattle.std.specs.Prelude.{◌≢◌, AllPairs, Contains}
 use Rattle.std.proofs.lemmas.Bool.{false≢true, le-leb, or_cases, eqb-true}
 use Rattle.std.proofs.lemmas.List.{get_or_append_left, get_or_at, length-append}

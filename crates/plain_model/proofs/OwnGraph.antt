@@ -1,5 +1,6 @@
 -- The first heap of a canonical opening graph has that graph.
-use Rattle.std.proofs.Common.{◌≡◌, ℕ, suc, ◌<◌, true, false, List, [], ◌∷◌, ◌++◌, map, length, refl, ap, sym, ◌∙◌, subst, arith, nat_eq, zero, slice_index_or}
+use Rattle.std.proofs.Common.{◌≡◌, ℕ, suc, ◌<◌, true, false, List, [], ◌∷◌, ◌++◌, map, length, refl, ap, sym, ◌∙◌, subst, arith}
+use Rattle.std.proofs.Common.{nat_eq, zero, slice_index_or}
 use Rattle.std.specs.Prelude.{All, Contains}
 use Rattle.std.specs.List.{IsDistinct, flat_map}
 use Rattle.std.proofs.lemmas.List.{get_or-map, get_or_append_left, get_or_default, length-map, same_lists}
@@ -12,7 +13,8 @@ use Rattle.graph_model.specs.declared.types.Heap.{Heap}
 use Rattle.graph_model.specs.declared.types.Node.{Node}
 use Rattle.graph_model.specs.declared.types.NamedValue.{NamedValue}
 use Rattle.graph_model.specs.declared.types.Graph.{Graph}
-use Rattle.graph_model.specs.Heaps.{has_number, values_of, object_at, shape_at, root_values, no_object, no_shape, IsSound, IsBelow}
+use Rattle.graph_model.specs.Heaps.{has_number, values_of, object_at, shape_at, root_values, no_object, no_shape, IsSound}
+use Rattle.graph_model.specs.Heaps.{IsBelow}
 use Rattle.graph_model.specs.Canon.{with_new, place_in, renumbered, node_of, root_of, graph_by, canon_of, found_from}
 use Rattle.graph_model.specs.Reach.{here, along, IsReached}
 use Rattle.graph_model.specs.BreadthFirst.{IsNumbering}

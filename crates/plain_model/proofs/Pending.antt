@@ -1,12 +1,14 @@
 -- What is pending of a thread was asked by it, with no store of it since.
-use Rattle.std.proofs.Common.{◌≡◌, ◌⊎◌, inl, inr, ℕ, Bool, true, false, List, [], ◌∷◌, ◌++◌, refl, ap, sym, ◌∙◌, nat_eq, not, cond, if◌then◌else◌, eq-eqb, arith}
+use Rattle.std.proofs.Common.{◌≡◌, ◌⊎◌, inl, inr, ℕ, Bool, true, false, List, [], ◌∷◌, ◌++◌, refl, ap, sym, ◌∙◌, nat_eq, not}
+use Rattle.std.proofs.Common.{cond, if◌then◌else◌, eq-eqb, arith}
 use Rattle.std.specs.Prelude.{All, Some, None, filter}
 use Rattle.std.proofs.lemmas.Bool.{eqb-true}
 use Rattle.std.proofs.lemmas.List.Elements.{All-nil, All-cons}
 use Rattle.run_history.specs.declared.act.Op.{Op}
 use Rattle.run_history.specs.declared.act.Op.TheVariants as op
 use Rattle.run_history.specs.Recorded.{Recorded}
-use Rattle.run_history.specs.Knowing.{Knowledge, Pending, pending_of, next_known, known_after, known_after_op, is_outermost, after_end}
+use Rattle.run_history.specs.Knowing.{Knowledge, Pending, pending_of, next_known, known_after, known_after_op, is_outermost}
+use Rattle.run_history.specs.Knowing.{after_end}
 use Rattle.plain_model.specs.Laws.{IsStored, WasAsked}
 
 -- of a list with one more, the pending act of a thread is that of the list or the new one

@@ -1,5 +1,6 @@
 -- A new node is asked, joined, stored to the root and fenced.
-use Rattle.std.proofs.Common.{◌≡◌, ◌⊎◌, ℕ, true, false, [], ◌∷◌, ◌++◌, refl, ap, ◌∙◌, inl, inr, lit≤, lit<, arith, List, nat_eq, if◌then◌else◌, subst}
+use Rattle.std.proofs.Common.{◌≡◌, ◌⊎◌, ℕ, true, false, [], ◌∷◌, ◌++◌, refl, ap, ◌∙◌, inl, inr, lit≤, lit<, arith, List, nat_eq}
+use Rattle.std.proofs.Common.{if◌then◌else◌, subst}
 use Rattle.std.specs.Prelude.{All, AllPairs, Contains, ◌≢◌, Some, None}
 use Rattle.std.proofs.lemmas.List.Elements.{All-nil, All-cons, All-contains}
 use Rattle.ap_base.specs.declared.place.Place.TheVariants.{Static}

@@ -1,5 +1,6 @@
 -- Class sets that aren't consistent, each by one fault.
-use Rattle.std.proofs.Common.{◌≡◌, ℕ, zero, suc, ◌<◌, List, [], ◌∷◌, refl, sym, ◌∙◌, ap, subst, arith, lit<, length, slice_index_or}
+use Rattle.std.proofs.Common.{◌≡◌, ℕ, zero, suc, ◌<◌, List, [], ◌∷◌, refl, sym, ◌∙◌, ap, subst, arith, lit<, length}
+use Rattle.std.proofs.Common.{slice_index_or}
 use Rattle.std.specs.Prelude.{Option, Some, None, Contains, codes}
 use Rattle.std.proofs.lemmas.Bool.{false≢true}
 use Rattle.ap_base.specs.declared.kind.Kind.{Kind}

@@ -7,7 +7,8 @@ use Rattle.plain_model.specs.First.{first_world, first_heap}
 use Rattle.plain_model.specs.Steps.{step}
 use Rattle.plain_model.specs.Codes.{frames_after_op}
 use Rattle.plain_model.specs.StepWorld.{int}
-use Rattle.plain_model.specs.RunRows.{Do, RefuseToDo, amount_of, puts_amount, in_region, region_of, begins, ends, guards, puts, closes, leaves, begin, end, nested, inner_ended, RegionsGuard, RegionsNest}
+use Rattle.plain_model.specs.RunRows.{Do, RefuseToDo, amount_of, puts_amount, in_region, region_of, begins, ends, guards, puts}
+use Rattle.plain_model.specs.RunRows.{closes, leaves, begin, end, nested, inner_ended, RegionsGuard, RegionsNest}
 use Rattle.plain_model.proofs.RunParts.{◌▸◌, may, guard_rule, to_guarded, close_rule, end_rule, inner_end}
 use Rattle.plain_model.proofs.Started.{go_on, gone_on}
 

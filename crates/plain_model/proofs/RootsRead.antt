@@ -1,5 +1,6 @@
 -- The durable roots of the first heap hold what the opening graph's roots hold.
-use Rattle.std.proofs.Common.{◌≡◌, ℕ, suc, ◌+◌, ◌<◌, Bool, true, false, List, [], ◌∷◌, ◌++◌, map, filter, length, refl, ap, sym, ◌∙◌, subst, arith, nat_eq, ◌&&◌, slice_index_or, if◌then◌else◌, append_assoc, cond}
+use Rattle.std.proofs.Common.{◌≡◌, ℕ, suc, ◌+◌, ◌<◌, Bool, true, false, List, [], ◌∷◌, ◌++◌, map, filter, length, refl, ap, sym}
+use Rattle.std.proofs.Common.{◌∙◌, subst, arith, nat_eq, ◌&&◌, slice_index_or, if◌then◌else◌, append_assoc, cond}
 use Rattle.std.specs.Prelude.{◌≢◌, AllPairs, Option, Some, None, slice_get}
 use Rattle.std.proofs.lemmas.Bool.{eqb-true, eq-eqb, and_parts, false≢true}
 use Rattle.std.proofs.lemmas.List.{get_or-map, get_or_append_left, get_or_at, length-append, length-map}
@@ -10,7 +11,8 @@ use Rattle.graph_model.specs.declared.types.Root.{Root}
 use Rattle.graph_model.specs.declared.types.NamedValue.{NamedValue}
 use Rattle.graph_model.specs.declared.types.Graph.{Graph}
 use Rattle.plain_model.specs.Facts.{SetFacts, StaticFacts}
-use Rattle.plain_model.specs.First.{IsOpening, first_statics, static_value, root_static, root_value, roots_from, is_lacking, lacking_roots, name_is}
+use Rattle.plain_model.specs.First.{IsOpening, first_statics, static_value, root_static, root_value, roots_from, is_lacking}
+use Rattle.plain_model.specs.First.{lacking_roots, name_is}
 
 name_same : (a b : List ℕ) → name_is a b ≡ true → a ≡ b
 name_same [] [] is = refl

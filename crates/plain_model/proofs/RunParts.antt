@@ -11,12 +11,14 @@ use Rattle.graph_model.specs.Heaps.{has_number}
 use Rattle.run_history.specs.declared.act.Op.TheVariants as op
 use Rattle.run_history.specs.Recorded.{Recorded, NamesRightly}
 use Rattle.run_history.specs.Worlds.{depth_of}
-use Rattle.run_history.specs.Knowing.{owes_fence, Knowledge, next_known, known_after, durable_at, pending_of, guard_of, has_guards, is_outermost}
+use Rattle.run_history.specs.Knowing.{owes_fence, Knowledge, next_known, known_after, durable_at, pending_of, guard_of}
+use Rattle.run_history.specs.Knowing.{has_guards, is_outermost}
 use Rattle.run_history.specs.Wanted.{Wishes, WantsNow, WantsAfter}
 use Rattle.plain_model.specs.Facts.{SetFacts}
 use Rattle.plain_model.specs.Requests.{PlainRequest}
 use Rattle.plain_model.specs.Codes.{Code, frames_after_op, frames_after}
-use Rattle.plain_model.specs.Runs.{IsAbout, MayAsk, MayJoin, MayGuard, MayStore, MayClose, MayEnd, Rule, MayAct, GoesOn, is_fenced, has_guarded, is_volatile}
+use Rattle.plain_model.specs.Runs.{IsAbout, MayAsk, MayJoin, MayGuard, MayStore, MayClose, MayEnd, Rule, MayAct, GoesOn}
+use Rattle.plain_model.specs.Runs.{is_fenced, has_guarded, is_volatile}
 use Rattle.plain_model.proofs.ClosedTest.{is_closed, closed_by_test}
 
 -- an act that may come, and what may come after it

@@ -1,5 +1,6 @@
 -- What the steps of Ends, Enters, Exits and Starts say of the world.
-use Rattle.std.proofs.Common.{◌≡◌, ◌⊎◌, ℕ, zero, suc, ◌<◌, ℤ, pos, negsuc, Bool, true, false, List, refl, subst, inl, inr, nat_eq, nat_lt, nat_le, ◌&&◌, if◌then◌else◌, length, take, arith}
+use Rattle.std.proofs.Common.{◌≡◌, ◌⊎◌, ℕ, zero, suc, ◌<◌, ℤ, pos, negsuc, Bool, true, false, List, refl, subst, inl, inr}
+use Rattle.std.proofs.Common.{nat_eq, nat_lt, nat_le, ◌&&◌, if◌then◌else◌, length, take, arith}
 use Rattle.std.specs.Prelude.{◌≢◌, Option, Some, None, slice_get}
 use Rattle.std.proofs.lemmas.Bool.{eqb-true, ltb-true}
 use Rattle.ap_base.specs.declared.kind.Kind.{Kind}
@@ -7,7 +8,7 @@ use Rattle.ap_base.specs.declared.place.Place.{Place}
 use Rattle.ap_base.specs.declared.place.Place.TheVariants.{Static, Slot}
 use Rattle.run_types.specs.declared.key.Key.TheVariants as key
 use Rattle.run_types.specs.declared.wait.On.TheVariants as on
-use Rattle.run_types.specs.declared.fault.RunFault.TheVariants as fault
+use Rattle.run_types.specs.declared.fault.StepFault.TheVariants as fault
 use Rattle.run_types.specs.declared.fault.Which.TheVariants as which
 use Rattle.graph_model.specs.declared.types.Value.{Value}
 use Rattle.graph_model.specs.declared.types.Value.TheVariants.{Int, Long, Null, Obj as Object}
@@ -30,7 +31,12 @@ use Rattle.plain_model.specs.Facts.{SetFacts, string_number, thrown_class}
 use Rattle.plain_model.specs.Kinds.{narrowed}
 use Rattle.plain_model.specs.Requests.{PlainRequest, PlainReply}
 use Rattle.plain_model.specs.Limits.{most_threads, threads_left}
-use Rattle.plain_model.specs.Steps.{Step, Does, Waits, WrongOperand, IsOver, step, op_of, is_same, with_object, with_reference, with_index, with_progress, with_class, new_array, new_length, allocates, throwing, throws, stores, own_kind, next_number, enters_held, exits_held, starts_thread, joins_thread, thread_of, puts_element, casts, compares, prints, ends_region, has_elements, is_of, past_end, any_object, is_thread, may_store, reads, measures, tests, class_act, null_class, bool_value, has_length, enters, exits, shape_of}
+use Rattle.plain_model.specs.Steps.{Step, Does, Waits, WrongOperand, IsOver, step, op_of, is_same, with_object, with_reference}
+use Rattle.plain_model.specs.Steps.{with_index, with_progress, with_class, new_array, new_length, allocates, throwing, throws}
+use Rattle.plain_model.specs.Steps.{stores, own_kind, next_number, enters_held, exits_held, starts_thread, joins_thread}
+use Rattle.plain_model.specs.Steps.{thread_of, puts_element, casts, compares, prints, ends_region, has_elements, is_of}
+use Rattle.plain_model.specs.Steps.{past_end, any_object, is_thread, may_store, reads, measures, tests, class_act, null_class}
+use Rattle.plain_model.specs.Steps.{bool_value, has_length, enters, exits, shape_of}
 use Rattle.plain_model.specs.Codes.{taken_by}
 use Rattle.plain_model.specs.Runs.{IsAbout}
 

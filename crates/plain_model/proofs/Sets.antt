@@ -1,7 +1,6 @@
 -- The class sets of the rows are consistent, and their graphs' nodes have values of their kinds.
 use Rattle.std.proofs.Common.{◌≡◌, ℕ, ◌<◌, ◌^◌, List, [], ◌∷◌, refl, sym, ap, lit<, arith}
 use Rattle.std.specs.Prelude.{◌≢◌, ◌++◌, true, false, codes, take, length, replicate, slice_index_or, None, Some, All, AllPairs}
-use Rattle.std.specs.Int.{int_wrap}
 use Rattle.std.specs.List.{AllByRecursion as ByRecursion}
 use Rattle.std.proofs.lemmas.Bool.{false≢true}
 use Rattle.std.proofs.lemmas.List.Elements.{All-nil, All-cons, All-weaker, All-from_recursion}
@@ -14,7 +13,8 @@ use Rattle.plain_model.specs.Classes.{ClassFacts, ArrayType, Missing}
 use Rattle.plain_model.specs.Facts.{SetFacts, StaticFacts, class_count, classes_of, class_at, is_subclass}
 use Rattle.plain_model.specs.Kinds.{AreOf}
 use Rattle.plain_model.specs.First.{class_named}
-use Rattle.plain_model.specs.Consistent.{IsConsistent, IsConstantBelow, IsInterface, IsProgramClass, IsArrayType, IsStaticOfProgram, IsFieldKind, IsInnermost, innermost_descriptor, supers_of}
+use Rattle.plain_model.specs.Consistent.{IsConsistent, IsConstantBelow, IsInterface, IsProgramClass, IsArrayType}
+use Rattle.plain_model.specs.Consistent.{IsStaticOfProgram, IsFieldKind, IsInnermost, innermost_descriptor, supers_of}
 use Rattle.plain_model.specs.BuiltIn.{chars_array, arguments_array}
 use Rattle.plain_model.specs.Rows.{nodes}
 use Rattle.plain_model.specs.StepWorld.{boxes, box_fields, int}
@@ -244,14 +244,12 @@ abbrev box : List Value → Node
 box values = record { shape = record { name = codes "Box"; fields = box_fields; element = None }; values = values }
 
 first_box : IsBox (box (int 5 ∷ Object 1 ∷ int 0 ∷ []))
-unfolding int_wrap
 first_box =
-    record { form = tt; range = refl } ▸ record { form = tt; range = refl } ▸ record { form = tt; range = refl } ▸ tt
+    record { form = tt; range = tt } ▸ record { form = tt; range = tt } ▸ record { form = tt; range = tt } ▸ tt
 
 second_box : IsBox (box (int 6 ∷ Null ∷ int 0 ∷ []))
-unfolding int_wrap
 second_box =
-    record { form = tt; range = refl } ▸ record { form = tt; range = refl } ▸ record { form = tt; range = refl } ▸ tt
+    record { form = tt; range = tt } ▸ record { form = tt; range = tt } ▸ record { form = tt; range = tt } ▸ tt
 
 pub boxes_are_typed : All IsBox two_boxes.nodes
 boxes_are_typed =

@@ -1,5 +1,6 @@
 -- What the step of a fit request does, part by part: what holds of each part holds of every step.
-use Rattle.std.proofs.Common.{◌≡◌, ℕ, zero, suc, ◌<◌, ◌≤◌, pos, negsuc, ℤ, Bool, true, false, List, refl, length, if◌then◌else◌, ◌&&◌, nat_lt, nat_le, nat_eq}
+use Rattle.std.proofs.Common.{◌≡◌, ℕ, zero, suc, ◌<◌, ◌≤◌, pos, negsuc, ℤ, Bool, true, false, List, refl, length, if◌then◌else◌}
+use Rattle.std.proofs.Common.{◌&&◌, nat_lt, nat_le, nat_eq}
 use Rattle.std.specs.Prelude.{Option, Some, None, IsSome, slice_get, take}
 use Rattle.std.proofs.lemmas.Bool.{false≢true, ltb-true, leb-true, eq-eqb, and_parts}
 use Rattle.ap_base.specs.declared.kind.Kind.{Kind}
@@ -9,8 +10,8 @@ use Rattle.run_types.specs.declared.resolved.FieldAt.{FieldAt}
 use Rattle.ap_base.specs.declared.place.Place.TheVariants.{Static, Slot}
 use Rattle.run_types.specs.declared.wait.On.{On}
 use Rattle.run_types.specs.declared.wait.On.TheVariants as on
-use Rattle.run_types.specs.declared.fault.RunFault.{RunFault}
-use Rattle.run_types.specs.declared.fault.RunFault.TheVariants as fault
+use Rattle.run_types.specs.declared.fault.StepFault.{StepFault}
+use Rattle.run_types.specs.declared.fault.StepFault.TheVariants as fault
 use Rattle.run_types.specs.declared.fault.Which.TheVariants as which
 use Rattle.graph_model.specs.declared.types.Value.{Value}
 use Rattle.graph_model.specs.declared.types.Value.TheVariants.{Int, Long, Null, Obj as Object}
@@ -34,7 +35,12 @@ use Rattle.plain_model.specs.Facts.{SetFacts, classes_of, class_at, element_of, 
 use Rattle.plain_model.specs.Kinds.{narrowed}
 use Rattle.plain_model.specs.Requests.{PlainRequest, PlainReply}
 use Rattle.plain_model.specs.Limits.{threads_left}
-use Rattle.plain_model.specs.Steps.{Step, Does, Waits, WrongOperand, IsOver, step, throws, throwing, allocates, stores, own_kind, with_object, with_reference, with_index, with_progress, with_class, new_array, new_length, enters_held, enters, exits_held, exits, starts_thread, joins_thread, thread_of, puts_element, may_store, compares, is_same, prints, ends_region, has_elements, past_end, is_of, casts, tests, measures, has_length, reads, class_act, null_class, shape_of, bool_value, any_object, is_thread}
+use Rattle.plain_model.specs.Steps.{Step, Does, Waits, WrongOperand, IsOver, step, throws, throwing, allocates, stores}
+use Rattle.plain_model.specs.Steps.{own_kind, with_object, with_reference, with_index, with_progress, with_class, new_array}
+use Rattle.plain_model.specs.Steps.{new_length, enters_held, enters, exits_held, exits, starts_thread, joins_thread, thread_of}
+use Rattle.plain_model.specs.Steps.{puts_element, may_store, compares, is_same, prints, ends_region, has_elements, past_end}
+use Rattle.plain_model.specs.Steps.{is_of, casts, tests, measures, has_length, reads, class_act, null_class, shape_of}
+use Rattle.plain_model.specs.Steps.{bool_value, any_object, is_thread}
 use Rattle.plain_model.specs.Replies.{IsReplyTo}
 use Rattle.plain_model.specs.Duties.{IsFit, IsOfKind, IsStaticField, IsInstanceField, IsThrowable}
 use Rattle.plain_model.proofs.Consistent.{string_there, text_elements}
@@ -141,7 +147,7 @@ module _ (set : SetFacts) (world : World) (P : PlainRequest → Op → PlainRepl
     gives-WrongOperand : Gives WrongOperand
     gives-WrongOperand o r is = absurd (let e : WrongOperand ≡ Does o r = is in cc)
 
-    gives-IsOver : (fault : RunFault) → Gives (IsOver fault)
+    gives-IsOver : (fault : StepFault) → Gives (IsOver fault)
     gives-IsOver fault o r is = absurd (let e : IsOver fault ≡ Does o r = is in cc)
 
     -- what makes no object, stores nothing and replies with no value

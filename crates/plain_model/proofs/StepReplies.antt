@@ -1,5 +1,6 @@
 -- The reply to a fit request is of the request's kind, and what it names is there after the step.
-use Rattle.std.proofs.Common.{◌≡◌, ℕ, zero, suc, ◌<◌, true, false, Bool, List, [], ◌∷◌, refl, length, inl, inr, slice_get, slice_index_or, length-append, arith}
+use Rattle.std.proofs.Common.{◌≡◌, ℕ, zero, suc, ◌<◌, true, false, Bool, List, [], ◌∷◌, refl, length, inl, inr, slice_get}
+use Rattle.std.proofs.Common.{slice_index_or, length-append, arith}
 use Rattle.std.specs.Prelude.{All, Option, Some, None}
 use Rattle.std.specs.List.{AllZip}
 use Rattle.std.proofs.lemmas.Bool.{cases_lt}
@@ -104,7 +105,7 @@ module _ (set : SetFacts) (world : World) (consistent : IsConsistent set) (of_se
     read_static = λ from field is. static_read field is;
     read_field = λ from holder field n there of is. field_read n field there of is;
     read_element = λ from array index kind n i there has within. element_read kind n i there has within;
-    measure = λ from array n count. record { form = tt; range = refl };
+    measure = λ from array n count. record { form = tt; range = tt };
     test = λ from object target o b quiet. bool_is b;
     compare = λ from left right same. bool_is same;
     other = λ request o r quiet no_value is. is;

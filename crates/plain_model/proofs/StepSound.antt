@@ -10,7 +10,8 @@ use Rattle.graph_model.specs.declared.types.Field.{Field}
 use Rattle.graph_model.specs.declared.types.Shape.{Shape}
 use Rattle.graph_model.specs.declared.types.Obj.{Obj}
 use Rattle.graph_model.specs.declared.types.Heap.{Heap}
-use Rattle.graph_model.specs.Heaps.{IsBelow, IsSound, default_of, fresh_values, shape_at, object_at, with_slot, with_fresh, stored, no_object}
+use Rattle.graph_model.specs.Heaps.{IsBelow, IsSound, default_of, fresh_values, shape_at, object_at, with_slot, with_fresh}
+use Rattle.graph_model.specs.Heaps.{stored, no_object}
 use Rattle.run_history.specs.declared.act.Op.{Op}
 use Rattle.run_history.specs.Worlds.{World, heap_after_op}
 use Rattle.plain_model.specs.Classes.{ClassFacts}

@@ -1,5 +1,6 @@
 -- The step of a fit request leaves the heap typed.
-use Rattle.std.proofs.Common.{◌≡◌, ℕ, zero, suc, ◌<◌, true, List, [], ◌∷◌, subst, map, length, replicate, inl, inr, slice_set, slice_get, slice_index_or, length-set, arith}
+use Rattle.std.proofs.Common.{◌≡◌, ℕ, zero, suc, ◌<◌, true, List, [], ◌∷◌, subst, map, length, replicate, inl, inr, slice_set}
+use Rattle.std.proofs.Common.{slice_get, slice_index_or, length-set, arith}
 use Rattle.std.specs.Prelude.{Option, Some, None}
 use Rattle.std.specs.List.{AllZip}
 use Rattle.std.proofs.lemmas.Bool.Decides.{eqb_tells}

@@ -1,5 +1,6 @@
 -- Where all live threads wait, no thread does anything.
-use Rattle.std.proofs.Common.{◌≡◌, ◌⊎◌, ℕ, Bool, true, false, ap, List, refl, sym, ◌∙◌, inl, inr, length, nat_lt, nat_le, ◌&&◌, if◌then◌else◌, take}
+use Rattle.std.proofs.Common.{◌≡◌, ◌⊎◌, ℕ, Bool, true, false, ap, List, refl, sym, ◌∙◌, inl, inr, length, nat_lt, nat_le, ◌&&◌}
+use Rattle.std.proofs.Common.{if◌then◌else◌, take}
 use Rattle.std.specs.Prelude.{Option, Some, None, IsSome}
 use Rattle.std.proofs.lemmas.Bool.{false≢true}
 use Rattle.run_types.specs.declared.wait.On.{On}

@@ -1,5 +1,6 @@
 -- A subtype of a class has the class's fields, at the same places, and no elements.
-use Rattle.std.proofs.Common.{◌≡◌, ◌⊎◌, ℕ, zero, suc, ◌+◌, ◌-◌, ◌<◌, true, false, ◌||◌, ◌&&◌, List, [], ◌∷◌, ◌++◌, map, refl, sym, ◌∙◌, ap, subst, arith, lit<, inl, inr, length, nat_eq, nat_lt, slice_index_or, if◌then◌else◌}
+use Rattle.std.proofs.Common.{◌≡◌, ◌⊎◌, ℕ, zero, suc, ◌+◌, ◌-◌, ◌<◌, true, false, ◌||◌, ◌&&◌, List, [], ◌∷◌, ◌++◌, map, refl}
+use Rattle.std.proofs.Common.{sym, ◌∙◌, ap, subst, arith, lit<, inl, inr, length, nat_eq, nat_lt, slice_index_or, if◌then◌else◌}
 use Rattle.std.specs.Prelude.{All, Option, Some, None, slice_get, take}
 use Rattle.std.specs.List.{flat_map}
 use Rattle.std.proofs.lemmas.Bool.{false≢true, or_cases, eqb-true, cases_lt, lt-ltb, ne_eqb}
@@ -9,11 +10,15 @@ use Rattle.std.proofs.lemmas.List.Elements.{All-nil, All-cons, All-head, All-tai
 use Rattle.graph_model.specs.declared.types.Field.{Field}
 use Rattle.plain_model.specs.Classes.{ClassFacts, ArrayType, Innermost, Objects, no_class}
 use Rattle.plain_model.specs.BuiltIn.{array_class, built_in_classes, chars_array}
-use Rattle.plain_model.specs.Facts.{SetFacts, built_in_number, class_count, classes_of, class_at, element_of, array_at, superclasses_from, superclasses_of, interfaces_from, interfaces_of, supertypes_of, is_subclass, is_above_arrays, is_sub_innermost, is_subtype, is_sub, dimensions_of, innermost_of}
+use Rattle.plain_model.specs.Facts.{SetFacts, built_in_number, class_count, classes_of, class_at, element_of, array_at}
+use Rattle.plain_model.specs.Facts.{superclasses_from, superclasses_of, interfaces_from, interfaces_of, supertypes_of}
+use Rattle.plain_model.specs.Facts.{is_subclass, is_above_arrays, is_sub_innermost, is_subtype, is_sub, dimensions_of}
+use Rattle.plain_model.specs.Facts.{innermost_of}
 use Rattle.plain_model.specs.Consistent.{IsConsistent, IsInterface, IsProgramClass, IsArrayType}
 use Rattle.plain_model.specs.BuiltInRows.{IsUnder}
 use Rattle.plain_model.specs.SetLaws.{HasField}
-use Rattle.plain_model.proofs.BuiltIns.{built_ins_link, array_under, array_interfaces, HasFieldsOrElements, fields_or_elements, no_fields}
+use Rattle.plain_model.proofs.BuiltIns.{built_ins_link, array_under, array_interfaces, HasFieldsOrElements, fields_or_elements}
+use Rattle.plain_model.proofs.BuiltIns.{no_fields}
 use Rattle.plain_model.proofs.Consistent.{counted, array_of_place}
 use Rattle.plain_model.proofs.Durable.{All-has_number}
 

@@ -1,11 +1,13 @@
 -- The direct superclass and the superinterfaces of a class are supertypes of it.
-use Rattle.std.proofs.Common.{◌≡◌, ℕ, suc, ◌+◌, ◌<◌, true, List, [], ◌∷◌, ◌++◌, sym, subst, arith, inl, inr, length, nat_eq, slice_index_or}
+use Rattle.std.proofs.Common.{◌≡◌, ℕ, suc, ◌+◌, ◌<◌, true, List, [], ◌∷◌, ◌++◌, sym, subst, arith, inl, inr, length, nat_eq}
+use Rattle.std.proofs.Common.{slice_index_or}
 use Rattle.std.specs.Prelude.{Option, Some, None}
 use Rattle.std.specs.List.{flat_map}
 use Rattle.std.proofs.lemmas.Bool.{false≢true, or_cases, or_left, or_right, eqb-true}
 use Rattle.graph_model.specs.Heaps.{has_number}
 use Rattle.plain_model.specs.Classes.{ClassFacts, ArrayType, Objects, no_class}
-use Rattle.plain_model.specs.Facts.{SetFacts, class_count, classes_of, class_at, superclasses_from, interfaces_from, is_subclass, is_subtype, is_sub, dimensions_of, innermost_of}
+use Rattle.plain_model.specs.Facts.{SetFacts, class_count, classes_of, class_at, superclasses_from, interfaces_from}
+use Rattle.plain_model.specs.Facts.{is_subclass, is_subtype, is_sub, dimensions_of, innermost_of}
 use Rattle.plain_model.specs.Consistent.{IsConsistent, IsInterface, super_list, supers_of}
 use Rattle.plain_model.specs.BuiltInRows.{IsUnder}
 use Rattle.plain_model.proofs.Durable.{All-has_number, has_number-append_left, has_number-append_cases}

@@ -1,14 +1,20 @@
 -- What requests throw is throwable.
-use Rattle.std.proofs.Common.{◌≡◌, ℕ, zero, suc, ◌+◌, ◌<◌, true, refl, ap, sym, subst, length, nat_eq, slice_index_or, arith, lit<}
+use Rattle.std.proofs.Common.{◌≡◌, ℕ, zero, suc, ◌+◌, ◌<◌, true, refl, ap, sym, subst, length, nat_eq, slice_index_or, arith}
+use Rattle.std.proofs.Common.{lit<}
 use Rattle.std.specs.Prelude.{Option, Some, None}
 use Rattle.std.specs.List.{flat_map}
 use Rattle.std.proofs.lemmas.Bool.{eq-eqb, lt-ltb, or_left, or_right}
 use Rattle.graph_model.specs.Heaps.{has_number}
 use Rattle.plain_model.specs.declared.throws.Throws.{Throws}
-use Rattle.plain_model.specs.declared.throws.Throws.TheVariants.{NegativeArraySize, NullPointer, ArrayIndexOutOfBounds, StringIndexOutOfBounds, ArrayStore, ClassCast, IllegalMonitorState, IllegalThreadState, IllegalState, Arithmetic}
+use Rattle.plain_model.specs.declared.throws.Throws.TheVariants.{NegativeArraySize, NullPointer, ArrayIndexOutOfBounds}
+use Rattle.plain_model.specs.declared.throws.Throws.TheVariants.{StringIndexOutOfBounds, ArrayStore, ClassCast}
+use Rattle.plain_model.specs.declared.throws.Throws.TheVariants.{IllegalMonitorState, IllegalThreadState, IllegalState}
+use Rattle.plain_model.specs.declared.throws.Throws.TheVariants.{Arithmetic}
 use Rattle.plain_model.specs.Classes.{ClassFacts, ArrayType, Objects, no_class}
 use Rattle.plain_model.specs.BuiltIn.{built_in_classes, throwable_place}
-use Rattle.plain_model.specs.Facts.{SetFacts, built_in_number, class_count, classes_of, class_at, array_at, superclasses_from, superclasses_of, interfaces_of, is_subclass, is_sub, is_subtype, dimensions_of, innermost_of, thrown_class}
+use Rattle.plain_model.specs.Facts.{SetFacts, built_in_number, class_count, classes_of, class_at, array_at, superclasses_from}
+use Rattle.plain_model.specs.Facts.{superclasses_of, interfaces_of, is_subclass, is_sub, is_subtype, dimensions_of}
+use Rattle.plain_model.specs.Facts.{innermost_of, thrown_class}
 use Rattle.plain_model.specs.Duties.{IsThrowable}
 use Rattle.plain_model.proofs.Consistent.{class_of_place, throwables_there}
 use Rattle.plain_model.proofs.Durable.{has_number-append_left}

@@ -1,5 +1,6 @@
 -- Heaps of plain runs are typed, and acts of plain runs fit them.
-use Rattle.std.proofs.Common.{◌≡◌, ℕ, ◌<◌, ◌^◌, Bool, true, false, List, [], ◌∷◌, ◌++◌, refl, ap, sym, subst, ◌∙◌, map, length, append_assoc, length-append, length-set, arith}
+use Rattle.std.proofs.Common.{◌≡◌, ℕ, ◌<◌, ◌^◌, Bool, true, false, List, [], ◌∷◌, ◌++◌, refl, ap, sym, subst, ◌∙◌, map, length}
+use Rattle.std.proofs.Common.{append_assoc, length-append, length-set, arith}
 use Rattle.std.specs.Prelude.{Option, Some, None}
 use Rattle.std.proofs.lemmas.List.{append-nil, length-map}
 use Rattle.ap_base.specs.declared.place.Place.TheVariants.{Static, Slot}

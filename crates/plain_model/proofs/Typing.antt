@@ -1,8 +1,8 @@
 -- The first heap is typed.
-use Rattle.std.proofs.Common.{◌≡◌, ℕ, zero, suc, ◌-◌, ◌%◌, ◌<◌, ◌^◌, ℤ, pos, negsuc, true, false, List, [], ◌∷◌, ◌++◌, map, refl, ap, subst, arith, slice_index_or, if◌then◌else◌}
+use Rattle.std.proofs.Common.{◌≡◌, ℕ, zero, suc, ◌-◌, ◌%◌, ◌<◌, ◌^◌, ℤ, pos, negsuc, true, false, List, [], ◌∷◌, ◌++◌, map}
+use Rattle.std.proofs.Common.{refl, ap, subst, arith, slice_index_or, if◌then◌else◌}
 use Rattle.std.specs.Prelude.{All, Option, Some, None, slice_get}
-use Rattle.std.specs.Int.{w8, w16, int_wrap, int_rem_euclid}
-use Rattle.std.proofs.lemmas.Int.{SFits-int_wrap, int_wrap_fits}
+use Rattle.std.specs.Int.{int_rem_euclid}
 use Rattle.std.proofs.lemmas.List.Elements.{All-nil, All-map, All-append, All-cons, All-filter, All-tail, All-head}
 use Rattle.ap_base.specs.declared.kind.Kind.{Kind}
 use Rattle.ap_base.specs.declared.kind.Kind.TheVariants.{Z, B, C, S, I, J, L, Text}
@@ -14,10 +14,12 @@ use Rattle.graph_model.specs.declared.types.NamedValue.{NamedValue}
 use Rattle.graph_model.specs.declared.types.Graph.{Graph}
 use Rattle.graph_model.specs.Heaps.{default_of}
 use Rattle.plain_model.specs.Classes.{ClassFacts}
-use Rattle.plain_model.specs.Facts.{StaticFacts, Constant, IntConstant, LongConstant, LiteralConstant, SetFacts, class_at, string_number, stream_class, arguments_class}
+use Rattle.plain_model.specs.Facts.{StaticFacts, Constant, IntConstant, LongConstant, LiteralConstant, SetFacts, class_at}
+use Rattle.plain_model.specs.Facts.{string_number, stream_class, arguments_class}
 use Rattle.plain_model.specs.Kinds.{HasKind, IsOf, AreOf, narrowed}
 use Rattle.plain_model.specs.Consistent.{IsConsistent, IsConstantOf, IsStaticOfProgram}
-use Rattle.plain_model.specs.First.{IsOpening, root_value, node_object, literal_object, constant_value, static_value, is_lacking, lacking_roots, first_heap, first_statics, name_is}
+use Rattle.plain_model.specs.First.{IsOpening, root_value, node_object, literal_object, constant_value, static_value}
+use Rattle.plain_model.specs.First.{is_lacking, lacking_roots, first_heap, first_statics, name_is}
 use Rattle.plain_model.specs.Typed.{kind_in, static_kind, IsOfItsClass, IsTyped}
 use Rattle.plain_model.proofs.Consistent.{text_elements, argument_elements, arguments_kind, stream_shape}
 
@@ -31,29 +33,28 @@ char_again (pos a) = let same : a % (2 ^ 16) % (2 ^ 16) ≡ a % (2 ^ 16) = omega
 char_again (negsuc a) =
     let same : (2 ^ 16 - 1 - a % (2 ^ 16)) % (2 ^ 16) ≡ 2 ^ 16 - 1 - a % (2 ^ 16) = omega arith in ap pos same
 
--- what a place keeps is of its kind
+-- what a store keeps is of its place's kind
 pub narrowed_is : (kind : Kind) (value : Value) → HasKind kind value → IsOf kind (narrowed kind value)
 narrowed_is Z (Int i) form = record { form = tt; range = ap Int (bit_again i) }
-narrowed_is B (Int i) form = record { form = tt; range = ap Int (int_wrap_fits w8 (int_wrap w8 i) (SFits-int_wrap w8 i)) }
+narrowed_is B (Int i) form = record { form = tt; range = tt }
 narrowed_is C (Int i) form = record { form = tt; range = ap Int (char_again i) }
-narrowed_is S (Int i) form = record { form = tt; range = ap Int (int_wrap_fits w16 (int_wrap w16 i) (SFits-int_wrap w16 i)) }
-narrowed_is I (Int i) form = record { form = tt; range = refl }
-narrowed_is Text (Int i) form = record { form = tt; range = refl }
-narrowed_is J (Long i) form = record { form = tt; range = refl }
-narrowed_is L Null form = record { form = tt; range = refl }
-narrowed_is L (Object n) form = record { form = tt; range = refl }
+narrowed_is S (Int i) form = record { form = tt; range = tt }
+narrowed_is I (Int i) form = record { form = tt; range = tt }
+narrowed_is Text (Int i) form = record { form = tt; range = tt }
+narrowed_is J (Long i) form = record { form = tt; range = tt }
+narrowed_is L Null form = record { form = tt; range = tt }
+narrowed_is L (Object n) form = record { form = tt; range = tt }
 narrowed_is kind value form = absurd form
 
 pub default_is : (kind : Kind) → IsOf kind (default_of kind)
-unfolding int_wrap
 default_is Z = record { form = tt; range = refl }
-default_is B = record { form = tt; range = refl }
+default_is B = record { form = tt; range = tt }
 default_is C = record { form = tt; range = refl }
-default_is S = record { form = tt; range = refl }
-default_is I = record { form = tt; range = refl }
-default_is J = record { form = tt; range = refl }
-default_is L = record { form = tt; range = refl }
-default_is Text = record { form = tt; range = refl }
+default_is S = record { form = tt; range = tt }
+default_is I = record { form = tt; range = tt }
+default_is J = record { form = tt; range = tt }
+default_is L = record { form = tt; range = tt }
+default_is Text = record { form = tt; range = tt }
 
 char_is : (c : ℕ) → c < 2 ^ 16 → IsOf C (Int (pos c))
 char_is c below = record {
@@ -62,8 +63,8 @@ char_is c below = record {
 }
 
 reference_is : (value : Value) → HasKind L value → IsOf L value
-reference_is Null form = record { form = tt; range = refl }
-reference_is (Object n) form = record { form = tt; range = refl }
+reference_is Null form = record { form = tt; range = tt }
+reference_is (Object n) form = record { form = tt; range = tt }
 reference_is (Int i) form = absurd form
 reference_is (Long i) form = absurd form
 
@@ -77,7 +78,7 @@ with_elements (Some other) fields kind values is all =
 
 root_is : (roots : List NamedValue) (name : List ℕ) → All (λ (r : NamedValue). HasKind L r.value) roots
     → IsOf L (root_value roots name)
-root_is [] name all = record { form = tt; range = refl }
+root_is [] name all = record { form = tt; range = tt }
 root_is (r ∷ rs) name all =
     let Reference : NamedValue → Type 0 = λ (r : NamedValue). HasKind L r.value in
     elim (name_is r.name name) as (λ b. IsOf L (if b then r.value else root_value rs name)) [
@@ -108,7 +109,7 @@ module _ (set : SetFacts) (opening : Graph) (consistent : IsConsistent set) (is 
   -- the statics of the set, and then the lacking roots
   lacking_are : (roots : List NamedValue) → All (λ (r : NamedValue). HasKind L r.value) roots → (k : ℕ)
       → IsOf L (slice_index_or (map (λ (r : NamedValue). r.value) roots) k Null)
-  lacking_are [] all k = record { form = tt; range = refl }
+  lacking_are [] all k = record { form = tt; range = tt }
   lacking_are (r ∷ rs) all zero =
       reference_is r.value (All-head (λ (r : NamedValue). HasKind L r.value) r rs all)
   lacking_are (r ∷ rs) all (suc k) = lacking_are rs (All-tail (λ (r : NamedValue). HasKind L r.value) r rs all) k
@@ -125,7 +126,7 @@ module _ (set : SetFacts) (opening : Graph) (consistent : IsConsistent set) (is 
   statics_are (s ∷ ss) all (suc k) = statics_are ss (All-tail (IsStaticOfProgram set) s ss all) k
 
   static_at : (n : ℕ) → IsOf (static_kind set n) (slice_index_or (first_statics set opening) n Null)
-  static_at zero = record { form = tt; range = refl }
+  static_at zero = record { form = tt; range = tt }
   static_at (suc k) = statics_are set.statics consistent.statics k
 
   abbrev Has : Obj → Type 0

@@ -1,5 +1,6 @@
 -- Of each thread at most one store outside regions isn't fenced.
-use Rattle.std.proofs.Common.{◌≡◌, ℕ, suc, ◌+◌, ◌≤◌, Bool, true, false, List, [], ◌∷◌, ◌++◌, refl, sym, ◌∙◌, subst, arith, nat_eq, ◌||◌, if◌then◌else◌}
+use Rattle.std.proofs.Common.{◌≡◌, ℕ, suc, ◌+◌, ◌≤◌, Bool, true, false, List, [], ◌∷◌, ◌++◌, refl, sym, ◌∙◌, subst, arith}
+use Rattle.std.proofs.Common.{nat_eq, ◌||◌, if◌then◌else◌}
 use Rattle.std.proofs.lemmas.Bool.{eqb-true, false≢true, eq-eqb}
 use Rattle.ap_base.specs.declared.place.Place.{Place}
 use Rattle.graph_model.specs.declared.types.Graph.{Graph}
@@ -8,7 +9,9 @@ use Rattle.run_history.specs.declared.act.Op.{Op}
 use Rattle.run_history.specs.declared.act.Op.TheVariants as op
 use Rattle.run_history.specs.Recorded.{Recorded}
 use Rattle.run_history.specs.Worlds.{depth_of}
-use Rattle.run_history.specs.Knowing.{Fate, Sure, Open, Closing, Single, Mark, Knowledge, known_after_op, after_end, is_outermost, each_fate, fenced, closed, ended, is_single, fate_of, durable_at, Unfenced, owes_fence, without_fenced}
+use Rattle.run_history.specs.Knowing.{Fate, Sure, Open, Closing, Single, Mark, Knowledge, known_after_op, after_end}
+use Rattle.run_history.specs.Knowing.{is_outermost, each_fate, fenced, closed, ended, is_single, fate_of, durable_at, Unfenced}
+use Rattle.run_history.specs.Knowing.{owes_fence, without_fenced}
 use Rattle.run_history.proofs.Grown.{owes_fence-without, store_fate-single}
 use Rattle.plain_model.specs.Facts.{SetFacts}
 use Rattle.plain_model.specs.Codes.{Code}

@@ -11,7 +11,9 @@ use Rattle.plain_model.specs.First.{first_world, first_heap}
 use Rattle.plain_model.specs.Steps.{step}
 use Rattle.plain_model.specs.Codes.{frames_after_op}
 use Rattle.plain_model.specs.StepWorld.{illegal_thread_state, illegal_monitor_state, main_class, late_class}
-use Rattle.plain_model.specs.RunRows.{Do, RefuseToDo, by, leaves, begin, end, starts, awaits, makes_late, late_makers, begins_late, late_done, allocates_late, enters, exits, entered, exited, enter_twice, ActsAreInOrder, ThreadsWait, MonitorsExclude}
+use Rattle.plain_model.specs.RunRows.{Do, RefuseToDo, by, leaves, begin, end, starts, awaits, makes_late, late_makers}
+use Rattle.plain_model.specs.RunRows.{begins_late, late_done, allocates_late, enters, exits, entered, exited, enter_twice}
+use Rattle.plain_model.specs.RunRows.{ActsAreInOrder, ThreadsWait, MonitorsExclude}
 use Rattle.plain_model.proofs.RunParts.{◌▸◌, may}
 use Rattle.plain_model.proofs.Started.{go_on, gone_on}
 

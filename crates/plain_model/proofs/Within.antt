@@ -1,5 +1,7 @@
 -- A run whose events end by no fault stays within its limits.
-use Rattle.std.proofs.Common.{◌≡◌, ℕ, zero, suc, ◌+◌, ◌<◌, ◌≤◌, max, Bool, true, false, nat_eq, nat_le, not, ◌||◌, cond, filter, subst, List, [], ◌∷◌, ◌++◌, length, refl, ap, sym, ◌∙◌, append_assoc, length-append, arith, if◌then◌else◌}
+use Rattle.std.proofs.Common.{◌≡◌, ℕ, zero, suc, ◌+◌, ◌<◌, ◌≤◌, max, Bool, true, false, nat_eq, nat_le, not, ◌||◌, cond, filter}
+use Rattle.std.proofs.Common.{subst, List, [], ◌∷◌, ◌++◌, length, refl, ap, sym, ◌∙◌, append_assoc, length-append, arith}
+use Rattle.std.proofs.Common.{if◌then◌else◌}
 use Rattle.std.specs.Prelude.{pred, Option, Some, None, drop, sum_by, slice_set, slice_index_or}
 use Rattle.std.proofs.lemmas.Bool.{eqb-true, ne_eqb, leb-true, le-leb, true≢false}
 use Rattle.std.proofs.lemmas.List.{length-set, append-nil}
@@ -20,17 +22,21 @@ use Rattle.run_history.specs.declared.act.Op.TheVariants as op
 use Rattle.run_history.specs.declared.act.PlainKey.{PlainKey}
 use Rattle.run_history.specs.declared.plain.Monitor.{Monitor}
 use Rattle.run_history.specs.Recorded.{Recorded}
-use Rattle.run_history.specs.Worlds.{Thread, new_thread, depth_of, held, key_is, entered, one_less, exited, at_thread, heap_after_op, monitors_after_op, threads_after_op, after}
-use Rattle.run_history.specs.Knowing.{Fate, Sure, Mark, Guard, Knowledge, guard_of, next_known, known_after, known_after_op, each_fate, ended, closed, fenced, is_outermost, after_end, fate_of, owes_fence}
+use Rattle.run_history.specs.Worlds.{Thread, new_thread, depth_of, held, key_is, entered, one_less, exited, at_thread}
+use Rattle.run_history.specs.Worlds.{heap_after_op, monitors_after_op, threads_after_op, after}
+use Rattle.run_history.specs.Knowing.{Fate, Sure, Mark, Guard, Knowledge, guard_of, next_known, known_after, known_after_op}
+use Rattle.run_history.specs.Knowing.{each_fate, ended, closed, fenced, is_outermost, after_end, fate_of, owes_fence}
 use Rattle.plain_model.specs.Facts.{SetFacts}
 use Rattle.plain_model.specs.First.{first_known, first_world, first_heap}
 use Rattle.plain_model.specs.Requests.{PlainRequest}
-use Rattle.plain_model.specs.Limits.{most_threads, most_monitors, most_log_entries, guards_of, log_entries_left, words_of, words_taken, words_left, acts_left, monitors_left}
+use Rattle.plain_model.specs.Limits.{most_threads, most_monitors, most_log_entries, guards_of, log_entries_left, words_of}
+use Rattle.plain_model.specs.Limits.{words_taken, words_left, acts_left, monitors_left}
 use Rattle.plain_model.specs.LimitLaws.{HaveNoFault, IsWorldWithin}
 use Rattle.plain_model.specs.Steps.{Step, Does, Waits, WrongOperand, IsOver, step, op_of}
 use Rattle.plain_model.specs.Codes.{Code, is_persistent, taken_by}
 use Rattle.plain_model.specs.Runs.{IsAbout, MayGuard, Rule, op_given, IsPlainRun, known_of, wants_of, request_after, is_fenced}
-use Rattle.plain_model.specs.Ends.{full, full_unless, fault_of_durable_store, fault_of_enter, fault_of_op, fault_of_step, fault_of_request, fault_of}
+use Rattle.plain_model.specs.Ends.{full, full_unless, fault_of_durable_store, fault_of_enter, fault_of_op, fault_of_step}
+use Rattle.plain_model.specs.Ends.{fault_of_request, fault_of}
 use Rattle.plain_model.proofs.Appended.{known_after-append}
 use Rattle.plain_model.proofs.Durable.{world-known_after_op}
 use Rattle.plain_model.proofs.Sanctioned.{sanctioned}

@@ -2,7 +2,8 @@
 -- interfaces are interfaces
 -- (JVMS 4.1), and a superclass's fields stand first (JVMS 5.4.5). And to which classes a few of them lead
 -- (JVMS 4.10.1.2).
-use Rattle.std.specs.Prelude.{◌≡◌, ℕ, Bool, true, false, nat_eq, nat_lt, ◌||◌, ◌&&◌, List, [], ◌∷◌, map, length, codes, Option, Some, None, All}
+use Rattle.std.specs.Prelude.{◌≡◌, ℕ, Bool, true, false, nat_eq, nat_lt, ◌||◌, ◌&&◌, List, [], ◌∷◌, map, length, codes, Option}
+use Rattle.std.specs.Prelude.{Some, None, All}
 use Rattle.ap_base.specs.declared.kind.Kind.TheVariants.{I, L}
 use Rattle.graph_model.specs.declared.types.Field.{Field}
 use Rattle.plain_model.specs.Classes.{ClassFacts}

@@ -5,6 +5,8 @@ use Rattle.run_types.specs.declared.wait.On.{On}
 use Rattle.run_types.specs.declared.limits.Limits.{Limits}
 use Rattle.run_types.specs.declared.fault.RunFault.{RunFault}
 use Rattle.run_types.specs.declared.fault.RunFault.TheVariants as fault
+use Rattle.run_types.specs.declared.fault.StepFault.{StepFault}
+use Rattle.run_types.specs.Faults.{run_fault}
 use Rattle.run_types.specs.declared.fault.Which.{Which}
 use Rattle.run_types.specs.declared.fault.Which.TheVariants as which
 use Rattle.graph_model.specs.declared.types.Value.{Value}
@@ -33,7 +35,9 @@ pub record FindsWrongOperand (set : SetFacts) (known : Knowledge) (request : Opt
 pub record IsOverBy (set : SetFacts) (known : Knowledge) (request : Option PlainRequest) (t : ℕ) (f : RunFault) : Type 0 where
   pub asked : PlainRequest
   pub is_asked : request ≡ Some asked
-  pub is_over : step set known.world t 1 asked ≡ IsOver f
+  pub met : StepFault
+  pub is_over : step set known.world t 1 asked ≡ IsOver met
+  pub names : f ≡ run_fault met
 
 -- the thread's request stores at a durable place that another thread's open region has guarded
 pub record Races (set : SetFacts) (known : Knowledge) (request : Option PlainRequest) (t : ℕ) (f : RunFault) : Type 0 where

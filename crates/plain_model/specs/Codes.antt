@@ -1,6 +1,7 @@
 -- What code does: its turns, its answers to replies, and how its threads begin. The code of a class set depends on the set, on
 -- the main class and on the opening graph, whose number of nodes fixes the numbers of the literals (JVMS 2.6, 6.5).
-use Rattle.std.specs.Prelude.{ℕ, zero, suc, Bool, true, false, List, [], ◌∷◌, ◌++◌, slice_get, Option, Some, None, if◌then◌else◌, length}
+use Rattle.std.specs.Prelude.{ℕ, zero, suc, Bool, true, false, List, [], ◌∷◌, ◌++◌, slice_get, Option, Some, None}
+use Rattle.std.specs.Prelude.{if◌then◌else◌, length}
 use Rattle.graph_model.specs.declared.types.Graph.{Graph}
 use Rattle.run_history.specs.declared.act.Op.{Op}
 use Rattle.run_history.specs.declared.act.Op.TheVariants as op

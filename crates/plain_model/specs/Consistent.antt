@@ -2,14 +2,16 @@
 -- consistent where it is that of class files that link: names differ, superclasses and superinterfaces are
 -- there, of the right sort and without a circle, fields begin with those of the superclass, and static
 -- fields and array types are of their kinds.
-use Rattle.std.specs.Prelude.{◌≡◌, ◌≢◌, ℕ, ◌<◌, ◌^◌, true, false, List, [], ◌∷◌, ◌++◌, length, take, replicate, Option, Some, None, All, AllPairs, Contains}
+use Rattle.std.specs.Prelude.{◌≡◌, ◌≢◌, ℕ, ◌<◌, ◌^◌, true, false, List, [], ◌∷◌, ◌++◌, length, take, replicate, Option, Some}
+use Rattle.std.specs.Prelude.{None, All, AllPairs, Contains}
 use Rattle.ap_base.specs.declared.kind.Kind.{Kind}
 use Rattle.ap_base.specs.declared.kind.Kind.TheVariants.{Z, B, C, S, I, J, L, Text}
 use Rattle.graph_model.specs.declared.types.Field.{Field}
 use Rattle.graph_model.specs.declared.types.Value.TheVariants.{Int, Long}
 use Rattle.plain_model.specs.Classes.{ClassFacts, ArrayType, Innermost, Numbers, Objects, Missing}
 use Rattle.plain_model.specs.BuiltIn.{chars_array, arguments_array}
-use Rattle.plain_model.specs.Facts.{StaticFacts, Constant, IntConstant, LongConstant, LiteralConstant, SetFacts, class_count, classes_of, class_at, is_subclass}
+use Rattle.plain_model.specs.Facts.{StaticFacts, Constant, IntConstant, LongConstant, LiteralConstant, SetFacts, class_count}
+use Rattle.plain_model.specs.Facts.{classes_of, class_at, is_subclass}
 use Rattle.plain_model.specs.Kinds.{HasKind}
 
 -- ---- complete sets

@@ -7,8 +7,8 @@ use Rattle.ap_base.specs.declared.kind.Kind.TheVariants.{J, L}
 use Rattle.ap_base.specs.Pieces.{IsPiece}
 use Rattle.run_types.specs.declared.resolved.FieldAt.{FieldAt}
 use Rattle.run_types.specs.declared.key.Key.TheVariants as key
-use Rattle.run_types.specs.declared.fault.RunFault.{RunFault}
-use Rattle.run_types.specs.declared.fault.RunFault.TheVariants as fault
+use Rattle.run_types.specs.declared.fault.StepFault.{StepFault}
+use Rattle.run_types.specs.declared.fault.StepFault.TheVariants as fault
 use Rattle.run_types.specs.declared.fault.Which.{Which}
 use Rattle.run_types.specs.declared.fault.Which.TheVariants as which
 use Rattle.graph_model.specs.declared.types.Value.{Value}
@@ -21,7 +21,8 @@ use Rattle.run_history.specs.Recorded.{Recorded}
 use Rattle.run_history.specs.Worlds.{World}
 use Rattle.plain_model.specs.Classes.{is_made}
 use Rattle.plain_model.specs.BuiltIn.{system_place, throwable_place}
-use Rattle.plain_model.specs.Facts.{SetFacts, StaticFacts, built_in_number, classes_of, class_at, element_of, is_sub, string_number}
+use Rattle.plain_model.specs.Facts.{SetFacts, StaticFacts, built_in_number, classes_of, class_at, element_of, is_sub}
+use Rattle.plain_model.specs.Facts.{string_number}
 use Rattle.plain_model.specs.Requests.{PlainRequest}
 use Rattle.plain_model.specs.Limits.{most_frame_slots}
 use Rattle.plain_model.specs.Codes.{Code}
@@ -78,7 +79,7 @@ abbrev pub IsLackOfFrames : ℕ → ℕ → Which → Type 0
 IsLackOfFrames need left which = IsFrameSlots which × (left < need) × (left ≤ most_frame_slots)
 
 -- the faults with which a turn may itself end the run
-abbrev pub IsFaultOfTurn : RunFault → Type 0
+abbrev pub IsFaultOfTurn : StepFault → Type 0
 IsFaultOfTurn (fault.BadCode from) = Unit {0}
 IsFaultOfTurn (fault.LinkFault kind class index) = Unit {0}
 IsFaultOfTurn (fault.Full full) = IsLackOfFrames full.need full.left full.which

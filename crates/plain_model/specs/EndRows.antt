@@ -1,28 +1,34 @@
 -- A program that prints, worked act by act; what a stop may leave of nested regions; and how runs of two
 -- threads end.
-use Rattle.std.specs.Prelude.{◌≡◌, ◌⊎◌, ◌↔◌, ℕ, List, [], ◌∷◌, ◌++◌, replicate, Option, Some, None}
+use Rattle.std.specs.Prelude.{◌≡◌, ◌⊎◌, ◌↔◌, ℕ, List, [], ◌∷◌, ◌++◌, map, replicate, Option, Some, None}
 use Rattle.run_types.specs.declared.key.Key.TheVariants as key
 use Rattle.run_types.specs.declared.limits.Limits.{Limits}
 use Rattle.run_types.specs.declared.wait.On.{On}
 use Rattle.run_types.specs.declared.wait.On.TheVariants as on
 use Rattle.run_types.specs.declared.fault.RunFault.{RunFault}
 use Rattle.run_types.specs.declared.fault.RunFault.TheVariants as fault
+use Rattle.run_types.specs.declared.fault.StepFault.TheVariants as met
 use Rattle.run_types.specs.declared.fault.Which.TheVariants as which
 use Rattle.run_types.specs.declared.fault.LinkKind.TheVariants.{NoCode}
 use Rattle.ap_base.specs.declared.place.Place.TheVariants.{Static, Slot}
+use Rattle.graph_model.specs.declared.types.Value.{Value}
 use Rattle.graph_model.specs.declared.types.Value.TheVariants.{Obj as Object}
+use Rattle.graph_model.specs.declared.types.Heap.{Heap}
 use Rattle.graph_model.specs.declared.types.Graph.{Graph}
 use Rattle.natives.specs.declared.requests.Request.TheVariants as ask
 use Rattle.run_history.specs.declared.act.PlainKey.TheVariants.{Object as ObjectKey}
 use Rattle.run_history.specs.declared.act.Stage.TheVariants as stage
 use Rattle.run_history.specs.declared.act.Op.TheVariants as op
 use Rattle.run_history.specs.Recorded.{Recorded}
+use Rattle.run_history.specs.Knowing.{Knowledge}
 use Rattle.plain_model.specs.Requests.{PlainRequest}
 use Rattle.plain_model.specs.Codes.{Code}
-use Rattle.plain_model.specs.Runs.{IsPlainRun, IsAllowed, output_of}
-use Rattle.plain_model.specs.Ends.{Uncaught, Finished, full, fault_after, FaultComes, EndsAs}
+use Rattle.plain_model.specs.Runs.{IsPlainRun, IsAllowed, known_of, output_of}
+use Rattle.plain_model.specs.Limits.{object_lines}
+use Rattle.plain_model.specs.Ends.{Uncaught, Finished, full, fault_of_store, fault_after, FaultComes, EndsAs}
 use Rattle.plain_model.specs.StepWorld.{boxes, main_class, print_stream, runtime_exception, here, int, system_out, amount}
-use Rattle.plain_model.specs.RunRows.{two_boxes, box_graph, scripts, both, by, started, in_region, puts_amount, amount_of, begins, guards, puts, fences}
+use Rattle.plain_model.specs.RunRows.{two_boxes, box_graph, scripts, both, by, started, in_region, puts_amount, amount_of}
+use Rattle.plain_model.specs.RunRows.{begins, guards, puts, fences}
 use Rattle.plain_model.specs.RunRows.{ends, closes, leaves, inner_ended, enters, entered, awaits, puts_worker, asks_worker}
 
 -- System.out
@@ -140,10 +146,40 @@ pub record LinesAreWanted : Type 0 where
   pub converts : LinesEnd 0
   pub another : LinesEnd 1 → ⊥
 
+-- a heap of one object with so many slots
+abbrev pub one_object : ℕ → Heap
+one_object slots = record {
+  shapes = [];
+  objects = record { shape = 0; values = replicate slots (int 0) } ∷ [];
+  statics = [];
+  roots = [];
+}
+
+-- An object's head word and its slots fill whole lines of eight words: 7 slots one line, 8 and 15 two, 16 three.
+pub record LinesHoldEightWords : Type 0 where
+  pub lines : map (λ slots. object_lines (one_object slots) 0) (0 ∷ 7 ∷ 8 ∷ 15 ∷ 16 ∷ []) ≡ 1 ∷ 1 ∷ 2 ∷ 2 ∷ 3 ∷ []
+
+-- a region of thread 0 that has guarded so many places, after the start
+abbrev pub guarding : ℕ → Knowledge
+guarding places = record (known_of boxes main_class two_boxes (both [] []) (started ++ begins 0 ∷ [])) {
+  guards = replicate places (record { thread = 0; place = Slot 1 2 });
+}
+
+-- how a store of this value to the first box's durable content ends the run then, if it does
+abbrev pub fault_of_content : (places : ℕ) → Value → Option RunFault
+fault_of_content places value = fault_of_store boxes two_boxes no_limits (guarding places) 0 (Slot 0 1) value
+
+-- A full log ends a run where a further place is to be guarded: once the stored object is durable, and not while it is
+-- volatile.
+pub record LogsFill : Type 0 where
+  pub volatile : fault_of_content 1024 (Object 4) ≡ None
+  pub durable : fault_of_content 1024 (Object 1) ≡ Some (full which.LogEntries 1 0)
+  pub one_left : fault_of_content 1023 (Object 1) ≡ None
+
 -- A full history ends a run before all else, and a race before the stored object is made durable.
 pub record CausesAreInOrder : Type 0 where
   pub operand : Ends [] (ask.GetField here (Object stream) amount ∷ []) six_acts [] 1 (full which.Acts 1 0)
-  pub turn : Ends (ask.Broken (fault.LinkFault NoCode 1 2) ∷ []) [] six_acts [] 0 (full which.Acts 1 0)
+  pub turn : Ends (ask.Broken (met.LinkFault NoCode 1 2) ∷ []) [] six_acts [] 0 (full which.Acts 1 0)
   pub sink : Ends [] (ask.Print here (55 ∷ []) ∷ []) six_acts [] 1 fault.SinkFault → ⊥
   pub image : Ends [] [] six_acts [] 1 fault.ImageFault → ⊥
   pub race : Ends (ask.Begin here ∷ puts_worker ∷ []) (puts_worker ∷ []) no_limits
@@ -172,7 +208,7 @@ pub record FencesComeFirst : Type 0 where
 -- A wrong operand, a fault of the turn, and the sink where a thread prints.
 pub record FaultsCome : Type 0 where
   pub wrong : Ends [] (ask.GetField here (Object stream) amount ∷ []) no_limits [] 1 (fault.BadCode here)
-  pub broken : Ends (ask.Broken (fault.LinkFault NoCode 1 2) ∷ []) [] no_limits [] 0
+  pub broken : Ends (ask.Broken (met.LinkFault NoCode 1 2) ∷ []) [] no_limits [] 0
       (fault.LinkFault NoCode 1 2)
   pub sink : Ends [] (ask.Print here (55 ∷ []) ∷ []) no_limits [] 1 fault.SinkFault
   pub no_print : Ends [] (ask.Print here (55 ∷ []) ∷ []) no_limits [] 0 fault.SinkFault → ⊥

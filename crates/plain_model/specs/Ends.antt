@@ -1,11 +1,13 @@
 -- How a run ends: by a fault that its last event meets, by a throwable that ended a thread, or normally.
-use Rattle.std.specs.Prelude.{◌≡◌, ◌≢◌, ◌⊎◌, ℕ, zero, suc, ◌<◌, Bool, true, false, nat_eq, nat_le, not, ◌||◌, ◌&&◌, List, [], ◌∷◌, ◌++◌, length, Option, Some, None, All, AllPairs, Contains, is_some, IsSome, if◌then◌else◌}
+use Rattle.std.specs.Prelude.{◌≡◌, ◌≢◌, ◌⊎◌, ℕ, zero, suc, ◌<◌, Bool, true, false, nat_eq, nat_le, not, ◌||◌, ◌&&◌, List, []}
+use Rattle.std.specs.Prelude.{◌∷◌, ◌++◌, length, Option, Some, None, All, AllPairs, Contains, is_some, IsSome, if◌then◌else◌}
 use Rattle.ap_base.specs.declared.place.Place.{Place}
 use Rattle.run_types.specs.declared.resolved.At.{At}
 use Rattle.run_types.specs.declared.wait.On.{On}
 use Rattle.run_types.specs.declared.limits.Limits.{Limits}
 use Rattle.run_types.specs.declared.fault.RunFault.{RunFault}
 use Rattle.run_types.specs.declared.fault.RunFault.TheVariants as fault
+use Rattle.run_types.specs.Faults.{run_fault}
 use Rattle.run_types.specs.declared.fault.Which.{Which}
 use Rattle.run_types.specs.declared.fault.Which.TheVariants as which
 use Rattle.graph_model.specs.declared.types.Value.{Value}
@@ -21,7 +23,8 @@ use Rattle.run_history.specs.Wanted.{Wishes}
 use Rattle.natives.specs.declared.requests.Request.TheVariants as ask
 use Rattle.plain_model.specs.Facts.{SetFacts}
 use Rattle.plain_model.specs.Requests.{PlainRequest, from_of}
-use Rattle.plain_model.specs.Limits.{most_threads, words_made, words_left, acts_left, object_lines, lines_left, log_entries_left, monitors_left, joined_of}
+use Rattle.plain_model.specs.Limits.{most_threads, words_made, words_left, acts_left, object_lines, lines_left}
+use Rattle.plain_model.specs.Limits.{log_entries_left, monitors_left, joined_of}
 use Rattle.plain_model.specs.Steps.{Step, Does, Waits, WrongOperand, IsOver, step}
 use Rattle.plain_model.specs.Codes.{Code}
 use Rattle.plain_model.specs.Runs.{is_volatile, known_of, wants_of, request_after}
@@ -112,7 +115,7 @@ module _ (set : SetFacts) (opening : Graph) (limits : Limits) (known : Knowledge
   fault_of_step requests t request (Does o r) = fault_of_op t o
   fault_of_step requests t request (Waits on) = fault_of_waiting requests
   fault_of_step requests t request WrongOperand = bad_code (from_of request)
-  fault_of_step requests t request (IsOver f) = Some f
+  fault_of_step requests t request (IsOver f) = Some (run_fault f)
 
   -- a full history ends a run before all else, and a thread that owes a fence makes it before what it asks
   abbrev pub fault_of_request : (ℕ → Option PlainRequest) → ℕ → Option PlainRequest → Option RunFault

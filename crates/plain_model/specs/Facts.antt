@@ -1,7 +1,8 @@
 -- What a class set tells, as plain data: the program's classes, array types, static fields and string
 -- literals. All else is computed. Classes are numbered from 0: the program's in the order in which their
 -- files were read, the built-in ones by their names' bytes, the array types as they are given.
-use Rattle.std.specs.Prelude.{ℕ, zero, suc, ℤ, ◌+◌, ◌-◌, Bool, true, false, nat_eq, nat_lt, ◌&&◌, ◌||◌, List, [], ◌∷◌, ◌++◌, map, length, codes, slice_get, slice_index_or, Option, Some, None, if◌then◌else◌}
+use Rattle.std.specs.Prelude.{ℕ, zero, suc, ℤ, ◌+◌, ◌-◌, Bool, true, false, nat_eq, nat_lt, ◌&&◌, ◌||◌, List, [], ◌∷◌, ◌++◌}
+use Rattle.std.specs.Prelude.{map, length, codes, slice_get, slice_index_or, Option, Some, None, if◌then◌else◌}
 use Rattle.std.specs.List.{flat_map}
 use Rattle.std.specs.Str.{bytes_eq}
 use Rattle.ap_base.specs.declared.kind.Kind.{Kind}
@@ -10,7 +11,10 @@ use Rattle.run_types.specs.declared.known.Known.{Known as KnownClasses}
 use Rattle.graph_model.specs.declared.types.Shape.{Shape}
 use Rattle.graph_model.specs.Heaps.{has_number}
 use Rattle.plain_model.specs.declared.throws.Throws.{Throws}
-use Rattle.plain_model.specs.declared.throws.Throws.TheVariants.{NegativeArraySize, NullPointer, ArrayIndexOutOfBounds, StringIndexOutOfBounds, ArrayStore, ClassCast, IllegalMonitorState, IllegalThreadState, IllegalState, Arithmetic}
+use Rattle.plain_model.specs.declared.throws.Throws.TheVariants.{NegativeArraySize, NullPointer, ArrayIndexOutOfBounds}
+use Rattle.plain_model.specs.declared.throws.Throws.TheVariants.{StringIndexOutOfBounds, ArrayStore, ClassCast}
+use Rattle.plain_model.specs.declared.throws.Throws.TheVariants.{IllegalMonitorState, IllegalThreadState, IllegalState}
+use Rattle.plain_model.specs.declared.throws.Throws.TheVariants.{Arithmetic}
 use Rattle.plain_model.specs.Classes.{ClassFacts, ArrayType, Innermost, Numbers, Objects, Missing, no_class}
 use Rattle.plain_model.specs.BuiltIn.{built_in_count, built_in_classes, array_class}
 use Rattle.plain_model.specs.BuiltIn as place

@@ -1,7 +1,8 @@
 -- The first heap and the first world of a class set and an opening graph. Objects are numbered: the nodes
 -- of the graph, the object of `System.out`, the empty argument array, the literals. Statics are numbered:
 -- `System.out`, the set's static fields, and the graph's roots that the set lacks.
-use Rattle.std.specs.Prelude.{◌≡◌, ◌≢◌, ℕ, zero, suc, pos, ◌+◌, ◌<◌, ◌^◌, Bool, true, false, ◌&&◌, List, [], ◌∷◌, ◌++◌, map, length, replicate, filter, Option, Some, None, if◌then◌else◌, nat_eq, All, AllPairs, Contains}
+use Rattle.std.specs.Prelude.{◌≡◌, ◌≢◌, ℕ, zero, suc, pos, ◌+◌, ◌<◌, ◌^◌, Bool, true, false, ◌&&◌, List, [], ◌∷◌, ◌++◌, map}
+use Rattle.std.specs.Prelude.{length, replicate, filter, Option, Some, None, if◌then◌else◌, nat_eq, All, AllPairs, Contains}
 use Rattle.ap_base.specs.declared.kind.Kind.TheVariants.{L}
 use Rattle.graph_model.specs.declared.types.Value.{Value}
 use Rattle.graph_model.specs.declared.types.Value.TheVariants.{Int, Long, Null, Obj as Object}
@@ -18,7 +19,8 @@ use Rattle.run_history.specs.Worlds.{World, new_thread}
 use Rattle.run_history.specs.Knowing.{Knowledge, known_at_first}
 use Rattle.plain_model.specs.Classes.{ClassFacts}
 use Rattle.plain_model.specs.BuiltIn.{built_in_count}
-use Rattle.plain_model.specs.Facts.{StaticFacts, Constant, IntConstant, LongConstant, LiteralConstant, SetFacts, classes_of, class_at, shapes_of, stream_class, arguments_class, string_number}
+use Rattle.plain_model.specs.Facts.{StaticFacts, Constant, IntConstant, LongConstant, LiteralConstant, SetFacts, classes_of}
+use Rattle.plain_model.specs.Facts.{class_at, shapes_of, stream_class, arguments_class, string_number}
 use Rattle.plain_model.specs.Kinds.{HasKind, AreOf, narrowed}
 
 -- equal names, byte by byte

@@ -3,8 +3,8 @@
 use Rattle.std.specs.Prelude.{ℕ, pos, true, List, [], ◌∷◌, codes, Some, None, replicate}
 use Rattle.ap_base.specs.declared.kind.Kind.TheVariants.{I, L}
 use Rattle.ap_base.specs.declared.place.Place.TheVariants.{Static}
-use Rattle.run_types.specs.declared.fault.RunFault.{RunFault}
-use Rattle.run_types.specs.declared.fault.RunFault.TheVariants as fault
+use Rattle.run_types.specs.declared.fault.StepFault.{StepFault}
+use Rattle.run_types.specs.declared.fault.StepFault.TheVariants as fault
 use Rattle.run_types.specs.declared.fault.Which.{Which}
 use Rattle.run_types.specs.declared.fault.Which.TheVariants as which
 use Rattle.run_types.specs.declared.fault.LinkKind.TheVariants.{NoCode}
@@ -15,7 +15,8 @@ use Rattle.plain_model.specs.BuiltIn.{class_under, field, interface, object_plac
 use Rattle.plain_model.specs.Facts.{SetFacts}
 use Rattle.plain_model.specs.Requests.{PlainRequest}
 use Rattle.plain_model.specs.Duties.{IsFit}
-use Rattle.plain_model.specs.StepWorld.{boxes, box_world, here, int, box_class, early_class, late_class, runnable, ints_type, string_class, system_out}
+use Rattle.plain_model.specs.StepWorld.{boxes, box_world, here, int, box_class, early_class, late_class, runnable, ints_type}
+use Rattle.plain_model.specs.StepWorld.{string_class, system_out}
 use Rattle.plain_model.specs.StepWorld.{runtime_exception, a_box, amount, main_kept, static_field, instance_field, next_object}
 
 abbrev pub Fits : ℕ → PlainRequest → Type 0
@@ -24,7 +25,7 @@ Fits t request = IsFit boxes box_world t request
 abbrev pub Unfit : ℕ → PlainRequest → Type 0
 Unfit t request = Fits t request → ⊥
 
-abbrev pub full : Which → ℕ → ℕ → RunFault
+abbrev pub full : Which → ℕ → ℕ → StepFault
 full which_one need left = fault.Full (record { which = which_one; need = need; left = left })
 
 -- interface Marked and abstract class Base, each with an int
@@ -100,4 +101,3 @@ pub record TurnsBreakBy : Type 0 where
   pub words : Unfit 0 (ask.Broken (full which.VolatileWords 2 1))
   pub race : Unfit 0 (ask.Broken (fault.RegionRace 0 1 (Static 2)))
   pub sink : Unfit 0 (ask.Broken fault.SinkFault)
-  pub stuck : Unfit 0 (ask.Broken (fault.Stuck (replicate 64 None)))

@@ -1,5 +1,5 @@
--- Kinds of values (JVMS 2.3, 2.4): their form, what a place of a kind keeps, and so their range. What a place holds at first is
--- `default_of`.
+-- Kinds of values (JVMS 2.3, 2.4): their form, what a store into a place of a kind keeps, and what such a place may hold. What it
+-- holds at first is `default_of`.
 use Rattle.std.specs.Prelude.{◌≡◌, pos, ◌^◌, List, Option, Some, None, All}
 use Rattle.std.specs.Int.{w8, w16, int_wrap, int_rem_euclid}
 use Rattle.std.specs.List.{AllZip}
@@ -9,7 +9,7 @@ use Rattle.graph_model.specs.declared.types.Value.{Value}
 use Rattle.graph_model.specs.declared.types.Value.TheVariants.{Int, Long, Null, Obj as Object}
 use Rattle.graph_model.specs.declared.types.Field.{Field}
 
--- What a place of this kind keeps of a value (JVMS 2.11.1: narrowing). A boolean place keeps the lowest bit.
+-- What a store into a place of this kind keeps of a value (JVMS 2.11.1: narrowing). A boolean place keeps the lowest bit.
 abbrev pub narrowed : Kind → Value → Value
 narrowed Z (Int i) = Int (int_rem_euclid i (pos 2))
 narrowed B (Int i) = Int (int_wrap w8 i)
@@ -27,10 +27,17 @@ HasKind J value = ⊥
 HasKind kind (Int i) = Unit {0}
 HasKind kind value = ⊥
 
--- a value of this kind's form and range: a place of the kind keeps it as it is
+-- A boolean is 0 or 1, a char has 16 bits. A byte and a short may be any int: an image has the 32 bits of one in such a slot, and
+-- stores alone narrow.
+abbrev pub HasRange : Kind → Value → Type 0
+HasRange Z value = narrowed Z value ≡ value
+HasRange C value = narrowed C value ≡ value
+HasRange kind value = Unit {0}
+
+-- a value that a place of this kind may hold
 pub record IsOf (kind : Kind) (value : Value) : Type 0 where
   pub form : HasKind kind value
-  pub range : narrowed kind value ≡ value
+  pub range : HasRange kind value
 
 -- values of an object with these elements or, where it has none, these fields
 abbrev pub AreOf : Option Kind → List Field → List Value → Type 0

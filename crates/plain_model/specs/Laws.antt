@@ -1,5 +1,6 @@
 -- What holds of every plain run and of every history, whatever the class set, the opening graph and the code.
-use Rattle.std.specs.Prelude.{◌≡◌, ◌⊎◌, ◌↔◌, ℕ, ◌<◌, true, false, not, ◌^◌, List, [], ◌∷◌, ◌++◌, map, filter, length, Some, None, All}
+use Rattle.std.specs.Prelude.{◌≡◌, ◌⊎◌, ◌↔◌, ℕ, ◌<◌, true, false, not, ◌^◌, List, [], ◌∷◌, ◌++◌, map, filter, length, Some}
+use Rattle.std.specs.Prelude.{None, All}
 use Rattle.graph_model.specs.declared.types.Value.TheVariants.{Obj as Object}
 use Rattle.graph_model.specs.declared.types.Obj.{Obj}
 use Rattle.graph_model.specs.declared.types.Heap.{Heap}

@@ -1,6 +1,7 @@
 -- The limits of a run, and what is left of each: words of volatile memory, acts, lines of the image, places in a
 -- region's log, monitors, threads. What is left of a thread's frame slots is for the code to tell.
-use Rattle.std.specs.Prelude.{ℕ, ◌+◌, ◌-◌, ◌/◌, ◌≤◌, max, nat_eq, nat_le, List, length, drop, filter, sum_by, Option, Some, None}
+use Rattle.std.specs.Prelude.{ℕ, ◌+◌, ◌-◌, ◌/◌, ◌≤◌, max, nat_eq, nat_le, List, length, drop, filter, sum_by, Option, Some}
+use Rattle.std.specs.Prelude.{None}
 use Rattle.run_types.specs.declared.limits.Limits.{Limits}
 use Rattle.graph_model.specs.declared.types.Obj.{Obj}
 use Rattle.graph_model.specs.declared.types.Heap.{Heap}

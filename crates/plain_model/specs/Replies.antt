@@ -1,4 +1,4 @@
--- Which replies a request may get: of its kind, and in its range.
+-- Which replies a request may get: of its kind, and such as a place of that kind may hold.
 use Rattle.std.specs.Prelude.{◌≡◌, ℕ, ◌<◌, ◌≤◌, true, List, length}
 use Rattle.ap_base.specs.declared.kind.Kind.{Kind}
 use Rattle.ap_base.specs.declared.kind.Kind.TheVariants.{Z, C, I, Text}

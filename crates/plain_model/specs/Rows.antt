@@ -1,5 +1,6 @@
 -- Small class sets, code that follows a script, and what it may and may not do.
-use Rattle.std.specs.Prelude.{◌≡◌, ◌⊎◌, ◌↔◌, ℕ, suc, ℤ, true, false, List, [], ◌∷◌, ◌++◌, length, slice_index_or, slice_get, Some, None, codes}
+use Rattle.std.specs.Prelude.{◌≡◌, ◌⊎◌, ◌↔◌, ℕ, suc, ℤ, true, false, List, [], ◌∷◌, ◌++◌, length, slice_index_or, slice_get}
+use Rattle.std.specs.Prelude.{Some, None, codes}
 use Rattle.run_types.specs.declared.resolved.At.{At}
 use Rattle.run_types.specs.declared.resolved.FieldAt.{FieldAt}
 use Rattle.ap_base.specs.declared.kind.Kind.{Kind}
@@ -9,6 +10,7 @@ use Rattle.graph_model.specs.declared.types.Value.{Value}
 use Rattle.graph_model.specs.declared.types.Value.TheVariants.{Int, Null, Obj as Object}
 use Rattle.graph_model.specs.declared.types.Field.{Field}
 use Rattle.graph_model.specs.declared.types.Graph.{Graph}
+use Rattle.graph_model.specs.Heaps.{value_at}
 use Rattle.natives.specs.declared.requests.Request.TheVariants as ask
 use Rattle.natives.specs.declared.requests.Reply.TheVariants as reply
 use Rattle.run_history.specs.declared.act.Stage.TheVariants as stage
@@ -155,6 +157,14 @@ Narrows kind given kept = (set : SetFacts) (world : World) (t class at : ℕ) (f
     → slice_get world.classes class ≡ Some Finished
     → let field : FieldAt = record { class = class; is_static = true; at = at; kind = kind } in
     step set world t 1 (ask.PutStatic from field (Int given)) ≡ Does (op.Stored (Static at) (Int kept)) reply.Done
+
+-- A load of a static field of any kind, whose class is initialised, gives the value that is there.
+abbrev pub LoadsGiveWhatIsThere : Type 0
+LoadsGiveWhatIsThere = (set : SetFacts) (world : World) (t class at : ℕ) (kind : Kind) (from : At)
+    → slice_get world.classes class ≡ Some Finished
+    → let field : FieldAt = record { class = class; is_static = true; at = at; kind = kind } in
+    let value = value_at world.heap (Static at) in
+    step set world t 1 (ask.GetStatic from field) ≡ Does (op.Read (Static at) value) (reply.Item value)
 
 -- What a stop may leave once main has made the node and done these acts.
 abbrev pub MayLeave : List Recorded → Graph → Type 0

@@ -1,6 +1,7 @@
 -- What holds of every plain run, said of its acts alone: which stores aren't fenced, how deep regions are
 -- and what they guard, and who owns the monitors.
-use Rattle.std.specs.Prelude.{◌≡◌, ◌⊎◌, ℕ, suc, length, ◌+◌, ◌≤◌, ◌<◌, Bool, true, false, nat_eq, ◌&&◌, List, [], ◌∷◌, ◌++◌, if◌then◌else◌, Some, None, ◌≢◌}
+use Rattle.std.specs.Prelude.{◌≡◌, ◌⊎◌, ℕ, suc, length, ◌+◌, ◌≤◌, ◌<◌, Bool, true, false, nat_eq, ◌&&◌, List, [], ◌∷◌, ◌++◌}
+use Rattle.std.specs.Prelude.{if◌then◌else◌, Some, None, ◌≢◌}
 use Rattle.ap_base.specs.declared.place.Place.{Place}
 use Rattle.graph_model.specs.declared.types.Value.{Value}
 use Rattle.graph_model.specs.declared.types.Graph.{Graph}

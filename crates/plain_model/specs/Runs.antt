@@ -1,6 +1,7 @@
 -- Plain runs: each visible act is the act of the plain step for its thread, and the operations of persistence keep their rules
 -- (Shull, Huang and Torrellas, "AutoPersist", PLDI 2019, in the form that docs/MODEL.md gives).
-use Rattle.std.specs.Prelude.{◌≡◌, ◌≢◌, ◌⊎◌, ℕ, ◌≤◌, Bool, true, false, not, List, [], ◌∷◌, ◌++◌, Option, Some, None, All, AllPairs}
+use Rattle.std.specs.Prelude.{◌≡◌, ◌≢◌, ◌⊎◌, ℕ, ◌≤◌, Bool, true, false, not, List, [], ◌∷◌, ◌++◌, Option, Some, None, All}
+use Rattle.std.specs.Prelude.{AllPairs}
 use Rattle.ap_base.specs.declared.place.Place.{Place}
 use Rattle.ap_base.specs.declared.place.Place.TheVariants.{Slot}
 use Rattle.graph_model.specs.declared.types.Value.{Value}
@@ -11,7 +12,8 @@ use Rattle.run_history.specs.declared.act.Op.{Op}
 use Rattle.run_history.specs.declared.act.Op.TheVariants as op
 use Rattle.run_history.specs.Recorded.{Recorded, NamesRightly}
 use Rattle.run_history.specs.Worlds.{World, depth_of}
-use Rattle.run_history.specs.Knowing.{Knowledge, next_known, known_after, durable_at, pending_of, guard_of, has_guards, owes_fence, is_outermost}
+use Rattle.run_history.specs.Knowing.{Knowledge, next_known, known_after, durable_at, pending_of, guard_of, has_guards}
+use Rattle.run_history.specs.Knowing.{owes_fence, is_outermost}
 use Rattle.run_history.specs.Wanted.{Wishes, NoWish, WantsNow, WantsAfter, IsClosed}
 use Rattle.run_history.specs.Kept.{IsAllowedFrom}
 use Rattle.plain_model.specs.Facts.{SetFacts}

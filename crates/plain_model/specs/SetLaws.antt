@@ -5,7 +5,8 @@ use Rattle.graph_model.specs.declared.types.Field.{Field}
 use Rattle.graph_model.specs.Heaps.{has_number}
 use Rattle.plain_model.specs.Classes.{ArrayType, no_class}
 use Rattle.plain_model.specs.BuiltIn.{built_in_count, built_in_classes, array_class, chars_array, arguments_array}
-use Rattle.plain_model.specs.Facts.{SetFacts, built_in_number, class_count, classes_of, class_at, element_of, array_at, array_named, arguments_class, is_sub}
+use Rattle.plain_model.specs.Facts.{SetFacts, built_in_number, class_count, classes_of, class_at, element_of, array_at}
+use Rattle.plain_model.specs.Facts.{array_named, arguments_class, is_sub}
 use Rattle.plain_model.specs.Consistent.{IsConsistent, supers_of}
 
 -- In every class set a built-in class has its number.

@@ -3,12 +3,17 @@
 use Rattle.std.specs.Prelude.{◌≡◌, ℕ, ◌^◌, pos, true, false, List, [], ◌∷◌, ◌++◌, map, codes, take, None, Some}
 use Rattle.ap_base.specs.declared.kind.Kind.TheVariants.{I, L, Text}
 use Rattle.plain_model.specs.declared.throws.Throws.{Throws}
-use Rattle.plain_model.specs.declared.throws.Throws.TheVariants.{NegativeArraySize, NullPointer, ArrayIndexOutOfBounds, StringIndexOutOfBounds, ArrayStore, ClassCast, IllegalMonitorState, IllegalThreadState, IllegalState, Arithmetic}
+use Rattle.plain_model.specs.declared.throws.Throws.TheVariants.{NegativeArraySize, NullPointer, ArrayIndexOutOfBounds}
+use Rattle.plain_model.specs.declared.throws.Throws.TheVariants.{StringIndexOutOfBounds, ArrayStore, ClassCast}
+use Rattle.plain_model.specs.declared.throws.Throws.TheVariants.{IllegalMonitorState, IllegalThreadState, IllegalState}
+use Rattle.plain_model.specs.declared.throws.Throws.TheVariants.{Arithmetic}
 use Rattle.plain_model.specs.Classes.{ClassFacts, ArrayType, Numbers, Missing}
 use Rattle.plain_model.specs.BuiltIn.{class_under, field, chars_array, arguments_array, object_place}
-use Rattle.plain_model.specs.Facts.{StaticFacts, LongConstant, LiteralConstant, SetFacts, known_classes, stream_class, arguments_class, thrown_class}
+use Rattle.plain_model.specs.Facts.{StaticFacts, LongConstant, LiteralConstant, SetFacts, known_classes, stream_class}
+use Rattle.plain_model.specs.Facts.{arguments_class, thrown_class}
 use Rattle.plain_model.specs.Consistent.{IsConsistent, IsComplete}
-use Rattle.plain_model.specs.SubtypeRows.{drawing, drawing_classes, array_of, round, named, circle, disc, string, strings, chars}
+use Rattle.plain_model.specs.SubtypeRows.{drawing, drawing_classes, array_of, round, named, circle, disc, string, strings}
+use Rattle.plain_model.specs.SubtypeRows.{chars}
 
 -- the set of the drawings, with these classes Circle and Disc
 abbrev pub with_classes : ClassFacts → ClassFacts → SetFacts

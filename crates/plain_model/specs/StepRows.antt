@@ -7,7 +7,7 @@ use Rattle.ap_base.specs.declared.place.Place.{Place}
 use Rattle.ap_base.specs.declared.place.Place.TheVariants.{Static, Slot}
 use Rattle.run_types.specs.declared.key.Key.TheVariants as key
 use Rattle.run_types.specs.declared.wait.On.TheVariants as on
-use Rattle.run_types.specs.declared.fault.RunFault.TheVariants as fault
+use Rattle.run_types.specs.declared.fault.StepFault.TheVariants as fault
 use Rattle.run_types.specs.declared.fault.Which.TheVariants as which
 use Rattle.run_types.specs.declared.fault.LinkKind.TheVariants.{NoCode}
 use Rattle.graph_model.specs.declared.types.Value.{Value}
@@ -22,12 +22,16 @@ use Rattle.plain_model.specs.Requests.{PlainRequest}
 use Rattle.plain_model.specs.Steps.{Step, Does, Waits, WrongOperand, IsOver, step, is_kind}
 use Rattle.plain_model.specs.StepWorld.{boxes, box_world, here, int, next_object}
 use Rattle.plain_model.specs.StepWorld.{main_class, box_class, crate_class, late_class, early_class, worker_class}
-use Rattle.plain_model.specs.StepWorld.{object_class, runnable, runtime_exception, string_class, string_builder, thread_class, throwable}
+use Rattle.plain_model.specs.StepWorld.{object_class, runnable, runtime_exception, string_class, string_builder, thread_class}
+use Rattle.plain_model.specs.StepWorld.{throwable}
 use Rattle.plain_model.specs.StepWorld.{ints_type, objects_type, strings_type}
-use Rattle.plain_model.specs.StepWorld.{array_index_out_of_bounds, array_store, class_cast, illegal_monitor_state, illegal_state}
+use Rattle.plain_model.specs.StepWorld.{array_index_out_of_bounds, array_store, class_cast, illegal_monitor_state}
+use Rattle.plain_model.specs.StepWorld.{illegal_state}
 use Rattle.plain_model.specs.StepWorld.{illegal_thread_state, negative_array_size, null_pointer, string_index_out_of_bounds}
-use Rattle.plain_model.specs.StepWorld.{a_stream, a_box, a_crate, two_bytes, two_booleans, two_chars, two_shorts, three_ints, one_long}
-use Rattle.plain_model.specs.StepWorld.{a_text, two_objects, one_string, running_worker, new_thread_object, ended_worker, an_exception}
+use Rattle.plain_model.specs.StepWorld.{a_stream, a_box, a_crate, two_bytes, two_booleans, two_chars, two_shorts, three_ints}
+use Rattle.plain_model.specs.StepWorld.{one_long}
+use Rattle.plain_model.specs.StepWorld.{a_text, two_objects, one_string, running_worker, new_thread_object, ended_worker}
+use Rattle.plain_model.specs.StepWorld.{an_exception}
 use Rattle.plain_model.specs.StepWorld.{system_out, main_count, main_kept, late_count, early_when, amount, content, tag, opened}
 use Rattle.plain_model.specs.StepWorld.{static_field}
 

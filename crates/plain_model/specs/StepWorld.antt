@@ -15,7 +15,8 @@ use Rattle.run_history.specs.declared.plain.Progress.TheVariants.{Untouched, Beg
 use Rattle.run_history.specs.Worlds.{Thread, World, new_thread}
 use Rattle.plain_model.specs.Classes.{ClassFacts, ArrayType}
 use Rattle.plain_model.specs.Facts.{StaticFacts, SetFacts, shapes_of}
-use Rattle.plain_model.specs.BuiltIn.{field, class_under, array_of_kind, array_of_objects, chars_array, arguments_array, object_place}
+use Rattle.plain_model.specs.BuiltIn.{field, class_under, array_of_kind, array_of_objects, chars_array, arguments_array}
+use Rattle.plain_model.specs.BuiltIn.{object_place}
 
 -- The program's classes are 0 to 5. The built-in ones follow by their names' bytes, and then the array
 -- types by descriptor.

@@ -2,7 +2,8 @@
 -- monitors, 5.5 for initialisation). A request that throws makes the throwable as the next object, in place of its act.
 -- The tests of a request come in this order: a class that has to be initialised first; a null operand; an operand of a wrong
 -- class; a negative length or an index out of range; an element that the array may not hold.
-use Rattle.std.specs.Prelude.{ℕ, zero, suc, ℤ, pos, negsuc, Bool, true, false, nat_eq, nat_lt, nat_le, not, ◌&&◌, List, [], ◌∷◌, length, take, slice_get, Option, Some, None, if◌then◌else◌, is_some, unwrap_or}
+use Rattle.std.specs.Prelude.{ℕ, zero, suc, ℤ, pos, negsuc, Bool, true, false, nat_eq, nat_lt, nat_le, not, ◌&&◌, List, [], ◌∷◌}
+use Rattle.std.specs.Prelude.{length, take, slice_get, Option, Some, None, if◌then◌else◌, is_some, unwrap_or}
 use Rattle.ap_base.specs.declared.kind.Kind.{Kind}
 use Rattle.ap_base.specs.declared.kind.Kind.TheVariants.{Z, B, C, S, I, J, L, Text}
 use Rattle.run_types.specs.declared.key.Key.TheVariants as key
@@ -10,8 +11,8 @@ use Rattle.ap_base.specs.declared.place.Place.{Place}
 use Rattle.ap_base.specs.declared.place.Place.TheVariants.{Static, Slot}
 use Rattle.run_types.specs.declared.wait.On.{On}
 use Rattle.run_types.specs.declared.wait.On.TheVariants as on
-use Rattle.run_types.specs.declared.fault.RunFault.{RunFault}
-use Rattle.run_types.specs.declared.fault.RunFault.TheVariants as fault
+use Rattle.run_types.specs.declared.fault.StepFault.{StepFault}
+use Rattle.run_types.specs.declared.fault.StepFault.TheVariants as fault
 use Rattle.run_types.specs.declared.fault.Which.TheVariants as which
 use Rattle.graph_model.specs.declared.types.Value.{Value}
 use Rattle.graph_model.specs.declared.types.Value.TheVariants.{Int, Long, Null, Obj as Object}
@@ -30,7 +31,8 @@ use Rattle.run_history.specs.Worlds.{Thread, World, held, depth_of}
 use Rattle.plain_model.specs.declared.throws.Throws.{Throws}
 use Rattle.plain_model.specs.declared.throws.Throws.TheVariants as exception
 use Rattle.plain_model.specs.BuiltIn.{thread_place}
-use Rattle.plain_model.specs.Facts.{SetFacts, built_in_number, class_at, element_of, is_sub, may_hold, string_number, thrown_class}
+use Rattle.plain_model.specs.Facts.{SetFacts, built_in_number, class_at, element_of, is_sub, may_hold, string_number}
+use Rattle.plain_model.specs.Facts.{thrown_class}
 use Rattle.plain_model.specs.Kinds.{narrowed}
 use Rattle.plain_model.specs.Requests.{PlainRequest, PlainReply}
 use Rattle.plain_model.specs.Limits.{most_threads, threads_left}
@@ -41,7 +43,7 @@ pub data Step : Type 0 where
   Does : Op → PlainReply → Step
   Waits : On → Step
   WrongOperand : Step
-  IsOver : RunFault → Step
+  IsOver : StepFault → Step
 
 abbrev pub bool_value : Bool → Value
 bool_value true = Int (pos 1)

@@ -3,7 +3,8 @@
 use Rattle.std.specs.Prelude.{◌≡◌, ℕ, Bool, true, false, List, [], ◌∷◌, map, codes, Some, None}
 use Rattle.ap_base.specs.declared.kind.Kind.TheVariants.{C, I, L}
 use Rattle.plain_model.specs.Classes.{ClassFacts, ArrayType, Innermost, Numbers, Missing}
-use Rattle.plain_model.specs.BuiltIn.{class_under, interface, chars_array, arguments_array, array_of_kind, array_of_objects, object_place}
+use Rattle.plain_model.specs.BuiltIn.{class_under, interface, chars_array, arguments_array, array_of_kind, array_of_objects}
+use Rattle.plain_model.specs.BuiltIn.{object_place}
 use Rattle.plain_model.specs.Facts.{SetFacts, element_of, is_sub, may_hold}
 
 abbrev pub drawable : ℕ

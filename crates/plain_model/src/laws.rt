@@ -1,7 +1,9 @@
 // Laws of plain runs and histories: each is the contract of a function that does nothing. `Frames` is what code keeps
 // of a thread.
-ghost use Rattle.plain_model.specs.Laws.{OneMoreAct, FrontsArePlainRuns, VisibleActsAreSteps, OutputOfParts, OutputByOperations};
-ghost use Rattle.plain_model.specs.Laws.{DurableReferToDurable, OnlyWantedBecomesDurable, WantsForTheAsked, WantsNothingAtFirst};
+ghost use Rattle.plain_model.specs.Laws.{OneMoreAct, FrontsArePlainRuns, VisibleActsAreSteps, OutputOfParts};
+ghost use Rattle.plain_model.specs.Laws.{OutputByOperations};
+ghost use Rattle.plain_model.specs.Laws.{DurableReferToDurable, OnlyWantedBecomesDurable, WantsForTheAsked};
+ghost use Rattle.plain_model.specs.Laws.{WantsNothingAtFirst};
 ghost use Rattle.plain_model.specs.Laws.{PendingWasAsked, DurableObjectsStay, WorldByVisibleActs, PersistenceLeavesTheWorld};
 ghost use Rattle.plain_model.specs.Laws.{ObjectsHaveTheirSlots};
 ghost use Rattle.plain_model.specs.Typed.{FirstHeapIsTyped};

@@ -18,8 +18,8 @@ pub use laws::{
 };
 pub use rows::{
     a_fence_keeps_the_published_node, a_node_is_published, a_region_guards_and_closes,
-    stores_are_narrowed, subtypes_are_those_of_the_table, the_built_in_classes_are_classes,
-    the_first_heap_has_the_constants, the_programs_are_sound,
+    loads_narrow_nothing, stores_are_narrowed, subtypes_are_those_of_the_table,
+    the_built_in_classes_are_classes, the_first_heap_has_the_constants, the_programs_are_sound,
 };
 pub use run_laws::{
     counts_are_at_most_the_acts, faults_have_causes, limits_are_reached,

@@ -1,14 +1,18 @@
 // Small programs by computation: what they may do, and what they may not.
 ghost use Rattle.std.specs.Prelude.{pos, negsuc, [], ◌∷◌};
 ghost use Rattle.ap_base.specs.declared.kind.Kind.TheVariants.{Z, B, C, S};
-ghost use Rattle.plain_model.specs.BuiltInRows.{BuiltInsAreClasses, BuiltInsAreThoseOfTheTable, BuiltInsOfSetsLink, SupertypesAreFollowed};
+ghost use Rattle.plain_model.specs.BuiltInRows.{BuiltInsAreClasses, BuiltInsAreThoseOfTheTable, BuiltInsOfSetsLink};
+ghost use Rattle.plain_model.specs.BuiltInRows.{SupertypesAreFollowed};
 ghost use Rattle.plain_model.specs.Consistent.{IsConsistent};
 ghost use Rattle.plain_model.specs.First.{IsOpening};
 ghost use Rattle.plain_model.specs.FirstRows.{FirstHeapHasConstants};
+ghost use Rattle.plain_model.specs.Kinds.{IsOf};
 ghost use Rattle.plain_model.specs.Rows.{nodes, null_root, one_node, Publishes, asked, joined, stored, fenced, left};
-ghost use Rattle.plain_model.specs.Rows.{DoesInRegion, guarded, linked, closing, ended, Narrows, LeavesEither, LeavesTheNode};
-ghost use Rattle.plain_model.specs.SubtypeRows.{AreHeld, AreSubtypes, ElementsHaveKinds, drawing, of_arrays, of_classes, of_elements};
-ghost use Rattle.graph_model.specs.declared.types.Value.TheVariants.{Null};
+ghost use Rattle.plain_model.specs.Rows.{DoesInRegion, guarded, linked, closing, ended, Narrows, LoadsGiveWhatIsThere};
+ghost use Rattle.plain_model.specs.Rows.{LeavesEither, LeavesTheNode};
+ghost use Rattle.plain_model.specs.SubtypeRows.{AreHeld, AreSubtypes, ElementsHaveKinds, drawing, of_arrays, of_classes};
+ghost use Rattle.plain_model.specs.SubtypeRows.{of_elements};
+ghost use Rattle.graph_model.specs.declared.types.Value.TheVariants.{Null, Int as AnInt};
 
 /// The names of the built-in classes ascend, each has the superclass, superinterfaces and fields of the
 /// table, superclasses' fields stand first, and a few of them by their supertypes.
@@ -64,6 +68,16 @@ pub fn stores_are_narrowed()
     ensures short { Narrows S (pos 65535) (negsuc 0) }
     ensures boolean { Narrows Z (pos 2) (pos 0) }
     ensures char { Narrows C (negsuc 0) (pos 65535) }
+{}
+
+/// A load gives what is there: of a byte or a short that may be any int, as an image may have it; a boolean is 0 or 1,
+/// and a char has 16 bits.
+pub fn loads_narrow_nothing()
+    ensures loads { LoadsGiveWhatIsThere }
+    ensures byte { IsOf B (AnInt (pos 300)) }
+    ensures short { IsOf S (AnInt (negsuc 65535)) }
+    ensures boolean { IsOf Z (AnInt (pos 2)) → ⊥ }
+    ensures char { IsOf C (AnInt (pos 65536)) → ⊥ }
 {}
 
 /// The published node may be lost until its store is fenced.

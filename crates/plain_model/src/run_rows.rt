@@ -5,8 +5,10 @@ ghost use Rattle.plain_model.specs.First.{IsOpening};
 ghost use Rattle.plain_model.specs.StepWorld.{boxes};
 ghost use Rattle.plain_model.specs.RunRows.{two_boxes};
 ghost use Rattle.plain_model.specs.RunRows.{ActsAreInOrder, ThreadsWait, MonitorsExclude};
-ghost use Rattle.plain_model.specs.EndRows.{Prints7, RegionsCommitAtTheirEnd, RegionsRace, ThreadsAreStuck, RunsFill, LinesAreWanted};
+ghost use Rattle.plain_model.specs.EndRows.{Prints7, RegionsCommitAtTheirEnd, RegionsRace, ThreadsAreStuck, RunsFill};
+ghost use Rattle.plain_model.specs.EndRows.{LinesAreWanted};
 ghost use Rattle.plain_model.specs.EndRows.{CausesAreInOrder, FencesComeFirst, FaultsCome, ThreadsEnd};
+ghost use Rattle.plain_model.specs.EndRows.{LinesHoldEightWords, LogsFill};
 
 /// Regions guard their places, nest, and close at their outermost end.
 pub fn regions_keep_their_rules()
@@ -43,6 +45,8 @@ pub fn runs_end_by_their_rules()
     ensures stuck { ThreadsAreStuck }
     ensures fill { RunsFill }
     ensures lines { LinesAreWanted }
+    ensures eight { LinesHoldEightWords }
+    ensures logs { LogsFill }
     ensures order { CausesAreInOrder }
     ensures fences { FencesComeFirst }
     ensures faults { FaultsCome }

@@ -1,6 +1,7 @@
 // Laws and rows of class sets: each is the contract of a function that does nothing.
 ghost use Rattle.plain_model.specs.SetRows.{ArraysAreRefused, ClassesAreRefused, KnownAreThere, StaticsAreRefused};
-ghost use Rattle.plain_model.specs.SetLaws.{BuiltInsAreThere, DirectSupertypesAreAbove, GivenArraysAreThere, SubtypesHaveFields, TypesAreTheirOwnSubtypes};
+ghost use Rattle.plain_model.specs.SetLaws.{BuiltInsAreThere, DirectSupertypesAreAbove, GivenArraysAreThere};
+ghost use Rattle.plain_model.specs.SetLaws.{SubtypesHaveFields, TypesAreTheirOwnSubtypes};
 
 /// The classes and array types that the runtime itself knows have their numbers.
 pub fn known_types_are_there()

@@ -1,6 +1,7 @@
 // The step of each request in one world, by computation.
 ghost use Rattle.plain_model.specs.StepWorld.{box_world, crowded_world, nearly_crowded_world};
-ghost use Rattle.plain_model.specs.StepRows.{AreSteps, KindsServeTheirOwn, PrintsAFront, making, statics, fields, element_reads, element_stores};
+ghost use Rattle.plain_model.specs.StepRows.{AreSteps, KindsServeTheirOwn, PrintsAFront, making, statics, fields};
+ghost use Rattle.plain_model.specs.StepRows.{element_reads, element_stores};
 ghost use Rattle.plain_model.specs.StepRows.{tests, monitors, threads, nearly_crowded, crowded, others};
 ghost use Rattle.plain_model.specs.FitRows.{MadeClassesAreMade, BegunClassesAreDone, ThrowablesAreThrown};
 ghost use Rattle.plain_model.specs.FitRows.{FieldsAreOfTheirKind, PiecesArePrinted, TurnsBreakBy};

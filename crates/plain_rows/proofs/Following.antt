@@ -1,5 +1,6 @@
 -- Calm acts of plain runs.
-use Rattle.std.proofs.Common.{◌≡◌, ◌≢◌, inl, inr, ◌↔◌, ℕ, ◌≤◌, Bool, true, false, ◌&&◌, not, List, [], ◌∷◌, ◌++◌, length, nat_eq, Option, refl, sym, ◌∙◌, ap, subst, arith, append-nil, if◌then◌else◌}
+use Rattle.std.proofs.Common.{◌≡◌, ◌≢◌, inl, inr, ◌↔◌, ℕ, ◌≤◌, Bool, true, false, ◌&&◌, not, List, [], ◌∷◌, ◌++◌, length}
+use Rattle.std.proofs.Common.{nat_eq, Option, refl, sym, ◌∙◌, ap, subst, arith, append-nil, if◌then◌else◌}
 use Rattle.std.specs.Prelude.{IsTrue, filter}
 use Rattle.std.proofs.lemmas.Bool.{true≢false}
 use Rattle.std.proofs.lemmas.List.{length-append, length-set}
@@ -11,7 +12,8 @@ use Rattle.run_history.specs.declared.act.Op.TheVariants as op
 use Rattle.run_history.specs.declared.act.Act.{Act}
 use Rattle.run_history.specs.Recorded.{Recorded, NamesRightly}
 use Rattle.run_history.specs.Worlds.{heap_after_op}
-use Rattle.run_history.specs.Knowing.{Knowledge, durable_at, owes_fence, has_guards, is_single, is_outermost, store_fate, after_end, known_after_op, next_known}
+use Rattle.run_history.specs.Knowing.{Knowledge, durable_at, owes_fence, has_guards, is_single, is_outermost, store_fate}
+use Rattle.run_history.specs.Knowing.{after_end, known_after_op, next_known}
 use Rattle.run_history.specs.Wanted.{Wishes, NoWish, IsClosed}
 use Rattle.plain_model.specs.Facts.{SetFacts}
 use Rattle.plain_model.specs.First.{first_known, numbers_to}
@@ -22,7 +24,7 @@ use Rattle.plain_model.proofs.Appended.{known_after-append, GoesOn-push}
 use Rattle.plain_model.proofs.Closed.{closed_after, closed_at_first}
 use Rattle.plain_model.proofs.Durable.{below_from_has_number}
 use Rattle.plain_heap.specs.Heaps.{shown_of}
-use Rattle.machine_asks.proofs.Coming.{AreThere, LeavesClosed, closed-next, durable-same, heap-next}
+use Rattle.machine_laws.proofs.Coming.{AreThere, LeavesClosed, closed-next, durable-same, heap-next}
 use Rattle.run_forms.specs.Standing.{IsLaunch, IsRun, Launch, known_at, plain_code}
 use Rattle.plain_machine.specs.declared.plain.Plain.{Plain}
 use Rattle.plain_machine.specs.Standing.{IsNext, Stands, recorded}

@@ -1,5 +1,6 @@
 -- Opening graphs of one node.
-use Rattle.std.proofs.Common.{◌≡◌, ℕ, suc, ◌<◌, ◌^◌, Bool, true, false, List, [], ◌∷◌, ◌++◌, Option, Some, ℤ, map, length, refl, ap, sym, subst, ◌∙◌, arith, if◌then◌else◌}
+use Rattle.std.proofs.Common.{◌≡◌, ℕ, suc, ◌<◌, ◌^◌, Bool, true, false, List, [], ◌∷◌, ◌++◌, Option, Some, ℤ, map, length, ap}
+use Rattle.std.proofs.Common.{sym, subst, ◌∙◌, arith, if◌then◌else◌}
 use Rattle.std.specs.Prelude.{All, Contains, IfSome, slice_get}
 use Rattle.std.specs.List.{AllZip}
 use Rattle.std.proofs.lemmas.Bool.{false≢true}
@@ -38,7 +39,7 @@ at_some {X} found x P is holds =
 -- ---- the node
 
 int_of : (kind : Kind) (i : ℤ) → kind ≡ I → IsOf kind (Int i)
-int_of kind i e = let P : Kind → Type 0 = λ k. IsOf k (Int i) in subst P (sym e) (record { form = tt; range = refl })
+int_of kind i e = let P : Kind → Type 0 = λ k. IsOf k (Int i) in subst P (sym e) (record { form = tt; range = tt })
 
 abbrev IsOfField : Field → Value → Type 0
 IsOfField f value = IsOf f.kind value

@@ -4,3 +4,4 @@ pub mod Turning
 pub mod Called
 pub mod Replied
 pub mod Whole
+pub mod Ahead

@@ -1,5 +1,7 @@
 -- Arguments that are read one by one, the last one first.
-use Rattle.std.proofs.Common.{◌≡◌, ℕ, zero, suc, ◌+◌, ◌-◌, ◌≤◌, List, [], ◌∷◌, ◌++◌, length, drop, reverse, slice_get, ℤ, Option, None, Some, refl, ap, sym, ◌∙◌, subst, arith, length-drop, drop-cons, get_or}
+use Rattle.std.proofs.Common.{◌≡◌, ℕ, zero, suc, ◌+◌, ◌-◌, ◌≤◌, ◌<◌, List, [], ◌∷◌, ◌++◌, length, map, take, drop, reverse}
+use Rattle.std.proofs.Common.{slice_get, ℤ, Option, None, Some, refl, ap, sym, ◌∙◌, subst, arith, length-drop, drop-cons}
+use Rattle.std.proofs.Common.{get_or}
 use Rattle.std.proofs.lemmas.List.{drop-drop, drop_all, reverse-append}
 use Rattle.std.proofs.lemmas.Option.{slice_get_past}
 use Rattle.code_form.specs.declared.ins.Sort.{Sort}
@@ -169,6 +171,33 @@ module _ (sorts : List Sort) (i : ℕ) (so : Sort) (e : drop i sorts ≡ so ∷ 
 
 pub last-first : {X : Type 0} (xs : List X) (v : X) → reverse (xs ++ v ∷ []) ≡ v ∷ reverse xs
 last-first xs v = reverse-append xs (v ∷ [])
+
+-- one of the first two arguments comes before those that were read
+pub kept-first : {X : Type 0} (items later : List X) (v : X) (n : ℕ) → n < 2 → reverse items ≡ take (1 - n) later →
+    reverse (items ++ v ∷ []) ≡ take (2 - n) (v ∷ later)
+kept-first items later v n h e =
+    let k : suc (1 - n) ≡ 2 - n = omega (arith, h) in
+    last-first items v ∙ ap (λ xs. v ∷ xs) e ∙ ap (λ k. take k (v ∷ later)) k
+
+-- another one doesn't
+pub kept-past : {X : Type 0} (items later : List X) (v : X) (n : ℕ) → 2 ≤ n → reverse items ≡ take (1 - n) later →
+    reverse items ≡ take (2 - n) (v ∷ later)
+kept-past items later v n h e =
+    let one : 1 - n ≡ 0 = omega (arith, h) in
+    let two : 0 ≡ 2 - n = omega (arith, h) in
+    e ∙ ap (λ k. take k later) one ∙ ap (λ k. take k (v ∷ later)) two
+
+pub first-two : {X Y : Type 0} (f : X → Y) (xs : List X) → take 2 (map f (take 2 xs)) ≡ take 2 (map f xs)
+first-two f [] = refl
+first-two f (x ∷ []) = refl
+first-two f (x ∷ y ∷ xs) = refl
+
+-- so many arguments are still to be read, and those of the others that are among the first two were kept
+pub record IsReading {R : Type 0} (sorts : List Sort) (own : Own R) (i above left : ℕ) (items : List (Given R)) : Type 0 where
+  pub later : List (Given R)
+  pub are : arguments_on sorts own.stack [] ≡ arguments_on (drop i sorts) (drop above own.stack) later
+  pub kept : reverse items ≡ take (2 - left) later
+  pub to_read : left ≡ length sorts - i
 
 -- no stack has its receiver past its end
 pub receiver-past : {R : Type 0} (own : Own R) (n : ℕ) → length own.stack ≤ n → reference_at n own ≡ None

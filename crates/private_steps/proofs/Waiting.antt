@@ -1,11 +1,12 @@
 -- What a turn asked waits for its reply.
-use Rattle.std.proofs.Common.{◌≡◌, ℕ, zero, suc, ◌+◌, ◌-◌, ◌<◌, ◌≤◌, nat_le, map, ◌++◌, take, drop, Bool, true, false, List, [], ◌∷◌, length, Option, None, Some, if◌then◌else◌, refl, ap, sym, subst, arith}
+use Rattle.std.proofs.Common.{◌≡◌, ℕ, zero, suc, ◌+◌, ◌-◌, ◌<◌, ◌≤◌, nat_le, map, ◌++◌, take, drop, Bool, true, false, List, []}
+use Rattle.std.proofs.Common.{◌∷◌, length, Option, None, Some, if◌then◌else◌, refl, ap, sym, subst, arith}
 use Rattle.std.proofs.lemmas.List.{get_or_past}
 use Rattle.std.proofs.lemmas.Bool.{leb-true, leb-false}
 use Rattle.run_types.specs.declared.key.Key.{Key}
 use Rattle.run_types.specs.declared.resolved.At.{At}
 use Rattle.run_types.specs.declared.fault.LinkKind.TheVariants as kind
-use Rattle.run_types.specs.declared.fault.RunFault.TheVariants as fault
+use Rattle.run_types.specs.declared.fault.StepFault.TheVariants as fault
 use Rattle.run_types.specs.declared.fault.Which.TheVariants.{FrameSlots}
 use Rattle.natives.specs.declared.requests.Request.{Request}
 use Rattle.natives.specs.declared.requests.Request.TheVariants as ask
@@ -24,8 +25,12 @@ use Rattle.frames.specs.declared.program.Placed.{Placed}
 use Rattle.frames.specs.declared.program.Target.{Target}
 use Rattle.frames.specs.declared.program.Target.TheVariants as target
 use Rattle.frames.specs.Tables.{method_at, placed_at, no_placed, from_of, start_of, dispatched}
-use Rattle.frames.specs.Settings.{Frame, Running, Native, Initialiser, Main, Doing, Runs, BeginsMain, BeginsThread, Enters, Unwinds, Initialises, Initialised, Breaks, Ends, Frames, NativeStep, Asks, Calls, Gives, Setting, slots_left}
-use Rattle.frames.specs.Calls.{Stepped, goes_on, asks_so, breaks, after, if_room, first_own, monitor_of, value_of, reply_of, cells_of, cells_taken, arguments_on, signature_of, begins_body, begins_found, native_does, returns_to, calls_with, calls, returns, result_of}
+use Rattle.frames.specs.Settings.{Frame, Running, Native, Initialiser, Main, Doing, Runs, BeginsMain, BeginsThread, Enters}
+use Rattle.frames.specs.Settings.{Unwinds, Initialises, Initialised, Breaks, Ends, Frames, NativeStep, Asks, Calls, Gives}
+use Rattle.frames.specs.Settings.{Setting, slots_left}
+use Rattle.frames.specs.Calls.{Stepped, goes_on, asks_so, breaks, after, if_room, first_own, monitor_of, value_of, reply_of}
+use Rattle.frames.specs.Calls.{cells_of, cells_taken, arguments_on, signature_of, begins_body, begins_found, native_does}
+use Rattle.frames.specs.Calls.{returns_to, calls_with, calls, returns, result_of}
 use Rattle.frames.specs.Private.{private_step}
 use Rattle.frames.specs.Requests.{request_of}
 use Rattle.frames.specs.Turns.{asks_or, calls_special, does, frame_does, asked_by, one_of, one, turn_of}

@@ -2,3 +2,4 @@ pub mod Arguments
 pub mod Waits
 pub mod Replies
 pub mod Turning
+pub mod Ahead

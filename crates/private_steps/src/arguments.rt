@@ -1,6 +1,7 @@
 //! The arguments of a method that is called, on top of its caller's stack.
 
-ghost use Rattle.std.specs.Prelude.{◌≡◌, ◌<◌, ◌≤◌, ◌-◌, List, [], length, reverse, Some, None, IfOk, MatchOption, vec_capacity};
+ghost use Rattle.std.specs.Prelude.{◌≡◌, ◌<◌, ◌≤◌, ◌-◌, List, [], ◌∷◌, length, reverse, take, Some, None, IfOk, MatchOption};
+ghost use Rattle.std.specs.Prelude.{vec_capacity};
 ghost use Rattle.frames.specs.declared.given.Given.{Given as Argument};
 ghost use Rattle.frame_cells.specs.Own.{reference_at};
 ghost use Rattle.frames.specs.Calls.{arguments_on, cells_taken};
@@ -12,10 +13,10 @@ use frames::Given;
 use std::alloc::{AllocError, Global};
 use std::marker::Model;
 
-/// How many arguments there is room for: no stack has more cells.
-const ARGUMENTS: usize = 65_536;
+/// How many arguments there is room for: no native method reads more.
+const ARGUMENTS: usize = 2;
 
-/// The arguments of a native method, the last one first, in memory of a fixed size.
+/// The first two arguments of a native method, the last one first, in memory of a fixed size.
 #[derive(Drop)]
 pub struct Arguments<R: Copy + Drop> {
     items: Vec<Given<R>>,
@@ -29,7 +30,7 @@ impl<R: Copy + Drop> Model for Arguments<R> {
 
     ghost view = { λ a. a.items.items };
 
-    ghost invariant = { λ a. 65536 ≤ vec_capacity a.items };
+    ghost invariant = { λ a. 2 ≤ vec_capacity a.items };
 }
 
 impl<R: Copy + Drop> Arguments<R> {
@@ -42,11 +43,11 @@ impl<R: Copy + Drop> Arguments<R> {
         })
     }
 
-    /// The arguments of these types that lie on top of a stack, if they do.
+    /// The first two arguments of these types, if all of them lie on top of a stack.
     pub fn read(&mut self, parameters: &[Sort], cells: &Cells<R>)
         requires { length cells.now.own.stack ≤ 65536 }
         ensures { (arguments : List (Argument R)) →
-            arguments_on parameters.now cells.now.own.stack [] ≡ Some arguments → reverse self.new ≡ arguments }
+            arguments_on parameters.now cells.now.own.stack [] ≡ Some arguments → reverse self.new ≡ take 2 arguments }
     {
         read(&mut self.items, parameters, cells);
     }
@@ -59,15 +60,16 @@ impl<R: Copy + Drop> Arguments<R> {
 }
 
 fn read<R: Copy + Drop>(items: &mut Vec<Given<R>>, parameters: &[Sort], cells: &Cells<R>)
-    requires room { 65536 ≤ vec_capacity items.old }
+    requires room { 2 ≤ vec_capacity items.old }
     requires few { length cells.now.own.stack ≤ 65536 }
     ensures arguments { (arguments : List (Argument R)) →
-        arguments_on parameters.now cells.now.own.stack [] ≡ Some arguments → reverse items.new.items ≡ arguments }
+        arguments_on parameters.now cells.now.own.stack [] ≡ Some arguments → reverse items.new.items ≡ take 2 arguments }
     ensures room { vec_capacity items.new ≡ vec_capacity items.old }
 {
     items.clear();
     let depth = cells.depth();
     let mut above = 0;
+    let mut left = parameters.len();
     for sort in parameters {
         if depth <= above {
             return;
@@ -75,8 +77,24 @@ fn read<R: Copy + Drop>(items: &mut Vec<Given<R>>, parameters: &[Sort], cells: &
         let Some(given) = argument(*sort, cells, above) else {
             return;
         };
-        items.push_reserved(given);
+        left -= 1;
+        keep(items, given, left);
         above += width(*sort);
+    }
+}
+
+// An argument before which there are so many comes before those that were read, if it is one of the first two.
+fn keep<R: Copy + Drop>(items: &mut Vec<Given<R>>, given: Given<R>, left: usize)
+    requires room { 2 ≤ vec_capacity items.old }
+    requires few { length items.old.items ≤ 1 - left }
+    ensures items { (later : List (Argument R)) → reverse items.old.items ≡ take (1 - left) later →
+        reverse items.new.items ≡ take (2 - left) (given ∷ later) }
+    ensures few { length items.new.items ≤ 2 - left }
+    ensures room { vec_capacity items.new ≡ vec_capacity items.old }
+{
+    if left < ARGUMENTS {
+        items.push_reserved(given);
+        return;
     }
 }
 

@@ -10,8 +10,8 @@ use Rattle.natives.specs.declared.states.NativeStep.{NativeStep as Step}
 use Rattle.natives.specs.States.{moved_of, step_of, state_after}
 use Rattle.natives.specs.Coded.{items}
 use Rattle.frames.specs.Settings.{NativeStep}
-use Rattle.plain_natives.specs.Methods.{step, next}
-use Rattle.plain_natives.specs.Coded.{item_given}
+use Rattle.plain_frames.specs.Methods.{step, next}
+use Rattle.plain_frames.specs.Coded.{item_given}
 use Rattle.program_host.specs.Steps.{step_in}
 
 moved : (s : NativeState Ref) (m : Moved Ref Item)

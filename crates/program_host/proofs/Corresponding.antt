@@ -15,9 +15,9 @@ use Rattle.frames.specs.Maps.{map_cell}
 use Rattle.plain_model.specs.Facts.{SetFacts, known_classes}
 use Rattle.plain_model.specs.First.{literal_number}
 use Rattle.plain_frames.specs.Codes.{plain_cells}
-use Rattle.plain_natives.specs.Methods.{plain_values, plain_given}
-use Rattle.plain_natives.specs.Coded.{plain_reference, plain_item, item_given, ItemsAreAlike}
-use Rattle.plain_natives.specs.Machines.{SettingsKeep}
+use Rattle.plain_frames.specs.Methods.{plain_values, plain_given}
+use Rattle.plain_frames.specs.Coded.{plain_reference, plain_item, item_given, ItemsAreAlike}
+use Rattle.plain_frames.specs.Machines.{SettingsKeep}
 use Rattle.program_host.specs.Literals.{spare, literal_in}
 use Rattle.program_host.specs.Settings.{item_cells}
 use Rattle.program_host.specs.Numbers.{MachinesCorrespond, MachinesCorrespondOverHeaps, AreOfHeap, whole, LeadsToObjects}

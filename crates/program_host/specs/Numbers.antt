@@ -10,9 +10,9 @@ use Rattle.frames.specs.Maps.{Keeps}
 use Rattle.plain_model.specs.Facts.{SetFacts, known_classes}
 use Rattle.plain_model.specs.First.{literal_number}
 use Rattle.plain_frames.specs.Codes.{plain_setting}
-use Rattle.plain_natives.specs.Coded.{plain_reference, plain_item}
-use Rattle.plain_natives.specs.Methods.{plain_natives}
-use Rattle.plain_natives.specs.Moves.{map_state}
+use Rattle.plain_frames.specs.Coded.{plain_reference, plain_item}
+use Rattle.plain_frames.specs.Methods.{plain_natives}
+use Rattle.plain_frames.specs.Moves.{map_state}
 use Rattle.program_host.specs.Literals.{literal_in}
 use Rattle.program_host.specs.Settings.{setting_of}
 

@@ -12,8 +12,8 @@ use Rattle.frame_cells.specs.declared.cell.Cell.TheVariants.{Int, Long, Half, Re
 use Rattle.frames.specs.declared.program.Program.{Program}
 use Rattle.frames.specs.Settings.{Setting}
 use Rattle.frames.specs.Tables.{start_of}
-use Rattle.plain_natives.specs.Coded.{item_given}
-use Rattle.plain_natives.specs.Machines.{setting}
+use Rattle.plain_frames.specs.Coded.{item_given}
+use Rattle.plain_frames.specs.Machines.{setting}
 use Rattle.program_host.specs.Literals.{literal_in}
 
 -- the cells of an item, the top first

@@ -10,8 +10,8 @@ use Rattle.natives.specs.declared.states.NativeStep.TheVariants.{Ask, Call, Retu
 use Rattle.frames.specs.declared.given.Given.{Given}
 use Rattle.frames.specs.declared.given.Given.TheVariants as given
 use Rattle.frames.specs.Settings.{NativeStep, Asks, Calls, Gives}
-use Rattle.plain_natives.specs.Methods.{method_of, given_back}
-use Rattle.plain_natives.specs.Coded.{item_given}
+use Rattle.plain_frames.specs.Methods.{method_of, given_back}
+use Rattle.plain_frames.specs.Coded.{item_given}
 
 abbrev pub item_of : Given Ref → Item
 item_of given.Nothing = item.Int (pos 0)

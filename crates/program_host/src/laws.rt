@@ -13,6 +13,6 @@ pub fn machines_correspond()
     ensures by_number { MachinesCorrespond }
     ensures over_heaps { MachinesCorrespondOverHeaps }
 {
-    plain_natives::items_are_alike();
-    plain_natives::machines_with_built_in_methods_go_alike::<Ref, Value, Item, Value>();
+    plain_frames::items_are_alike();
+    plain_frames::machines_with_built_in_methods_go_alike::<Ref, Value, Item, Value>();
 }

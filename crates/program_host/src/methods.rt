@@ -3,8 +3,8 @@
 ghost use Rattle.std.specs.Prelude.{◌≡◌, [], ◌∷◌, reverse, slice_get};
 ghost use Rattle.natives.specs.Coded.{items};
 ghost use Rattle.frame_thread.specs.Views.{native_step, called, receiver_given};
-ghost use Rattle.plain_natives.specs.Methods.{start, method_of, given_back};
-ghost use Rattle.plain_natives.specs.Coded.{item_given};
+ghost use Rattle.plain_frames.specs.Methods.{start, method_of, given_back};
+ghost use Rattle.plain_frames.specs.Coded.{item_given};
 ghost use Rattle.program_host.specs.Steps.{item_of, argument_of, step_in};
 
 use ap_base::{Item, Ref};

@@ -1,5 +1,6 @@
 -- A log is what the acts say after the acts of its own region.
-use Rattle.std.proofs.Common.{◌≡◌, ◌⊎◌, inl, inr, ⊎_elim, ℕ, zero, suc, pred, ◌+◌, ◌<◌, ◌-◌, ◌^◌, Bool, true, false, ◌||◌, List, [], length, None, refl, sym, ◌∙◌, ap, subst, arith, eq-eqb}
+use Rattle.std.proofs.Common.{◌≡◌, ◌⊎◌, inl, inr, ⊎_elim, ℕ, zero, suc, pred, ◌+◌, ◌<◌, ◌-◌, ◌^◌, Bool, true, false, ◌||◌, List}
+use Rattle.std.proofs.Common.{[], length, None, refl, sym, ◌∙◌, ap, subst, arith, eq-eqb}
 use Rattle.std.specs.Prelude.{min}
 use Rattle.std.proofs.lemmas.Bool.{true≢false}
 use Rattle.ap_base.specs.declared.place.Place.{Place}
@@ -10,12 +11,12 @@ use Rattle.graph_model.specs.Heaps.{has_number}
 use Rattle.run_history.specs.Worlds.{depth_of}
 use Rattle.run_history.specs.Knowing.{Knowledge, Guard, guard_of, has_guards, is_outermost, after_end, known_after_op}
 use Rattle.plain_model.specs.Limits.{guards_of}
-use Rattle.kept_places.proofs.Joint.{same_place, is_same_place}
-use Rattle.kept_places.proofs.Marks.{guard_added, guard_new}
-use Rattle.stop_invariant.specs.Layouts.{Layout, KeepsPlaces, is_kept_place}
-use Rattle.stop_invariant.specs.Events.{line_at, word_at, known_by}
-use Rattle.stop_invariant.proofs.Acting.{store_places}
-use Rattle.stop_invariant.proofs.Places.{line_same, word_same}
+use Rattle.stop_theorem.proofs.Joint.{same_place, is_same_place}
+use Rattle.stop_theorem.proofs.Marks.{guard_added, guard_new}
+use Rattle.stop_theorem.specs.Layouts.{Layout, KeepsPlaces, is_kept_place}
+use Rattle.stop_theorem.specs.InvariantEvents.{line_at, word_at, known_by}
+use Rattle.stop_theorem.proofs.Acting.{store_places}
+use Rattle.stop_theorem.proofs.Places.{line_same, word_same}
 use Rattle.region_log.specs.declared.entry.Entry.{Entry}
 use Rattle.region_log.specs.declared.entry.EntryStage.TheVariants.{Begun}
 use Rattle.region_log.specs.declared.entry.EndStage.TheVariants.{Writing, AllFenced}
@@ -24,7 +25,8 @@ use Rattle.region_log.specs.Guarding.{is_some}
 use Rattle.region_log.specs.Log.{Log, IsLogged}
 use Rattle.region_events.specs.Guards.{IsWordOf, KeepsGuards}
 use Rattle.region_events.specs.Laws.{one_deeper}
-use Rattle.region_events.proofs.Lists.{guard_cases, guards_some, guards_more, guards_given, none_guarded, no_place, no_number, last_number, depth_begun, depth_ended}
+use Rattle.region_events.proofs.Lists.{guard_cases, guards_some, guards_more, guards_given, none_guarded, no_place, no_number}
+use Rattle.region_events.proofs.Lists.{last_number, depth_begun, depth_ended}
 use Rattle.region_events.proofs.Kept.{log_with, word_as, left_keeps}
 
 -- the region is deeper or less deep, and all else as it was

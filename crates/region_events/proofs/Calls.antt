@@ -7,7 +7,7 @@ use Rattle.line_image.specs.Told.{Told}
 use Rattle.line_memory.specs.Memory.{Memory, shown, IsTelling, ReadsWord, CanLeave, CanLeaveAll, OneCall}
 use Rattle.line_memory.specs.Moments.{Goes, KeepsShown}
 use Rattle.run_history.specs.Knowing.{Knowledge}
-use Rattle.stop_invariant.specs.Events.{Puts as PutsWord}
+use Rattle.stop_theorem.specs.InvariantEvents.{Puts as PutsWord}
 use Rattle.region_log.specs.Made.{Word, Puts, PutsAll, PutsThenCalls, IsOfLog, AreOfLog}
 use Rattle.stop_theorem.specs.Running.{State, Event, Events, none, more, with_memory, Called}
 

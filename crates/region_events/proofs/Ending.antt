@@ -1,11 +1,12 @@
 -- A region is ended, a call at a time.
-use Rattle.std.proofs.Common.{◌≡◌, ◌≢◌, ◌⊎◌, inl, inr, ℕ, ◌<◌, ◌≤◌, false, List, [], length, refl, sym, ◌∙◌, ap, subst, arith, lt-ltb, eq-eqb}
+use Rattle.std.proofs.Common.{◌≡◌, ◌≢◌, ◌⊎◌, inl, inr, ℕ, ◌<◌, ◌≤◌, false, List, [], length, refl, sym, ◌∙◌, ap, subst, arith}
+use Rattle.std.proofs.Common.{lt-ltb, eq-eqb}
 use Rattle.image_layout.specs.Places.{log_head_line}
 use Rattle.line_memory.specs.Memory.{Memory}
 use Rattle.run_history.specs.declared.act.Op.TheVariants as op
 use Rattle.run_history.specs.Worlds.{depth_of}
 use Rattle.run_history.specs.Knowing.{Knowledge}
-use Rattle.stop_invariant.specs.Layouts.{Layout}
+use Rattle.stop_theorem.specs.Layouts.{Layout}
 use Rattle.stop_theorem.specs.Running.{State, known_at, with_act, with_memory, Events, none, more, Closing, Ended}
 use Rattle.region_log.specs.declared.entry.Entry.{Entry}
 use Rattle.region_log.specs.declared.entry.EndStage.{EndStage}

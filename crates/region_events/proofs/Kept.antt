@@ -1,15 +1,18 @@
 -- A log is what the acts say, and so it is as its region goes on.
-use Rattle.std.proofs.Common.{◌≡◌, ◌⊎◌, inl, inr, ⊎_elim, ℕ, ◌+◌, true, false, ◌||◌, List, [], ◌∷◌, ◌++◌, length, refl, sym, ◌∙◌, ap, subst, arith, slice_index_or, if◌then◌else◌}
+use Rattle.std.proofs.Common.{◌≡◌, ◌⊎◌, inl, inr, ⊎_elim, ℕ, ◌+◌, true, false, ◌||◌, List, [], ◌∷◌, ◌++◌, length, refl, sym}
+use Rattle.std.proofs.Common.{◌∙◌, ap, subst, arith, slice_index_or, if◌then◌else◌}
 use Rattle.std.proofs.lemmas.List.{length_push, get_or_append_left}
 use Rattle.std.proofs.lemmas.List.Quantifiers.{Any-push}
 use Rattle.std.proofs.lemmas.Bool.{cases_lt}
 use Rattle.std.proofs.Math.Seq.{get_or-append_seam}
 use Rattle.ap_base.specs.declared.place.Place.{Place}
 use Rattle.ap_base.specs.declared.place.Spot.{Spot}
+use Rattle.graph_model.specs.Heaps.{has_number}
+use Rattle.run_history.specs.Worlds.{depth_of}
 use Rattle.run_history.specs.Knowing.{Knowledge, guard_of, has_guards}
 use Rattle.plain_model.specs.Limits.{guards_of}
-use Rattle.stop_invariant.specs.Layouts.{Layout}
-use Rattle.stop_invariant.specs.Events.{line_at, word_at}
+use Rattle.stop_theorem.specs.Layouts.{Layout, is_kept_place}
+use Rattle.stop_theorem.specs.InvariantEvents.{line_at, word_at}
 use Rattle.region_log.specs.declared.entry.Entry.{Entry}
 use Rattle.region_log.specs.declared.entry.EntryStage.{EntryStage}
 use Rattle.region_log.specs.declared.entry.Underway.{Underway}
@@ -17,7 +20,6 @@ use Rattle.region_log.specs.declared.entry.Underway.TheVariants.{Nothing, Adding
 use Rattle.region_log.specs.Guarding.{IsAdded, is_some, is_adding, is_closing}
 use Rattle.region_log.specs.Log.{Log, SameWord, IsLogged}
 use Rattle.region_events.specs.Guards.{IsWordOf, KeepsGuards}
-use Rattle.region_events.specs.Laws.{LeftRegionsKeepGuards}
 
 -- a place's word, where it lies as it lay
 pub word_as : (known next : Knowledge) (lay lay' : Layout) (spot : Spot) (p : Place)
@@ -28,7 +30,17 @@ word_as known next lay lay' spot p line word is = record {
   word = is.word ∙ sym word;
 }
 
-pub left_keeps : LeftRegionsKeepGuards
+-- All that is known of the thread's region is as before, and its places lie where they lay.
+pub record LeavesRegion (known next : Knowledge) (lay lay' : Layout) (t : ℕ) : Type 0 where
+  pub guards : next.guards ≡ known.guards
+  pub depth : depth_of next.world t ≡ depth_of known.world t
+  pub closing : has_number next.closing t ≡ has_number known.closing t
+  pub kept : (p : Place) → is_kept_place known p ≡ true → is_kept_place next p ≡ true
+  pub lines : (p : Place) → is_kept_place known p ≡ true → line_at lay' next p ≡ line_at lay known p
+  pub words : (p : Place) → is_kept_place known p ≡ true → word_at next p ≡ word_at known p
+
+pub left_keeps : (known next : Knowledge) (lay lay' : Layout) (log : Log)
+    → LeavesRegion known next lay lay' log.thread → KeepsGuards known lay log → KeepsGuards next lay' log
 left_keeps known next lay lay' log left g = record {
   depth = g.depth ∙ sym left.depth;
   closing = g.closing ∙ sym left.closing;

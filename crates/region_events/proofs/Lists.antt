@@ -1,5 +1,7 @@
 -- The guards of a thread, and how deep its regions are, after an act of its own.
-use Rattle.std.proofs.Common.{◌≡◌, ◌≢◌, ◌⊎◌, inl, inr, ℕ, zero, suc, pred, ◌+◌, ◌<◌, Bool, true, false, List, [], ◌∷◌, ◌++◌, length, filter, not, cond, Option, Some, None, refl, sym, ◌∙◌, ap, arith, nat_eq, if◌then◌else◌, eq-eqb, ne_eqb, eqb-true}
+use Rattle.std.proofs.Common.{◌≡◌, ◌≢◌, ◌⊎◌, inl, inr, ℕ, zero, suc, pred, ◌+◌, ◌<◌, Bool, true, false, List, [], ◌∷◌, ◌++◌}
+use Rattle.std.proofs.Common.{length, filter, not, cond, Option, Some, None, refl, sym, ◌∙◌, ap, arith, nat_eq, if◌then◌else◌}
+use Rattle.std.proofs.Common.{eq-eqb, ne_eqb, eqb-true}
 use Rattle.std.specs.Prelude.{slice_get}
 use Rattle.std.proofs.lemmas.Bool.{true≢false, or_parts, or_right}
 use Rattle.ap_base.specs.declared.place.Place.{Place}

@@ -7,18 +7,19 @@ use Rattle.ap_base.specs.declared.place.Place.TheVariants.{Static, Slot}
 use Rattle.graph_model.specs.Heaps.{values_of}
 use Rattle.line_image.specs.Trace.{Outcome}
 use Rattle.line_memory.specs.Memory.{Memory, CanLeaveAll}
-use Rattle.image_layout.specs.Places.{logs, log_entries, min_lines, root_slots, first_object_line, slot_line, lines_of, object_line, log_head_line, log_entry_line}
+use Rattle.image_layout.specs.Places.{logs, log_entries, min_lines, root_slots, first_object_line, slot_line, lines_of}
+use Rattle.image_layout.specs.Places.{object_line, log_head_line, log_entry_line}
 use Rattle.image_meaning.specs.Logs.{is_log_line, may_be_logged, log_count}
 use Rattle.image_meaning.proofs.Places.{log_passes}
 use Rattle.image_meaning.proofs.Stopped.{logs_pass}
 use Rattle.run_history.specs.Knowing.{Knowledge}
 use Rattle.graph_model.specs.declared.types.Heap.{Heap}
-use Rattle.kept_places.specs.Choices.{Threads}
-use Rattle.stop_invariant.specs.Layouts.{Layout, is_kept_place, root_number}
-use Rattle.stop_invariant.specs.Stops.{Stands}
-use Rattle.stop_invariant.specs.Events.{line_at, word_at}
-use Rattle.stop_invariant.proofs.KeptPlaces.{slot_parts, root_parts, lies_there}
-use Rattle.stop_invariant.proofs.Stored.{PlaceLies, AtRoot, InObject, place_lies, not_log, root_below}
+use Rattle.stop_theorem.specs.Choices.{Threads}
+use Rattle.stop_theorem.specs.Layouts.{Layout, is_kept_place, root_number}
+use Rattle.stop_theorem.specs.Stops.{Stands}
+use Rattle.stop_theorem.specs.InvariantEvents.{line_at, word_at}
+use Rattle.stop_theorem.proofs.KeptPlaces.{slot_parts, root_parts, lies_there}
+use Rattle.stop_theorem.proofs.Stored.{PlaceLies, AtRoot, InObject, place_lies, not_log, root_below}
 use Rattle.region_log.specs.Made.{IsOfLog}
 
 -- ---- lines of logs

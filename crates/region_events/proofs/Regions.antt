@@ -1,5 +1,6 @@
 -- A region begins, guards a place, stores there, and ends at once.
-use Rattle.std.proofs.Common.{◌≡◌, ◌≢◌, inl, inr, ⊎_elim, ℕ, zero, suc, ◌<◌, ◌-◌, Bool, true, false, List, [], length, Some, None, refl, sym, ◌∙◌, ap, subst, arith, eq-eqb, ne_eqb}
+use Rattle.std.proofs.Common.{◌≡◌, ◌≢◌, inl, inr, ⊎_elim, ℕ, zero, suc, ◌<◌, ◌-◌, Bool, true, false, List, [], length, Some}
+use Rattle.std.proofs.Common.{None, refl, sym, ◌∙◌, ap, subst, arith, eq-eqb, ne_eqb}
 use Rattle.std.proofs.lemmas.Bool.{true≢false, and_parts, cases_lt}
 use Rattle.ap_base.specs.declared.place.Place.{Place}
 use Rattle.ap_base.specs.declared.place.Spot.{Spot}
@@ -10,7 +11,7 @@ use Rattle.image_meaning.specs.Logs.{may_be_logged, log_of, old_word}
 use Rattle.run_history.specs.declared.act.Op.TheVariants as op
 use Rattle.run_history.specs.Worlds.{has_place, depth_of}
 use Rattle.run_history.specs.Knowing.{Knowledge, Open, durable_at, guard_of, store_fate, is_outermost}
-use Rattle.stop_invariant.specs.Events.{line_at, word_at}
+use Rattle.stop_theorem.specs.InvariantEvents.{line_at, word_at}
 use Rattle.stop_theorem.specs.Conditions.{IsInRegion}
 use Rattle.stop_theorem.specs.Running.{State, known_at, with_act, with_memory, Guarded, RegionStored, Ended}
 use Rattle.stop_theorem.proofs.Given.{begin_is}
@@ -26,7 +27,8 @@ use Rattle.region_log.proofs.Frames.{undisturbed-put, keeps-on}
 use Rattle.region_log.proofs.Left.{underway_left}
 use Rattle.region_log.proofs.Said.{left_entries_say}
 use Rattle.region_events.specs.Guards.{IsWordOf, KeepsGuards, StandsWith}
-use Rattle.region_events.specs.Laws.{GoesWith, one_deeper, MayBeGuarded, with_entry, StoresInRegion, BeginsAreEvents, GuardsAreEvents, StoresAreEvents, EndsAtOnceAreEvents}
+use Rattle.region_events.specs.Laws.{GoesWith, one_deeper, MayBeGuarded, with_entry, StoresInRegion, BeginsAreEvents}
+use Rattle.region_events.specs.Laws.{GuardsAreEvents, StoresAreEvents, EndsAtOnceAreEvents}
 use Rattle.region_events.proofs.Calls.{one_event}
 use Rattle.region_events.proofs.Going.{standing_of, goes}
 use Rattle.region_events.proofs.Acts.{begun_keeps, inner_end_keeps, end_keeps, guarded_keeps, stored_keeps}

@@ -1,5 +1,6 @@
 -- The acts of a region keep the rules of a plain run.
-use Rattle.std.proofs.Common.{◌≡◌, ◌≢◌, inl, inr, ℕ, true, false, List, [], ◌∷◌, length, Some, refl, sym, ◌∙◌, ap, arith, nat_eq, ◌||◌, eq-eqb}
+use Rattle.std.proofs.Common.{◌≡◌, ◌≢◌, inl, inr, ℕ, true, false, List, [], ◌∷◌, length, Some, refl, sym, ◌∙◌, ap, arith}
+use Rattle.std.proofs.Common.{nat_eq, ◌||◌, eq-eqb}
 use Rattle.std.proofs.lemmas.Bool.{true≢false, eqb-true, or_left}
 use Rattle.ap_base.specs.declared.place.Place.{Place}
 use Rattle.run_history.specs.Worlds.{depth_of}

@@ -6,19 +6,21 @@ use Rattle.run_history.specs.declared.act.Op.{Op}
 use Rattle.run_history.specs.declared.act.Op.TheVariants as op
 use Rattle.run_history.specs.Knowing.{Knowledge}
 use Rattle.run_history.proofs.Grown.{known_after-append}
-use Rattle.kept_places.specs.Choices.{Threads, without_thread}
-use Rattle.kept_places.proofs.Ordered.{orderly_next}
-use Rattle.stop_invariant.specs.Layouts.{Layout}
-use Rattle.stop_invariant.specs.Stops.{Stands}
-use Rattle.stop_invariant.proofs.Calls.{stands_call}
-use Rattle.stop_invariant.proofs.Visible.{stands_sure, guards_keep}
-use Rattle.stop_invariant.proofs.Showing.{free_keeps}
-use Rattle.store_stops.proofs.Waiting.{stands_waits}
-use Rattle.store_stops.proofs.Single.{single_keeps}
-use Rattle.store_stops.proofs.Fencing.{fences_keep}
-use Rattle.store_stops.proofs.Joined.{joins_keep}
-use Rattle.region_stops.proofs.Kept.{log_words_keep, raised_keeps, lowered_keeps, region_keeps, closing_keeps, ends_keep}
-use Rattle.stop_theorem.specs.Running.{State, known_at, act_now, with_act, known_next, with_memory, Event, Events, none, more, Called, FreeStored, Acted, SingleStored, Written, Fenced, Joined, Guarded, LogWordStored, CountRaised, RegionStored, Closing, CountLowered, Ended}
+use Rattle.stop_theorem.specs.Choices.{Threads, without_thread}
+use Rattle.stop_theorem.proofs.Ordered.{orderly_next}
+use Rattle.stop_theorem.specs.Layouts.{Layout}
+use Rattle.stop_theorem.specs.Stops.{Stands}
+use Rattle.stop_theorem.proofs.Calls.{stands_call}
+use Rattle.stop_theorem.proofs.Visible.{stands_sure, guards_keep}
+use Rattle.stop_theorem.proofs.Showing.{free_keeps}
+use Rattle.stop_theorem.proofs.Waiting.{stands_waits}
+use Rattle.stop_theorem.proofs.Single.{single_keeps}
+use Rattle.stop_theorem.proofs.Fencing.{fences_keep}
+use Rattle.stop_theorem.proofs.Joined.{joins_keep}
+use Rattle.stop_theorem.proofs.Kept.{log_words_keep, raised_keeps, lowered_keeps, region_keeps, closing_keeps, ends_keep}
+use Rattle.stop_theorem.specs.Running.{State, known_at, act_now, with_act, known_next, with_memory, Event, Events, none, more}
+use Rattle.stop_theorem.specs.Running.{Called, FreeStored, Acted, SingleStored, Written, Fenced, Joined, Guarded, LogWordStored}
+use Rattle.stop_theorem.specs.Running.{CountRaised, RegionStored, Closing, CountLowered, Ended}
 use Rattle.stop_theorem.proofs.Running.{told_calls}
 
 pub record IsStanding (first : Knowledge) (s : State) : Type 0 where

@@ -7,8 +7,8 @@ use Rattle.line_memory.specs.Memory.{Memory, line_shown, shown, IsTelling, IsDur
 use Rattle.image_layout.specs.Places.{logs, min_lines, log_head_line}
 use Rattle.run_history.specs.declared.act.Op.TheVariants as op
 use Rattle.run_history.specs.Knowing.{Knowledge, Guard, known_after_op}
-use Rattle.kept_places.proofs.Runs.{orderly_first}
-use Rattle.stop_invariant.specs.Layouts.{Layout}
+use Rattle.stop_theorem.proofs.Runs.{orderly_first}
+use Rattle.stop_theorem.specs.Layouts.{Layout}
 use Rattle.stop_theorem.specs.WrongOrders.{nodes_known}
 use Rattle.stop_theorem.specs.Running.{State, at_start, known_at, with_act}
 use Rattle.stop_theorem.proofs.Begun.{memory, begun, logs_same, size_is}

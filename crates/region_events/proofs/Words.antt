@@ -1,5 +1,6 @@
 -- The words of an entry, and the counts, as events.
-use Rattle.std.proofs.Common.{◌≡◌, ◌≢◌, inl, inr, ℕ, ◌+◌, ◌*◌, ◌<◌, ◌≤◌, true, false, List, [], ◌∷◌, length, Some, None, refl, sym, ◌∙◌, ap, subst, arith, slice_index_or, ◌⊎◌, add-one, lt-ltb, eq-eqb, ne_eqb}
+use Rattle.std.proofs.Common.{◌≡◌, ◌≢◌, inl, inr, ℕ, ◌+◌, ◌*◌, ◌<◌, ◌≤◌, true, false, List, [], ◌∷◌, length, Some, None, refl}
+use Rattle.std.proofs.Common.{sym, ◌∙◌, ap, subst, arith, slice_index_or, ◌⊎◌, add-one, lt-ltb, eq-eqb, ne_eqb}
 use Rattle.ap_base.specs.declared.place.Place.{Place}
 use Rattle.ap_base.specs.declared.place.Spot.{Spot}
 use Rattle.line_image.specs.Trace.{Outcome}
@@ -7,10 +8,11 @@ use Rattle.line_memory.specs.Memory.{Memory, shown, CanLeaveAll, IsDurable}
 use Rattle.image_layout.specs.Places.{logs, log_entries, min_lines, log_head_line, log_entry_line, log_entry_word}
 use Rattle.image_meaning.specs.Logs.{Logged, log_count, logged_at, log_of, old_word}
 use Rattle.run_history.specs.Knowing.{Knowledge, guard_of}
-use Rattle.region_stops.specs.Laws.{number_of}
-use Rattle.stop_invariant.specs.Stops.{regions_of}
-use Rattle.stop_invariant.specs.Events.{line_at, word_at, Puts as StopPuts}
-use Rattle.stop_theorem.specs.Running.{State, known_at, with_memory, Event, Events, none, more, LogWordStored, CountRaised, CountLowered}
+use Rattle.stop_theorem.specs.RegionLaws.{number_of}
+use Rattle.stop_theorem.specs.Stops.{regions_of}
+use Rattle.stop_theorem.specs.InvariantEvents.{line_at, word_at, Puts as StopPuts}
+use Rattle.stop_theorem.specs.Running.{State, known_at, with_memory, Event, Events, none, more, LogWordStored, CountRaised}
+use Rattle.stop_theorem.specs.Running.{CountLowered}
 use Rattle.region_log.specs.declared.entry.Entry.{Entry}
 use Rattle.region_log.specs.declared.entry.EntryStage.TheVariants.{Fenced}
 use Rattle.region_log.specs.declared.entry.EndStage.{EndStage}

@@ -8,9 +8,9 @@ use Rattle.line_memory.specs.Memory.{Memory, shown, IsTelling}
 use Rattle.run_history.specs.Worlds.{depth_of}
 use Rattle.run_history.specs.Knowing.{Knowledge, guard_of, has_guards}
 use Rattle.plain_model.specs.Limits.{guards_of}
-use Rattle.stop_invariant.specs.Layouts.{Layout, is_kept_place}
-use Rattle.stop_invariant.specs.Stops.{Stands}
-use Rattle.stop_invariant.specs.Events.{line_at, word_at}
+use Rattle.stop_theorem.specs.Layouts.{Layout, is_kept_place}
+use Rattle.stop_theorem.specs.Stops.{Stands}
+use Rattle.stop_theorem.specs.InvariantEvents.{line_at, word_at}
 use Rattle.stop_theorem.specs.Running.{State, known_at}
 use Rattle.region_log.specs.declared.entry.Underway.{Underway}
 use Rattle.region_log.specs.declared.entry.Underway.TheVariants.{Nothing, Adding, Ending}

@@ -2,27 +2,24 @@
 -- each call of its log, a store, its closing and its end. After each its log is what the acts say again.
 use Rattle.std.specs.Prelude.{◌≡◌, ◌⊎◌, ◌<◌, ◌≤◌, ◌+◌, ◌-◌, ◌^◌, min, ℕ, true, false, [], length, Some, None}
 use Rattle.ap_base.specs.declared.place.Place.{Place}
-use Rattle.graph_model.specs.Heaps.{has_number}
 use Rattle.graph_model.specs.declared.types.Value.{Value}
-use Rattle.image_layout.specs.Places.{log_entries}
 use Rattle.line_memory.specs.Memory.{Memory, shown, SameImage, OneCall}
 use Rattle.line_memory.specs.Moments.{KeepsShown}
 use Rattle.run_history.specs.declared.act.Op.TheVariants as op
-use Rattle.run_history.specs.Worlds.{depth_of}
 use Rattle.run_history.specs.Knowing.{Knowledge, guard_of, owes_fence}
-use Rattle.stop_invariant.specs.Layouts.{Layout, is_kept_place}
-use Rattle.stop_invariant.specs.Events.{line_at, word_at}
+use Rattle.stop_theorem.specs.Layouts.{Layout, is_kept_place}
 use Rattle.stop_theorem.specs.Conditions.{StoresAt}
 use Rattle.stop_theorem.specs.Running.{State, Events, known_at, with_act, with_memory}
 use Rattle.region_log.specs.declared.entry.Entry.{Entry}
 use Rattle.region_log.specs.declared.entry.EntryStage.{EntryStage}
 use Rattle.region_log.specs.declared.entry.EntryStage.TheVariants.{Begun}
 use Rattle.region_log.specs.declared.entry.Underway.TheVariants.{Nothing, Adding}
-use Rattle.region_log.specs.Log.{Log}
+use Rattle.region_log.specs.Log.{Log, most_entries}
 use Rattle.region_log.specs.Kept.{KeepsRegion}
 use Rattle.region_log.specs.Stages.{CanEnd, EndsAtOnce}
-use Rattle.region_log.specs.Steps.{StepsOn, TouchesFor, AddsOn, AddsEntry, FailsToAdd, TouchesToEnd, EndsOn, FencesRegion, EndsLog, FailsToEnd}
-use Rattle.region_events.specs.Guards.{IsWordOf, KeepsGuards, StandsWith}
+use Rattle.region_log.specs.Steps.{StepsOn, TouchesFor, AddsOn, AddsEntry, FailsToAdd, TouchesToEnd, EndsOn, FencesRegion}
+use Rattle.region_log.specs.Steps.{EndsLog, FailsToEnd}
+use Rattle.region_events.specs.Guards.{IsWordOf, StandsWith}
 
 -- Events lead to a state with which this log stands.
 pub record GoesWith (first : Knowledge) (log : Log) (s s' : State) : Type 0 where
@@ -55,7 +52,7 @@ pub record MayBeGuarded (known : Knowledge) (lay : Layout) (m : Memory) (log : L
     : Type 0 where
   pub is_open : 0 < log.depth
   pub idle : log.underway ≡ Nothing
-  pub room : length log.entries < log_entries
+  pub room : length log.entries < most_entries
   pub is_kept : is_kept_place known p ≡ true
   pub unguarded : guard_of known.guards p ≡ None
   pub word : IsWordOf known lay e.spot p
@@ -137,16 +134,3 @@ abbrev pub CallsLeaveLogs : Type 0
 CallsLeaveLogs = OfLogs (λ first log s. (new : Memory) → KeepsShown s.memory new
     → SameImage s.memory new ⊎ OneCall s.memory new → s.memory.calls ≤ new.calls
     → GoesWith first log s (with_memory s new))
-
--- All that is known of the thread's region is as before, and its places lie where they lay.
-pub record LeavesRegion (known next : Knowledge) (lay lay' : Layout) (t : ℕ) : Type 0 where
-  pub guards : next.guards ≡ known.guards
-  pub depth : depth_of next.world t ≡ depth_of known.world t
-  pub closing : has_number next.closing t ≡ has_number known.closing t
-  pub kept : (p : Place) → is_kept_place known p ≡ true → is_kept_place next p ≡ true
-  pub lines : (p : Place) → is_kept_place known p ≡ true → line_at lay' next p ≡ line_at lay known p
-  pub words : (p : Place) → is_kept_place known p ≡ true → word_at next p ≡ word_at known p
-
-abbrev pub LeftRegionsKeepGuards : Type 0
-LeftRegionsKeepGuards = (known next : Knowledge) (lay lay' : Layout) (log : Log)
-    → LeavesRegion known next lay lay' log.thread → KeepsGuards known lay log → KeepsGuards next lay' log

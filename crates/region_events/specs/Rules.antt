@@ -7,7 +7,7 @@ use Rattle.run_history.specs.Knowing.{Knowledge, durable_at, guard_of}
 use Rattle.plain_model.specs.Facts.{SetFacts}
 use Rattle.plain_model.specs.Requests.{PlainRequest}
 use Rattle.plain_model.specs.Runs.{IsAbout, MayGuard, MayClose, MayStore, MayEnd, is_volatile}
-use Rattle.stop_invariant.specs.Layouts.{Layout}
+use Rattle.stop_theorem.specs.Layouts.{Layout}
 use Rattle.region_log.specs.declared.entry.EndStage.TheVariants.{Writing, Cleared}
 use Rattle.region_log.specs.declared.entry.Underway.TheVariants.{Nothing, Ending}
 use Rattle.region_log.specs.Log.{Log}

@@ -6,7 +6,7 @@ use Rattle.image_layout.specs.Places.{logs}
 use Rattle.line_memory.specs.Memory.{Memory, IsTelling}
 use Rattle.run_history.specs.Worlds.{depth_of}
 use Rattle.run_history.specs.Knowing.{Knowledge, has_guards}
-use Rattle.stop_invariant.specs.Layouts.{Layout}
+use Rattle.stop_theorem.specs.Layouts.{Layout}
 use Rattle.stop_theorem.specs.Starts.{Starts}
 use Rattle.stop_theorem.specs.WrongOrders.{nodes_known}
 use Rattle.stop_theorem.specs.Running.{State, at_start}

@@ -1,5 +1,7 @@
 // The laws of regions. Each function states some, and does nothing but cite others.
-ghost use Rattle.region_events.specs.Laws.{BeginsAreEvents, CallsLeaveLogs, EndingIsEvents, EndsAtOnceAreEvents, FencesAreClosings, GuardsAreEvents, LastCallsAreEnds, LeftRegionsKeepGuards, LoggingIsEvents, StoresAreEvents};
+ghost use Rattle.region_events.specs.Laws.{BeginsAreEvents, CallsLeaveLogs, EndingIsEvents, EndsAtOnceAreEvents};
+ghost use Rattle.region_events.specs.Laws.{FencesAreClosings, GuardsAreEvents, LastCallsAreEnds, LoggingIsEvents};
+ghost use Rattle.region_events.specs.Laws.{StoresAreEvents};
 ghost use Rattle.region_events.specs.Starting.{EmptyLogsStand, OneEntryIsUnderWay};
 ghost use Rattle.region_events.specs.Rules.{ClosingsMayCome, EndsMayCome, GuardsMayCome, StoresMayCome};
 
@@ -15,12 +17,6 @@ pub fn regions_are_events()
     ensures closes { FencesAreClosings }
     ensures ends { LastCallsAreEnds }
     ensures at_once { EndsAtOnceAreEvents }
-{}
-
-/// What changes no region and leaves durable places where they lie leaves a thread's log what the
-/// acts say.
-pub fn what_leaves_regions_alone()
-    ensures { LeftRegionsKeepGuards }
 {}
 
 /// With a call of the image that isn't the log's own it stands as before.

@@ -6,5 +6,4 @@ mod laws;
 
 pub use laws::{
     calls_leave_logs, logs_stand_at_the_start, regions_are_events, regions_keep_the_rules,
-    what_leaves_regions_alone,
 };

@@ -1,5 +1,6 @@
 -- What each step that ends a region comes to.
-use Rattle.std.proofs.Common.{◌≡◌, ◌≢◌, ◌⊎◌, inl, inr, ⊎_elim, ◌<◌, ◌≤◌, ◌+◌, ◌-◌, ℕ, true, false, List, [], length, slice_index_or, refl, sym, ◌∙◌, ap, subst, arith}
+use Rattle.std.proofs.Common.{◌≡◌, ◌≢◌, ◌⊎◌, inl, inr, ⊎_elim, ◌<◌, ◌≤◌, ◌+◌, ◌-◌, ℕ, true, false, List, [], length}
+use Rattle.std.proofs.Common.{slice_index_or, refl, sym, ◌∙◌, ap, subst, arith}
 use Rattle.std.specs.Prelude.{nat_lt, if◌then◌else◌}
 use Rattle.std.proofs.lemmas.Bool.{cases_Bool, ltb-true}
 use Rattle.std.proofs.lemmas.Bool.Decides.{nat_tests}
@@ -21,7 +22,8 @@ use Rattle.region_log.specs.Stages.{CanEnd, end_stage, next_end, failed_end, wor
 use Rattle.region_log.specs.Steps.{StepsOn, FencesRegion}
 use Rattle.region_log.proofs.Frames.{undisturbed-call, ending-on}
 use Rattle.region_log.proofs.Left.{underway_left, ending_left}
-use Rattle.region_log.proofs.Placed.{puts-image, puts-size, puts-elsewhere, end_words_of_log, fails-ending, placed-ending, made-ending, ended-last}
+use Rattle.region_log.proofs.Placed.{puts-image, puts-size, puts-elsewhere, end_words_of_log, fails-ending, placed-ending}
+use Rattle.region_log.proofs.Placed.{made-ending, ended-last}
 use Rattle.line_memory.proofs.Keeps.{keeps_itself}
 use Rattle.region_log.proofs.Stepping.{steps-by}
 

@@ -1,5 +1,6 @@
 -- What steps that store to none of a log's words keep of it.
-use Rattle.std.proofs.Common.{◌≡◌, ◌≢◌, ◌⊎◌, inl, inr, ◌<◌, ◌≤◌, ◌+◌, ℕ, true, List, [], ◌∷◌, length, slice_index_or, sym, ◌∙◌, subst, arith}
+use Rattle.std.proofs.Common.{◌≡◌, ◌≢◌, ◌⊎◌, inl, inr, ◌<◌, ◌≤◌, ◌+◌, ℕ, true, List, [], ◌∷◌, length, slice_index_or, sym, ◌∙◌}
+use Rattle.std.proofs.Common.{subst, arith}
 use Rattle.image_layout.specs.Places.{log_entries, log_head_line, log_entry_line, log_entry_word}
 use Rattle.image_meaning.specs.Logs.{Logged, may_be_logged}
 use Rattle.line_image.specs.Trace.{MayLeave}
@@ -13,7 +14,8 @@ use Rattle.region_log.specs.declared.entry.EndStage.{EndStage}
 use Rattle.region_log.specs.declared.entry.EndStage.TheVariants.{Writing, AllFenced, Clearing, Cleared}
 use Rattle.region_log.specs.declared.entry.Underway.{Underway}
 use Rattle.region_log.specs.declared.entry.Underway.TheVariants.{Nothing, Adding, Ending}
-use Rattle.region_log.specs.Kept.{LeavesOnly, HasEntry, HasEntries, IsWhole, IsEntryWritten, IsCounting, Counts, IsCountWritten, IsClearing, HoldsAdding, HoldsEnding, HoldsUnderway, FitsUnderway, KeepsLog}
+use Rattle.region_log.specs.Kept.{LeavesOnly, HasEntry, HasEntries, IsWhole, IsEntryWritten, IsCounting, Counts, IsCountWritten}
+use Rattle.region_log.specs.Kept.{IsClearing, HoldsAdding, HoldsEnding, HoldsUnderway, FitsUnderway, KeepsLog}
 use Rattle.region_log.specs.Log.{Log, logged_of}
 use Rattle.region_log.specs.Made.{Word, Puts, IsOfLog}
 

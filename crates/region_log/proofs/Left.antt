@@ -1,5 +1,6 @@
 -- What a stop leaves of a log that is kept.
-use Rattle.std.proofs.Common.{◌≡◌, ◌⊎◌, inl, inr, ⊎_elim, ◌+◌, ℕ, suc, List, [], ◌∷◌, ◌++◌, length, map, refl, sym, ◌∙◌, ap, subst, arith}
+use Rattle.std.proofs.Common.{◌≡◌, ◌⊎◌, inl, inr, ⊎_elim, ◌+◌, ℕ, suc, List, [], ◌∷◌, ◌++◌, length, map, refl, sym, ◌∙◌, ap}
+use Rattle.std.proofs.Common.{subst, arith}
 use Rattle.std.specs.List.{range_with_len}
 use Rattle.std.proofs.lemmas.List.{length_push}
 use Rattle.image_layout.specs.Places.{log_head_line, log_entry_line, log_entry_word}
@@ -13,7 +14,8 @@ use Rattle.region_log.specs.declared.entry.EndStage.{EndStage}
 use Rattle.region_log.specs.declared.entry.EndStage.TheVariants.{Writing, AllFenced, Clearing, Cleared}
 use Rattle.region_log.specs.declared.entry.Underway.{Underway}
 use Rattle.region_log.specs.declared.entry.Underway.TheVariants.{Nothing, Adding, Ending}
-use Rattle.region_log.specs.Kept.{HasEntry, HasEntries, IsWhole, IsCounting, IsClearing, HoldsAdding, HoldsEnding, HoldsUnderway}
+use Rattle.region_log.specs.Kept.{HasEntry, HasEntries, IsWhole, IsCounting, IsClearing, HoldsAdding, HoldsEnding}
+use Rattle.region_log.specs.Kept.{HoldsUnderway}
 use Rattle.region_log.specs.Log.{logged_of, LeftEntries, LeftAdding, LeftEnding, LeftUnderway}
 
 -- one entry more

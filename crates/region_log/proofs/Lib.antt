@@ -1,4 +1,5 @@
 mod Ending
+pub mod Fencing
 pub mod Frames
 mod Guarded
 pub mod Left

@@ -1,5 +1,6 @@
 -- What each step of a log comes to: the log is kept, and each moment leaves of it what it may.
-use Rattle.std.proofs.Common.{◌≡◌, ◌⊎◌, inl, inr, ⊎_elim, ◌<◌, ℕ, true, List, [], ◌∷◌, ◌++◌, length, slice_index_or, Option, Some, None, refl, sym, ◌∙◌, ap, subst, arith}
+use Rattle.std.proofs.Common.{◌≡◌, ◌⊎◌, inl, inr, ⊎_elim, ◌<◌, ℕ, true, List, [], ◌∷◌, ◌++◌, length, slice_index_or, Option}
+use Rattle.std.proofs.Common.{Some, None, refl, sym, ◌∙◌, ap, subst, arith}
 use Rattle.std.proofs.lemmas.List.{length_push, get_or_default}
 use Rattle.std.proofs.lemmas.List.Elements.{All-push}
 use Rattle.std.proofs.lemmas.List.Quantifiers.{all_pairs_push}
@@ -22,7 +23,8 @@ use Rattle.region_log.specs.Stages.{CanAdd, entry_stage, next_stage, failed_stag
 use Rattle.region_log.specs.Steps.{StepsOn}
 use Rattle.region_log.proofs.Frames.{undisturbed-call, adding-on}
 use Rattle.region_log.proofs.Left.{underway_left, adding_left}
-use Rattle.region_log.proofs.Placed.{puts-image, puts-size, puts-elsewhere, words_of_log, fails-adding, placed-adding, made-adding, made-last}
+use Rattle.region_log.proofs.Placed.{puts-image, puts-size, puts-elsewhere, words_of_log, fails-adding, placed-adding}
+use Rattle.region_log.proofs.Placed.{made-adding, made-last}
 
 -- a stop leaves something only where the image tells what was done to it
 left_tells : (o : Option Trace) (n : ℕ) (c : Outcome) → LeftWithin o n c → IsTelling o

@@ -2,7 +2,7 @@
 -- store to no line of the log.
 use Rattle.std.specs.Prelude.{◌≡◌, ◌≢◌, ◌⊎◌, ◌<◌, ◌≤◌, ◌+◌, ℕ, true, List, [], ◌∷◌, length, All, AllPairs}
 use Rattle.std.specs.List.{AllWithin}
-use Rattle.image_layout.specs.Places.{logs, log_entries, min_lines, log_head_line, log_entry_line, log_entry_word}
+use Rattle.image_layout.specs.Places.{logs, min_lines, log_head_line, log_entry_line, log_entry_word}
 use Rattle.image_meaning.specs.Logs.{Logged, may_be_logged}
 use Rattle.line_memory.specs.Memory.{Memory, shown, IsTelling, CanLeave, IsWritten, IsDurable}
 use Rattle.region_log.specs.declared.entry.Entry.{Entry}
@@ -12,7 +12,7 @@ use Rattle.region_log.specs.declared.entry.EndStage.{EndStage}
 use Rattle.region_log.specs.declared.entry.EndStage.TheVariants.{Writing, AllFenced, Clearing, Cleared}
 use Rattle.region_log.specs.declared.entry.Underway.{Underway}
 use Rattle.region_log.specs.declared.entry.Underway.TheVariants.{Nothing, Adding, Ending}
-use Rattle.region_log.specs.Log.{Log, SameWord, IsLogged, logged_of}
+use Rattle.region_log.specs.Log.{Log, SameWord, IsLogged, logged_of, most_entries}
 
 -- a stop from now on leaves this value alone in the word, if nothing is stored to it
 abbrev pub LeavesOnly : Memory → ℕ → ℕ → ℕ → Type 0
@@ -95,7 +95,7 @@ pub record MayBeAdded (size : ℕ) (entries : List Entry) (e : Entry) : Type 0 w
 -- logged something.
 abbrev pub FitsUnderway : ℕ → ℕ → List Entry → Underway → Type 0
 FitsUnderway size depth entries Nothing = Unit {0}
-FitsUnderway size depth entries (Adding e stage) = MayBeAdded size entries e × (length entries < log_entries)
+FitsUnderway size depth entries (Adding e stage) = MayBeAdded size entries e × (length entries < most_entries)
 FitsUnderway size depth entries (Ending (Writing lines)) = (depth ≡ 1) × (entries ≢ []) ×
     (lines ≤ length entries)
 FitsUnderway size depth entries (Ending stage) = (depth ≡ 1) × (entries ≢ [])
@@ -105,7 +105,7 @@ FitsUnderway size depth entries (Ending stage) = (depth ≡ 1) × (entries ≢ [
 pub record KeepsLog (log : Log) (m : Memory) : Type 0 where
   pub thread : log.thread < logs
   pub size : min_lines ≤ m.size
-  pub room : length log.entries ≤ log_entries
+  pub room : length log.entries ≤ most_entries
   pub places : All (λ (e : Entry). may_be_logged m.size e.spot.line ≡ true) log.entries
   pub once : AllPairs (λ (a b : Entry). ¬ SameWord a.spot b.spot) log.entries
   pub fits : FitsUnderway m.size log.depth log.entries log.underway

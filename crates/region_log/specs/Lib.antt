@@ -1,3 +1,4 @@
+pub mod Fencing
 pub mod Guarding
 pub mod Kept
 pub mod Laws

@@ -6,6 +6,7 @@
 -- PLDI 2019, on failure-atomic regions). Its form in the image is this project's own.
 use Rattle.std.specs.Prelude.{◌≡◌, ◌⊎◌, ℕ, ◌+◌, ◌*◌, List, [], ◌∷◌, ◌++◌, map, Any}
 use Rattle.ap_base.specs.declared.place.Spot.{Spot}
+use Rattle.image_layout.specs.Places.{log_entries}
 use Rattle.image_meaning.specs.Logs.{Logged, log_of}
 use Rattle.line_image.specs.Trace.{Outcome}
 use Rattle.region_log.specs.declared.entry.Entry.{Entry}
@@ -22,6 +23,10 @@ pub record Log : Type 0 where
   pub depth : ℕ
   pub entries : List Entry
   pub underway : Underway
+
+-- how many entries a thread's log can have: as many as its own lines hold
+abbrev pub most_entries : ℕ
+most_entries = log_entries
 
 abbrev pub entry_of : Spot → ℕ → Entry
 entry_of spot old = record { spot = spot; old = old }

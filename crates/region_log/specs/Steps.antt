@@ -10,7 +10,8 @@ use Rattle.region_log.specs.declared.entry.Underway.TheVariants.{Nothing, Adding
 use Rattle.region_log.specs.Log.{Log, LeftLog}
 use Rattle.region_log.specs.Kept.{KeepsLog}
 use Rattle.region_log.specs.Made.{PutsThenCalls, Fences, LeavesElsewhere}
-use Rattle.region_log.specs.Stages.{entry_stage, next_stage, failed_stage, words_at, TouchesLine, HasMade, end_stage, next_end, failed_end, words_to_end, TouchesLineToEnd, HasEnded}
+use Rattle.region_log.specs.Stages.{entry_stage, next_stage, failed_stage, words_at, TouchesLine, HasMade, end_stage, next_end}
+use Rattle.region_log.specs.Stages.{failed_end, words_to_end, TouchesLineToEnd, HasEnded}
 
 -- What holds of each step: the memory keeps the log as it is then, and at each moment within the step a stop
 -- leaves of the log what it could leave before or after it, and elsewhere nothing new.

@@ -1,5 +1,6 @@
 // Entries, and how far a log is with one or with its end.
 ghost use Rattle.std.specs.Prelude.{◌≡◌, ◌↔◌, IsTrue};
+ghost use Rattle.region_log.specs.Fencing.{is_fence_next};
 ghost use Rattle.region_log.specs.Log.{IsLogged};
 ghost use Rattle.region_log.specs.Readers.{added_entry, is_ending, is_cleared};
 ghost use Rattle.region_log.specs.Stages.{entry_stage, next_stage, failed_stage, end_stage, next_end, failed_end};
@@ -133,6 +134,20 @@ impl Underway {
         ensures { result ≡ is_cleared self }
     {
         matches!(self, Underway::Ending(EndStage::Cleared))
+    }
+
+    /// Whether the next call is a fence, where so many words are logged.
+    pub(crate) fn is_fence_next(self, logged: u32) -> bool
+        ensures { result ≡ is_fence_next logged self }
+    {
+        match self {
+            Underway::Adding(_, stage) => {
+                matches!(stage, EntryStage::Written | EntryStage::Counted)
+            }
+            Underway::Ending(EndStage::Writing(lines)) => lines == logged,
+            Underway::Ending(stage) => matches!(stage, EndStage::Cleared),
+            Underway::Nothing => false,
+        }
     }
 }
 

@@ -1,5 +1,7 @@
 // What holds of every log. Each function states a law in its contract, and does nothing.
-ghost use Rattle.region_log.specs.Laws.{EmptyLogsAreKept, CallsKeepLogs, StoresKeepLogs, OthersStepsKeepLogs, KeptLogsAreLeft, RegionsStay};
+ghost use Rattle.region_log.specs.Fencing.{LoggingSeesFences, EndingSeesFences};
+ghost use Rattle.region_log.specs.Laws.{EmptyLogsAreKept, CallsKeepLogs, StoresKeepLogs, OthersStepsKeepLogs, KeptLogsAreLeft};
+ghost use Rattle.region_log.specs.Laws.{RegionsStay};
 ghost use Rattle.region_log.specs.Said.{LeftEntriesSay, CountsFit, FencedEntriesAreThere, UncountedWordsSayNothing};
 
 /// A log whose count is durable and 0 is kept, empty.
@@ -32,4 +34,11 @@ pub fn left_entries_name_words()
     ensures fit { CountsFit }
     ensures fenced { FencedEntriesAreThere }
     ensures uncounted { UncountedWordsSayNothing }
+{}
+
+/// A call of a log made a fence exactly where the logs before and after it say so: where a fence was next, and the call
+/// was made.
+pub fn logs_see_their_fences()
+    ensures logging { LoggingSeesFences }
+    ensures ending { EndingSeesFences }
 {}

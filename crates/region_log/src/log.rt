@@ -1,14 +1,15 @@
 // A thread's log, an image call at a time.
 ghost use Rattle.std.specs.Prelude.{◌≡◌, ◌≢◌, ◌⊎◌, ◌<◌, ◌+◌, ◌-◌, ◌^◌, min, ℕ, ◌↔◌, true, [], length, Ok, OnErr, IfOk, IsTrue};
 ghost use Rattle.ap_base.specs.Causes.{HasCause};
-ghost use Rattle.image_layout.specs.Places.{log_entries};
 ghost use Rattle.image_meaning.specs.Logs.{may_be_logged};
 ghost use Rattle.line_memory.specs.Memory.{Memory, shown, OneCall};
-ghost use Rattle.region_log.specs.Log.{Log, IsLogged, entry_of};
+ghost use Rattle.region_log.specs.Log.{Log, IsLogged, entry_of, most_entries};
 ghost use Rattle.region_log.specs.Kept.{KeepsLog, KeepsRegion};
+ghost use Rattle.region_log.specs.Fencing.{fences_next};
 ghost use Rattle.region_log.specs.Readers.{added_entry, is_ending, is_cleared};
 ghost use Rattle.region_log.specs.Stages.{CanAdd, CanEnd, EndsAtOnce};
-ghost use Rattle.region_log.specs.Steps.{StepsOn, TouchesFor, AddsOn, AddsEntry, FailsToAdd, TouchesToEnd, EndsOn, FencesRegion, EndsLog, FailsToEnd};
+ghost use Rattle.region_log.specs.Steps.{StepsOn, TouchesFor, AddsOn, AddsEntry, FailsToAdd, TouchesToEnd, EndsOn};
+ghost use Rattle.region_log.specs.Steps.{FencesRegion, EndsLog, FailsToEnd};
 
 use crate::calls::{add_call, end_call};
 use crate::entry::{EndStage, Entry, EntryStage, Underway, is_logged};
@@ -18,6 +19,9 @@ use line_image::{Image, ImageFailed};
 use line_memory::LineMemory;
 use std::alloc::{AllocError, Global};
 use std::marker::Model;
+
+/// How many entries a thread's log can have: as many as its own lines hold.
+const MOST_ENTRIES: u32 = LOG_ENTRIES;
 
 /// What a call that logs a word did: a part of it, the last part of it, or nothing, since the log is full.
 #[derive(Clone, Copy)]
@@ -46,8 +50,7 @@ pub struct RegionLog {
 
 impl Model for RegionLog {
     ghost use Rattle.std.specs.Prelude.{◌≤◌, length, vec_capacity};
-    ghost use Rattle.image_layout.specs.Places.{log_entries};
-    ghost use Rattle.region_log.specs.Log.{Log};
+    ghost use Rattle.region_log.specs.Log.{Log, most_entries};
 
     ghost Value = { Log };
 
@@ -59,7 +62,7 @@ impl Model for RegionLog {
     } };
 
     ghost invariant = { λ log.
-        (length log.entries.items ≤ log_entries) × (log_entries ≤ vec_capacity log.entries) };
+        (length log.entries.items ≤ most_entries) × (most_entries ≤ vec_capacity log.entries) };
 }
 
 impl RegionLog {
@@ -71,7 +74,7 @@ impl RegionLog {
         Ok(RegionLog {
             thread,
             depth: 0,
-            entries: Vec::with_capacity(alloc, LOG_ENTRIES as usize)?,
+            entries: Vec::with_capacity(alloc, MOST_ENTRIES as usize)?,
             underway: Underway::Nothing,
         })
     }
@@ -109,9 +112,9 @@ impl RegionLog {
 
     /// Whether no more words can be logged.
     pub fn is_full(&self) -> bool
-        ensures { IsTrue result ↔ (length self.now.entries ≡ log_entries) }
+        ensures { IsTrue result ↔ (length self.now.entries ≡ most_entries) }
     {
-        self.entries.len() == LOG_ENTRIES as usize
+        self.entries.len() == MOST_ENTRIES as usize
     }
 
     /// Whether no word is logged.
@@ -142,12 +145,19 @@ impl RegionLog {
         self.underway.is_cleared()
     }
 
+    /// Whether the next call of the image is a fence. What was written back before it, by whomever, is durable then.
+    pub fn fences_next(&self) -> bool
+        ensures { result ≡ fences_next self.now }
+    {
+        self.underway.is_fence_next(self.entries.len() as u32)
+    }
+
     /// Names the word that is to be logged next, and the value that it has. From then on it is guarded; `log_next`
     /// with both logs it.
     pub fn guard(&mut self, spot: Spot, old: u64)
         requires open { 0 < self.old.depth }
         requires idle { self.old.underway ≡ Underway.Nothing }
-        requires room { length self.old.entries < log_entries }
+        requires room { length self.old.entries < most_entries }
         requires unlogged { ¬ IsLogged self.old.entries spot }
         ensures named { self.new
             ≡ record self.old { underway = Underway.Adding (entry_of spot old) EntryStage.Begun } }
@@ -175,7 +185,7 @@ impl RegionLog {
             → old ≡ shown memory.old spot.line spot.word }
 
         ensures full { (result ≡ Ok LogStep.Full)
-            ↔ ((self.old.underway ≡ Underway.Nothing) × (length self.old.entries ≡ log_entries)) }
+            ↔ ((self.old.underway ≡ Underway.Nothing) × (length self.old.entries ≡ most_entries)) }
         ensures unchanged { result ≡ Ok LogStep.Full
             → (self.new ≡ self.old) × (memory.new ≡ memory.old) }
         ensures more { result ≡ Ok LogStep.More
@@ -191,7 +201,7 @@ impl RegionLog {
         ensures cause { HasCause memory.old.faults memory.new.faults result }
     {
         let entry = Entry { spot, old };
-        if self.entries.len() >= LOG_ENTRIES as usize {
+        if self.entries.len() >= MOST_ENTRIES as usize {
             return Ok(LogStep::Full);
         }
         let stage = self.underway.entry_stage();

@@ -1,5 +1,6 @@
 -- The words that a region has guarded, through the parts of a logging and of the region's end.
-use Rattle.std.proofs.Common.{◌≡◌, ◌≢◌, ◌⊎◌, inl, inr, ⊎_elim, ◌<◌, ◌≤◌, ◌+◌, ◌-◌, ℕ, Bool, true, false, List, [], ◌∷◌, ◌++◌, length, Result, Ok, Err, Some, slice_index_or, refl, sym, ◌∙◌, ap, subst, arith}
+use Rattle.std.proofs.Common.{◌≡◌, ◌≢◌, ◌⊎◌, inl, inr, ⊎_elim, ◌<◌, ◌≤◌, ◌+◌, ◌-◌, ℕ, Bool, true, false, List, [], ◌∷◌, ◌++◌}
+use Rattle.std.proofs.Common.{length, Result, Ok, Err, Some, slice_index_or, refl, sym, ◌∙◌, ap, subst, arith}
 use Rattle.std.specs.Prelude.{◌↔◌}
 use Rattle.std.proofs.lemmas.Bool.{cases_eq, cases_lt}
 use Rattle.std.proofs.lemmas.List.{length-append, get_or_append_left}
@@ -22,7 +23,8 @@ use Rattle.region_log.specs.Guarding.{IsGuarded, IsAdded, is_adding}
 use Rattle.region_log.specs.Kept.{FitsUnderway, KeepsLog}
 use Rattle.region_log.specs.Log.{Log, SameWord, IsLogged}
 use Rattle.region_log.specs.Readers.{added_entry, is_cleared}
-use Rattle.region_log.specs.Stages.{CanEnd, EndsAtOnce, entry_stage, next_stage, failed_stage, end_stage, next_end, failed_end, TouchesLineToEnd}
+use Rattle.region_log.specs.Stages.{CanEnd, EndsAtOnce, entry_stage, next_stage, failed_stage, end_stage, next_end, failed_end}
+use Rattle.region_log.specs.Stages.{TouchesLineToEnd}
 use Rattle.region_log.specs.Steps.{TouchesFor, AddsOn, AddsEntry, FailsToAdd, TouchesToEnd, EndsOn, FencesRegion, EndsLog}
 use Rattle.region_logs.specs.Calls.{LogsPart, EndsPart}
 use Rattle.region_logs.specs.Table.{GuardsStay}

@@ -11,7 +11,8 @@ use Rattle.region_log.specs.declared.log.EndStep.TheVariants.{More as EndMore, A
 use Rattle.region_log.specs.Kept.{KeepsRegion}
 use Rattle.region_log.specs.Log.{Log}
 use Rattle.region_log.specs.Stages.{EndsAtOnce}
-use Rattle.region_log.specs.Steps.{StepsOn, TouchesFor, AddsOn, AddsEntry, FailsToAdd, TouchesToEnd, EndsOn, FencesRegion, EndsLog, FailsToEnd}
+use Rattle.region_log.specs.Steps.{StepsOn, TouchesFor, AddsOn, AddsEntry, FailsToAdd, TouchesToEnd, EndsOn, FencesRegion}
+use Rattle.region_log.specs.Steps.{EndsLog, FailsToEnd}
 
 -- a part of the logging of an entry, which is under way
 pub record LogsPart (e : Entry) (before after : Log) (old new : Memory) (result : Result LogStep ImageFailed) : Type 0 where

@@ -1,15 +1,17 @@
 // The logs of all threads, with the guards of their open regions.
-ghost use Rattle.std.specs.Prelude.{◌≡◌, ◌<◌, ◌+◌, ◌^◌, ◌-◌, ◌↔◌, min, ℕ, true, [], length, Some, IfOk, IfSome, IsNone, IsTrue, slice_index_or};
+ghost use Rattle.std.specs.Prelude.{◌≡◌, ◌<◌, ◌+◌, ◌^◌, ◌-◌, ◌↔◌, min, ℕ, true, [], length, Some, IfOk, IfSome, IsNone, IsTrue};
+ghost use Rattle.std.specs.Prelude.{slice_index_or};
 ghost use Rattle.ap_base.specs.Causes.{HasCause};
-ghost use Rattle.image_layout.specs.Places.{logs, log_entries};
+ghost use Rattle.image_layout.specs.Places.{logs};
 ghost use Rattle.image_meaning.specs.Logs.{may_be_logged};
 ghost use Rattle.line_memory.specs.Memory.{Memory};
 ghost use Rattle.region_log.specs.declared.entry.Entry.{Entry as LogEntry};
 ghost use Rattle.region_log.specs.declared.entry.EntryStage.TheVariants.{Begun};
 ghost use Rattle.region_log.specs.declared.entry.Underway.TheVariants.{Nothing, Adding};
+ghost use Rattle.region_log.specs.Fencing.{fences_next};
 ghost use Rattle.region_log.specs.Guarding.{is_adding};
 ghost use Rattle.region_log.specs.Kept.{KeepsLog};
-ghost use Rattle.region_log.specs.Log.{entry_of};
+ghost use Rattle.region_log.specs.Log.{entry_of, most_entries};
 ghost use Rattle.region_log.specs.Readers.{added_entry, is_ending};
 ghost use Rattle.region_log.specs.Stages.{CanEnd};
 ghost use Rattle.region_logs.specs.Calls.{LogsPart, EndsPart};
@@ -86,7 +88,7 @@ impl Logs {
 
     /// Whether no more words can be logged for a thread.
     pub fn is_full(&self, t: ThreadNo) -> bool
-        ensures { IsTrue result ↔ (length (log_at self.now t).entries ≡ log_entries) }
+        ensures { IsTrue result ↔ (length (log_at self.now t).entries ≡ most_entries) }
     {
         self.logs[t.number() as usize].is_full()
     }
@@ -110,6 +112,13 @@ impl Logs {
         ensures { result ≡ is_ending (log_at self.now t).underway }
     {
         self.logs[t.number() as usize].is_ending()
+    }
+
+    /// Whether the next call of the image that a thread's log makes is a fence.
+    pub fn fences_next(&self, t: ThreadNo) -> bool
+        ensures { result ≡ fences_next (log_at self.now t) }
+    {
+        self.logs[t.number() as usize].fences_next()
     }
 
     /// The thread whose open region has guarded a word. `None` exactly where none has.
@@ -139,7 +148,7 @@ impl Logs {
         requires within { spot.line < self.old.lines }
         requires open { 0 < (log_at self.old t).depth }
         requires idle { (log_at self.old t).underway ≡ Nothing }
-        requires room { length (log_at self.old t).entries < log_entries }
+        requires room { length (log_at self.old t).entries < most_entries }
         requires free { (s : ℕ) → ¬ HasGuarded self.old s spot }
         ensures named { log_at self.new t
             ≡ record (log_at self.old t) { underway = Adding (entry_of spot old) Begun } }

@@ -35,11 +35,11 @@ const ROWS: [Row; 69] = [
     (&[(0, 0, 0)], None),
     // the superblock
     (&[(0, 0, 1)], Some((0, Magic))),
-    (&[(0, 1, 2)], Some((0, Version))),
+    (&[(0, 1, 3)], Some((0, Version))),
     (&[(0, 2, 32_767)], Some((0, LineCount))),
     (&[(0, 3, 32_769)], Some((0, DirectoryUse))),
-    (&[(0, 0, 1), (0, 1, 2)], Some((0, Magic))),
-    (&[(0, 1, 2), (33, 0, 0)], Some((0, Version))),
+    (&[(0, 0, 1), (0, 1, 3)], Some((0, Magic))),
+    (&[(0, 1, 3), (33, 0, 0)], Some((0, Version))),
     // entries: no kind, too few words, another name, a name's rest, an unknown kind of a field, one that is cut off
     (&[(33, 0, 0x3_0000_0003)], Some((33, Entry))),
     (&[(34, 2, 0x4_0000_0002)], Some((34, Entry))),
@@ -238,6 +238,7 @@ struct Seen {
     lines: bool,
     free: u32,
     undone: u32,
+    version: u32,
 }
 
 /// Whether the graph is the one of the whole image, but for the array's last int.
@@ -272,6 +273,7 @@ fn look<I: Image>(found: &Recovered<I>) -> Seen {
         lines: found.lines.as_slice() == [20_577, 20_578].as_slice(),
         free: found.free,
         undone: found.undone,
+        version: found.version,
     }
 }
 
@@ -322,6 +324,7 @@ fn stopped_recoveries_find_the_same_graph(rt: HostRuntime) -> Result<(), Fail> {
                 lines: true,
                 free: 20_580,
                 undone: 2,
+                version: 1,
             })
         };
         assert_eq!(rt; (call, whole, others), (call, expected, 0));
@@ -419,7 +422,7 @@ fn a_blank_image_is_formatted(rt: HostRuntime) -> Result<(), Fail> {
     };
     let seen = (
         (found.graph.roots.len(), found.graph.nodes.len()),
-        (found.lines.len(), found.free, found.undone),
+        (found.lines.len(), found.free, found.undone, found.version),
     );
     let image = found.memory.into_image();
     let words = if image.lines() < LINES {
@@ -435,6 +438,6 @@ fn a_blank_image_is_formatted(rt: HostRuntime) -> Result<(), Fail> {
         ]
     };
     let expected = [0x5352_4550_4F54_5541, 1, LINES, 0, 0, 0];
-    assert_eq!(rt; (seen, words), (((0, 0), (0, 20_577, 0)), expected));
+    assert_eq!(rt; (seen, words), (((0, 0), (0, 20_577, 0, 1)), expected));
     Ok(())
 }

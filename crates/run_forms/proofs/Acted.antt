@@ -1,5 +1,6 @@
 -- A step's act, and the answer to its reply, lead from one machine that stands for a plain run to the next.
-use Rattle.std.proofs.Common.{◌≡◌, ℕ, zero, suc, false, List, [], ◌∷◌, ◌++◌, map, Option, Some, None, refl, ap, sym, subst, ◌∙◌, if◌then◌else◌}
+use Rattle.std.proofs.Common.{◌≡◌, ℕ, zero, suc, false, List, [], ◌∷◌, ◌++◌, map, Option, Some, None, refl, ap, sym, subst, ◌∙◌}
+use Rattle.std.proofs.Common.{if◌then◌else◌}
 use Rattle.std.specs.Prelude.{slice_get, slice_set}
 use Rattle.std.proofs.lemmas.List.{map-append}
 use Rattle.ap_base.specs.declared.reference.Ref.{Ref}
@@ -24,16 +25,18 @@ use Rattle.frames.specs.Turns.{turn, answer}
 use Rattle.plain_frames.specs.Codes.{code_of}
 use Rattle.plain_frames.specs.Sound.{AreIn}
 use Rattle.plain_frames.proofs.Turns.{turn-in}
-use Rattle.plain_natives.specs.Methods.{plain_natives}
-use Rattle.plain_natives.specs.Worlds.{is_in}
+use Rattle.plain_frames.specs.Methods.{plain_natives}
+use Rattle.plain_frames.specs.Worlds.{is_in}
 use Rattle.shared_objects.specs.declared.rest.Rest.{Rest}
 use Rattle.shared_objects.specs.Shown.{Shown}
 use Rattle.shared_objects.specs.Plain.{plain_request, plain_reply}
 use Rattle.shared_objects.specs.Worlds.{world_of}
 use Rattle.run_forms.specs.Views.{ThreadFrames, plain_frames}
-use Rattle.run_forms.specs.Standing.{Launch, IsLaunch, HasLiterals, IsRun, StandsFor, IsAsking, setting_of, plain_code, known_at, frames_at}
+use Rattle.run_forms.specs.Standing.{Launch, IsLaunch, HasLiterals, IsRun, StandsFor, IsAsking, setting_of, plain_code}
+use Rattle.run_forms.specs.Standing.{known_at, frames_at}
 use Rattle.run_forms.specs.Laws.{IsActOf, answered_threads}
-use Rattle.run_forms.proofs.Asked.{BuiltIns, reply-known, answers, p, world-of-set, shown-objects, frames-in, turns-here, turn-asks, seen-is, fit-here, asked}
+use Rattle.run_forms.proofs.Asked.{BuiltIns, reply-known, answers, p, world-of-set, shown-objects, frames-in, turns-here}
+use Rattle.run_forms.proofs.Asked.{turn-asks, seen-is, fit-here, asked}
 use Rattle.run_forms.proofs.Seen.{frames-kept}
 use Rattle.run_forms.proofs.Visible.{step-visible}
 

@@ -1,5 +1,6 @@
 -- A thread of a machine that stands for a plain run asks what the plain machine asks.
-use Rattle.std.proofs.Common.{◌≡◌, ℕ, ◌<◌, true, false, List, [], length, map, unwrap_or, Option, Some, None, refl, ap, sym, subst, ◌∙◌, arith, if◌then◌else◌}
+use Rattle.std.proofs.Common.{◌≡◌, ℕ, ◌<◌, true, false, List, [], length, map, unwrap_or, Option, Some, None, refl, ap, sym}
+use Rattle.std.proofs.Common.{subst, ◌∙◌, arith, if◌then◌else◌}
 use Rattle.std.specs.Prelude.{slice_get, IsSome}
 use Rattle.std.specs.Option.{option_map}
 use Rattle.std.proofs.lemmas.Option.{slice_get-map, slice_get_within}
@@ -40,19 +41,20 @@ use Rattle.plain_frames.specs.Tables.{IsOpOf}
 use Rattle.plain_frames.specs.Sound.{AreIn}
 use Rattle.plain_frames.specs.DutyLaws.{IsWorldOf}
 use Rattle.plain_frames.proofs.Frames.{entry-in}
-use Rattle.plain_natives.specs.Coded.{plain_reference, plain_item, item_given, ItemsAreAlike}
-use Rattle.plain_natives.specs.Keeping.{BuiltInMethodsKeepIn}
-use Rattle.plain_natives.specs.Machines.{SettingsGoAlike, BuiltInProgramsAskWhatIsFit, BuiltInWorldsAreOf, BuiltInFramesStayIn}
-use Rattle.plain_natives.specs.Methods.{plain_natives, plain_values, plain_given}
-use Rattle.plain_natives.specs.Moves.{map_state}
-use Rattle.plain_natives.specs.Worlds.{is_in}
+use Rattle.plain_frames.specs.Coded.{plain_reference, plain_item, item_given, ItemsAreAlike}
+use Rattle.plain_frames.specs.Keeping.{BuiltInMethodsKeepIn}
+use Rattle.plain_frames.specs.Machines.{SettingsGoAlike, BuiltInProgramsAskWhatIsFit, BuiltInWorldsAreOf, BuiltInFramesStayIn}
+use Rattle.plain_frames.specs.Methods.{plain_natives, plain_values, plain_given}
+use Rattle.plain_frames.specs.Moves.{map_state}
+use Rattle.plain_frames.specs.Worlds.{is_in}
 use Rattle.shared_objects.specs.declared.rest.Rest.{Rest}
 use Rattle.shared_objects.specs.Shown.{Shown, IsKnown, IsKnownItem, ref_value, item_value, number_value}
 use Rattle.shared_objects.specs.Plain.{plain_request, plain_reply, KnowsRequest, KnowsReply}
 use Rattle.shared_objects.specs.Worlds.{plain_thread, world_of}
 use Rattle.step_forms.specs.Follows.{IsHeapOf}
 use Rattle.run_forms.specs.Views.{ThreadFrames, item_cells, numbered, plain_frames}
-use Rattle.run_forms.specs.Standing.{Launch, IsLaunch, HasLiterals, StandsFor, IsAsking, IsAsked, setting_of, plain_code, known_at, frames_at}
+use Rattle.run_forms.specs.Standing.{Launch, IsLaunch, HasLiterals, StandsFor, IsAsking, IsAsked, setting_of, plain_code}
+use Rattle.run_forms.specs.Standing.{known_at, frames_at}
 use Rattle.run_forms.proofs.Literals.{IsSameLiteral, with_literals, turn-same, answer-same}
 
 -- what the laws of built-in methods say

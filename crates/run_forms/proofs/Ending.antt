@@ -1,5 +1,7 @@
 -- The fault of a step is that by which the event ends the plain run, and a step that does an operation met none.
-use Rattle.std.proofs.Common.{◌≡◌, ℕ, zero, suc, ◌-◌, ◌<◌, ◌≤◌, ◌&&◌, ◌||◌, Bool, true, false, not, List, [], ◌∷◌, length, map, drop, replicate, take, nat_le, nat_lt, is_some, sum_by, Option, Some, None, inl, inr, refl, ap, sym, subst, ◌∙◌, arith, if◌then◌else◌}
+use Rattle.std.proofs.Common.{◌≡◌, ℕ, zero, suc, ◌-◌, ◌<◌, ◌≤◌, ◌&&◌, ◌||◌, Bool, true, false, not, List, [], ◌∷◌, length, map}
+use Rattle.std.proofs.Common.{drop, replicate, take, nat_le, nat_lt, is_some, sum_by, Option, Some, None, inl, inr, refl, ap}
+use Rattle.std.proofs.Common.{sym, subst, ◌∙◌, arith, if◌then◌else◌}
 use Rattle.std.specs.Prelude.{slice_get, slice_set}
 use Rattle.std.proofs.lemmas.Bool.Decides.{nat_tests}
 use Rattle.std.proofs.lemmas.List.{length-map}
@@ -8,6 +10,9 @@ use Rattle.ap_base.specs.declared.reference.Ref.{Ref}
 use Rattle.ap_base.specs.declared.reference.Item.{Item}
 use Rattle.run_types.specs.declared.fault.RunFault.{RunFault}
 use Rattle.run_types.specs.declared.fault.RunFault.TheVariants as fault
+use Rattle.run_types.specs.declared.fault.StepFault.{StepFault}
+use Rattle.run_types.specs.declared.fault.StepFault.TheVariants as met
+use Rattle.run_types.specs.Faults.{run_fault}
 use Rattle.run_types.specs.declared.fault.Which.{Which}
 use Rattle.run_types.specs.declared.fault.Which.TheVariants as which
 use Rattle.run_types.specs.declared.resolved.At.{At}
@@ -17,12 +22,11 @@ use Rattle.natives.specs.declared.requests.Request.{Request}
 use Rattle.natives.specs.declared.requests.Request.TheVariants as ask
 use Rattle.natives.specs.declared.requests.Reply.{Reply}
 use Rattle.natives.specs.declared.requests.Reply.TheVariants as reply
-use Rattle.run_history.specs.declared.act.PlainKey.{PlainKey}
 use Rattle.run_history.specs.declared.act.Op.{Op}
 use Rattle.run_history.specs.declared.act.Op.TheVariants as op
 use Rattle.run_history.specs.declared.plain.Monitor.{Monitor}
 use Rattle.run_history.specs.Recorded.{Recorded}
-use Rattle.run_history.specs.Worlds.{World, entered, held, key_is, monitors_after_op}
+use Rattle.run_history.specs.Worlds.{World, held}
 use Rattle.run_history.specs.Knowing.{Knowledge, guard_of, owes_fence}
 use Rattle.plain_model.specs.Facts.{SetFacts}
 use Rattle.plain_model.specs.First.{first_known}
@@ -32,20 +36,22 @@ use Rattle.plain_model.specs.Steps.{Step, Does, Waits, WrongOperand, IsOver, ste
 use Rattle.plain_model.specs.Codes.{asks_live, taken_by}
 use Rattle.plain_model.specs.Runs.{request_after}
 use Rattle.plain_model.specs.Duties.{IsFit}
-use Rattle.plain_model.specs.Ends.{full, full_unless, bad_code, all_wait, waits_from, waits_of, wait_at, wait_of, fault_of_op, fault_of_words, fault_of_enter, fault_of_durable_store, fault_of_step, fault_of_request, fault_after, Prints}
+use Rattle.plain_model.specs.Ends.{full, full_unless, bad_code, all_wait, waits_from, waits_of, wait_at, wait_of, fault_of_op}
+use Rattle.plain_model.specs.Ends.{fault_of_words, fault_of_enter, fault_of_durable_store, fault_of_step, fault_of_request}
+use Rattle.plain_model.specs.Ends.{fault_after, Prints}
 use Rattle.plain_model.proofs.Within.{each_act_leaves_a_mark}
 use Rattle.frames.specs.Maps.{map_request}
 use Rattle.shared_objects.specs.declared.rest.Rest.{Rest}
 use Rattle.shared_objects.specs.Shown.{Shown}
 use Rattle.shared_objects.specs.Plain.{plain_request, plain_reply}
-use Rattle.shared_objects.specs.Worlds.{plain_monitor, plain_thread, world_of}
+use Rattle.shared_objects.specs.Worlds.{plain_thread, world_of}
 use Rattle.step_forms.specs.declared.stepped.Stepped.{Stepped}
 use Rattle.step_forms.specs.declared.stepped.Stepped.TheVariants as stepped
-use Rattle.step_forms.specs.Follows.{IsStep, IsFullOf, IsLimit, DoesPrint, TakesWords, words_of_step}
+use Rattle.step_forms.specs.Follows.{FindsMonitor, IsStep, IsFullOf, IsLimit, DoesPrint, TakesWords, words_of_step}
 use Rattle.run_forms.specs.Views.{ThreadFrames}
 use Rattle.run_forms.specs.Standing.{Launch, IsLaunch, IsAsking, plain_code, known_at, frames_at}
 use Rattle.run_forms.specs.Volatile.{IsVolatile}
-use Rattle.run_forms.specs.Ends.{IsEndedBy, IsNoFault, Ends, MeetsNoFault, from_in}
+use Rattle.run_forms.specs.Ends.{IsEndedBy, Ends, MeetsNoFault, from_in}
 use Rattle.run_forms.proofs.Asked.{BuiltIns, asked, fit-here}
 use Rattle.run_forms.proofs.Visible.{is_outside, is_print, prints, step-silent, step-inside}
 use Rattle.run_forms.proofs.Volatile.{not-durable}
@@ -118,28 +124,9 @@ print-does set world t taken (ask.Print from (byte ∷ bytes)) o r is e =
     subst (λ b. DoesPrint (if b then Does (op.Print (byte ∷ [])) (reply.Printed 1) else WrongOperand)) (sym one) tt
 print-does set world t taken q o r is e = absurd (let no : false ≡ true = is in cc)
 
-none-left : (n : ℕ) → nat_le 1 n ≡ false → n ≡ 0
-none-left zero e = refl
-none-left (suc n) e =
-    let some : nat_le 1 (suc n) ≡ true = grind (arith, nat_tests) in
-    no-false (sym some ∙ e)
-
 taken-one : (o : Op) → is_print o ≡ false → taken_by o ≡ 1
 taken-one (op.Print bytes) e = no-false e
 taken-one o e = refl
-
--- a monitor that nobody held is one more
-entered-free : (ms : List Monitor) (key : PlainKey) (t : ℕ) → held ms key ≡ None
-    → length (entered ms key t) ≡ suc (length ms)
-entered-free [] key t e = refl
-entered-free (m ∷ ms) key t e = by-key (key_is m.key key) e (λ free. ap suc (entered-free ms key t free))
-  where
-    by-key : (b : Bool) → (if b then Some m else held ms key) ≡ None
-        → (held ms key ≡ None → suc (length (entered ms key t)) ≡ suc (suc (length ms)))
-        → length (if b then record m { count = suc m.count } ∷ ms else m ∷ entered ms key t)
-        ≡ suc (suc (length ms))
-    by-key true is others = none-some m (sym is)
-    by-key false is others = others is
 
 module _ (laws : BuiltIns) (launch : Launch) (calls : ℕ) (acts : List Recorded) (shown : Shown) (rest : Rest)
     (threads : List ThreadFrames) (is : IsLaunch launch)
@@ -295,20 +282,19 @@ module _ (laws : BuiltIns) (launch : Launch) (calls : ℕ) (acts : List Recorded
     print-faultless (IsOver f) h = absurd h
     print-faultless (Does o r) h = absurd h
 
-    limit-comes : (f : RunFault) → IsLimit world shown.left (step launch.set world t 1 pq) f
-        → IsEndedBy launch lines acts t f
-    limit-comes (fault.Full it) h = inl (full-of it.which it.need it.left h)
-    limit-comes fault.SinkFault h =
+    limit-comes : (f : StepFault) → IsLimit world shown.left (step launch.set world t 1 pq) f
+        → IsEndedBy launch lines acts t (run_fault f)
+    limit-comes (met.Full it) h = inl (full-of it.which it.need it.left h)
+    limit-comes met.SinkFault h =
         let does : DoesPrint (step launch.set known.world t 1 pq) = subst DoesPrint (sym step-here) h in (
           subst Prints (sym asks-here) (printing pq (prints-it (step launch.set known.world t 1 pq) refl does)),
           tells ∙ print-faultless (step launch.set known.world t 1 pq) does,
           owes-none,
         )
-    limit-comes (fault.BadCode from) h = absurd h
-    limit-comes (fault.RegionRace u v place) h = absurd h
-    limit-comes fault.ImageFault h = absurd h
-    limit-comes (fault.Stuck waits) h = absurd h
-    limit-comes (fault.LinkFault kind class index) h = absurd h
+    limit-comes (met.BadCode from) h = absurd h
+    limit-comes (met.RegionRace u v place) h = absurd h
+    limit-comes met.ImageFault h = absurd h
+    limit-comes (met.LinkFault kind class index) h = absurd h
 
     -- ---- waiting
 
@@ -366,7 +352,7 @@ module _ (laws : BuiltIns) (launch : Launch) (calls : ℕ) (acts : List Recorded
         elim (steps.follows here.stands.roots).0 [
           | inl limit ↦ limit-comes f limit
           | inr over ↦
-              comes f (step-inside launch.set known.world t 1 pq f fits (step-here ∙ over 1))
+              comes (run_fault f) (step-inside launch.set known.world t 1 pq f fits (step-here ∙ over 1))
               (tells-of (IsOver f) (over 1))
         ]
     step-ends (stepped.Waits on) now rest_now steps = λ one first.
@@ -387,44 +373,27 @@ module _ (laws : BuiltIns) (launch : Launch) (calls : ℕ) (acts : List Recorded
         ap (full_unless which.VolatileWords need) words-there
         ∙ enough which.VolatileWords need shown.left takes.0
 
-    enter-free : (key : PlainKey) → held world.monitors key ≡ None → (b : Bool)
-        → nat_le 1 (monitors_left world.monitors) ≡ b
-        → IsNoFault (full_unless which.Monitors 1 (monitors_left world.monitors))
-        (length (entered world.monitors key t))
-    enter-free key e true is =
-        inl (ap (λ b. if b then None else Some (full which.Monitors 1 (monitors_left world.monitors))) is)
-    enter-free key e false is =
-        let none : monitors_left world.monitors ≡ 0 = none-left (monitors_left world.monitors) is in
-        inr (
-          ap (λ b. if b then None else Some (full which.Monitors 1 (monitors_left world.monitors))) is
-              ∙ ap (λ n. Some (full which.Monitors 1 n)) none,
-          omega (arith, none, entered-free world.monitors key t e),
-        )
+    enter-met : (m : Option Monitor) → (m ≡ None → 0 < monitors_left world.monitors)
+        → fault_of_enter launch.set launch.opening launch.limits known m ≡ None
+    enter-met (Some m) found = refl
+    enter-met None found =
+        ap (λ (w : World). full_unless which.Monitors 1 (monitors_left w.monitors)) here.stands.world
+        ∙ enough which.Monitors 1 (monitors_left world.monitors) (found refl)
 
-    enter-met : (key : PlainKey) (m : Option Monitor) → held world.monitors key ≡ m
-        → IsNoFault (fault_of_enter launch.set launch.opening launch.limits known m)
-        (length (entered world.monitors key t))
-    enter-met key (Some m) e = inl refl
-    enter-met key None e =
-        subst (λ (w : World). IsNoFault (full_unless which.Monitors 1 (monitors_left w.monitors))
-        (length (entered world.monitors key t))) (sym here.stands.world)
-        (enter-free key e (nat_le 1 (monitors_left world.monitors)) refl)
-
-    op-met : (o : Op) (left_now : ℕ) → TakesWords (words_made world.heap o) shown.left left_now
-        → IsNoFault (fault_of_op launch.set launch.opening launch.limits known t o)
-        (length (monitors_after_op world.monitors t o))
-    op-met (op.Stored place value) left_now takes =
-        inl (ap (λ b. if b then fault_of_durable_store launch.set launch.opening launch.limits known t place value
-        (guard_of known.guards place) else None) (not-durable known here.nothing place))
-    op-met (op.Enter key) left_now takes =
-        subst (λ (w : World). IsNoFault
-        (fault_of_enter launch.set launch.opening launch.limits known (held w.monitors key))
-        (length (entered world.monitors key t))) (sym here.stands.world)
-        (enter-met key (held world.monitors key) refl)
-    op-met o left_now takes =
-        inl (ap (λ (w : World). fault_of_words launch.set launch.opening launch.limits known (words_made w.heap o))
+    op-met : (o : Op) (r : Reply Ref Item) (left_now : ℕ) → TakesWords (words_made world.heap o) shown.left left_now
+        → FindsMonitor world (stepped.Did o r)
+        → fault_of_op launch.set launch.opening launch.limits known t o ≡ None
+    op-met (op.Stored place value) r left_now takes found =
+        ap (λ b. if b then fault_of_durable_store launch.set launch.opening launch.limits known t place value
+        (guard_of known.guards place) else None) (not-durable known here.nothing place)
+    op-met (op.Enter key) r left_now takes found =
+        ap (λ (w : World). fault_of_enter launch.set launch.opening launch.limits known (held w.monitors key))
         here.stands.world
-        ∙ words-none (words_made world.heap o) left_now takes)
+        ∙ enter-met (held world.monitors key) found
+    op-met o r left_now takes found =
+        ap (λ (w : World). fault_of_words launch.set launch.opening launch.limits known (words_made w.heap o))
+        here.stands.world
+        ∙ words-none (words_made world.heap o) left_now takes
 
     module _ (o : Op) (r : Reply Ref Item) (now : Shown) (rest_now : Rest)
         (steps : IsStep launch.set t q shown rest (stepped.Did o r) now rest_now) where
@@ -432,15 +401,9 @@ module _ (laws : BuiltIns) (launch : Launch) (calls : ℕ) (acts : List Recorded
       does = ap (λ w. step launch.set w t (taken_by o) pq) here.stands.world
           ∙ (steps.follows here.stands.roots).0
 
-      count : length (monitors_after_op world.monitors t o) ≡ length rest_now.monitors
-      count =
-          let same = ap (λ (w : World). length w.monitors) (steps.follows here.stands.roots).2 in
-          let own = length-map rest_now.monitors (plain_monitor now.number) in
-          omega (arith, same, own)
-
-      no-fault : (b : Bool) → prints pq ≡ b → IsNoFault fault_here (length rest_now.monitors)
-      no-fault true is = inl (tells ∙ print-faultless (step launch.set known.world t 1 pq)
-          (print-does launch.set known.world t (taken_by o) pq o (plain_reply now.number r) is does))
+      no-fault : (b : Bool) → prints pq ≡ b → fault_here ≡ None
+      no-fault true is = tells ∙ print-faultless (step launch.set known.world t 1 pq)
+          (print-does launch.set known.world t (taken_by o) pq o (plain_reply now.number r) is does)
       no-fault false is =
           let one : taken_by o ≡ 1 = taken-one o (step-silent launch.set known.world t (taken_by o) pq o
           (plain_reply now.number r) fits is does).1 in
@@ -448,9 +411,7 @@ module _ (laws : BuiltIns) (launch : Launch) (calls : ℕ) (acts : List Recorded
           tells
           ∙ ap fault_so (subst (λ n. step launch.set known.world t n pq ≡ Does o (plain_reply now.number r))
           one does) in
-          subst (λ met. IsNoFault met (length rest_now.monitors)) (sym so)
-          (subst (IsNoFault (fault_of_op launch.set launch.opening launch.limits known t o)) count
-          (op-met o now.left steps.words))
+          so ∙ op-met o r now.left steps.words steps.monitor
 
-      pub meets-none : MeetsNoFault launch lines acts t (length rest_now.monitors)
+      pub meets-none : MeetsNoFault launch lines acts t
       meets-none = (omega (arith, room, marks-are), no-fault (prints pq) refl)

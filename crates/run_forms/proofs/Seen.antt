@@ -15,12 +15,13 @@ use Rattle.plain_model.specs.Duties.{IsReferenceIn}
 use Rattle.frame_cells.specs.declared.cell.Cell.{Cell}
 use Rattle.frame_cells.specs.declared.cell.Cell.TheVariants.{Empty, Int, Long, Half, Reference}
 use Rattle.frame_cells.specs.Own.{Own}
-use Rattle.frames.specs.Settings.{Frame, Running, Native, Initialiser, Main, Doing, Runs, BeginsMain, BeginsThread, Enters, Unwinds, Initialises, Initialised, Breaks, Ends}
+use Rattle.frames.specs.Settings.{Frame, Running, Native, Initialiser, Main, Doing, Runs, BeginsMain, BeginsThread, Enters}
+use Rattle.frames.specs.Settings.{Unwinds, Initialises, Initialised, Breaks, Ends}
 use Rattle.frames.specs.Maps.{map_cell, map_own, map_held, map_doing, map_frame, map_frames}
 use Rattle.plain_frames.specs.Sound.{IsCellIn, IsOwnIn, IsHeldIn, IsFrameIn, IsDoingIn, AreIn}
-use Rattle.plain_natives.specs.Coded.{plain_reference}
-use Rattle.plain_natives.specs.Moves.{map_state}
-use Rattle.plain_natives.specs.Worlds.{is_in}
+use Rattle.plain_frames.specs.Coded.{plain_reference}
+use Rattle.plain_frames.specs.Moves.{map_state}
+use Rattle.plain_frames.specs.Worlds.{is_in}
 use Rattle.shared_objects.specs.Shown.{Shown, Keeps}
 use Rattle.run_forms.specs.Views.{ThreadFrames, numbered, plain_frames}
 use Rattle.run_forms.proofs.States.{IsRefIn, state-same}

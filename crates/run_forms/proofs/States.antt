@@ -36,8 +36,13 @@ use Rattle.natives.specs.declared.states.NativeState.{NativeState}
 use Rattle.natives.specs.declared.texts.Text.{Text}
 use Rattle.natives.specs.declared.texts.Text.TheVariants.{Spelled, String}
 use Rattle.plain_model.specs.Facts.{SetFacts, known_classes}
-use Rattle.plain_natives.specs.Moves.{map_text, map_texts, map_pair, map_single, map_equality, map_purpose, map_object, map_new, map_appending, map_append, map_copied, map_copying, map_copies, map_built, map_readings, map_printing, map_running, map_position, map_state}
-use Rattle.plain_natives.specs.Worlds.{text_refs, texts_refs, purpose_ref, single_refs, compared, object_refs, new_refs, appending_refs, append_refs, copied_refs, copying_refs, copies_refs, built_refs, reading_refs, printing_refs, running_refs, refs_of, pieces_of, is_below, all_below, all_pieces, is_known, is_in}
+use Rattle.plain_frames.specs.Moves.{map_text, map_texts, map_pair, map_single, map_equality, map_purpose, map_object, map_new}
+use Rattle.plain_frames.specs.Moves.{map_appending, map_append, map_copied, map_copying, map_copies, map_built, map_readings}
+use Rattle.plain_frames.specs.Moves.{map_printing, map_running, map_position, map_state}
+use Rattle.plain_frames.specs.Worlds.{text_refs, texts_refs, purpose_ref, single_refs, compared, object_refs, new_refs}
+use Rattle.plain_frames.specs.Worlds.{appending_refs, append_refs, copied_refs, copying_refs, copies_refs, built_refs}
+use Rattle.plain_frames.specs.Worlds.{reading_refs, printing_refs, running_refs, refs_of, pieces_of, is_below, all_below}
+use Rattle.plain_frames.specs.Worlds.{all_pieces, is_known, is_in}
 
 -- null, or one of the first n objects
 abbrev pub IsRefIn : ℕ → Value → Type 0

@@ -1,6 +1,7 @@
 -- No step does an operation of persistence, only a print's step prints, and no step finds that the outside
 -- failed.
-use Rattle.std.proofs.Common.{◌≡◌, ℕ, zero, suc, ℤ, pos, negsuc, ◌&&◌, Bool, true, false, List, length, take, nat_eq, nat_lt, nat_le, Option, Some, None, refl, if◌then◌else◌, subst}
+use Rattle.std.proofs.Common.{◌≡◌, ℕ, zero, suc, ℤ, pos, negsuc, ◌&&◌, Bool, true, false, List, length, take, nat_eq, nat_lt}
+use Rattle.std.proofs.Common.{nat_le, Option, Some, None, refl, if◌then◌else◌, subst}
 use Rattle.std.specs.Prelude.{slice_get}
 use Rattle.run_types.specs.declared.key.Key.TheVariants as key
 use Rattle.graph_model.specs.declared.types.Value.{Value}
@@ -11,6 +12,9 @@ use Rattle.run_history.specs.declared.act.Op.{Op}
 use Rattle.run_history.specs.declared.act.Op.TheVariants as op
 use Rattle.run_types.specs.declared.fault.RunFault.{RunFault}
 use Rattle.run_types.specs.declared.fault.RunFault.TheVariants as fault
+use Rattle.run_types.specs.declared.fault.StepFault.{StepFault}
+use Rattle.run_types.specs.declared.fault.StepFault.TheVariants as met
+use Rattle.run_types.specs.Faults.{run_fault}
 use Rattle.run_types.specs.declared.resolved.At.{At}
 use Rattle.run_types.specs.declared.fault.Which.TheVariants as which
 use Rattle.plain_model.specs.Limits.{most_threads, threads_left}
@@ -50,7 +54,7 @@ module _ (set : SetFacts) (world : World) (t : ℕ) where
   -- a step that does something does what is visible, and doesn't print; a fault is none of the outside
   abbrev IsVisible : Step → Type 0
   IsVisible (Does o r) = (is_persistent o ≡ false) × (is_print o ≡ false)
-  IsVisible (IsOver f) = is_outside f ≡ false
+  IsVisible (IsOver f) = is_outside (run_fault f) ≡ false
   IsVisible s = Unit {0}
 
   visible-if : (b : Bool) (y z : Step) → IsVisible y → IsVisible z → IsVisible (if b then y else z)
@@ -108,7 +112,7 @@ module _ (set : SetFacts) (world : World) (t : ℕ) where
   visible-starts n None =
       visible-if (nat_lt (length world.threads) most_threads)
       (Does (op.Start n (length world.threads)) reply.Done)
-      (IsOver (fault.Full (record { which = which.Threads; need = 1; left = threads_left world.threads })))
+      (IsOver (met.Full (record { which = which.Threads; need = 1; left = threads_left world.threads })))
       (refl, refl) refl
   visible-starts n (Some started) = (refl, refl)
 
@@ -123,14 +127,13 @@ module _ (set : SetFacts) (world : World) (t : ℕ) where
   no-print : {P : Type 0} → true ≡ false → P
   no-print e = absurd (let no : true ≡ false = e in cc)
 
-  inside-turn : (f : RunFault) → IsFaultOfTurn f → is_outside f ≡ false
-  inside-turn (fault.BadCode from) h = refl
-  inside-turn (fault.RegionRace u v place) h = refl
-  inside-turn (fault.Full full) h = refl
-  inside-turn fault.SinkFault h = absurd h
-  inside-turn fault.ImageFault h = absurd h
-  inside-turn (fault.Stuck waits) h = refl
-  inside-turn (fault.LinkFault kind class index) h = refl
+  inside-turn : (f : StepFault) → IsFaultOfTurn f → is_outside (run_fault f) ≡ false
+  inside-turn (met.BadCode from) h = refl
+  inside-turn (met.RegionRace u v place) h = refl
+  inside-turn (met.Full full) h = refl
+  inside-turn met.SinkFault h = absurd h
+  inside-turn met.ImageFault h = absurd h
+  inside-turn (met.LinkFault kind class index) h = refl
 
   visible : (taken : ℕ) (request : PlainRequest) → IsFit set world t request → prints request ≡ false
       → IsVisible (step set world t taken request)
@@ -197,18 +200,18 @@ module _ (set : SetFacts) (world : World) (t : ℕ) where
   step-visible taken (ask.Print from piece) o r fit e = visible-print taken from piece o r e
   step-visible taken request o r fit e = (step-silent taken request o r fit refl e).0
 
-  print-inside : (taken : ℕ) (from : At) (piece : List ℕ) (f : RunFault)
-      → step set world t taken (ask.Print from piece) ≡ IsOver f → is_outside f ≡ false
+  print-inside : (taken : ℕ) (from : At) (piece : List ℕ) (f : StepFault)
+      → step set world t taken (ask.Print from piece) ≡ IsOver f → is_outside (run_fault f) ≡ false
   unfolding step
   print-inside taken from piece f e = by-test (nat_lt 0 taken && nat_le taken (length piece)) e
     where
       by-test : (b : Bool)
           → (if b then Does (op.Print (take taken piece)) (reply.Printed taken) else WrongOperand) ≡ IsOver f
-          → is_outside f ≡ false
+          → is_outside (run_fault f) ≡ false
       by-test true e = absurd (let no = e in cc)
       by-test false e = absurd (let no = e in cc)
 
-  pub step-inside : (taken : ℕ) (request : PlainRequest) (f : RunFault)
-      → IsFit set world t request → step set world t taken request ≡ IsOver f → is_outside f ≡ false
+  pub step-inside : (taken : ℕ) (request : PlainRequest) (f : StepFault)
+      → IsFit set world t request → step set world t taken request ≡ IsOver f → is_outside (run_fault f) ≡ false
   step-inside taken (ask.Print from piece) f fit e = print-inside taken from piece f e
   step-inside taken request f fit e = subst IsVisible e (visible taken request fit refl)

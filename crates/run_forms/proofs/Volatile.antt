@@ -1,5 +1,6 @@
 -- Where nothing is durable, the act of each step may come next, and nothing is durable after it.
-use Rattle.std.proofs.Common.{◌≡◌, ℕ, zero, suc, pred, ◌+◌, ◌-◌, ◌<◌, ◌≤◌, ◌&&◌, Bool, true, false, not, List, [], ◌∷◌, ◌++◌, length, map, nat_eq, sum_by, Option, Some, None, refl, ap, sym, subst, ◌∙◌, arith, if◌then◌else◌}
+use Rattle.std.proofs.Common.{◌≡◌, ℕ, zero, suc, pred, ◌+◌, ◌-◌, ◌<◌, ◌≤◌, ◌&&◌, Bool, true, false, not, List, [], ◌∷◌, ◌++◌}
+use Rattle.std.proofs.Common.{length, map, nat_eq, sum_by, Option, Some, None, refl, ap, sym, subst, ◌∙◌, arith, if◌then◌else◌}
 use Rattle.std.specs.Prelude.{slice_set, slice_index_or, filter}
 use Rattle.std.specs.List.{AllByRecursion}
 use Rattle.std.proofs.lemmas.List.{length-append}
@@ -23,8 +24,10 @@ use Rattle.run_history.specs.declared.act.PlainKey.{PlainKey}
 use Rattle.run_history.specs.declared.plain.Monitor.{Monitor as PlainMonitor}
 use Rattle.run_history.specs.declared.plain.Progress.{Progress}
 use Rattle.run_history.specs.Recorded.{Recorded, NamesRightly}
-use Rattle.run_history.specs.Worlds.{Thread, World, after, entered, exited, at_thread, key_is, heap_after_op, monitors_after_op, classes_after_op, threads_after_op}
-use Rattle.run_history.specs.Knowing.{Knowledge, known_after_op, next_known, durable_at, is_root, has_guards, owes_fence, is_single, store_fate, is_outermost, after_end}
+use Rattle.run_history.specs.Worlds.{Thread, World, after, entered, exited, at_thread, key_is, heap_after_op, monitors_after_op}
+use Rattle.run_history.specs.Worlds.{classes_after_op, threads_after_op}
+use Rattle.run_history.specs.Knowing.{Knowledge, known_after_op, next_known, durable_at, is_root, has_guards, owes_fence}
+use Rattle.run_history.specs.Knowing.{is_single, store_fate, is_outermost, after_end}
 use Rattle.run_history.specs.Wanted.{Wishes, IsClosed}
 use Rattle.plain_model.specs.Facts.{SetFacts}
 use Rattle.plain_model.specs.First.{first_known}

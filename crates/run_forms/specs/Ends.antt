@@ -1,10 +1,11 @@
 -- How a turn ends a run without durable roots: by a fault that its acts tell, or that the sink gave. One that
 -- does an act met none.
-use Rattle.std.specs.Prelude.{◌≡◌, ◌⊎◌, ℕ, ◌<◌, ◌≤◌, List, length, replicate, slice_set, Option, Some, None}
+use Rattle.std.specs.Prelude.{◌≡◌, ℕ, ◌<◌, ◌≤◌, List, length, replicate, slice_set, Option, Some, None}
 use Rattle.ap_base.specs.declared.reference.Ref.{Ref}
 use Rattle.ap_base.specs.declared.reference.Item.{Item}
 use Rattle.run_types.specs.declared.fault.RunFault.{RunFault}
 use Rattle.run_types.specs.declared.fault.RunFault.TheVariants as fault
+use Rattle.run_types.specs.Faults.{run_fault}
 use Rattle.run_types.specs.declared.fault.Which.TheVariants as which
 use Rattle.run_types.specs.declared.resolved.At.{At}
 use Rattle.graph_model.specs.declared.types.Value.TheVariants as value
@@ -13,7 +14,7 @@ use Rattle.natives.specs.declared.requests.Reply.{Reply}
 use Rattle.run_history.specs.declared.act.Op.{Op}
 use Rattle.run_history.specs.Recorded.{Recorded}
 use Rattle.plain_model.specs.Requests.{from_of}
-use Rattle.plain_model.specs.Limits.{most_monitors, acts_left}
+use Rattle.plain_model.specs.Limits.{acts_left}
 use Rattle.plain_model.specs.Ends.{FaultComes, fault_after, full}
 use Rattle.frames.specs.Maps.{map_request}
 use Rattle.shared_objects.specs.declared.rest.Rest.{Rest}
@@ -49,7 +50,7 @@ Ends launch lines acts rest t request (stepped.Waits on) = length rest.threads �
     → IsEndedBy launch lines acts t (fault.Stuck (slice_set (replicate 64 None) 0 (Some on)))
 Ends launch lines acts rest t request stepped.Wrong =
     (from : At) × (from_in request ≡ Some from) × IsEndedBy launch lines acts t (fault.BadCode from)
-Ends launch lines acts rest t request (stepped.Over f) = IsEndedBy launch lines acts t f
+Ends launch lines acts rest t request (stepped.Over f) = IsEndedBy launch lines acts t (run_fault f)
 
 -- While there is room for an act, the step's fault is that by which the event ends the run.
 abbrev pub StepsEnd : Type 0
@@ -59,17 +60,12 @@ StepsEnd = OfVolatile (λ launch calls acts shown rest threads.
     → IsStep launch.set t request shown rest result now rest_now → length acts < launch.limits.acts
     → Ends launch lines acts rest t request result)
 
--- no fault; or that of too many monitors, where so many are held then, more than may be
-abbrev pub IsNoFault : Option RunFault → (monitors : ℕ) → Type 0
-IsNoFault met monitors = (met ≡ None) ⊎ ((met ≡ Some (full which.Monitors 1 0)) × (most_monitors < monitors))
-
 -- After these acts the history has room for an act, and by what acts tell thread t's event ends the run by no
--- fault, unless so many monitors are held after it, more than may be.
-abbrev pub MeetsNoFault : Launch → (lines : ℕ) → List Recorded → ℕ → (monitors : ℕ) → Type 0
-MeetsNoFault launch lines acts t monitors =
+-- fault.
+abbrev pub MeetsNoFault : Launch → (lines : ℕ) → List Recorded → ℕ → Type 0
+MeetsNoFault launch lines acts t =
     (0 < acts_left launch.limits (known_at launch acts))
-    × IsNoFault
-    (fault_after launch.set launch.main launch.opening (plain_code launch) launch.limits lines acts t) monitors
+    × (fault_after launch.set launch.main launch.opening (plain_code launch) launch.limits lines acts t ≡ None)
 
 -- The event of a step that does an operation meets none, while there is room for its act.
 abbrev pub ActsMeetNoFault : Type 0
@@ -77,4 +73,4 @@ ActsMeetNoFault = OfVolatile (λ launch calls acts shown rest threads.
     (lines t : ℕ) (fs : ThreadFrames) (request : Request Ref Item) (o : Op) (r : Reply Ref Item) (now : Shown)
     (rest_now : Rest) → IsAsking launch rest threads t fs request
     → IsStep launch.set t request shown rest (stepped.Did o r) now rest_now → length acts < launch.limits.acts
-    → MeetsNoFault launch lines acts t (length rest_now.monitors))
+    → MeetsNoFault launch lines acts t)

@@ -26,9 +26,9 @@ use Rattle.frames.specs.Tables.{start_of}
 use Rattle.frames.specs.Turns.{turn}
 use Rattle.plain_frames.specs.Codes.{code_of}
 use Rattle.plain_frames.specs.Tables.{NamesWhatIsThere}
-use Rattle.plain_natives.specs.Coded.{item_given}
-use Rattle.plain_natives.specs.Machines.{setting}
-use Rattle.plain_natives.specs.Methods.{plain_natives}
+use Rattle.plain_frames.specs.Coded.{item_given}
+use Rattle.plain_frames.specs.Machines.{setting}
+use Rattle.plain_frames.specs.Methods.{plain_natives}
 use Rattle.shared_objects.specs.declared.rest.Rest.{Rest}
 use Rattle.shared_objects.specs.declared.threads.ThreadState.{ThreadState}
 use Rattle.shared_objects.specs.Shown.{Shown}

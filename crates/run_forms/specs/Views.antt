@@ -10,8 +10,8 @@ use Rattle.frame_cells.specs.declared.cell.Cell.{Cell}
 use Rattle.frame_cells.specs.declared.cell.Cell.TheVariants as cell
 use Rattle.frames.specs.Settings.{Frames}
 use Rattle.frames.specs.Maps.{map_frames}
-use Rattle.plain_natives.specs.Coded.{plain_reference}
-use Rattle.plain_natives.specs.Moves.{map_state}
+use Rattle.plain_frames.specs.Coded.{plain_reference}
+use Rattle.plain_frames.specs.Moves.{map_state}
 use Rattle.shared_objects.specs.Shown.{Shown}
 
 -- the cells of an item, the top first

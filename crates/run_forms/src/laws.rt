@@ -16,10 +16,10 @@ pub fn machines_go_on_as_plain_runs()
     ensures asks { ThreadsAskAlike }
     ensures acts { ActsGoOn }
 {
-    plain_natives::built_in_methods_keep_in();
-    plain_natives::programs_with_built_in_methods_ask_what_is_fit();
-    plain_natives::machines_with_built_in_methods_go_alike::<Ref, Value, Item, Value>();
-    plain_natives::items_are_alike();
+    plain_frames::built_in_methods_keep_in();
+    plain_frames::programs_with_built_in_methods_ask_what_is_fit();
+    plain_frames::machines_with_built_in_methods_go_alike::<Ref, Value, Item, Value>();
+    plain_frames::items_are_alike();
 }
 
 /// A machine whose objects have moved, so that it shows the same world, stands for the same plain run: its
@@ -27,10 +27,10 @@ pub fn machines_go_on_as_plain_runs()
 pub fn moved_heaps_stand_for_the_same_run()
     ensures stands { MovesStandForTheRun }
 {
-    plain_natives::built_in_methods_keep_in();
-    plain_natives::programs_with_built_in_methods_ask_what_is_fit();
-    plain_natives::machines_with_built_in_methods_go_alike::<Ref, Value, Item, Value>();
-    plain_natives::items_are_alike();
+    plain_frames::built_in_methods_keep_in();
+    plain_frames::programs_with_built_in_methods_ask_what_is_fit();
+    plain_frames::machines_with_built_in_methods_go_alike::<Ref, Value, Item, Value>();
+    plain_frames::items_are_alike();
 }
 
 /// Where nothing is durable, the parts of the machine agree as steps want it, and each step is an act that
@@ -40,22 +40,22 @@ pub fn volatile_machines_go_on()
     ensures runs { VolatileActsAreRuns }
     ensures acts { VolatileActsGoOn }
 {
-    plain_natives::built_in_methods_keep_in();
-    plain_natives::programs_with_built_in_methods_ask_what_is_fit();
-    plain_natives::machines_with_built_in_methods_go_alike::<Ref, Value, Item, Value>();
-    plain_natives::items_are_alike();
+    plain_frames::built_in_methods_keep_in();
+    plain_frames::programs_with_built_in_methods_ask_what_is_fit();
+    plain_frames::machines_with_built_in_methods_go_alike::<Ref, Value, Item, Value>();
+    plain_frames::items_are_alike();
 }
 
 /// Where nothing is durable, what a step finds wrong, waits for or lacks is the fault by which the event ends the
 /// plain run, and a full history ends it before all else. The event of a step that does an operation met no
-/// fault, unless it was that of too many monitors.
+/// fault.
 pub fn volatile_runs_end_by_their_faults()
     ensures full { FullHistoriesEnd }
     ensures steps { StepsEnd }
     ensures acts { ActsMeetNoFault }
 {
-    plain_natives::built_in_methods_keep_in();
-    plain_natives::programs_with_built_in_methods_ask_what_is_fit();
-    plain_natives::machines_with_built_in_methods_go_alike::<Ref, Value, Item, Value>();
-    plain_natives::items_are_alike();
+    plain_frames::built_in_methods_keep_in();
+    plain_frames::programs_with_built_in_methods_ask_what_is_fit();
+    plain_frames::machines_with_built_in_methods_go_alike::<Ref, Value, Item, Value>();
+    plain_frames::items_are_alike();
 }

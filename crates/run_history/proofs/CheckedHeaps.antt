@@ -1,5 +1,6 @@
 -- An operation that fits a sound heap leaves it sound.
-use Rattle.std.proofs.Common.{◌≡◌, ℕ, suc, ◌<◌, ◌≤◌, ◌^◌, true, false, [], ◌∷◌, ◌++◌, length, map, replicate, set, subst, refl, sym, ◌∙◌, nat_eq, nat_lt, ◌&&◌, if◌then◌else◌, arith, length-append, length-set}
+use Rattle.std.proofs.Common.{◌≡◌, ℕ, suc, ◌<◌, ◌≤◌, ◌^◌, true, false, [], ◌∷◌, ◌++◌, length, map, replicate, set, subst, refl}
+use Rattle.std.proofs.Common.{sym, ◌∙◌, nat_eq, nat_lt, ◌&&◌, if◌then◌else◌, arith, length-append, length-set}
 use Rattle.std.specs.Prelude.{All, None, Some, slice_index_or}
 use Rattle.std.proofs.lemmas.Bool.{ltb-true, eqb-true, and_parts}
 use Rattle.std.proofs.lemmas.List.Elements.{All-push, All-set, All-weaker, All-map, All-replicate}
@@ -13,7 +14,8 @@ use Rattle.graph_model.specs.declared.types.Field.{Field}
 use Rattle.graph_model.specs.declared.types.Shape.{Shape}
 use Rattle.graph_model.specs.declared.types.Obj.{Obj}
 use Rattle.graph_model.specs.declared.types.Heap.{Heap}
-use Rattle.graph_model.specs.Heaps.{IsSound, IsBelow, HasPlace, default_of, fresh_values, shape_at, with_fresh, stored, object_at, values_of, with_slot, no_object}
+use Rattle.graph_model.specs.Heaps.{IsSound, IsBelow, HasPlace, default_of, fresh_values, shape_at, with_fresh, stored}
+use Rattle.graph_model.specs.Heaps.{object_at, values_of, with_slot, no_object}
 use Rattle.run_history.specs.declared.act.Op.{Op}
 use Rattle.run_history.specs.declared.act.Op.TheVariants as op
 use Rattle.run_history.specs.Worlds.{has_place, is_below, is_next, may_have, fits, heap_after_op, heap_after_op_checked}

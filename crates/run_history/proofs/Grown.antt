@@ -1,6 +1,7 @@
 -- What is known as acts are added: what holds at first and is kept by each act, and two such facts about the marks. A
 -- thread that owes no fence has no single store, and one whose region is closing has no store of an open region.
-use Rattle.std.proofs.Common.{◌≡◌, ℕ, zero, suc, Bool, true, false, List, [], ◌∷◌, ◌++◌, refl, ap, sym, ◌∙◌, cond, nat_eq, if◌then◌else◌, ◌||◌, not, arith}
+use Rattle.std.proofs.Common.{◌≡◌, ℕ, zero, suc, Bool, true, false, List, [], ◌∷◌, ◌++◌, refl, ap, sym, ◌∙◌, cond, nat_eq}
+use Rattle.std.proofs.Common.{if◌then◌else◌, ◌||◌, not, arith}
 use Rattle.std.proofs.lemmas.Bool.{eqb-true, or_parts}
 use Rattle.ap_base.specs.declared.place.Place.{Place}
 use Rattle.graph_model.specs.Heaps.{has_number}
@@ -8,7 +9,10 @@ use Rattle.run_history.specs.declared.act.Op.{Op}
 use Rattle.run_history.specs.declared.act.Op.TheVariants as op
 use Rattle.run_history.specs.Recorded.{Recorded}
 use Rattle.run_history.specs.Worlds.{depth_of}
-use Rattle.run_history.specs.Knowing.{Fate, Sure, Open, Closing, Single, Mark, Knowledge, known_at_first, known_after, known_after_op, next_known, fenced, closed, ended, each_fate, with_sure, fate_of, store_fate, durable_at, is_outermost, is_single, without_number, Unfenced, owes_fence, without_fenced, after_end}
+use Rattle.run_history.specs.Knowing.{Fate, Sure, Open, Closing, Single, Mark, Knowledge, known_at_first, known_after}
+use Rattle.run_history.specs.Knowing.{known_after_op, next_known, fenced, closed, ended, each_fate, with_sure, fate_of}
+use Rattle.run_history.specs.Knowing.{store_fate, durable_at, is_outermost, is_single, without_number, Unfenced, owes_fence}
+use Rattle.run_history.specs.Knowing.{without_fenced, after_end}
 use Rattle.run_history.specs.Laws.{Past, further, known_in, marks_in}
 use Rattle.run_history.proofs.KeptLists.{OfEach, Any, OfEach-any, OfEach-more, OfEach-each_fate}
 

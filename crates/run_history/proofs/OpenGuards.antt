@@ -1,7 +1,10 @@
 -- The acts of a history tell whose open region has guarded a place.
-use Rattle.std.proofs.Common.{◌≡◌, inl, inr, ℕ, zero, suc, pred, ◌+◌, ◌-◌, ◌<◌, ◌≤◌, ◌^◌, min, Bool, true, false, List, [], ◌∷◌, ◌++◌, map, filter, length, refl, ap, sym, ◌∙◌, subst, arith, not, nat_eq, ◌&&◌, ◌||◌, if◌then◌else◌, length-append, get_or-set_same, get_or-set_other}
+use Rattle.std.proofs.Common.{◌≡◌, inl, inr, ℕ, zero, suc, pred, ◌+◌, ◌-◌, ◌<◌, ◌≤◌, ◌^◌, min, Bool, true, false, List, [], ◌∷◌}
+use Rattle.std.proofs.Common.{◌++◌, map, filter, length, refl, ap, sym, ◌∙◌, subst, arith, not, nat_eq, ◌&&◌, ◌||◌}
+use Rattle.std.proofs.Common.{if◌then◌else◌, length-append, get_or-set_same, get_or-set_other}
 use Rattle.std.specs.Prelude.{◌≢◌, All, Option, Some, None, nat_lt, nat_le, replicate, slice_get, slice_index_or}
-use Rattle.std.proofs.lemmas.Bool.{eqb-false, eq-eqb, ne_eqb, ltb-true, ltb-false, le-leb, lt-leb, true≢false, or_parts, or_cases, cases_Bool, cases_eq}
+use Rattle.std.proofs.lemmas.Bool.{eqb-false, eq-eqb, ne_eqb, ltb-true, ltb-false, le-leb, lt-leb, true≢false, or_parts}
+use Rattle.std.proofs.lemmas.Bool.{or_cases, cases_Bool, cases_eq}
 use Rattle.std.proofs.lemmas.List.{get_or-replicate, length-set, length-replicate}
 use Rattle.std.proofs.lemmas.List.Elements.{All-head, All-tail}
 use Rattle.ap_base.specs.declared.place.Place.{Place}
@@ -13,8 +16,10 @@ use Rattle.run_history.specs.declared.open_guard.Region.{Region}
 use Rattle.run_history.specs.Recorded.{Recorded}
 use Rattle.run_history.specs.HeldActs.{recorded}
 use Rattle.run_history.specs.Worlds.{Thread, new_thread, after, at_thread, depth_in, depth_of}
-use Rattle.run_history.specs.Knowing.{Knowledge, Guard, known_after, known_after_op, next_known, after_end, is_outermost, guard_of}
-use Rattle.run_history.specs.OpenGuards.{IsOutsideRegions, IsNumbered, first_guard, guards_place, no_region, region_after, regions_from, regions_with, threads_with}
+use Rattle.run_history.specs.Knowing.{Knowledge, Guard, known_after, known_after_op, next_known, after_end, is_outermost}
+use Rattle.run_history.specs.Knowing.{guard_of}
+use Rattle.run_history.specs.OpenGuards.{IsOutsideRegions, IsNumbered, first_guard, guards_place, no_region, region_after}
+use Rattle.run_history.specs.OpenGuards.{regions_from, regions_with, threads_with}
 
 -- ---- guards that the acts that follow leave
 

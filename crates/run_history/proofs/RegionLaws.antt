@@ -1,5 +1,6 @@
 -- Regions that are open, closing or at their end: which graphs may be left.
-use Rattle.std.proofs.Common.{◌≡◌, ℕ, Bool, true, false, List, refl, ap, sym, ◌∙◌, ◌↔◌, ◌⊎◌, inl, inr, nat_eq, ◌&&◌, not, if◌then◌else◌, eq-eqb}
+use Rattle.std.proofs.Common.{◌≡◌, ℕ, Bool, true, false, List, refl, ap, sym, ◌∙◌, ◌↔◌, ◌⊎◌, inl, inr, nat_eq, ◌&&◌, not}
+use Rattle.std.proofs.Common.{if◌then◌else◌, eq-eqb}
 use Rattle.std.specs.Prelude.{◌≢◌, All}
 use Rattle.std.proofs.lemmas.List.Elements.{All-from_recursion}
 use Rattle.graph_model.specs.declared.types.Heap.{Heap}
@@ -8,10 +9,13 @@ use Rattle.graph_model.specs.Heaps.{has_number}
 use Rattle.graph_model.specs.Canon.{canon_of}
 use Rattle.run_history.specs.declared.act.Op.TheVariants as op
 use Rattle.run_history.specs.Worlds.{heap_after}
-use Rattle.run_history.specs.Knowing.{Fate, Sure, Open, Closing, Single, Mark, ended, each_fate, with_sure, known_after_op, after_end}
+use Rattle.run_history.specs.Knowing.{Fate, Sure, Open, Closing, Single, Mark, ended, each_fate, with_sure, known_after_op}
+use Rattle.run_history.specs.Knowing.{after_end}
 use Rattle.run_history.specs.Kept.{survives, MayRemain}
-use Rattle.run_history.specs.Laws.{Past, further, known_in, marks_in, Allows, graph_left, is_open, without_open, is_closing_of, with_region, without_region, IsAtItsEnd}
-use Rattle.run_history.proofs.KeptLists.{Any, OfEach-any, OfEach-more, OfEach-each_fate, OfEach-weaker, no_fate, but, but-same, kept-with_sure, kept-each_fate, kept-filter, each_fate-agree, remains, left_by}
+use Rattle.run_history.specs.Laws.{Past, further, known_in, marks_in, Allows, graph_left, is_open, without_open, is_closing_of}
+use Rattle.run_history.specs.Laws.{with_region, without_region, IsAtItsEnd}
+use Rattle.run_history.proofs.KeptLists.{Any, OfEach-any, OfEach-more, OfEach-each_fate, OfEach-weaker, no_fate, but, but-same}
+use Rattle.run_history.proofs.KeptLists.{kept-with_sure, kept-each_fate, kept-filter, each_fate-agree, remains, left_by}
 use Rattle.run_history.proofs.Grown.{marks-further, NotOpen, is_open_of, unless, closing_is_not_open}
 
 -- Open regions: their stores are never kept.

@@ -1,7 +1,9 @@
 -- Heaps of the same sizes, and what an operation does to a place of them.
-use Rattle.std.proofs.Common.{◌≡◌, inl, inr, ℕ, ◌+◌, ◌-◌, ◌<◌, ◌≤◌, true, false, ◌&&◌, List, [], ◌∷◌, length, slice_index_or, slice_set, refl, sym, ◌∙◌, ap, arith, nat_lt, if◌then◌else◌}
+use Rattle.std.proofs.Common.{◌≡◌, inl, inr, ℕ, ◌+◌, ◌-◌, ◌<◌, ◌≤◌, true, false, ◌&&◌, List, [], ◌∷◌, length, slice_index_or}
+use Rattle.std.proofs.Common.{slice_set, refl, sym, ◌∙◌, ap, arith, nat_lt, if◌then◌else◌}
 use Rattle.std.proofs.lemmas.Bool.{cases_lt, cases_eq, cases_Bool, lt-ltb, le-ltb, true≢false}
-use Rattle.std.proofs.lemmas.List.{get_or-set_same, get_or-set_other, length-set, length_push, set_past, get_or_append_left, get_or-append_right, set-get_or}
+use Rattle.std.proofs.lemmas.List.{get_or-set_same, get_or-set_other, length-set, length_push, set_past, get_or_append_left}
+use Rattle.std.proofs.lemmas.List.{get_or-append_right, set-get_or}
 use Rattle.ap_base.specs.declared.place.Place.{Place}
 use Rattle.ap_base.specs.declared.place.Place.TheVariants.{Static, Slot}
 use Rattle.graph_model.specs.declared.types.Value.{Value}
@@ -9,7 +11,8 @@ use Rattle.graph_model.specs.declared.types.Value.TheVariants.{Null}
 use Rattle.graph_model.specs.declared.types.Obj.{Obj}
 use Rattle.graph_model.specs.declared.types.Shape.{Shape}
 use Rattle.graph_model.specs.declared.types.Heap.{Heap}
-use Rattle.graph_model.specs.Heaps.{no_object, object_at, shape_at, values_of, with_slot, stored, with_fresh, fresh_values, value_at, place_is, HasPlace}
+use Rattle.graph_model.specs.Heaps.{no_object, object_at, shape_at, values_of, with_slot, stored, with_fresh, fresh_values}
+use Rattle.graph_model.specs.Heaps.{value_at, place_is, HasPlace}
 use Rattle.graph_model.proofs.Stores.{value_at-stored}
 use Rattle.run_history.specs.declared.act.Op.{Op}
 use Rattle.run_history.specs.declared.act.Op.TheVariants as op
@@ -23,7 +26,14 @@ pub sizes_sym : {h k : Heap} → SameSizes h k → SameSizes k h
 sizes_sym s = record { shapes = sym s.shapes; roots = sym s.roots; statics = sym s.statics; objects = sym s.objects; shape = λ n. sym (s.shape n); slots = λ n. sym (s.slots n) }
 
 pub sizes_trans : {h k l : Heap} → SameSizes h k → SameSizes k l → SameSizes h l
-sizes_trans s t = record { shapes = t.shapes ∙ s.shapes; roots = t.roots ∙ s.roots; statics = t.statics ∙ s.statics; objects = t.objects ∙ s.objects; shape = λ n. t.shape n ∙ s.shape n; slots = λ n. t.slots n ∙ s.slots n }
+sizes_trans s t = record {
+  shapes = t.shapes ∙ s.shapes;
+  roots = t.roots ∙ s.roots;
+  statics = t.statics ∙ s.statics;
+  objects = t.objects ∙ s.objects;
+  shape = λ n. t.shape n ∙ s.shape n;
+  slots = λ n. t.slots n ∙ s.slots n;
+}
 
 -- a store changes no size
 object_stored : (h : Heap) (n i m : ℕ) (x : Value)
@@ -83,7 +93,8 @@ fresh-sizes h k shape count s = record {
     | inr past ↦ ap (λ (o : Obj). o.shape) (fresh_high h k shape count m s past)
   ];
   slots = λ m. elim (cases_lt m (length h.objects)) [
-    | inl below ↦ ap (λ (o : Obj). length o.values) (fresh_low k shape count m (omega (arith, below, s.objects))) ∙ s.slots m ∙ sym (ap (λ (o : Obj). length o.values) (fresh_low h shape count m below))
+    | inl below ↦ ap (λ (o : Obj). length o.values) (fresh_low k shape count m (omega (arith, below, s.objects))) ∙ s.slots
+        m ∙ sym (ap (λ (o : Obj). length o.values) (fresh_low h shape count m below))
     | inr past ↦ ap (λ (o : Obj). length o.values) (fresh_high h k shape count m s past)
   ];
 }
@@ -107,7 +118,9 @@ fresh_value : (p : Place) (h k : Heap) (shape count : ℕ) → SameAt p h k
     → value_at (with_fresh k shape count) p ≡ value_at (with_fresh h shape count) p
 fresh_value (Static n) h k shape count s = s.value
 fresh_value (Slot m j) h k shape count s = elim (cases_lt m (length h.objects)) [
-  | inl below ↦ ap (λ (o : Obj). slice_index_or o.values j Null) (fresh_low k shape count m (omega (arith, below, s.sizes.objects))) ∙ s.value ∙ sym (ap (λ (o : Obj). slice_index_or o.values j Null) (fresh_low h shape count m below))
+  | inl below ↦ ap (λ (o : Obj). slice_index_or o.values j Null)
+      (fresh_low k shape count m (omega (arith, below, s.sizes.objects))) ∙ s.value ∙ sym
+      (ap (λ (o : Obj). slice_index_or o.values j Null) (fresh_low h shape count m below))
   | inr past ↦ ap (λ (o : Obj). slice_index_or o.values j Null) (fresh_high h k shape count m s.sizes past)
 ]
 
@@ -123,7 +136,9 @@ not_there h (Static n) (Static m) x none = elim (cases_lt n (length h.statics)) 
 not_there h (Slot n i) (Slot m j) x none = elim (cases_lt n (length h.objects)) [
   | inr past ↦ ap (λ (os : List Obj). slice_index_or (slice_index_or os m no_object).values j Null) (set_past h.objects n (with_slot (object_at h n) i x) past)
   | inl below ↦ elim (cases_lt i (length (values_of h n))) [
-    | inl inside ↦ absurd (true≢false (sym (let both : (nat_lt n (length h.objects) && nat_lt i (length (values_of h n))) ≡ true = rw (lt-ltb n (length h.objects) below, lt-ltb i (length (values_of h n)) inside) refl in both) ∙ none))
+    | inl inside ↦ absurd (true≢false
+        (sym (let both : (nat_lt n (length h.objects) && nat_lt i (length (values_of h n))) ≡ true = rw
+        (lt-ltb n (length h.objects) below, lt-ltb i (length (values_of h n)) inside) refl in both) ∙ none))
     | inr past ↦ (
         let same : with_slot (object_at h n) i x ≡ object_at h n = ap (λ (vs : List Value). record { shape = (object_at h n).shape; values = vs }) (set_past (values_of h n) i x past) in
         ap (λ (o : Obj). slice_index_or (slice_index_or (slice_set h.objects n o) m no_object).values j Null) same
@@ -140,7 +155,9 @@ there h (Slot n i) is = elim (cases_lt n (length h.objects)) [
   | inr past ↦ absurd (true≢false (sym is ∙ (let none : (nat_lt n (length h.objects) && nat_lt i (length (values_of h n))) ≡ false = rw (le-ltb n (length h.objects) past) refl in none)))
   | inl below ↦ elim (cases_lt i (length (values_of h n))) [
     | inl inside ↦ (below, inside)
-    | inr past ↦ absurd (true≢false (sym is ∙ (let none : (nat_lt n (length h.objects) && nat_lt i (length (values_of h n))) ≡ false = rw (lt-ltb n (length h.objects) below, le-ltb i (length (values_of h n)) past) refl in none)))
+    | inr past ↦ absurd (true≢false
+        (sym is ∙ (let none : (nat_lt n (length h.objects) && nat_lt i (length (values_of h n))) ≡ false = rw
+        (lt-ltb n (length h.objects) below, le-ltb i (length (values_of h n)) past) refl in none)))
   ]
 ]
 
@@ -158,7 +175,8 @@ same_has h k (Slot n i) s = rw (s.objects, s.slots n) refl
 stored_value : (p q : Place) (h k : Heap) (x : Value) → SameAt p h k
     → value_at (stored k q x) p ≡ value_at (stored h q x) p
 stored_value p q h k x s =
-    value_stored k q p x ∙ (let same : (if place_is q p && has_place k q then x else value_at k p) ≡ (if place_is q p && has_place h q then x else value_at h p) = rw (same_has h k q s.sizes, s.value) refl in same)
+    value_stored k q p x ∙ (let same : (if place_is q p && has_place k q then x else value_at k p) ≡
+    (if place_is q p && has_place h q then x else value_at h p) = rw (same_has h k q s.sizes, s.value) refl in same)
     ∙ sym (value_stored h q p x)
 
 -- an operation done in both heaps

@@ -1,5 +1,6 @@
 -- A single store and its fence: which graphs may be left.
-use Rattle.std.proofs.Common.{◌≡◌, ℕ, Bool, true, false, List, [], ◌∷◌, ◌++◌, refl, ap, sym, ◌∙◌, ◌↔◌, ◌⊎◌, inl, inr, nat_eq, if◌then◌else◌, eq-eqb}
+use Rattle.std.proofs.Common.{◌≡◌, ℕ, Bool, true, false, List, [], ◌∷◌, ◌++◌, refl, ap, sym, ◌∙◌, ◌↔◌, ◌⊎◌, inl, inr, nat_eq}
+use Rattle.std.proofs.Common.{if◌then◌else◌, eq-eqb}
 use Rattle.std.specs.Prelude.{◌≢◌, All}
 use Rattle.std.proofs.lemmas.List.Elements.{All-from_recursion}
 use Rattle.ap_base.specs.declared.place.Place.{Place}
@@ -12,8 +13,11 @@ use Rattle.run_history.specs.declared.act.Op.TheVariants as op
 use Rattle.run_history.specs.Worlds.{heap_after_op, heap_after}
 use Rattle.run_history.specs.Knowing.{Fate, Sure, Open, Closing, Single, Mark, fenced, each_fate, with_sure, known_after_op}
 use Rattle.run_history.specs.Kept.{survives, kept, MayRemain, MayRemainWith}
-use Rattle.run_history.specs.Laws.{Past, further, known_in, marks_in, Allows, AllowsWith, graph_left, IsSingleStore, LeftWithSingle}
-use Rattle.run_history.proofs.KeptLists.{OfEach, Any, OfEach-any, OfEach-more, OfEach-each_fate, OfEach-weaker, no_fate, but, but-own, but-same, heap_after-append, kept-append, kept-with_sure, kept-agree, kept-each_fate, remains, left_by, remains_with, left_with}
+use Rattle.run_history.specs.Laws.{Past, further, known_in, marks_in, Allows, AllowsWith, graph_left, IsSingleStore}
+use Rattle.run_history.specs.Laws.{LeftWithSingle}
+use Rattle.run_history.proofs.KeptLists.{OfEach, Any, OfEach-any, OfEach-more, OfEach-each_fate, OfEach-weaker, no_fate, but}
+use Rattle.run_history.proofs.KeptLists.{but-own, but-same, heap_after-append, kept-append, kept-with_sure, kept-agree}
+use Rattle.run_history.proofs.KeptLists.{kept-each_fate, remains, left_by, remains_with, left_with}
 use Rattle.run_history.proofs.Grown.{marks-further, NoSingle, is_single_of, fenced-own, owes_for_singles}
 
 abbrev single : ℕ → Op → Mark

@@ -1,7 +1,8 @@
 -- What is known after each act of a history, read from its front: the world, the durable objects, what was asked and is
 -- pending, guarded places, regions that are closing, stores that aren't fenced, and what a stop may do to each act
 -- (Shull, Huang and Torrellas, "AutoPersist", PLDI 2019, for durability by reachability and failure-atomic regions).
-use Rattle.std.specs.Prelude.{ℕ, zero, suc, Bool, true, false, nat_eq, ◌||◌, ◌&&◌, not, List, [], ◌∷◌, ◌++◌, filter, Option, Some, None, if◌then◌else◌}
+use Rattle.std.specs.Prelude.{ℕ, zero, suc, Bool, true, false, nat_eq, ◌||◌, ◌&&◌, not, List, [], ◌∷◌, ◌++◌, filter, Option}
+use Rattle.std.specs.Prelude.{Some, None, if◌then◌else◌}
 use Rattle.ap_base.specs.declared.place.Place.{Place}
 use Rattle.ap_base.specs.declared.place.Place.TheVariants.{Static, Slot}
 use Rattle.graph_model.specs.declared.types.Value.{Value}

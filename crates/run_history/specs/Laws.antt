@@ -1,6 +1,7 @@
 -- The laws of histories: what an act changes in the graphs that a stop may leave, and which acts come before an image
 -- call. Each is said of any past: any acts, from any world, with any objects durable there.
-use Rattle.std.specs.Prelude.{◌≡◌, ◌≢◌, ◌⊎◌, ◌↔◌, ℕ, ◌<◌, ◌≤◌, Bool, true, false, nat_eq, nat_lt, not, List, [], ◌∷◌, ◌++◌, filter, All, AllPairs, if◌then◌else◌}
+use Rattle.std.specs.Prelude.{◌≡◌, ◌≢◌, ◌⊎◌, ◌↔◌, ℕ, ◌<◌, ◌≤◌, Bool, true, false, nat_eq, nat_lt, not, List, [], ◌∷◌, ◌++◌}
+use Rattle.std.specs.Prelude.{filter, All, AllPairs, if◌then◌else◌}
 use Rattle.ap_base.specs.declared.place.Place.{Place}
 use Rattle.graph_model.specs.declared.types.Value.{Value}
 use Rattle.graph_model.specs.declared.types.Heap.{Heap}
@@ -11,7 +12,8 @@ use Rattle.run_history.specs.declared.act.Op.{Op}
 use Rattle.run_history.specs.declared.act.Op.TheVariants as op
 use Rattle.run_history.specs.Recorded.{Recorded}
 use Rattle.run_history.specs.Worlds.{World, heap_after, heap_after_op_checked}
-use Rattle.run_history.specs.Knowing.{Fate, Sure, Open, Closing, Single, Mark, Knowledge, known_at_first, known_after, owes_fence, fate_of, each_fate, is_outermost}
+use Rattle.run_history.specs.Knowing.{Fate, Sure, Open, Closing, Single, Mark, Knowledge, known_at_first, known_after}
+use Rattle.run_history.specs.Knowing.{owes_fence, fate_of, each_fate, is_outermost}
 use Rattle.run_history.specs.Kept.{kept, MayRemain, MayRemainWith, IsAllowedFrom, acts_before}
 
 -- A past: a first world, the objects that are durable there, and the acts since then.

@@ -1,6 +1,7 @@
 -- Whose open region has guarded a place, as the acts of a history alone tell it: they are read once for the regions that
 -- they leave, and again for the first act that guarded the place in a region that hasn't ended since.
-use Rattle.std.specs.Prelude.{◌≡◌, ◌<◌, ◌+◌, ◌-◌, ◌^◌, ℕ, suc, min, Bool, true, false, ◌&&◌, nat_eq, nat_lt, nat_le, List, [], ◌∷◌, length, slice_set, slice_index_or, Option, Some, None, if◌then◌else◌}
+use Rattle.std.specs.Prelude.{◌≡◌, ◌<◌, ◌+◌, ◌-◌, ◌^◌, ℕ, suc, min, Bool, true, false, ◌&&◌, nat_eq, nat_lt, nat_le, List, []}
+use Rattle.std.specs.Prelude.{◌∷◌, length, slice_set, slice_index_or, Option, Some, None, if◌then◌else◌}
 use Rattle.ap_base.specs.declared.place.Place.{Place}
 use Rattle.graph_model.specs.Heaps.{place_is}
 use Rattle.run_history.specs.declared.act.Op.{Op}

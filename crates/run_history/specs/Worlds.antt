@@ -1,6 +1,7 @@
 -- The plain world: one unmoving heap, the monitors that are held, how far each class is initialised, and the threads
 -- (JVMS 2.5, 2.11.10, 5.5). What each operation does to it needs no request: the act alone tells it.
-use Rattle.std.specs.Prelude.{ℕ, zero, suc, pred, ◌^◌, Bool, true, false, ◌&&◌, nat_eq, nat_lt, List, [], ◌∷◌, ◌++◌, length, slice_set, slice_get, Option, Some, None, if◌then◌else◌}
+use Rattle.std.specs.Prelude.{ℕ, zero, suc, pred, ◌^◌, Bool, true, false, ◌&&◌, nat_eq, nat_lt, List, [], ◌∷◌, ◌++◌, length}
+use Rattle.std.specs.Prelude.{slice_set, slice_get, Option, Some, None, if◌then◌else◌}
 use Rattle.ap_base.specs.declared.place.Place.{Place}
 use Rattle.ap_base.specs.declared.place.Place.TheVariants.{Static, Slot}
 use Rattle.graph_model.specs.declared.types.Value.{Value}

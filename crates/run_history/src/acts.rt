@@ -1,5 +1,6 @@
 // The history as a list that takes no memory once its room was reserved.
-ghost use Rattle.std.specs.Prelude.{◌≡◌, ◌<◌, ◌≤◌, ◌+◌, ◌-◌, ◌^◌, ◌↔◌, [], ◌∷◌, ◌++◌, length, OnOk, OnErr, IfErr, IsErr, IfSome, IsNone, All, slice_get, option_copied};
+ghost use Rattle.std.specs.Prelude.{◌≡◌, ◌<◌, ◌≤◌, ◌+◌, ◌-◌, ◌^◌, ◌↔◌, [], ◌∷◌, ◌++◌, length, OnOk, OnErr, IfErr, IsErr};
+ghost use Rattle.std.specs.Prelude.{IfSome, IsNone, All, slice_get, option_copied};
 ghost use Rattle.run_history.specs.Recorded.{History, NamesRightly, with_act, acts_of, named_at};
 ghost use Rattle.run_history.specs.Knowing.{Knowledge, known_after, guard_of};
 ghost use Rattle.run_history.specs.OpenGuards.{IsOutsideRegions};

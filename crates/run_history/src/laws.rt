@@ -1,6 +1,9 @@
 //! Laws of histories. Each function states one in its contract, and does nothing: the law holds of all acts, from any
 //! world with any durable objects.
-ghost use Rattle.run_history.specs.Laws.{SingleStoreIsOpen, FencedStoreIsThere, FenceKeepsTheStore, FenceLeavesNoSingle, OpenRegionIsNeverThere, ClosingRegionIsWhole, EndedRegionIsThere, EndLeavesNoRegion, ClosingRegionIsNotOpen, FurtherActBefore, ActsBeforeAreAFront, AllActsBefore, CheckedHeapIsSound};
+ghost use Rattle.run_history.specs.Laws.{SingleStoreIsOpen, FencedStoreIsThere, FenceKeepsTheStore, FenceLeavesNoSingle};
+ghost use Rattle.run_history.specs.Laws.{OpenRegionIsNeverThere, ClosingRegionIsWhole, EndedRegionIsThere, EndLeavesNoRegion};
+ghost use Rattle.run_history.specs.Laws.{ClosingRegionIsNotOpen, FurtherActBefore, ActsBeforeAreAFront, AllActsBefore};
+ghost use Rattle.run_history.specs.Laws.{CheckedHeapIsSound};
 ghost use Rattle.run_history.specs.Ring.{RingHasTwoGraphs, RingHasOneGraph};
 
 /// A durable store outside regions may be lost or left until its thread's fence, and is there after it.

@@ -1,6 +1,7 @@
 // Whose open region has guarded a place.
 ghost use Rattle.std.specs.Prelude.{◌≡◌, ◌<◌, ◌-◌, ◌^◌, All, length, replicate};
-ghost use Rattle.run_history.specs.OpenGuards.{IsNumbered, first_guard, guards_place, no_region, region_after, regions_from, threads_with};
+ghost use Rattle.run_history.specs.OpenGuards.{IsNumbered, first_guard, guards_place, no_region, region_after, regions_from};
+ghost use Rattle.run_history.specs.OpenGuards.{threads_with};
 
 use crate::Op;
 use crate::acts::Held;

@@ -1,11 +1,10 @@
 // What the top call prints, and how it ends, by its words, its files and its sink.
 use crate::class_files::SEVEN;
 use ap_base::{Bytes, ClassSource, MemorySource, NamedBytes};
-use autopersist::{Status, read_words, status_text};
 use class_rows::{CLASS_A, SEVERAL};
 use run_fixture::{
-    PRINTS, RUN, STORES, blank, class_bytes, file, has_output, listed_classes, main_class,
-    run_words, sink, words,
+    PRINTS, RUN, STORES, Status, blank, class_bytes, file, has_output, listed_classes, main_class,
+    read_words, run_words, sink, status_text, words,
 };
 use std::alloc::{AllocError, Global};
 use std::sync::Wait;

@@ -1,9 +1,8 @@
 // Runs of the top call on an image file, and what the adapters do at the edges: a second opening, odd files.
 use ap_base::{ClassSource, MemorySink, NoGate, SourceError};
-use autopersist::{autopersist, status_text};
-use host_adapters::{Folder, ImageFile, class_names, hold_streams};
+use host_adapters::{Folder, ImageFile, Trouble, class_names, hold_streams};
 use line_image::Image;
-use run_fixture::{PRINTS, RUN, STORES, main_class, source, words};
+use run_fixture::{PRINTS, RUN, STORES, autopersist, main_class, source, status_text, words};
 use run_history::NoWatch;
 use std::alloc::Global;
 use std::io::Write;
@@ -56,8 +55,12 @@ fn short_files_are_no_images(rt: HostRuntime) -> Result<(), Fail> {
     for length in &LENGTHS {
         fs::File::create(&rt, IMAGE)?.set_len(*length)?;
         let image = ImageFile::open(&rt, IMAGE);
+        let is_short = image.trouble() == Some(Trouble::TooShort(*length));
         let text = b"autopersist: image 0 Size\n".as_slice();
-        assert!(rt; is_told(&rt, rt.alloc(), image, text)?, "{length} bytes");
+        assert!(rt;
+            is_short && is_told(&rt, rt.alloc(), image, text)?,
+            "{length} bytes"
+        );
     }
     Ok(())
 }
@@ -92,7 +95,21 @@ fn an_image_is_open_once(rt: HostRuntime) -> Result<(), Fail> {
     let mut first = ImageFile::open(&rt, IMAGE);
     let mut second = ImageFile::open(&rt, IMAGE);
     let is_first_alone = first.fence().is_ok() && second.fence().is_err();
-    assert!(rt; is_first_alone && second.lines() == 32_768);
+    let is_told = first.trouble() == None && second.trouble() == Some(Trouble::Locked);
+    assert!(rt; is_first_alone && second.lines() == 32_768 && is_told);
+    Ok(())
+}
+
+/// Paths of no image, and why.
+static TROUBLES: [(&str, Trouble); 2] = [("absent", Trouble::Absent), ("folder", Trouble::Folder)];
+
+#[test]
+fn no_image_is_there(rt: HostRuntime) -> Result<(), Fail> {
+    fs::create_dir(&rt, "folder")?;
+    for (path, why) in &TROUBLES {
+        let told = ImageFile::open(&rt, path).trouble();
+        assert!(rt; told == Some(*why), "{path}");
+    }
     Ok(())
 }
 

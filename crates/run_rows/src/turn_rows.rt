@@ -3,10 +3,11 @@ ghost use Rattle.std.specs.Prelude.{None};
 
 use crate::class_files::SEVEN;
 use ap_base::{Gate, MemorySink, MemorySource, Piece, Place, ThreadNo};
-use autopersist::{Ended, autopersist};
 use graph_model::Value;
 use line_image::MemoryImage;
-use run_fixture::{PRINTS, RUN, STORES, blank, main_class, sink, source, words};
+use run_fixture::{
+    Ended, PRINTS, RUN, STORES, autopersist, blank, main_class, sink, source, words,
+};
 use run_history::{Act, Acts, Op, PlainKey, Stage, Watcher};
 use std::alloc::{AllocError, Global};
 use std::sync::Wait;

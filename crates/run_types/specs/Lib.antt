@@ -1,2 +1,2 @@
-pub mod HeldWaits
+pub mod Faults
 pub mod Waits

@@ -9,7 +9,7 @@ mod limits;
 mod resolved;
 mod wait;
 
-pub use fault::{Full, LinkKind, RunFault, Which};
+pub use fault::{Full, LinkKind, RunFault, StepFault, Which};
 pub use key::Key;
 pub use known::Known;
 pub use limits::Limits;

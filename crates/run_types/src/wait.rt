@@ -1,6 +1,6 @@
 // What a thread waits for.
-ghost use Rattle.std.specs.Prelude.{◌≡◌, ◌+◌, ◌-◌, ◌<◌, ◌≤◌, None, Some, slice_set, replicate, slice_get};
-ghost use Rattle.run_types.specs.Waits.{IsWait, on_of, wait_of};
+ghost use Rattle.std.specs.Prelude.{◌≡◌, None, Some, slice_set, replicate, slice_get};
+ghost use Rattle.run_types.specs.Waits.{on_of};
 
 use ap_base::ThreadNo;
 use std::marker::Model;
@@ -15,88 +15,58 @@ pub enum On {
     Conversion(ThreadNo),
 }
 
-// The number of a wait is one of these, by its kind, and the number of the other thread.
-const MONITOR: u16 = 1;
+// The wait of one thread: what it waits for, or `Nothing`. It takes two bytes, where an `Option<On>` takes three.
+#[derive(Clone, Copy, Debug, PartialEq, Eq)]
+enum Wait {
+    Nothing,
+    Monitor(ThreadNo),
+    Join(ThreadNo),
+    Init(ThreadNo),
+    Conversion(ThreadNo),
+}
 
-const JOIN: u16 = 65;
-
-const INIT: u16 = 129;
-
-const CONVERSION: u16 = 193;
-
-/// What each of the 64 threads waits for, if it does. Each fault of a run may hold one, so that a wait takes two bytes,
-/// where an `Option<On>` takes twelve.
+/// What each of the 64 threads waits for, if it does, in 128 bytes.
 #[derive(Clone, Copy, Debug, PartialEq, Eq)]
 pub struct Waits {
-    numbers: [u16; 64],
+    threads: [Wait; 64],
 }
 
 impl Model for Waits {
-    ghost use Rattle.std.specs.Prelude.{List, Option, All, map};
+    ghost use Rattle.std.specs.Prelude.{List, Option, map};
     ghost use Rattle.run_types.specs.declared.wait.On.{On};
-    ghost use Rattle.run_types.specs.Waits.{IsWait, wait_of};
+    ghost use Rattle.run_types.specs.Waits.{on_of, waits_of, waits_of-threads};
 
     ghost Value = { List (Option On) };
 
-    ghost use Rattle.run_types.specs.HeldWaits.{waits_of, waits_of-numbers};
-
-    ghost view = { λ waits. map wait_of waits.numbers };
-
-    ghost invariant = { λ waits. All IsWait waits.numbers };
+    ghost view = { λ waits. map on_of waits.threads };
 
     ghost inverse = { waits_of };
 
-    ghost inverse_ok = { waits_of-numbers };
+    ghost inverse_ok = { waits_of-threads };
 }
 
-// The number that stands for a wait.
-fn number_on(on: On) -> u16
-    ensures held { IsWait result }
-    ensures same { wait_of result ≡ Some on }
+// The wait for something.
+fn wait_for(on: On) -> Wait
+    ensures { on_of result ≡ Some on }
 {
     match on {
-        On::Monitor(other) => MONITOR + u16::from(other.number()),
-        On::Join(other) => JOIN + u16::from(other.number()),
-        On::Init(other) => INIT + u16::from(other.number()),
-        On::Conversion(other) => CONVERSION + u16::from(other.number()),
+        On::Monitor(other) => Wait::Monitor(other),
+        On::Join(other) => Wait::Join(other),
+        On::Init(other) => Wait::Init(other),
+        On::Conversion(other) => Wait::Conversion(other),
     }
 }
 
-// The thread of a number from `first` on.
-fn thread_from(first: u16, number: u16) -> ThreadNo
-    requires order { first ≤ number }
-    requires below { number < first + 64 }
-    ensures { result ≡ number - first }
+// What a wait is for, if for anything.
+fn on_of(wait: Wait) -> Option<On>
+    ensures { result ≡ on_of wait }
 {
-    ThreadNo::new((number - first) as u8).unwrap()
-}
-
-// The wait for which a number from 1 on stands.
-fn on_of(number: u16) -> On
-    requires some { 1 ≤ number }
-    requires held { IsWait number }
-    ensures { result ≡ on_of number }
-{
-    if number < JOIN {
-        On::Monitor(thread_from(MONITOR, number))
-    } else if number < INIT {
-        On::Join(thread_from(JOIN, number))
-    } else if number < CONVERSION {
-        On::Init(thread_from(INIT, number))
-    } else {
-        On::Conversion(thread_from(CONVERSION, number))
-    }
-}
-
-// What a number stands for.
-fn wait_of(number: u16) -> Option<On>
-    requires { IsWait number }
-    ensures { result ≡ wait_of number }
-{
-    if number < MONITOR {
-        None
-    } else {
-        Some(on_of(number))
+    match wait {
+        Wait::Nothing => None,
+        Wait::Monitor(other) => Some(On::Monitor(other)),
+        Wait::Join(other) => Some(On::Join(other)),
+        Wait::Init(other) => Some(On::Init(other)),
+        Wait::Conversion(other) => Some(On::Conversion(other)),
     }
 }
 
@@ -105,20 +75,22 @@ impl Waits {
     pub fn none() -> Waits
         ensures none { result ≡ replicate 64 None }
     {
-        Waits { numbers: [0; 64] }
+        Waits {
+            threads: [Wait::Nothing; 64],
+        }
     }
 
     /// Notes what a thread waits for.
     pub fn set(&mut self, thread: ThreadNo, on: On)
         ensures set { self.new ≡ slice_set self.old thread (Some on) }
     {
-        self.numbers[thread.number() as usize] = number_on(on);
+        self.threads[thread.number() as usize] = wait_for(on);
     }
 
     /// What a thread waits for, if it does.
     pub fn get(&self, thread: ThreadNo) -> Option<On>
         ensures found { slice_get self.now thread ≡ Some result }
     {
-        wait_of(self.numbers[thread.number() as usize])
+        on_of(self.threads[thread.number() as usize])
     }
 }

@@ -5,7 +5,8 @@ ghost use Rattle.std.specs.List.{list_any};
 ghost use Rattle.code_attribute.specs.declared.code.Code.{Code as MethodCode};
 ghost use Rattle.code_form.specs.declared.ins.Placed.{Placed as PlacedIns};
 ghost use Rattle.class_file.specs.Members.{code_in};
-ghost use Rattle.set_demands.specs.Demands.{asks, asks_at, asks_in_class, asks_in_code, called_index, is_of_threads, member_asks};
+ghost use Rattle.set_demands.specs.Demands.{asks, asks_at, asks_in_class, asks_in_code, called_index, is_of_threads};
+ghost use Rattle.set_demands.specs.Demands.{member_asks};
 
 use class_file::{ClassFile, Method};
 use class_set::ClassSet;

@@ -1,12 +1,15 @@
 -- The entries of a class set: its shapes and its durable roots, in order.
-use Rattle.std.proofs.Common.{◌≡◌, ◌⊎◌, inl, inr, ⊎_elim, ◌<◌, ℕ, Bool, true, false, List, [], ◌∷◌, ◌++◌, Option, Some, None, length, map, filter, take, get_or, slice_index_or, refl, sym, ◌∙◌, ap, subst, append_assoc, arith, if◌then◌else◌}
+use Rattle.std.proofs.Common.{◌≡◌, ◌⊎◌, inl, inr, ⊎_elim, ◌<◌, ℕ, Bool, true, false, List, [], ◌∷◌, ◌++◌, Option, Some, None}
+use Rattle.std.proofs.Common.{length, map, filter, take, get_or, slice_index_or, refl, sym, ◌∙◌, ap, subst, append_assoc, arith}
+use Rattle.std.proofs.Common.{if◌then◌else◌}
 use Rattle.std.specs.Prelude.{All, Contains}
 use Rattle.std.specs.List.{flat_map}
 use Rattle.std.specs.Option.{option_to_list}
 use Rattle.std.specs.Str.{bytes_eq}
 use Rattle.std.proofs.lemmas.Grind.{flat_map-append}
 use Rattle.std.proofs.lemmas.List.{append-nil, map-append, get_or_default}
-use Rattle.std.proofs.lemmas.List.Elements.{All-contains, All-contains_itself, All-head, All-tail, All-weaker, filter-append, Contains-append_left, Contains-append_right, Contains-append_cases, Contains-get_or}
+use Rattle.std.proofs.lemmas.List.Elements.{All-contains, All-contains_itself, All-head, All-tail, All-weaker, filter-append}
+use Rattle.std.proofs.lemmas.List.Elements.{Contains-append_left, Contains-append_right, Contains-append_cases, Contains-get_or}
 use Rattle.graph_walks.proofs.Lists.{Contains-cons_cases, Contains-head, Contains-nil, Contains-tail}
 use Rattle.graph_model.specs.declared.types.Root.{Root}
 use Rattle.graph_model.specs.declared.types.Shape.{Shape}
@@ -20,8 +23,10 @@ use Rattle.class_set.specs.Facts.{facts_of, named_classes as linked_classes, roo
 use Rattle.class_set.specs.Sets.{IsLinked, made_of, shape_in}
 use Rattle.class_set.specs.Tables.{array_shape}
 use Rattle.class_set.proofs.Supertypes.{program_counted}
-use Rattle.directories.specs.ClassSets.{named_classes, AreEntriesOf, AreInOrder, AreMade, CanBeWritten, IsClassShape, IsMadeShape, class_in}
-use Rattle.set_directory.specs.Written.{is_written, is_written_at, has_shape, written_names, shape_called, shapes_called, written_shapes, written_roots}
+use Rattle.directories.specs.ClassSets.{named_classes, AreEntriesOf, AreInOrder, AreMade, CanBeWritten, IsClassShape}
+use Rattle.directories.specs.ClassSets.{IsMadeShape, class_in}
+use Rattle.set_directory.specs.Written.{is_written, is_written_at, has_shape, written_names, shape_called, shapes_called}
+use Rattle.set_directory.specs.Written.{written_shapes, written_roots}
 use Rattle.set_directory.proofs.Numbered.{called_here, name_at, name_here, named_here}
 use Rattle.set_directory.proofs.Roots.{root_from, root_there}
 use Rattle.set_directory.proofs.Sorted.{inserted_last, sorted_from, sorted_has, sorted_in_order}

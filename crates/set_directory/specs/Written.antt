@@ -1,5 +1,6 @@
 -- The entries that a directory has for a class set, by the numbers and the names of its classes. Of this project's own format.
-use Rattle.std.specs.Prelude.{ℕ, true, false, nat_lt, ◌&&◌, not, Bool, List, filter, map, slice_get, Option, Some, None, if◌then◌else◌}
+use Rattle.std.specs.Prelude.{ℕ, true, false, nat_lt, ◌&&◌, not, Bool, List, filter, map, slice_get, Option, Some, None}
+use Rattle.std.specs.Prelude.{if◌then◌else◌}
 use Rattle.std.specs.List.{flat_map}
 use Rattle.std.specs.Option.{option_to_list}
 use Rattle.graph_model.specs.declared.types.Root.{Root}

@@ -1,5 +1,7 @@
 -- Array types that get numbers.
-use Rattle.std.proofs.Common.{◌≡◌, ℕ, zero, suc, ◌<◌, true, false, nat_lt, ◌&&◌, List, [], ◌∷◌, ◌++◌, replicate, Option, Some, None, length, slice_index_or, refl, sym, ap, ◌∙◌, subst, arith, if◌then◌else◌, take, append_assoc, ◌+◌, ⊎_elim}
+use Rattle.std.proofs.Common.{◌≡◌, ℕ, zero, suc, ◌<◌, true, false, nat_lt, ◌&&◌, List, [], ◌∷◌, ◌++◌, replicate, Option, Some}
+use Rattle.std.proofs.Common.{None, length, slice_index_or, refl, sym, ap, ◌∙◌, subst, arith, if◌then◌else◌, take, append_assoc}
+use Rattle.std.proofs.Common.{◌+◌, ⊎_elim}
 use Rattle.std.specs.Prelude.{Contains, is_some}
 use Rattle.std.specs.Option.{is_none}
 use Rattle.std.proofs.lemmas.Bool.{and_parts, false≢true, lt-ltb, eqb-true}

@@ -1,11 +1,13 @@
 -- What was found in an image that was recovered.
-use Rattle.std.proofs.Common.{◌≡◌, ℕ, ◌+◌, ◌<◌, ◌≤◌, ◌/◌, false, List, [], ◌∷◌, None, max, length, slice_index_or, refl, sym, ap, ◌∙◌, subst, arith, inr, ⊎_elim, suc, ◌^◌}
+use Rattle.std.proofs.Common.{◌≡◌, ℕ, ◌+◌, ◌<◌, ◌≤◌, ◌/◌, false, List, [], ◌∷◌, None, max, length, slice_index_or, refl, sym}
+use Rattle.std.proofs.Common.{ap, ◌∙◌, subst, arith, inr, ⊎_elim, suc, ◌^◌}
 use Rattle.std.proofs.lemmas.Bool.{cases_lt, le-leb, lt-leb, le-ltb}
 use Rattle.graph_model.specs.declared.types.Graph.{Graph}
 use Rattle.graph_model.specs.declared.types.Heap.{Heap}
 use Rattle.graph_model.specs.declared.types.Shape.{Shape}
 use Rattle.line_memory.specs.Memory.{Memory, shown}
-use Rattle.image_layout.specs.Places.{min_lines, max_lines, directory_words, first_object_line, lines_of, directory_line, directory_word, log_head_line, slot_line, root_slots}
+use Rattle.image_layout.specs.Places.{min_lines, max_lines, directory_words, first_object_line, lines_of, directory_line}
+use Rattle.image_layout.specs.Places.{directory_word, log_head_line, slot_line, root_slots}
 use Rattle.image_meaning.specs.Checks.{Words}
 use Rattle.image_meaning.specs.Corresponds.{Corresponds}
 use Rattle.image_meaning.specs.Directories.{Directory, no_entries}

@@ -1,12 +1,14 @@
 -- Directories with further entries: which shapes and names they have, and that no two are the same.
-use Rattle.std.proofs.Common.{◌≡◌, ◌≢◌, ℕ, ◌<◌, ◌≤◌, Bool, true, false, not, cond, ◌||◌, List, [], ◌∷◌, ◌++◌, map, length, slice_index_or, refl, sym, ap, ◌∙◌, subst, arith, append_assoc, drop, ⊎_elim}
+use Rattle.std.proofs.Common.{◌≡◌, ◌≢◌, ℕ, ◌<◌, ◌≤◌, Bool, true, false, not, cond, ◌||◌, List, [], ◌∷◌, ◌++◌, map, length}
+use Rattle.std.proofs.Common.{slice_index_or, refl, sym, ap, ◌∙◌, subst, arith, append_assoc, drop, ⊎_elim}
 use Rattle.std.specs.Prelude.{All, AllPairs, Contains}
 use Rattle.std.specs.List.{list_any}
 use Rattle.std.specs.Str.{bytes_eq}
 use Rattle.std.proofs.lemmas.Bool.{cases_lt, false≢true}
 use Rattle.std.proofs.lemmas.List.{append-nil, get_or_append_left, get_or_push, length-append, map-append}
 use Rattle.std.proofs.Math.Seq.{drop-append_seam}
-use Rattle.std.proofs.lemmas.List.Elements.{All-append, All-cons, All-filter, All-head, All-map, All-nil, All-push, All-tail, Contains-append_left, Contains-push}
+use Rattle.std.proofs.lemmas.List.Elements.{All-append, All-cons, All-filter, All-head, All-map, All-nil, All-push, All-tail}
+use Rattle.std.proofs.lemmas.List.Elements.{Contains-append_left, Contains-push}
 use Rattle.std.proofs.lemmas.Slice.Eq.{bytes_eq-Decides}
 use Rattle.graph_walks.proofs.Lists.{Contains-cons_cases, Contains-head, Contains-nil, Contains-tail}
 use Rattle.graph_model.specs.declared.types.Graph.{Graph}
@@ -250,9 +252,3 @@ roots_added graph directory entries long =
     ∙ ap (drop (length directory.roots)) (names_with directory entries)
     ∙ drop-append_seam directory.roots (root_names entries))
     ∙ sym (graph_with graph entries)
-
-pub nodes_same : (graph : Graph) (entries : List DirectoryEntry)
-    → (with_all_too graph entries).nodes ≡ graph.nodes
-nodes_same graph [] = refl
-nodes_same graph (ShapeEntry shape ∷ entries) = nodes_same graph entries
-nodes_same graph (RootEntry name ∷ entries) = nodes_same (with_null_root graph name) entries

@@ -1,10 +1,10 @@
 -- All of it together: an image that was opened, and one that couldn't be.
-use Rattle.std.proofs.Common.{◌≡◌, ℕ, ◌≤◌, true, List, [], ◌++◌, Ok, Result, map, drop, length, slice_index_or, refl, sym, ap, ◌∙◌, subst, arith}
+use Rattle.std.proofs.Common.{◌≡◌, ℕ, ◌≤◌, true, List, [], ◌++◌, Ok, Result, map, drop, length, slice_index_or, refl, sym, ap}
+use Rattle.std.proofs.Common.{◌∙◌, subst, arith}
 use Rattle.std.specs.Prelude.{All, Contains}
 use Rattle.std.proofs.lemmas.List.{length-map}
 use Rattle.graph_model.specs.declared.types.Graph.{Graph}
 use Rattle.graph_model.specs.declared.types.NamedValue.{NamedValue}
-use Rattle.graph_model.specs.declared.types.Node.{Node}
 use Rattle.graph_model.specs.declared.types.Shape.{Shape}
 use Rattle.graph_model.specs.Heaps.{no_shape}
 use Rattle.line_image.specs.Told.{Told}
@@ -32,9 +32,8 @@ use Rattle.set_opening.specs.Opened.{IsOpenedFor, StandsWithFirst, SuitsSet}
 use Rattle.first_spaces.specs.Laws.{AppendedImagesAreOpened}
 use Rattle.first_spaces.specs.Opened.{IsOpened}
 use Rattle.set_opening.specs.Unopened.{IsLeft}
-use Rattle.set_opening.specs.Values.{AreInRange}
 use Rattle.set_opening.proofs.Arrays.{arrays_files, arrays_named}
-use Rattle.set_opening.proofs.Names.{nodes_same, roots_added}
+use Rattle.set_opening.proofs.Names.{roots_added}
 use Rattle.set_opening.proofs.Openings.{opened_names}
 use Rattle.set_opening.proofs.Ready.{are_added, directory_is, ready, roots_apart, shapes_apart, shapes_are, stops_behind}
 use Rattle.set_opening.proofs.Suits.{agrees_on, suits}
@@ -156,17 +155,12 @@ module _ (start : Told) (before m n : Memory) (found directory now : Kept) (stoo
           subst (λ (s : Linked). Contains (names_of s) shape.name) (sym fitted.set_is)
           (arrays_named old found.shapes shape there array)
 
-      in_range : AreInRange graph.nodes
-      in_range =
-          subst (λ (nodes : List Node). AreInRange nodes)
-          (sym (ap (λ (g : Graph). g.nodes) graph_grown ∙ nodes_same stood added)) fitted.ranges
-
       suited : SuitsSet set whole graph
       suited =
           suits set fitted.linked (entries_in found) plan.entries
           (found_shapes start before m found stood lines free is) agree numbered plan.are_its m lines graph
           fitted.few
-          (let most = is.opened.most in omega (arith, most)) opened in_range are
+          (let most = is.opened.most in omega (arith, most)) opened are
           (shapes_apart m found is.opens is.unplanned is.begins is.used)
           (roots_apart m found is.opens is.unplanned is.begins is.used)
 

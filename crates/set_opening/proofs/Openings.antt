@@ -1,9 +1,10 @@
 -- The graph of an image over which a run can begin opens a run of a class set that has its shapes and whose
 -- roots it has.
-use Rattle.std.proofs.Common.{◌≡◌, ◌≢◌, ℕ, suc, ◌<◌, ◌≤◌, ◌^◌, true, List, [], ◌∷◌, Option, Some, None, map, length, slice_index_or, refl, sym, ap, ◌∙◌, subst, arith}
+use Rattle.std.proofs.Common.{◌≡◌, ◌≢◌, ℕ, suc, ◌<◌, ◌≤◌, ◌%◌, ◌^◌, pos, true, List, [], ◌∷◌, Option, Some, None, map, length}
+use Rattle.std.proofs.Common.{slice_index_or, refl, sym, ap, ◌∙◌, subst, arith}
 use Rattle.std.specs.Prelude.{All, AllPairs, Contains}
 use Rattle.std.specs.List.{AllZip}
-use Rattle.std.proofs.lemmas.Bool.{eqb-true}
+use Rattle.std.proofs.lemmas.Bool.{eqb-true, ltb-true}
 use Rattle.std.proofs.lemmas.List.{get_or-map, length-map, length-append}
 use Rattle.ap_base.specs.declared.kind.Kind.{Kind}
 use Rattle.ap_base.specs.declared.kind.Kind.TheVariants.{Z, B, C, S, I, J, L, Text}
@@ -22,14 +23,13 @@ use Rattle.image_meaning.specs.Corresponds.{Corresponds, Holds, HoldsReference, 
 use Rattle.image_meaning.specs.Checks.{Words}
 use Rattle.image_meaning.specs.Directories.{Directory}
 use Rattle.image_meaning.specs.Meaning.{root_word}
-use Rattle.image_meaning.specs.Objects.{has_length, kind_among, kind_of, object_slot, shape_number, shape_of}
+use Rattle.image_meaning.specs.Objects.{holds_slots, is_number, kind_among, kind_of, object_slot, shape_number, shape_of}
 use Rattle.image_meaning.specs.Opening.{HoldsGraph, found_at, graph_node, no_node}
 use Rattle.image_meaning.proofs.Ranges.{get_or_any}
 use Rattle.plain_model.specs.Facts.{SetFacts, StaticFacts, arguments_class, classes_of, class_at, stream_class}
 use Rattle.plain_model.specs.First.{IsOpening, class_named, literal_object, node_object}
-use Rattle.plain_model.specs.Kinds.{AreOf, HasKind, IsOf}
+use Rattle.plain_model.specs.Kinds.{AreOf, HasKind, HasRange, IsOf}
 use Rattle.directories.proofs.GraphHeaps.{heap_holds, heap_of}
-use Rattle.set_opening.specs.Values.{AreInRange}
 use Rattle.first_spaces.specs.Opened.{IsOpened}
 use Rattle.set_opening.specs.Opened.{IsOfClass}
 
@@ -50,6 +50,29 @@ has_kind R S w v h = subst (HasKind S) (sym h.1) tt
 has_kind R I w v h = subst (HasKind I) (sym h.1) tt
 has_kind R J w v h = subst (HasKind J) (sym h.1) tt
 has_kind R Text w v h = subst (HasKind Text) (sym h.1) tt
+
+-- a boolean's word is 0 or 1, and a char's has 16 bits
+bit_same : (w : ℕ) → is_number Z w ≡ true → HasRange Z (Int (pos w))
+bit_same w is =
+    let below = ltb-true w 2 is in
+    let same : w % 2 ≡ w = omega (arith, below) in
+    ap (λ m. Int (pos m)) same
+
+char_same : (w : ℕ) → is_number C w ≡ true → HasRange C (Int (pos w))
+char_same w is =
+    let below = ltb-true w (2 ^ 16) is in
+    let same : w % 2 ^ 16 ≡ w = omega (arith, below) in
+    ap (λ m. Int (pos m)) same
+
+has_range : (R : LiesAt) (kind : Kind) (w : ℕ) (v : Value) → Holds R kind w v → HasRange kind v
+has_range R Z w v h = subst (HasRange Z) (sym h.1) (bit_same w h.0)
+has_range R C w v h = subst (HasRange C) (sym h.1) (char_same w h.0)
+has_range R L w v h = tt
+has_range R B w v h = tt
+has_range R S w v h = tt
+has_range R I w v h = tt
+has_range R J w v h = tt
+has_range R Text w v h = tt
 
 -- a reference is to a node
 reference_below : (lines : List ℕ) (w : ℕ) (v : Value) → HoldsReference (found_at lines) w v
@@ -87,7 +110,7 @@ fields_of (f ∷ fs) (v ∷ vs) long of =
     (of 0 (omega arith), fields_of fs vs (omega (arith, long)) (λ i below. of (suc i) (omega (arith, below))))
 
 are_of : (element : Option Kind) (fields : List Field) (values : List Value)
-    → has_length element fields (length values) ≡ true
+    → holds_slots element fields (length values) ≡ true
     → SlotsAreOf element fields values → AreOf element fields values
 are_of None fields values full of = fields_of fields values (eqb-true (length fields) (length values) full) of
 are_of (Some kind) fields values full of =
@@ -101,7 +124,7 @@ opened_names memory directory lines graph opened =
     sym (heap_holds graph).names ∙ (opened.corresponds (heap_of graph) (heap_holds graph)).names
 
 module _ (set : SetFacts) (memory : Memory) (directory : Directory) (lines : List ℕ) (graph : Graph)
-    (opened : IsOpened memory directory lines graph) (ranges : AreInRange graph.nodes)
+    (opened : IsOpened memory directory lines graph)
     (classes : All (IsOfClass set) directory.shapes)
     (known : All (λ (s : Shape). class_named (classes_of set) s.name < length (classes_of set))
     directory.shapes)
@@ -166,13 +189,14 @@ module _ (set : SetFacts) (memory : Memory) (directory : Directory) (lines : Lis
       slots_of i at = record {
         form = has_kind R (kind_of node.shape i) (object_slot words line i)
             (slice_index_or node.values i Null) (slot i at);
-        range = ranges n below i at;
+        range = has_range R (kind_of node.shape i) (object_slot words line i)
+            (slice_index_or node.values i Null) (slot i at);
       }
 
-      full : has_length node.shape.element node.shape.fields (length node.values) ≡ true
+      full : holds_slots node.shape.element node.shape.fields (length node.values) ≡ true
       full =
-          subst (λ (s : Shape). has_length s.element s.fields (length node.values) ≡ true) shape_is
-          (subst (λ (vs : List Value). has_length (shape_of directory.shapes words line).element (shape_of
+          subst (λ (s : Shape). holds_slots s.element s.fields (length node.values) ≡ true) shape_is
+          (subst (λ (vs : List Value). holds_slots (shape_of directory.shapes words line).element (shape_of
           directory.shapes words line).fields (length vs) ≡ true)
           values_are o.full)
 

@@ -1,5 +1,6 @@
 -- An image to whose directory all that is planned was appended.
-use Rattle.std.proofs.Common.{◌≡◌, ◌≢◌, ℕ, ◌+◌, ◌<◌, ◌≤◌, List, [], ◌∷◌, ◌++◌, None, Ok, length, take, slice_index_or, refl, sym, ap, ◌∙◌, subst, arith, inl, inr, ⊎_elim}
+use Rattle.std.proofs.Common.{◌≡◌, ◌≢◌, ℕ, ◌+◌, ◌<◌, ◌≤◌, List, [], ◌∷◌, ◌++◌, None, Ok, length, take, slice_index_or, refl}
+use Rattle.std.proofs.Common.{sym, ap, ◌∙◌, subst, arith, inl, inr, ⊎_elim}
 use Rattle.std.specs.Prelude.{All}
 use Rattle.std.proofs.lemmas.Bool.{cases_lt}
 use Rattle.std.proofs.lemmas.List.{append-nil, length-append}
@@ -10,10 +11,12 @@ use Rattle.graph_model.specs.declared.types.Heap.{Heap}
 use Rattle.graph_model.specs.declared.types.Shape.{Shape}
 use Rattle.line_image.specs.Told.{Told}
 use Rattle.line_memory.specs.Memory.{Memory, IsDurable, shown}
-use Rattle.image_layout.specs.Places.{min_lines, max_lines, root_slots, directory_words, directory_line, directory_word, first_object_line, object_line, object_word, slot_line, slot_word, log_head_line}
+use Rattle.image_layout.specs.Places.{min_lines, max_lines, root_slots, directory_words, directory_line, directory_word}
+use Rattle.image_layout.specs.Places.{first_object_line, object_line, object_word, slot_line, slot_word, log_head_line}
 use Rattle.image_meaning.specs.Appending.{with_all_too}
 use Rattle.image_meaning.specs.Corresponds.{Corresponds}
-use Rattle.image_meaning.specs.Directories.{AreEntries, Directory, directory_of, directory_words_of, no_entries, spelled_all, with_all, with_entries, with_entry}
+use Rattle.image_meaning.specs.Directories.{AreEntries, Directory, directory_of, directory_words_of, no_entries, spelled_all}
+use Rattle.image_meaning.specs.Directories.{with_all, with_entries, with_entry}
 use Rattle.image_meaning.specs.Entries.{DirectoryEntry, IsShape}
 use Rattle.image_meaning.specs.Laws.{Opens}
 use Rattle.image_meaning.specs.Meaning.{StandsFor}

@@ -1,5 +1,6 @@
 -- How many image calls are left of those that planned entries need.
-use Rattle.std.proofs.Common.{◌≡◌, ◌≢◌, ℕ, ◌+◌, ◌<◌, ◌≤◌, List, [], ◌∷◌, length, refl, sym, ap, ◌∙◌, subst, arith, ◌⊎◌, inl, inr}
+use Rattle.std.proofs.Common.{◌≡◌, ◌≢◌, ℕ, ◌+◌, ◌<◌, ◌≤◌, List, [], ◌∷◌, length, refl, sym, ap, ◌∙◌, subst, arith, ◌⊎◌, inl}
+use Rattle.std.proofs.Common.{inr}
 use Rattle.std.proofs.lemmas.List.{length-append}
 use Rattle.line_memory.specs.Memory.{Memory, IsResident, OneCall, SameImage}
 use Rattle.image_layout.specs.Places.{min_lines, directory_words}

@@ -1,10 +1,12 @@
 -- A class set and the directory that has all of its entries suit one another.
-use Rattle.std.proofs.Common.{◌≡◌, ℕ, zero, suc, ◌<◌, ◌≤◌, ◌^◌, Bool, true, false, ◌&&◌, nat_lt, replicate, List, [], ◌∷◌, ◌++◌, Some, None, map, length, slice_index_or, refl, sym, ap, ◌∙◌, subst, arith, ⊎_elim, if◌then◌else◌}
+use Rattle.std.proofs.Common.{◌≡◌, ℕ, zero, suc, ◌<◌, ◌≤◌, ◌^◌, Bool, true, false, ◌&&◌, nat_lt, replicate, List, [], ◌∷◌, ◌++◌}
+use Rattle.std.proofs.Common.{Some, None, map, length, slice_index_or, refl, sym, ap, ◌∙◌, subst, arith, ⊎_elim, if◌then◌else◌}
 use Rattle.std.specs.Prelude.{All, Contains}
 use Rattle.std.specs.Str.{bytes_eq}
 use Rattle.std.proofs.lemmas.Bool.{and_parts, cases_lt, false≢true, le-ltb}
 use Rattle.std.proofs.lemmas.List.{get_or-map, length-append, length-map, map-append}
-use Rattle.std.proofs.lemmas.List.Elements.{All-contains, All-from_get_or, Contains-append_cases, Contains-append_left, Contains-append_right, Contains-get_or}
+use Rattle.std.proofs.lemmas.List.Elements.{All-contains, All-from_get_or, Contains-append_cases, Contains-append_left}
+use Rattle.std.proofs.lemmas.List.Elements.{Contains-append_right, Contains-get_or}
 use Rattle.std.proofs.lemmas.Option.{slice_get_past}
 use Rattle.std.proofs.lemmas.Slice.Eq.{bytes_eq-Decides}
 use Rattle.graph_walks.proofs.Lists.{Contains-cons_cases, Contains-head, Contains-nil, Contains-tail}
@@ -16,7 +18,8 @@ use Rattle.graph_model.specs.declared.types.Shape.{Shape}
 use Rattle.graph_model.specs.Heaps.{no_shape}
 use Rattle.line_memory.specs.Memory.{Memory}
 use Rattle.image_meaning.specs.Directories.{AreEntries, Directory, with_all}
-use Rattle.image_meaning.specs.Entries.{AreBytes, DirectoryEntry, IsShape, RootEntry, ShapeEntry, component_kind, element_of, is_array_name, is_nil, is_descriptor, is_shape, kind_of_letter}
+use Rattle.image_meaning.specs.Entries.{AreBytes, DirectoryEntry, IsShape, RootEntry, ShapeEntry, component_kind, element_of}
+use Rattle.image_meaning.specs.Entries.{is_array_name, is_nil, is_descriptor, is_shape, kind_of_letter}
 use Rattle.plain_model.specs.BuiltIn.{array_class, built_in_classes}
 use Rattle.plain_model.specs.Classes.{ArrayType, ClassFacts, Innermost, Missing, Numbers, Objects, element_kind, no_class}
 use Rattle.plain_model.specs.Consistent.{IsArrayType, IsInnermost, IsNumberKind, innermost_descriptor, kind_letter}
@@ -41,13 +44,13 @@ use Rattle.set_directory.proofs.Written.{is_its_shape}
 use Rattle.text_table.specs.Sorted.{has_text}
 use Rattle.set_opening.specs.Fitted.{AllAgree}
 use Rattle.set_opening.specs.Opened.{SuitsSet, shape_names}
-use Rattle.set_opening.specs.Values.{AreInRange}
 use Rattle.first_spaces.specs.Opened.{IsOpened}
 use Rattle.set_opening.specs.Opened.{IsOfClass}
 use Rattle.set_opening.proofs.Agreeing.{CanBeInDirectory, agreeing_is_of_class}
 use Rattle.set_opening.proofs.Classes.{IsOwn, NamesDiffer, entry_own, name_equal, name_same}
 use Rattle.set_opening.proofs.Literals.{literals_few}
-use Rattle.set_opening.proofs.Names.{Differ, OfShape, each_there, entries_all, lacking_all, roots_differ, shapes_differ, shapes_with}
+use Rattle.set_opening.proofs.Names.{Differ, OfShape, each_there, entries_all, lacking_all, roots_differ, shapes_differ}
+use Rattle.set_opening.proofs.Names.{shapes_with}
 use Rattle.set_opening.proofs.Openings.{is_opening, names_are}
 
 -- ---- the element kind of an array type, by its descriptor
@@ -316,18 +319,18 @@ module _ (set : Linked) (linked : IsLinked set) where
 
     pub suits : (memory : Memory) (lines : List ℕ) (graph : Graph) → length set.files ≤ 4096
         → memory.size ≤ 2 ^ 22
-        → IsOpened memory whole lines graph → AreInRange graph.nodes → AreEntries found added
+        → IsOpened memory whole lines graph → AreEntries found added
         → Differ (shape_names found) → Differ found.roots → SuitsSet set whole graph
-    suits memory lines graph few sized opened ranges are shapes_apart roots_apart =
+    suits memory lines graph few sized opened are shapes_apart roots_apart =
         let apart = roots_differ found added are roots_apart in
         record {
-          opening = is_opening facts memory whole lines graph opened ranges all_of_class all_known apart
+          opening = is_opening facts memory whole lines graph opened all_of_class all_known apart
               root_there
               (literals_few set.files linked.readable few) sized;
           classes = all_of_class;
           known = all_known;
           complete = written_there;
-          roots = names_are facts memory whole lines graph opened ranges all_of_class all_known;
+          roots = names_are facts memory whole lines graph opened all_of_class all_known;
           shapes_differ = shapes_differ found added are shapes_apart;
           roots_differ = apart;
         }

@@ -3,7 +3,6 @@ use Rattle.std.specs.Prelude.{◌≡◌, ℕ, ◌<◌, ◌≤◌, List, ◌++◌
 use Rattle.graph_model.specs.declared.types.Graph.{Graph}
 use Rattle.graph_model.specs.declared.types.Shape.{Shape}
 use Rattle.graph_model.specs.Heaps.{no_shape}
-use Rattle.image_layout.specs.declared.superblock.BadReason.TheVariants.{Value}
 use Rattle.image_meaning.specs.Arrays.{null_root}
 use Rattle.plain_model.specs.Facts.{SetFacts}
 use Rattle.class_set.specs.Linked.{Linked}
@@ -14,7 +13,6 @@ use Rattle.directories.specs.Kept.{Kept}
 use Rattle.set_opening.specs.declared.unopened.Unopened.{Unopened}
 use Rattle.set_opening.specs.declared.unopened.Unopened.TheVariants.{BadImage, ShapeChanged, Full, ImageFailed, OutOfMemory}
 use Rattle.set_opening.specs.Arrays.{with_arrays_of}
-use Rattle.set_opening.specs.Values.{AreInRange, IsFirstBeyond}
 
 -- each of the shapes agrees with the set
 abbrev pub AllAgree : SetFacts → List Shape → Type 0
@@ -46,10 +44,9 @@ IsPlanFault set directory (Full full) = LacksRoomFor (facts_of set) (made_of set
 IsPlanFault set directory ImageFailed = ⊥
 IsPlanFault set directory OutOfMemory = Unit {0}
 
--- Each value is of its range, and each shape agrees with the set, where the directory's array types have
--- numbers. What the directory lacks of its entries is planned, and the graph has the roots of these too.
+-- Each shape agrees with the set, where the directory's array types have numbers. What the directory lacks of its
+-- entries is planned, and the graph has the roots of these too.
 pub record IsFitted (old set : Linked) (found directory : Kept) (stood graph : Graph) : Type 0 where
-  pub ranges : AreInRange stood.nodes
   pub agree : AllAgree (facts_of old) found.shapes
   pub set_is : set ≡ with_arrays_of old found.shapes
   pub linked : IsLinked set
@@ -61,15 +58,12 @@ pub record IsFitted (old set : Linked) (found directory : Kept) (stood graph : G
 abbrev pub HasMoreArrays : Linked → Linked → Type 0
 HasMoreArrays old set = (shapes : List Shape) × (set ≡ with_arrays_of old shapes)
 
--- Why they couldn't be made ready, and what the set is then. The values are looked at first, then the shapes,
--- then the room: what was looked at before is as it should be.
-abbrev pub IsUnfit : Linked → Linked → Kept → Graph → List ℕ → Unopened → Type 0
-IsUnfit old set found graph lines (BadImage line reason) = IsFirstBeyond graph.nodes lines line
-    × (reason ≡ Value) × (set ≡ old)
-IsUnfit old set found graph lines (ShapeChanged name) =
-    AreInRange graph.nodes × IsOtherShape (facts_of old) found.shapes name × (set ≡ old)
-IsUnfit old set found graph lines (Full full) =
-    AreInRange graph.nodes × AllAgree (facts_of old) found.shapes
+-- Why they couldn't be made ready, and what the set is then. The shapes are looked at first, then the room: where
+-- that is lacking, the shapes agree.
+abbrev pub IsUnfit : Linked → Linked → Kept → Unopened → Type 0
+IsUnfit old set found (BadImage line reason) = ⊥
+IsUnfit old set found (ShapeChanged name) = IsOtherShape (facts_of old) found.shapes name × (set ≡ old)
+IsUnfit old set found (Full full) = AllAgree (facts_of old) found.shapes
     × LacksRoomFor (facts_of set) (made_of set) found full × (set ≡ with_arrays_of old found.shapes)
-IsUnfit old set found graph lines ImageFailed = ⊥
-IsUnfit old set found graph lines OutOfMemory = HasMoreArrays old set
+IsUnfit old set found ImageFailed = ⊥
+IsUnfit old set found OutOfMemory = HasMoreArrays old set

@@ -4,4 +4,3 @@ pub mod Fitted
 pub mod Found
 pub mod Opened
 pub mod Unopened
-pub mod Values

@@ -6,7 +6,8 @@ use Rattle.graph_model.specs.declared.types.Shape.{Shape}
 use Rattle.line_image.specs.Told.{Told}
 use Rattle.line_image.specs.Trace.{Outcome}
 use Rattle.line_memory.specs.Memory.{Memory, IsDurable, IsTelling, shown}
-use Rattle.image_layout.specs.Places.{directory_line, directory_word, first_object_line, log_head_line, logs, root_slots, slot_line, slot_word}
+use Rattle.image_layout.specs.Places.{directory_line, directory_word, first_object_line, log_head_line, logs, root_slots}
+use Rattle.image_layout.specs.Places.{slot_line, slot_word}
 use Rattle.line_memory.specs.Moments.{CountsFrom}
 use Rattle.image_meaning.specs.Appending.{with_all_too}
 use Rattle.image_meaning.specs.Directories.{Directory, with_all}

@@ -104,7 +104,7 @@ pub record IsUnprepared (start after : Told) (old set : Linked) (why : Unopened)
   pub free : ℕ
   pub found : IsFound start before memory directory graph lines free
   pub left : IsLeft start after before memory []
-  pub cause : IsUnfit old set directory graph lines why
+  pub cause : IsUnfit old set directory why
 
 -- It failed while entries of the set were appended: those that the directory that was found lacks.
 pub record IsUnappended (start after : Told) (old set : Linked) (why : Unopened) : Type 0 where

@@ -7,7 +7,6 @@ mod opening;
 mod preparing;
 mod recovering;
 mod unopened;
-mod values;
 
 pub use opening::{OpenedImage, open_for};
 pub use unopened::Unopened;

@@ -53,6 +53,7 @@ pub fn open_for<I: Image>(
     every_line_is_resident();
     let Recovered {
         mut memory,
+        version: _,
         mut directory,
         mut graph,
         lines,
@@ -62,7 +63,7 @@ pub fn open_for<I: Image>(
         Ok(recovered) => recovered,
         Err(given_back) => return Err(given_back),
     };
-    match prepare(alloc, set, &mut directory, &mut graph, lines.as_slice()) {
+    match prepare(alloc, set, &mut directory, &mut graph) {
         Ok(()) => {}
         Err(why) => return Err((why, memory.into_image())),
     }

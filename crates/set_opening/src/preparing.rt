@@ -10,39 +10,30 @@ ghost use Rattle.set_opening.specs.Fitted.{AllAgree, IsFitted, IsPlanFault, IsSh
 
 use crate::numbering::number_arrays;
 use crate::unopened::Unopened;
-use crate::values::check_values;
 use ap_base::Bytes;
 use class_set::ClassSet;
 use directories::{Directory, PlanFault};
 use graph_model::{Graph, NamedValue, Value};
-use image_layout::BadReason;
 use set_directory::SetClasses;
 use std::alloc::{AllocError, Global};
 
-/// Makes the directory and the graph of an image, whose nodes begin at these lines, ready for the
-/// class set: the values and the shapes are checked, the directory's array types get numbers, and
-/// what the directory lacks of the set's entries is planned. The graph has the roots of these too,
-/// and they are null.
+/// Makes the directory and the graph of an image ready for the class set: the shapes are checked,
+/// the directory's array types get numbers, and what the directory lacks of the set's entries is
+/// planned. The graph has the roots of these too, and they are null.
 pub(crate) fn prepare(
     alloc: Global,
     set: &mut ClassSet,
     directory: &mut Directory,
     graph: &mut Graph,
-    lines: &[u32],
 ) -> Result<(), Unopened>
     requires shapes { All IsShape directory.old.shapes }
-    requires long { length lines.now ≡ length graph.old.nodes }
     requires roots { map (λ (root : SomeRoot). root.name) graph.old.roots ≡ directory.old.roots }
     ensures fitted { OnOk result
         (IsFitted set.old set.new directory.old directory.new graph.old graph.new) }
     ensures continues { (had : List DirectoryEntry) → Continues had directory.old
         → OnOk result (Continues had directory.new) }
-    ensures unfit { IfErr result (IsUnfit set.old set.new directory.old graph.old lines.now) }
+    ensures unfit { IfErr result (IsUnfit set.old set.new directory.old) }
 {
-    if let Err(line) = check_values(graph, lines) {
-        let reason = BadReason::Value;
-        return Err(Unopened::BadImage { line, reason });
-    }
     check_shapes(alloc, set, directory)?;
     number_arrays(alloc, set, directory)?;
     what_sets_keep(set);

@@ -10,8 +10,7 @@ use std::alloc::{AllocError, AllocFailed};
 /// Why an image couldn't be opened for a class set.
 #[derive(Drop, Debug)]
 pub enum Unopened {
-    /// The first check of the image that fails does so at this line, for this reason. Or the first
-    /// object that has a value out of the range of its byte or short begins in this line.
+    /// The first check of the image that fails does so at this line, for this reason.
     BadImage { line: u32, reason: BadReason },
     /// The first shape of its directory that doesn't agree with the class set has this name.
     ShapeChanged { name: Bytes },

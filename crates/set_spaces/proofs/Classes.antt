@@ -1,5 +1,6 @@
 -- Classes by their names.
-use Rattle.std.proofs.Common.{◌≡◌, ℕ, ◌+◌, ◌<◌, suc, List, [], ◌∷◌, ◌++◌, Option, map, take, length, get_or, refl, ap, sym, ◌∙◌, if◌then◌else◌}
+use Rattle.std.proofs.Common.{◌≡◌, ℕ, ◌+◌, ◌<◌, suc, List, [], ◌∷◌, ◌++◌, Option, map, take, length, get_or, refl, ap, sym, ◌∙◌}
+use Rattle.std.proofs.Common.{if◌then◌else◌}
 use Rattle.std.specs.Prelude.{unwrap_or}
 use Rattle.graph_model.specs.declared.types.Shape.{Shape}
 use Rattle.plain_model.specs.Classes.{ClassFacts}

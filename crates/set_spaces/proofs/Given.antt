@@ -1,5 +1,6 @@
 -- The parts of a set over a directory.
-use Rattle.std.proofs.Common.{◌≡◌, inl, inr, ⊎_elim, ℕ, ◌<◌, ◌≤◌, ◌^◌, Bool, true, false, not, ◌&&◌, List, Option, Some, None, map, length, refl, ap, sym, ◌∙◌, subst, arith, slice_index_or, if◌then◌else◌}
+use Rattle.std.proofs.Common.{◌≡◌, inl, inr, ⊎_elim, ℕ, ◌<◌, ◌≤◌, ◌^◌, Bool, true, false, not, ◌&&◌, List, Option, Some, None}
+use Rattle.std.proofs.Common.{map, length, refl, ap, sym, ◌∙◌, subst, arith, slice_index_or, if◌then◌else◌}
 use Rattle.std.specs.Prelude.{All, Contains, slice_get, slice_index}
 use Rattle.std.proofs.lemmas.Bool.{and_parts, cases_lt, false≢true, le-ltb}
 use Rattle.std.proofs.lemmas.List.{length-append, length-map}

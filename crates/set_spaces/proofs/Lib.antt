@@ -1,4 +1,3 @@
-mod Apart
 mod Classes
 mod Given
 mod Homes

@@ -1,5 +1,6 @@
 -- Of each class, a place of it.
-use Rattle.std.proofs.Common.{◌≡◌, ◌≢◌, ⊎_elim, ℕ, ◌+◌, ◌<◌, ◌≤◌, List, Option, Some, None, length, replicate, ap, sym, ◌∙◌, arith, below_more, set, length-set, get_or-set_same, get_or-set_other, slice_index_or}
+use Rattle.std.proofs.Common.{◌≡◌, ◌≢◌, ⊎_elim, ℕ, ◌+◌, ◌<◌, ◌≤◌, List, Option, Some, None, length, replicate, ap, sym, ◌∙◌}
+use Rattle.std.proofs.Common.{arith, below_more, set, length-set, get_or-set_same, get_or-set_other, slice_index_or}
 use Rattle.std.specs.Prelude.{slice_index}
 use Rattle.std.proofs.lemmas.Bool.{cases_eq, cases_lt}
 use Rattle.std.proofs.lemmas.List.{get_or-replicate, get_or_past, length-replicate}

@@ -1,5 +1,6 @@
 -- How classes and the shapes of a heap are numbered.
-use Rattle.std.specs.Prelude.{◌≡◌, ℕ, ◌<◌, ◌≤◌, ◌^◌, List, [], ◌∷◌, ◌++◌, length, slice_index, slice_index_or, Option, Some, None}
+use Rattle.std.specs.Prelude.{◌≡◌, ℕ, ◌<◌, ◌≤◌, ◌^◌, List, [], ◌∷◌, ◌++◌, length, slice_index, slice_index_or, Option, Some}
+use Rattle.std.specs.Prelude.{None}
 use Rattle.graph_model.specs.declared.types.Shape.{Shape}
 use Rattle.graph_model.specs.Heaps.{no_shape}
 use Rattle.set_spaces.specs.declared.heap.HeapShapes.{HeapShapes}

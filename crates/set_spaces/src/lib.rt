@@ -9,4 +9,3 @@ mod roots;
 mod tables;
 
 pub use parts::spaces_parts;
-pub use roots::roots_differ;

@@ -2,13 +2,15 @@
 ghost use Rattle.std.specs.Prelude.{◌≡◌, All, IfOk};
 ghost use Rattle.class_set.specs.Facts.{facts_of};
 ghost use Rattle.directories.specs.Planning.{directory_of_kept};
-ghost use Rattle.first_spaces.specs.Parts.{RootsDiffer};
 ghost use Rattle.set_spaces.specs.Over.{ArePartsOver, HasShapesOf, IsOfClass, ListsClasses, RootNamesDiffer};
 
 use crate::fields::first_fields;
 use crate::objects::objects_of;
 use crate::tables::tables_of;
-use class_set::{ClassSet, linked_sets_are_consistent, literals_are_short, made_arrays_are_known};
+use class_set::{
+    ClassSet, linked_sets_are_consistent, literals_are_short, made_arrays_are_known,
+    roots_of_linked_sets_differ,
+};
 use directories::Directory;
 use first_spaces::SpacesParts;
 use std::alloc::{AllocError, Global};
@@ -26,7 +28,6 @@ pub fn spaces_parts(
     set: &ClassSet,
     directory: &Directory,
 ) -> Result<SpacesParts, AllocError>
-    requires roots_differ { RootsDiffer (facts_of set.now) }
     requires agree { All (IsOfClass (facts_of set.now)) directory.now.shapes }
     requires classes { HasShapesOf set.now (directory_of_kept directory.now) }
     requires names_differ { RootNamesDiffer (directory_of_kept directory.now) }
@@ -38,6 +39,7 @@ pub fn spaces_parts(
     linked_sets_are_consistent();
     literals_are_short();
     made_arrays_are_known();
+    roots_of_linked_sets_differ();
     let _linked = set.shapes();
     Ok(SpacesParts {
         tables: tables_of(alloc, set, directory)?,

@@ -1,5 +1,6 @@
 -- Which objects are claimed after a step, and which are named.
-use Rattle.std.proofs.Common.{◌≡◌, ◌≢◌, ◌⊎◌, inl, inr, ℕ, ◌+◌, ◌*◌, ◌<◌, true, List, [], ◌∷◌, ◌++◌, length, nat_eq, refl, sym, ◌∙◌, ap, subst, arith, eq-eqb}
+use Rattle.std.proofs.Common.{◌≡◌, ◌≢◌, ◌⊎◌, inl, inr, ℕ, ◌+◌, ◌*◌, ◌<◌, true, List, [], ◌∷◌, ◌++◌, length, nat_eq, refl, sym}
+use Rattle.std.proofs.Common.{◌∙◌, ap, subst, arith, eq-eqb}
 use Rattle.std.specs.Prelude.{AllPairs, ◌↔◌, slice_index_or}
 use Rattle.std.proofs.lemmas.Bool.{or_left, or_right, or_cases, eqb-true}
 use Rattle.std.proofs.lemmas.List.{get_or_push, length_push}

@@ -1,5 +1,6 @@
 -- What the events of a conversion are, for a thread that alone converts.
-use Rattle.std.proofs.Common.{◌≡◌, ◌≢◌, inl, ℕ, ◌+◌, ◌*◌, ◌<◌, ◌≤◌, true, List, [], ◌∷◌, ◌++◌, length, refl, sym, ◌∙◌, ap, subst, arith}
+use Rattle.std.proofs.Common.{◌≡◌, ◌≢◌, inl, ℕ, ◌+◌, ◌*◌, ◌<◌, ◌≤◌, true, List, [], ◌∷◌, ◌++◌, length, refl, sym, ◌∙◌, ap}
+use Rattle.std.proofs.Common.{subst, arith}
 use Rattle.std.specs.Prelude.{◌↔◌, AllPairs, Ok, Some, slice_get}
 use Rattle.std.proofs.lemmas.Bool.{false≢true, false_from_ne_true}
 use Rattle.std.proofs.lemmas.Option.{get_or_from_slice_get}
@@ -35,7 +36,8 @@ use Rattle.machine_forms.specs.declared.doing.Doing.TheVariants.{Converting}
 use Rattle.machine_forms.specs.Machines.{Machine, memory_of, scene_of, doing_of}
 use Rattle.machine_forms.specs.Events.{Converted, ConvertsOn, IsNoSeal, NamesSet, StaysSound, with_joined}
 use Rattle.shared_heap.specs.Shared.{Shared}
-use Rattle.shared_heap.specs.Conversions.{NamesClaimed, ConvertsAlone, BeginsOnce, BeginsTo, NamesOne, IsLast, NamesNext, GoesOnce, GoesTo, JoinsOnce, FailsTo, MovesOn, with_name}
+use Rattle.shared_heap.specs.Conversions.{NamesClaimed, ConvertsAlone, BeginsOnce, BeginsTo, NamesOne, IsLast, NamesNext}
+use Rattle.shared_heap.specs.Conversions.{GoesOnce, GoesTo, JoinsOnce, FailsTo, MovesOn, with_name}
 use Rattle.shared_heap.specs.declared.conversions.Conversion.{Conversion}
 use Rattle.shared_heap.proofs.Calling.{Told}
 use Rattle.shared_heap.proofs.Claimed.{SameObjects, names_still, claimed_own, names_more, stands_last}

@@ -20,7 +20,8 @@ use Rattle.shared_objects.specs.Plain.{plain_request}
 use Rattle.shared_objects.specs.Shown.{IfNumber, object_in, static_in}
 use Rattle.shared_objects.specs.Worlds.{world_of}
 use Rattle.step_forms.specs.Follows.{Agrees}
-use Rattle.step_forms.specs.Needs.{ElementIsHere, HeadIsHere, IsAskable, IsHere, ReferredElementIsHere, ReferredIsHere, SlotIsHere, ValueIsHere}
+use Rattle.step_forms.specs.Needs.{ElementIsHere, HeadIsHere, IsAskable, IsHere, ReferredElementIsHere, ReferredIsHere}
+use Rattle.step_forms.specs.Needs.{SlotIsHere, ValueIsHere}
 use Rattle.twin_forms.specs.Sights.{view_of}
 use Rattle.twin_forms.specs.Table.{Entry, entry, line_of, no_entry}
 use Rattle.twin_forms.proofs.Led.{below_or_not}

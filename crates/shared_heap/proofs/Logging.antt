@@ -1,7 +1,8 @@
 -- The logs of all threads as one list, and what becomes of it where one of them changes.
 use Rattle.std.proofs.Common.{◌≡◌, ◌≢◌, inl, inr, ℕ, zero, suc, ◌<◌, List, [], ◌∷◌, length, refl, sym, ◌∙◌, ap, arith}
 use Rattle.std.specs.Prelude.{slice_index_or, slice_set}
-use Rattle.std.proofs.lemmas.List.{get_or_default, get_or-set_same, get_or-set_other, get_or_append_left, get_or_at, length-set, length-append, same_lists}
+use Rattle.std.proofs.lemmas.List.{get_or_default, get_or-set_same, get_or-set_other, get_or_append_left, get_or_at, length-set}
+use Rattle.std.proofs.lemmas.List.{length-append, same_lists}
 use Rattle.region_log.specs.Log.{Log}
 use Rattle.twin_forms.proofs.Led.{same_or_not, below_or_not}
 use Rattle.machine_forms.specs.Machines.{empty_log, log_of}

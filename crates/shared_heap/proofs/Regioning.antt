@@ -1,6 +1,7 @@
 -- What the calls of a thread's log make of a shared heap.
-use Rattle.std.proofs.Common.{◌≡◌, ◌⊎◌, inl, inr, ℕ, ◌<◌, ◌≤◌, ◌^◌, true, List, [], ◌++◌, ◌∷◌, Some, refl, sym, ◌∙◌, ap, subst, arith}
-use Rattle.std.specs.Prelude.{◌≢◌, Result, Ok, Err, OnErr, IfOk, slice_set}
+use Rattle.std.proofs.Common.{◌≡◌, ◌⊎◌, inl, inr, ℕ, ◌<◌, ◌≤◌, ◌^◌, true, List, [], ◌++◌, ◌∷◌, Some, refl, sym, ◌∙◌, ap, subst}
+use Rattle.std.proofs.Common.{arith, ◌&&◌, Bool, false, length, if◌then◌else◌}
+use Rattle.std.specs.Prelude.{◌≢◌, Result, Ok, Err, OnErr, IfOk, slice_set, is_ok}
 use Rattle.std.proofs.lemmas.Grind.{common_steps}
 use Rattle.line_image.specs.declared.image.ImageFailed.{ImageFailed}
 use Rattle.line_memory.specs.Memory.{Memory, OneCall}
@@ -14,35 +15,54 @@ use Rattle.region_log.specs.declared.log.LogStep.{LogStep}
 use Rattle.region_log.specs.declared.log.LogStep.TheVariants as logging
 use Rattle.region_log.specs.declared.log.EndStep.{EndStep}
 use Rattle.region_log.specs.declared.log.EndStep.TheVariants as ending
+use Rattle.region_log.specs.Fencing.{fences_next, is_fence_next, makes_fence}
 use Rattle.region_log.specs.Guarding.{is_adding}
 use Rattle.region_log.specs.Kept.{FitsUnderway, KeepsLog}
 use Rattle.region_log.specs.Log.{Log}
 use Rattle.region_log.specs.Readers.{added_entry}
-use Rattle.region_log.specs.Stages.{CanEnd, EndsAtOnce}
+use Rattle.region_log.specs.Stages.{CanAdd, CanEnd, EndsAtOnce}
 use Rattle.region_log.specs.Steps.{AddsEntry, AddsOn, FailsToAdd, TouchesFor}
+use Rattle.region_log.proofs.Fencing.{ending-sees, idle-fences-none, logging-sees}
 use Rattle.region_logs.specs.Calls.{EndsPart, LogsPart}
 use Rattle.region_logs.proofs.Guards.{adding-is}
+use Rattle.convert_queue.specs.Marks.{with_fence}
+use Rattle.convert_queue.specs.Queues.{Queues}
 use Rattle.machine_forms.specs.Machines.{Machine, log_of, memory_of}
-use Rattle.machine_forms.specs.Events.{LogsWord, with_logged}
+use Rattle.machine_forms.specs.Events.{LogsWord, told_of_log, with_logged}
 use Rattle.shared_heap.specs.Shared.{Shared}
-use Rattle.shared_heap.specs.Regions.{ClosesTo, EndingFailsTo, EndsOnTo, EndsTo, FencesTo, IsEndCall, IsLeft, LeavesTo, LoggingFailsTo, LogsTo, PartTo}
+use Rattle.shared_heap.specs.Regions.{ClosesTo, EndingFailsTo, EndsOnTo, EndsTo, FencesTo, IsEndCall, IsLeft, LeavesTo}
+use Rattle.shared_heap.specs.Regions.{LoggingFailsTo, LogsTo, PartTo}
 use Rattle.shared_heap.proofs.Calling.{AreResident, Told, later_count, over}
 
 -- ---- calls
 
--- A call of a thread's log: what the memory and the logs are after it.
-pub record LogCalled (old : Shared) (t : ℕ) (log : Log) (after : Memory) (logs : List Log) : Type 0 where
+-- A call of a thread's log, made or not: what the memory and the logs are after it, and of what the queues are told.
+pub record LogCalled (old : Shared) (t : ℕ) (log : Log) (after : Memory) (logs : List Log) (q : Queues) (done : Bool)
+    : Type 0 where
   pub thread : t < 64
   pub resident : AreResident
   pub few : (memory_of old.machine).calls < 2 ^ 64
   pub logs_are : logs ≡ slice_set old.machine.logs t log
+  -- a fence was next, and the call was made
+  pub fences : Bool
+  pub made : Bool
+  pub is_next : fences ≡ fences_next (log_of old.machine t)
+  pub is_done : made ≡ done
+  pub told : q ≡ record old.machine.queue {
+    marks = if fences && made then with_fence old.machine.queue.marks else old.machine.queue.marks;
+  }
 
--- the shared heap with this memory and these logs
-abbrev pub called_in : Shared → Memory → List Log → Shared
-called_in old after logs = record old {
+-- its log makes the fence that was next, if it was made
+abbrev pub Sees : Shared → ℕ → Log → Bool → Type 0
+Sees old t log done = makes_fence (log_of old.machine t) log ≡ (fences_next (log_of old.machine t) && done)
+
+-- the shared heap with this memory, these logs and these queues
+abbrev pub called_in : Shared → Memory → List Log → Queues → Shared
+called_in old after logs q = record old {
   machine = record old.machine {
     spaces = record old.machine.spaces { twin = record old.machine.spaces.twin { memory = after } };
     logs = logs;
+    queue = q;
   };
 }
 
@@ -50,10 +70,64 @@ later_calls : (old after : Memory) → old.calls < 2 ^ 64 → OneCall old after 
 later_calls old after few one =
     let counts = one.calls in let more = later_count old.calls few in omega (arith, counts, more)
 
-machine_called : (old : Shared) (t : ℕ) (log : Log) (after : Memory) (logs : List Log)
-    → LogCalled old t log after logs
-    → (called_in old after logs).machine ≡ with_logged old.machine (over old.machine after) t log
-machine_called old t log after logs c = ap (λ (l : List Log). (called_in old after l).machine) c.logs_are
+queue_told : (old : Shared) (t : ℕ) (log : Log) (after : Memory) (logs : List Log) (q : Queues) (done : Bool)
+    → LogCalled old t log after logs q done → Sees old t log done
+    → q ≡ told_of_log old.machine.queue (log_of old.machine t) log
+queue_told old t log after logs q done c seen =
+    let same : (c.fences && c.made) ≡ makes_fence (log_of old.machine t) log
+    = ap (λ b. b && c.made) c.is_next ∙ ap (λ b. fences_next (log_of old.machine t) && b) c.is_done ∙ sym seen in
+    c.told ∙ ap (λ b. record old.machine.queue {
+      marks = if b then with_fence old.machine.queue.marks else old.machine.queue.marks;
+    }) same
+
+machine_called : (old : Shared) (t : ℕ) (log : Log) (after : Memory) (logs : List Log) (q : Queues) (done : Bool)
+    → LogCalled old t log after logs q done → Sees old t log done
+    → (called_in old after logs q).machine ≡ with_logged old.machine (over old.machine after) t log
+machine_called old t log after logs q done c seen =
+    ap (λ (l : List Log). (called_in old after l q).machine) c.logs_are
+    ∙ ap (λ (x : Queues). (called_in old after (slice_set old.machine.logs t log) x).machine)
+    (queue_told old t log after logs q done c seen)
+
+-- ---- fences
+
+and_true : (b : Bool) → b ≡ (b && true)
+and_true true = refl
+and_true false = refl
+
+and_false : (b : Bool) → false ≡ (b && false)
+and_false true = refl
+and_false false = refl
+
+both : (a b : Bool) → a ≡ false → b ≡ false → a ≡ b
+both a b x y = x ∙ sym y
+
+both_true : (a b : Bool) → a ≡ true → b ≡ true → a ≡ b
+both_true a b x y = x ∙ sym y
+
+logs_see : (e : Entry) (before after : Log) (old new : Memory) (result : Result LogStep ImageFailed)
+    → CanAdd before.underway e → LogsPart e before after old new result
+    → makes_fence before after ≡ (fences_next before && is_ok result)
+logs_see e before after old new (Ok logging.More) can part = (elim (part.more refl) [
+  | inl touches ↦ (let seen = logging-sees.touched e before after old new can touches in
+      both (makes_fence before after) (fences_next before) seen.0 seen.1)
+  | inr adds ↦ (logging-sees.added e before after old new can adds).0
+]) ∙ and_true (fences_next before)
+logs_see e before after old new (Ok logging.Logged) can part =
+    let seen = logging-sees.counted e before after old new can (part.logged refl) in
+    both_true (makes_fence before after) (fences_next before) seen.0 seen.1 ∙ and_true (fences_next before)
+logs_see e before after old new (Ok logging.Full) can part = absurd (part.room refl)
+logs_see e before after old new (Err failed) can part =
+    logging-sees.failed e before after old new part.failed ∙ and_false (fences_next before)
+
+-- the entry that is under way can be added
+pub logging_seen : (before after : Log) (old new : Memory) (result : Result LogStep ImageFailed)
+    → is_adding before.underway ≡ true
+    → ((e : Entry) → added_entry before.underway ≡ Some e → LogsPart e before after old new result)
+    → makes_fence before after ≡ (fences_next before && is_ok result)
+logging_seen before after old new result adding part =
+    let at = adding-is before.underway adding in
+    logs_see at.0 before after old new result
+    (subst (λ (u : Underway). CanAdd u at.0) (sym at.2) refl) (part at.0 (ap added_entry at.2))
 
 -- ---- a word is logged
 
@@ -69,24 +143,25 @@ went_for e log log' old after (Ok logging.Logged) part = inr (inr (inl (part.log
 went_for e log log' old after (Ok logging.Full) part = absurd (part.room refl)
 went_for e log log' old after (Err failed) part = inr (inr (inr part.failed))
 
-is_left : (old : Shared) (t : ℕ) (log : Log) (after : Memory) (logs : List Log)
-    → LogCalled old t log after logs → IsLeft (over old.machine after) t log old (called_in old after logs)
-is_left old t log after logs c = record {
-  machine = machine_called old t log after logs c;
+is_left : (old : Shared) (t : ℕ) (log : Log) (after : Memory) (logs : List Log) (q : Queues) (done : Bool)
+    → LogCalled old t log after logs q done → Sees old t log done
+    → IsLeft (over old.machine after) t log old (called_in old after logs q)
+is_left old t log after logs q done c seen = record {
+  machine = machine_called old t log after logs q done c seen;
   history = refl;
   lines = refl;
   named = refl;
 }
 
 -- what the call does to the word, and what it says of the entry that is under way
-words_called : (old : Shared) (t : ℕ) (log : Log) (after : Memory) (logs : List Log)
-    (result : Result LogStep ImageFailed) → LogCalled old t log after logs
+words_called : (old : Shared) (t : ℕ) (log : Log) (after : Memory) (logs : List Log) (q : Queues)
+    (result : Result LogStep ImageFailed) → LogCalled old t log after logs q (is_ok result)
     → is_adding (log_of old.machine t).underway ≡ true
     → ((e : Entry) → added_entry (log_of old.machine t).underway ≡ Some e
     → LogsPart e (log_of old.machine t) log (memory_of old.machine) after result)
     → (w : LogsWord old.machine (over old.machine after) t log)
     × LogsPart w.entry (log_of old.machine t) log (memory_of old.machine) after result
-words_called old t log after logs result c adding part =
+words_called old t log after logs q result c adding part =
     let at = adding-is (log_of old.machine t).underway adding in
     let own = part at.0 (ap added_entry at.2) in (
       record {
@@ -105,49 +180,52 @@ words_called old t log after logs result c adding part =
       own,
     )
 
-pub logs_called : (old : Shared) (t : ℕ) (log : Log) (after : Memory) (logs : List Log)
-    (result : Result LogStep ImageFailed) → LogCalled old t log after logs
+pub logs_called : (old : Shared) (t : ℕ) (log : Log) (after : Memory) (logs : List Log) (q : Queues)
+    (result : Result LogStep ImageFailed) → LogCalled old t log after logs q (is_ok result)
     → is_adding (log_of old.machine t).underway ≡ true
     → ((e : Entry) → added_entry (log_of old.machine t).underway ≡ Some e
     → LogsPart e (log_of old.machine t) log (memory_of old.machine) after result)
-    → IfOk result (λ step. LogsTo step t old (called_in old after logs))
-logs_called old t log after logs (Ok logging.More) c adding part =
-    let x = words_called old t log after logs (Ok logging.More) c adding part in
+    → IfOk result (λ step. LogsTo step t old (called_in old after logs q))
+logs_called old t log after logs q (Ok logging.More) c adding part =
+    let x = words_called old t log after logs q (Ok logging.More) c adding part in
     record {
       twin = over old.machine after;
       log = log;
       logs = x.0;
       made = x.1.more refl;
-      left = is_left old t log after logs c;
+      left = is_left old t log after logs q true c
+          (logging_seen (log_of old.machine t) log (memory_of old.machine) after (Ok logging.More) adding part);
     }
-logs_called old t log after logs (Ok logging.Logged) c adding part =
-    let x = words_called old t log after logs (Ok logging.Logged) c adding part in
+logs_called old t log after logs q (Ok logging.Logged) c adding part =
+    let x = words_called old t log after logs q (Ok logging.Logged) c adding part in
     record {
       twin = over old.machine after;
       log = log;
       logs = x.0;
       counts = x.1.logged refl;
-      left = is_left old t log after logs c;
+      left = is_left old t log after logs q true c
+          (logging_seen (log_of old.machine t) log (memory_of old.machine) after (Ok logging.Logged) adding part);
     }
-logs_called old t log after logs (Ok logging.Full) c adding part =
-    (words_called old t log after logs (Ok logging.Full) c adding part).1.room refl
-logs_called old t log after logs (Err failed) c adding part = tt
+logs_called old t log after logs q (Ok logging.Full) c adding part =
+    (words_called old t log after logs q (Ok logging.Full) c adding part).1.room refl
+logs_called old t log after logs q (Err failed) c adding part = tt
 
-pub logging_failed : (old : Shared) (t : ℕ) (log : Log) (after : Memory) (logs : List Log)
-    (result : Result LogStep ImageFailed) → LogCalled old t log after logs
+pub logging_failed : (old : Shared) (t : ℕ) (log : Log) (after : Memory) (logs : List Log) (q : Queues)
+    (result : Result LogStep ImageFailed) → LogCalled old t log after logs q (is_ok result)
     → is_adding (log_of old.machine t).underway ≡ true
     → ((e : Entry) → added_entry (log_of old.machine t).underway ≡ Some e
     → LogsPart e (log_of old.machine t) log (memory_of old.machine) after result)
-    → OnErr result (LoggingFailsTo t old (called_in old after logs))
-logging_failed old t log after logs (Ok step) c adding part = tt
-logging_failed old t log after logs (Err failed) c adding part =
-    let x = words_called old t log after logs (Err failed) c adding part in
+    → OnErr result (LoggingFailsTo t old (called_in old after logs q))
+logging_failed old t log after logs q (Ok step) c adding part = tt
+logging_failed old t log after logs q (Err failed) c adding part =
+    let x = words_called old t log after logs q (Err failed) c adding part in
     record {
       twin = over old.machine after;
       log = log;
       logs = x.0;
       fails = x.1.failed;
-      left = is_left old t log after logs c;
+      left = is_left old t log after logs q false c
+          (logging_seen (log_of old.machine t) log (memory_of old.machine) after (Err failed) adding part);
     }
 
 -- ---- a region ends
@@ -188,19 +266,53 @@ idle_at_once size depth entries (Ending Cleared) can fits at_once = absurd (elim
   | inr none ↦ fits.1 none
 ])
 
+-- An end makes the fence that was next, and no other: one that has no call makes none.
+once_none : (before after : Log) → before.underway ≡ Nothing
+    → (makes_fence before after ≡ false) × (fences_next before ≡ false)
+once_none before after idle =
+    (idle-fences-none before after idle, ap (is_fence_next (length before.entries)) idle)
+
+pub ending_seen : (before after : Log) (old new : Memory) (result : Result EndStep ImageFailed)
+    → CanEnd before.underway → KeepsLog before old → EndsPart before after old new result
+    → makes_fence before after ≡ (fences_next before && is_ok result)
+ending_seen before after old new (Ok ending.More) can keeps part =
+    (let seen : (makes_fence before after ≡ false) × (fences_next before ≡ false) = elim (part.more refl) [
+      | inl touches ↦ ending-sees.touched before after old new can touches
+      | inr ends ↦ ending-sees.ended before after old new can keeps ends
+    ] in both (makes_fence before after) (fences_next before) seen.0 seen.1) ∙ and_true (fences_next before)
+ending_seen before after old new (Ok ending.AllFenced) can keeps part =
+    let seen = ending-sees.fenced before after old new can part.steps.keeps (part.fenced refl) in
+    both_true (makes_fence before after) (fences_next before) seen.0 seen.1 ∙ and_true (fences_next before)
+ending_seen before after old new (Ok ending.Ended) can keeps part = (elim (at_once_or_not before) [
+  | inl at_once ↦
+      (let idle = idle_at_once old.size before.depth before.entries before.underway can keeps.fits at_once in
+      let seen = once_none before after idle in
+      both (makes_fence before after) (fences_next before) seen.0 seen.1)
+  | inr later ↦
+      (let seen = ending-sees.emptied before after old new (part.ended refl later) in
+      both_true (makes_fence before after) (fences_next before) seen.0 seen.1)
+]) ∙ and_true (fences_next before)
+ending_seen before after old new (Err failed) can keeps part =
+    ending-sees.failed before after old new part.failed ∙ and_false (fences_next before)
+
 -- what the contract of a part of an end tells
-pub record EndCalled (old : Shared) (t : ℕ) (log : Log) (after : Memory) (logs : List Log)
+pub record EndCalled (old : Shared) (t : ℕ) (log : Log) (after : Memory) (logs : List Log) (q : Queues)
     (result : Result EndStep ImageFailed) : Type 0 where
-  pub called : LogCalled old t log after logs
+  pub called : LogCalled old t log after logs q (is_ok result)
   pub can : CanEnd (log_of old.machine t).underway
   pub keeps : KeepsLog (log_of old.machine t) (memory_of old.machine)
   pub part : EndsPart (log_of old.machine t) log (memory_of old.machine) after result
 
-module _ (old : Shared) (t : ℕ) (log : Log) (after : Memory) (logs : List Log) where
+module _ (old : Shared) (t : ℕ) (log : Log) (after : Memory) (logs : List Log) (q : Queues) where
   abbrev new : Shared
-  new = called_in old after logs
+  new = called_in old after logs q
 
-  end_call : (result : Result EndStep ImageFailed) → EndCalled old t log after logs result
+  seen_by : (result : Result EndStep ImageFailed) → EndCalled old t log after logs q result
+      → Sees old t log (is_ok result)
+  seen_by result x =
+      ending_seen (log_of old.machine t) log (memory_of old.machine) after result x.can x.keeps x.part
+
+  end_call : (result : Result EndStep ImageFailed) → EndCalled old t log after logs q result
       → (EndsAtOnce (log_of old.machine t) → ⊥) → IsEndCall old.machine (over old.machine after) t log
   end_call result x later = record {
     call = record {
@@ -215,28 +327,28 @@ module _ (old : Shared) (t : ℕ) (log : Log) (after : Memory) (logs : List Log)
   }
 
   not_ended : (result other : Result EndStep ImageFailed) → result ≡ other → other ≢ Ok ending.Ended
-      → EndCalled old t log after logs result → EndsAtOnce (log_of old.machine t) → ⊥
+      → EndCalled old t log after logs q result → EndsAtOnce (log_of old.machine t) → ⊥
   not_ended result other is differs x at_once = differs (sym is ∙ (x.part.at_once at_once).0)
 
-  more_to : EndCalled old t log after logs (Ok ending.More) → EndsOnTo t old new
+  more_to : EndCalled old t log after logs q (Ok ending.More) → EndsOnTo t old new
   more_to x = record {
     twin = over old.machine after;
     log = log;
     call = end_call (Ok ending.More) x (not_ended (Ok ending.More) (Ok ending.More) refl (λ e. cc) x);
     made = x.part.more refl;
-    left = is_left old t log after logs x.called;
+    left = is_left old t log after logs q true x.called (seen_by (Ok ending.More) x);
   }
 
-  fences_to : EndCalled old t log after logs (Ok ending.AllFenced) → FencesTo t old new
+  fences_to : EndCalled old t log after logs q (Ok ending.AllFenced) → FencesTo t old new
   fences_to x = record {
     twin = over old.machine after;
     log = log;
     call = end_call (Ok ending.AllFenced) x (not_ended (Ok ending.AllFenced) (Ok ending.AllFenced) refl (λ e. cc) x);
     fences = x.part.fenced refl;
-    left = is_left old t log after logs x.called;
+    left = is_left old t log after logs q true x.called (seen_by (Ok ending.AllFenced) x);
   }
 
-  leaves_to : EndCalled old t log after logs (Ok ending.Ended) → LeavesTo t old new
+  leaves_to : EndCalled old t log after logs q (Ok ending.Ended) → LeavesTo t old new
   leaves_to x = record {
     twin = over old.machine after;
     log = log;
@@ -253,34 +365,34 @@ module _ (old : Shared) (t : ℕ) (log : Log) (after : Memory) (logs : List Log)
         empties = x.part.ended refl later;
       })
     ];
-    left = is_left old t log after logs x.called;
+    left = is_left old t log after logs q true x.called (seen_by (Ok ending.Ended) x);
   }
 
-  pub part_called : (step : EndStep) → EndCalled old t log after logs (Ok step) → PartTo step t old new
+  pub part_called : (step : EndStep) → EndCalled old t log after logs q (Ok step) → PartTo step t old new
   part_called ending.More x = more_to x
   part_called ending.AllFenced x = fences_to x
   part_called ending.Ended x = leaves_to x
 
-  pub end_failed : (failed : ImageFailed) → EndCalled old t log after logs (Err failed) → EndingFailsTo t old new
+  pub end_failed : (failed : ImageFailed) → EndCalled old t log after logs q (Err failed) → EndingFailsTo t old new
   end_failed failed x = record {
     twin = over old.machine after;
     log = log;
     call = end_call (Err failed) x (not_ended (Err failed) (Err failed) refl (λ e. cc) x);
     fails = x.part.failed;
-    left = is_left old t log after logs x.called;
+    left = is_left old t log after logs q false x.called (seen_by (Err failed) x);
   }
 
-pub ends_called : (old : Shared) (t : ℕ) (log : Log) (after : Memory) (logs : List Log)
-    (result : Result EndStep ImageFailed) → EndCalled old t log after logs result
-    → IfOk result (λ step. PartTo step t old (called_in old after logs))
-ends_called old t log after logs (Ok step) x = part_called old t log after logs step x
-ends_called old t log after logs (Err failed) x = tt
+pub ends_called : (old : Shared) (t : ℕ) (log : Log) (after : Memory) (logs : List Log) (q : Queues)
+    (result : Result EndStep ImageFailed) → EndCalled old t log after logs q result
+    → IfOk result (λ step. PartTo step t old (called_in old after logs q))
+ends_called old t log after logs q (Ok step) x = part_called old t log after logs q step x
+ends_called old t log after logs q (Err failed) x = tt
 
-pub ends_failed : (old : Shared) (t : ℕ) (log : Log) (after : Memory) (logs : List Log)
-    (result : Result EndStep ImageFailed) → EndCalled old t log after logs result
-    → OnErr result (EndingFailsTo t old (called_in old after logs))
-ends_failed old t log after logs (Ok step) x = tt
-ends_failed old t log after logs (Err failed) x = end_failed old t log after logs failed x
+pub ends_failed : (old : Shared) (t : ℕ) (log : Log) (after : Memory) (logs : List Log) (q : Queues)
+    (result : Result EndStep ImageFailed) → EndCalled old t log after logs q result
+    → OnErr result (EndingFailsTo t old (called_in old after logs q))
+ends_failed old t log after logs q (Ok step) x = tt
+ends_failed old t log after logs q (Err failed) x = end_failed old t log after logs q failed x
 
 -- ---- acts
 
@@ -315,11 +427,11 @@ closes_to t old between new acts f told =
     }
 
 -- any other part
-pub part_ends : (step : EndStep) (t : ℕ) (old then : Shared) → (step ≡ ending.AllFenced → ⊥) → PartTo step t old then
-    → EndsTo step t old then
-part_ends ending.More t old then other part = part
-part_ends ending.AllFenced t old then other part = absurd (other refl)
-part_ends ending.Ended t old then other part = part
+pub part_ends : (step : EndStep) (t : ℕ) (old left : Shared) → (step ≡ ending.AllFenced → ⊥) → PartTo step t old left
+    → EndsTo step t old left
+part_ends ending.More t old left other part = part
+part_ends ending.AllFenced t old left other part = absurd (other refl)
+part_ends ending.Ended t old left other part = part
 
 -- ---- from the value that a call began with
 
@@ -331,10 +443,10 @@ pub failed_logging_from : (t : ℕ) (old now new : Shared) (result : Result LogS
     → OnErr result (LoggingFailsTo t old new) → OnErr result (LoggingFailsTo t now new)
 failed_logging_from t old now new result e x = subst (λ (s : Shared). OnErr result (LoggingFailsTo t s new)) e x
 
-pub part_from : (t : ℕ) (old now then : Shared) (result : Result EndStep ImageFailed) → old ≡ now
-    → IfOk result (λ step. PartTo step t old then) → IfOk result (λ step. PartTo step t now then)
-part_from t old now then result e x = subst (λ (s : Shared). IfOk result (λ step. PartTo step t s then)) e x
+pub part_from : (t : ℕ) (old now left : Shared) (result : Result EndStep ImageFailed) → old ≡ now
+    → IfOk result (λ step. PartTo step t old left) → IfOk result (λ step. PartTo step t now left)
+part_from t old now left result e x = subst (λ (s : Shared). IfOk result (λ step. PartTo step t s left)) e x
 
-pub failed_part_from : (t : ℕ) (old now then : Shared) (result : Result EndStep ImageFailed) → old ≡ now
-    → OnErr result (EndingFailsTo t old then) → OnErr result (EndingFailsTo t now then)
-failed_part_from t old now then result e x = subst (λ (s : Shared). OnErr result (EndingFailsTo t s then)) e x
+pub failed_part_from : (t : ℕ) (old now left : Shared) (result : Result EndStep ImageFailed) → old ≡ now
+    → OnErr result (EndingFailsTo t old left) → OnErr result (EndingFailsTo t now left)
+failed_part_from t old now left result e x = subst (λ (s : Shared). OnErr result (EndingFailsTo t s left)) e x

@@ -35,7 +35,8 @@ use Rattle.machine_forms.specs.Machines.{Machine, memory_of, shown_in}
 use Rattle.machine_forms.specs.Events.{NotesStore, act_in}
 use Rattle.store_barrier.specs.Barriers.{IsDurablePlace, spaces_of}
 use Rattle.shared_heap.specs.Shared.{Shared}
-use Rattle.shared_heap.specs.Requests.{IsPlannedFor, MayRequest, StepsTo, StoresTo, doing_stored, told_at, told_by, value_stored}
+use Rattle.shared_heap.specs.Requests.{IsPlannedFor, MayRequest, StepsTo, StoresTo, doing_stored, told_at, told_by}
+use Rattle.shared_heap.specs.Requests.{value_stored}
 use Rattle.shared_heap.proofs.Here.{is_askable, value_here}
 use Rattle.shared_heap.proofs.Sounding.{stays_sound}
 use Rattle.shared_heap.proofs.Storing.{names_nothing, stores_so}

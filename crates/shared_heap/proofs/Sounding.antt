@@ -1,5 +1,6 @@
 -- A step leaves monitors sound: each has been entered, and each key has one.
-use Rattle.std.proofs.Common.{◌≡◌, ℕ, zero, suc, pred, ◌<◌, true, false, nat_eq, List, [], ◌∷◌, map, Option, Some, None, IsSome, cond, refl, ap, ◌∙◌, sym, subst, inl, inr, arith, eq-eqb}
+use Rattle.std.proofs.Common.{◌≡◌, ℕ, zero, suc, pred, ◌<◌, true, false, nat_eq, List, [], ◌∷◌, map, Option, Some, None, IsSome}
+use Rattle.std.proofs.Common.{cond, refl, ap, ◌∙◌, sym, subst, inl, inr, arith, eq-eqb}
 use Rattle.std.specs.List.{AllByRecursion}
 use Rattle.std.proofs.lemmas.Bool.{cases_Bool, eqb-true, false≢true, false_from_ne_true}
 use Rattle.ap_base.specs.declared.reference.Ref.{Ref}

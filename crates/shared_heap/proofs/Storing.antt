@@ -1,14 +1,15 @@
 -- Which operations the plain steps of requests do: which are stores, whatever the durable roots are, and
 -- that none
 -- names objects.
-use Rattle.std.proofs.Common.{◌≡◌, ℕ, zero, suc, ℤ, pos, negsuc, Bool, true, false, nat_lt, nat_le, nat_eq, List, length, Option, Some, None, ◌&&◌, if◌then◌else◌, refl, sym, ◌∙◌, subst}
+use Rattle.std.proofs.Common.{◌≡◌, ℕ, zero, suc, ℤ, pos, negsuc, Bool, true, false, nat_lt, nat_le, nat_eq, List, length}
+use Rattle.std.proofs.Common.{Option, Some, None, ◌&&◌, if◌then◌else◌, refl, sym, ◌∙◌, subst}
 use Rattle.std.specs.Prelude.{slice_get, []}
 use Rattle.ap_base.specs.declared.reference.Ref.{Ref}
 use Rattle.ap_base.specs.declared.reference.Item.{Item}
 use Rattle.ap_base.specs.declared.place.Place.{Place}
 use Rattle.run_types.specs.declared.key.Key.TheVariants as key
 use Rattle.run_types.specs.declared.wait.On.{On}
-use Rattle.run_types.specs.declared.fault.RunFault.{RunFault}
+use Rattle.run_types.specs.declared.fault.StepFault.{StepFault}
 use Rattle.graph_model.specs.declared.types.Root.{Root}
 use Rattle.graph_model.specs.declared.types.Value.{Value}
 use Rattle.graph_model.specs.declared.types.Value.TheVariants.{Int, Long, Null, Obj as Object}
@@ -31,7 +32,9 @@ use Rattle.plain_model.specs.Requests.{PlainReply}
 use Rattle.plain_model.specs.Facts.{SetFacts, string_number}
 use Rattle.plain_model.specs.Limits.{most_threads}
 use Rattle.plain_model.specs.Codes.{taken_by}
-use Rattle.plain_model.specs.Steps.{Does, IsOver, Step, Waits, WrongOperand, compares, ends_region, enters_held, exits_held, is_of, is_same, joins_thread, may_store, new_array, next_number, past_end, starts_thread, step, thread_of, throws, with_index, with_object, with_progress, with_reference}
+use Rattle.plain_model.specs.Steps.{Does, IsOver, Step, Waits, WrongOperand, compares, ends_region, enters_held, exits_held}
+use Rattle.plain_model.specs.Steps.{is_of, is_same, joins_thread, may_store, new_array, next_number, past_end, starts_thread}
+use Rattle.plain_model.specs.Steps.{step, thread_of, throws, with_index, with_object, with_progress, with_reference}
 use Rattle.shared_objects.specs.declared.rest.Rest.{Rest}
 use Rattle.shared_objects.specs.Shown.{Numbers, Shown, item_value, ref_value}
 use Rattle.shared_objects.specs.Plain.{plain_request}
@@ -56,7 +59,7 @@ record HoldsOfOwn (P : Step → Type 0) : Type 0 where
   does : (o : Op) (r : PlainReply) → IsOwn o → P (Does o r)
   waits : (on : On) → P (Waits on)
   wrong : P WrongOperand
-  over : (f : RunFault) → P (IsOver f)
+  over : (f : StepFault) → P (IsOver f)
 
 -- ---- what goes on with a step of which it holds
 

@@ -5,3 +5,5 @@ pub mod Plans
 pub mod Regions
 pub mod Requests
 pub mod Shared
+pub mod Quick
+pub mod FieldReads

@@ -1,12 +1,16 @@
 -- What the events of a region do to a shared heap: a place that it guards, the calls of its log, and its end.
-use Rattle.std.specs.Prelude.{◌≡◌, ◌⊎◌, ℕ, ◌-◌}
+use Rattle.std.specs.Prelude.{◌≡◌, ◌⊎◌, ℕ, ◌-◌, List}
 use Rattle.ap_base.specs.declared.place.Place.{Place}
 use Rattle.ap_base.specs.declared.place.Spot.{Spot}
 use Rattle.line_memory.specs.Memory.{shown}
 use Rattle.run_history.specs.declared.act.Op.TheVariants as op
 use Rattle.run_history.specs.Recorded.{with_act}
 use Rattle.twin_forms.specs.Sights.{Twin, AllKnown}
-use Rattle.region_log.specs.declared.entry.Entry.{Entry}
+use Rattle.twin_forms.specs.Table.{Entry}
+use Rattle.two_spaces.specs.Seen.{Spaces}
+use Rattle.two_spaces.specs.Whole.{Stands}
+use Rattle.store_barrier.specs.Barriers.{IsSpotAt}
+use Rattle.region_log.specs.declared.entry.Entry.{Entry as LogEntry}
 use Rattle.region_log.specs.declared.entry.Underway.TheVariants.{Nothing}
 use Rattle.region_log.specs.declared.log.EndStep.{EndStep}
 use Rattle.region_log.specs.declared.log.LogStep.{LogStep}
@@ -14,7 +18,8 @@ use Rattle.region_log.specs.declared.log.LogStep.TheVariants as logging
 use Rattle.region_log.specs.declared.log.EndStep.TheVariants as did
 use Rattle.region_log.specs.Log.{Log, entry_of}
 use Rattle.region_log.specs.Stages.{EndsAtOnce}
-use Rattle.region_log.specs.Steps.{AddsEntry, AddsOn, EndsOn, EndsLog, FailsToAdd, FailsToEnd, FencesRegion, TouchesFor, TouchesToEnd}
+use Rattle.region_log.specs.Steps.{AddsEntry, AddsOn, EndsOn, EndsLog, FailsToAdd, FailsToEnd, FencesRegion, TouchesFor}
+use Rattle.region_log.specs.Steps.{TouchesToEnd}
 use Rattle.region_events.specs.Laws.{CallsToEnd}
 use Rattle.machine_forms.specs.Machines.{Machine, log_of, memory_of}
 use Rattle.machine_forms.specs.Events.{LogsWord, OnlyImage, with_closing, with_guarded, with_log, with_logged}
@@ -26,8 +31,14 @@ with_log_of s t log = record s { machine = with_log s.machine t log }
 
 -- ---- a place is guarded
 
+-- The heap stands by a table by which the place is durable and lies in this word.
+pub record LiesAt (s : Spaces) (place : Place) (spot : Spot) : Type 0 where
+  pub es : List Entry
+  pub stands : Stands s es
+  pub at : IsSpotAt s es place spot
+
 -- the entry of a word, with the value that it shows
-abbrev pub entry_at : Shared → Spot → Entry
+abbrev pub entry_at : Shared → Spot → LogEntry
 entry_at s spot = entry_of spot (shown (memory_of s.machine) spot.line spot.word)
 
 -- The act is told, and the thread's log names the word next.
@@ -43,7 +54,8 @@ pub record GuardsTo (t : ℕ) (place : Place) (spot : Spot) (old new : Shared) :
 
 -- ---- its word is logged
 
--- The heap's words and the thread's log are these, and else all is as it was.
+-- The heap's words and the thread's log are these, conversions were told of the fence by which the log came to be so,
+-- if one was made, and else all is as it was.
 pub record IsLeft (twin : Twin) (t : ℕ) (log : Log) (old new : Shared) : Type 0 where
   pub machine : new.machine ≡ with_logged old.machine twin t log
   pub history : new.history ≡ old.history

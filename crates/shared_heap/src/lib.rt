@@ -4,10 +4,12 @@
 
 mod calls;
 mod conversions;
+mod field_reads;
 mod heap;
 mod laws;
 mod making;
 mod planning;
+mod quick;
 mod regions;
 mod requests;
 mod telling;

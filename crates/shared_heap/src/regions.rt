@@ -1,25 +1,25 @@
 // The regions of threads: what begins one, guards its places, and ends it.
 ghost use Rattle.std.specs.Prelude.{◌≡◌, ◌≢◌, ◌↔◌, ◌<◌, ◌≤◌, ℕ, length, true, IfOk, IsTrue, Ok, OnErr, OnOk, None};
 ghost use Rattle.ap_base.specs.Causes.{HasCause};
-ghost use Rattle.image_layout.specs.Places.{log_entries};
 ghost use Rattle.monitors.specs.Indexed.{AreSound};
 ghost use Rattle.step_forms.specs.Becomes.{given};
 ghost use Rattle.step_forms.specs.Follows.{Agrees};
 ghost use Rattle.object_steps.specs.Stores.{place_of};
 ghost use Rattle.region_log.specs.declared.entry.Underway.TheVariants as underway;
 ghost use Rattle.region_log.specs.Guarding.{IsGuarded, is_adding};
-ghost use Rattle.region_log.specs.Log.{entry_of};
+ghost use Rattle.region_log.specs.Log.{entry_of, most_entries};
 ghost use Rattle.region_log.specs.Kept.{KeepsLog};
 ghost use Rattle.region_log.specs.Readers.{is_ending};
 ghost use Rattle.region_log.specs.Stages.{CanEnd};
 ghost use Rattle.region_events.specs.Laws.{one_deeper, with_entry};
 ghost use Rattle.two_spaces.specs.Whole.{IsWhole};
 ghost use Rattle.machine_forms.specs.Machines.{log_of, memory_of, shown_in};
-ghost use Rattle.shared_heap.specs.Regions.{EndingFailsTo, EndsTo, GuardsTo, LoggingFailsTo, LogsTo, PartTo, with_log_of};
+ghost use Rattle.shared_heap.specs.Regions.{EndingFailsTo, EndsTo, GuardsTo, LiesAt, LoggingFailsTo, LogsTo, PartTo};
+ghost use Rattle.shared_heap.specs.Regions.{with_log_of};
 ghost use Rattle.shared_heap.specs.Requests.{MayRequest};
 
 use crate::SharedHeap;
-use crate::telling::place_of;
+use crate::telling::{place_of, tell_log_fence};
 use ap_base::{Sink, Spot, ThreadNo};
 use line_image::{Image, ImageFailed};
 use natives::Request;
@@ -39,7 +39,7 @@ impl<I: Image> SharedHeap<I> {
 
     /// Whether no more words can be logged for a thread.
     pub fn log_is_full(&self, t: ThreadNo) -> bool
-        ensures { IsTrue result ↔ (length (log_of self.now.machine t).entries ≡ log_entries) }
+        ensures { IsTrue result ↔ (length (log_of self.now.machine t).entries ≡ most_entries) }
     {
         self.logs.is_full(t)
     }
@@ -71,14 +71,15 @@ impl<I: Image> SharedHeap<I> {
         self.logs.stand_apart();
     }
 
-    /// Guards the place of a thread's store, which is to lie in this word: its region's log names the
+    /// Guards the durable place of a thread's store, which lies in this word: its region's log names the
     /// word next, with the value that it shows.
     pub fn guard(&mut self, t: ThreadNo, store: &Store, spot: Spot)
+        requires place { LiesAt self.old.machine.spaces (place_of store.now.target) spot }
         requires inside { spot.line < (memory_of self.old.machine).size }
         requires lines { self.old.lines ≡ (memory_of self.old.machine).size }
         requires open { 0 < (log_of self.old.machine t).depth }
         requires idle { (log_of self.old.machine t).underway ≡ underway.Nothing }
-        requires log_room { length (log_of self.old.machine t).entries < log_entries }
+        requires log_room { length (log_of self.old.machine t).entries < most_entries }
         requires free { (s : ℕ) → ¬ IsGuarded (log_of self.old.machine s) spot }
         requires room { length self.old.history.acts < self.old.history.limit }
         ensures guarded { GuardsTo t (place_of store.now.target) spot self.old self.new }
@@ -100,7 +101,7 @@ impl<I: Image> SharedHeap<I> {
         requires lines { self.old.lines ≡ (memory_of self.old.machine).size }
         requires open { 0 < (log_of self.old.machine t).depth }
         requires idle { (log_of self.old.machine t).underway ≡ underway.Nothing }
-        requires log_room { length (log_of self.old.machine t).entries < log_entries }
+        requires log_room { length (log_of self.old.machine t).entries < most_entries }
         requires free { (s : ℕ) → ¬ IsGuarded (log_of self.old.machine s) spot }
         ensures { self.new ≡ with_log_of self.old t
             (with_entry (log_of self.old.machine t) (entry_of spot old)) }
@@ -113,7 +114,7 @@ impl<I: Image> SharedHeap<I> {
     }
 
     /// Logs the word that a thread has guarded last, a part with each call, as its log does: `More`
-    /// until the entry counts and that is durable, then `Logged`.
+    /// until the entry counts and that is durable, then `Logged`. Conversions are told of the fences.
     ///
     /// # Errors
     ///
@@ -132,14 +133,16 @@ impl<I: Image> SharedHeap<I> {
         let _calls = self.spaces.heap.memory.calls();
         let _number = t.number();
         self.logs.stand_apart();
+        let fences = self.logs.fences_next(t);
         let result = self.logs.log_next(t, &mut self.spaces.heap.memory);
         self.logs.stand_apart();
+        tell_log_fence(&mut self.queue, fences, result.is_ok());
         result
     }
 
     /// Ends the innermost region of a thread, a part with each call, as its log does. With the fence
     /// behind all that was logged the region is closing, by an act. After `Ended` the step of the
-    /// request is to be taken.
+    /// request is to be taken. Conversions are told of the fences.
     ///
     /// # Errors
     ///
@@ -180,8 +183,10 @@ impl<I: Image> SharedHeap<I> {
         let _calls = self.spaces.heap.memory.calls();
         let _number = t.number();
         self.logs.stand_apart();
+        let fences = self.logs.fences_next(t);
         let result = self.logs.end_next(t, &mut self.spaces.heap.memory);
         self.logs.stand_apart();
+        tell_log_fence(&mut self.queue, fences, result.is_ok());
         result
     }
 }

@@ -10,7 +10,8 @@ ghost use Rattle.shared_steps.specs.Output.{FaultsGo, OutputGoes, SharesGo};
 ghost use Rattle.twin_forms.specs.Table.{Entry};
 ghost use Rattle.two_spaces.specs.Whole.{IsWhole, Stands};
 ghost use Rattle.machine_forms.specs.Machines.{memory_of, shown_in};
-ghost use Rattle.store_barrier.specs.Barriers.{AgreesWith, ConvertsFirst, IfConverts, IfFollows, IfLogs, IfNoRace, IfRaces, IfStores, IsReady, MayFollow};
+ghost use Rattle.store_barrier.specs.Barriers.{AgreesWith, ConvertsFirst, IfConverts, IfFollows, IfLogs, IfNoRace, IfRaces};
+ghost use Rattle.store_barrier.specs.Barriers.{IfStores, IsReady, MayFollow};
 ghost use Rattle.store_barrier.specs.Regions.{HasLogged, IsApart, IsLineLeft, LogsFirst, Races};
 ghost use Rattle.shared_heap.specs.Plans.{IfEnded, IfPlanned};
 ghost use Rattle.shared_heap.specs.Requests.{AsksTo, IsPlannedFor, MayRequest, StepsTo, StoresTo, value_stored};
@@ -145,11 +146,16 @@ impl<I: Image> SharedHeap<I> {
         self.doing[t.number() as usize] = Doing::Converting;
     }
 
-    /// Makes a store before which nothing is to be converted. This line of the image, if one is given,
-    /// is to be written back next.
+    /// Makes a store before which nothing is to be converted or logged, to a place that no other thread's
+    /// region guards. The line that is left of it, if one is, is to be written back next.
     pub fn store(&mut self, t: ThreadNo, store: Store, line: Option<u32>)
         requires ready { IsReady self.old.machine.spaces store }
         requires barrier { MayFollow self.old.machine.spaces store }
+        requires apart { IsApart self.old.machine.spaces self.old.machine.logs t (place_of store.target) }
+        requires logged { (es : List Entry) → Stands self.old.machine.spaces es
+            → HasLogged self.old.machine.spaces es self.old.machine.logs t (place_of store.target) }
+        requires line { (es : List Entry) → Stands self.old.machine.spaces es
+            → IsLineLeft self.old.machine.spaces es self.old.machine.logs t (place_of store.target) line }
         requires agrees { AgreesWith self.old.machine.spaces self.old.machine.queue }
         requires monitors { KnowsMonitors (shown_in self.old.machine) self.old.machine.rest }
         requires room { length self.old.history.acts < self.old.history.limit }

@@ -1,12 +1,15 @@
 // Acts that requests add to a history.
-ghost use Rattle.std.specs.Prelude.{◌≡◌, ◌<◌, length};
+ghost use Rattle.std.specs.Prelude.{◌≡◌, ◌<◌, ◌&&◌, length, if◌then◌else◌};
+ghost use Rattle.convert_queue.specs.Marks.{with_fence};
+ghost use Rattle.run_history.specs.Recorded.{with_act};
 ghost use Rattle.object_steps.specs.Stores.{place_of};
 ghost use Rattle.shared_heap.specs.Requests.{doing_stored, told_at};
 
 use ap_base::{Place, ThreadNo};
+use convert_queue::Conversions;
 use machine_forms::Doing;
 use object_steps::Target;
-use run_history::{Act, Acts};
+use run_history::{Act, Acts, Op};
 use step_forms::Stepped;
 
 // Adds the act of a step, where it did something, after so many calls of the image.
@@ -36,5 +39,24 @@ pub fn place_of(target: Target) -> Place
     match target {
         Target::Static(field) => Place::Static(field),
         Target::Slot { object, index, .. } => Place::Slot { object, index },
+    }
+}
+
+// Adds the act of an operation, after so many calls of the image.
+pub(crate) fn tell_op(acts: &mut Acts, thread: ThreadNo, at: u64, op: Op)
+    requires room { length acts.old.acts < acts.old.limit }
+    ensures told { acts.new ≡ with_act acts.old (record { thread = thread; at = at; op = op }) }
+{
+    let _ = acts.push(Act { thread, at, op });
+}
+
+// Tells conversions of the fence that a log's call made: of none where no fence was next, or the call failed.
+pub(crate) fn tell_log_fence(queue: &mut Conversions, fences: bool, made: bool)
+    ensures told { queue.new ≡ record queue.old {
+      marks = if fences && made then with_fence queue.old.marks else queue.old.marks;
+    } }
+{
+    if fences && made {
+        queue.fenced();
     }
 }

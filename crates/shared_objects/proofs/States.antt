@@ -1,5 +1,6 @@
 -- Threads by their numbers.
-use Rattle.std.proofs.Common.{◌≡◌, ℕ, zero, suc, ◌<◌, true, false, List, [], ◌∷◌, length, get_or, set, drop, Some, if◌then◌else◌, ap, ◌∙◌, sym, arith}
+use Rattle.std.proofs.Common.{◌≡◌, ℕ, zero, suc, ◌<◌, true, false, List, [], ◌∷◌, length, get_or, set, drop, Some}
+use Rattle.std.proofs.Common.{if◌then◌else◌, ap, ◌∙◌, sym, arith}
 use Rattle.shared_objects.specs.declared.threads.ThreadState.{ThreadState}
 use Rattle.shared_objects.specs.Threads.{is_of_object, started_from, depth_at, at_state}
 

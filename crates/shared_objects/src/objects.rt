@@ -1,12 +1,14 @@
 // A heap of objects, as steps use it.
-ghost use Rattle.std.specs.Prelude.{◌≡◌, ◌<◌, ◌≤◌, ◌+◌, ◌^◌, ◌↔◌, ℕ, IfErr, IfOk, IsErr, IsSome, IsTrue, None, OnErr, OnOk, Some, length, true};
+ghost use Rattle.std.specs.Prelude.{◌≡◌, ◌<◌, ◌≤◌, ◌+◌, ◌^◌, ◌↔◌, ℕ, IfErr, IfOk, IsErr, IsSome, IsTrue, None, OnErr, OnOk};
+ghost use Rattle.std.specs.Prelude.{Some, length, true};
 ghost use Rattle.ap_base.specs.declared.reference.Ref.TheVariants.{Null};
 ghost use Rattle.ap_base.specs.declared.reference.Item.{Item as KeptItem};
 ghost use Rattle.ap_base.specs.declared.place.Place.{Place};
 ghost use Rattle.ap_base.specs.declared.place.Place.TheVariants.{Slot, Static};
 ghost use Rattle.run_types.specs.declared.fault.Which.TheVariants.{VolatileWords};
 ghost use Rattle.run_history.specs.Worlds.{may_have};
-ghost use Rattle.shared_objects.specs.Shown.{HasOneKey, HasSlot, IfNumber, IsKnownItem, IsOfSlot, IsSameForm, Shown, item_value, object_in, shape_in, slot_in, static_in};
+ghost use Rattle.shared_objects.specs.Shown.{HasOneKey, HasSlot, IfNumber, IsKnownItem, IsOfSlot, IsSameForm, Shown};
+ghost use Rattle.shared_objects.specs.Shown.{item_value, object_in, shape_in, slot_in, static_in};
 ghost use Rattle.shared_objects.specs.Changes.{Allocates, StoresSlot, StoresStatic};
 
 use ap_base::{Item, Ref};

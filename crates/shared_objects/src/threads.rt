@@ -1,7 +1,9 @@
 // The threads of a run.
-ghost use Rattle.std.specs.Prelude.{◌≡◌, ◌<◌, ◌≤◌, ◌↔◌, [], ◌∷◌, ◌++◌, None, Some, IfErr, IfOk, IsErr, OnErr, OnOk, length, slice_get};
+ghost use Rattle.std.specs.Prelude.{◌≡◌, ◌<◌, ◌≤◌, ◌↔◌, [], ◌∷◌, ◌++◌, None, Some, IfErr, IfOk, IsErr, OnErr, OnOk, length};
+ghost use Rattle.std.specs.Prelude.{slice_get};
 ghost use Rattle.run_types.specs.declared.fault.Which.TheVariants.{Threads as ThreadsLimit};
-ghost use Rattle.shared_objects.specs.Threads.{ThreadsFull, at_state, deepened, depth_at, ended, is_of_object, new_state, raised, started_from};
+ghost use Rattle.shared_objects.specs.Threads.{ThreadsFull, at_state, deepened, depth_at, ended, is_of_object, new_state};
+ghost use Rattle.shared_objects.specs.Threads.{raised, started_from};
 
 use ap_base::ThreadNo;
 use run_types::{Full, Which};

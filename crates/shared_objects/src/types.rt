@@ -1,6 +1,7 @@
 // What steps ask of a class set.
 ghost use Rattle.std.specs.Prelude.{◌≡◌, ◌<◌, ◌^◌, length};
-ghost use Rattle.plain_model.specs.Facts.{SetFacts, class_at, classes_of, element_of, is_sub, known_classes, may_hold, thrown_class};
+ghost use Rattle.plain_model.specs.Facts.{SetFacts, class_at, classes_of, element_of, is_sub, known_classes, may_hold};
+ghost use Rattle.plain_model.specs.Facts.{thrown_class};
 
 use ap_base::Kind;
 use plain_model::Throws;

@@ -6,7 +6,7 @@ use Rattle.ap_base.specs.declared.reference.Item.{Item}
 use Rattle.ap_base.specs.declared.place.Place.{Place}
 use Rattle.run_types.specs.declared.resolved.At.{At}
 use Rattle.run_types.specs.declared.resolved.FieldAt.{FieldAt}
-use Rattle.run_types.specs.declared.fault.RunFault.{RunFault}
+use Rattle.run_types.specs.declared.fault.StepFault.{StepFault}
 use Rattle.natives.specs.declared.requests.Request.{Request}
 use Rattle.natives.specs.declared.requests.Request.TheVariants as ask
 use Rattle.run_history.specs.Worlds.{World}
@@ -53,12 +53,12 @@ module _ {set : SetFacts} {shown : Shown} {rest : Rest} where
       subst (λ k. HasKind k (static_in shown field.at)) (static_kind_is set field is)
       (agrees.heap.typed.statics field.at (field_there agrees field is)).form
 
-step_broken : (set : SetFacts) (world : World) (t taken : ℕ) (f : RunFault)
+step_broken : (set : SetFacts) (world : World) (t taken : ℕ) (f : StepFault)
     → step set world t taken (ask.Broken f) ≡ IsOver f
 unfolding step
 step_broken set world t taken f = refl
 
-pub broken_goes : (set : SetFacts) (t : ℕ) (shown : Shown) (rest : Rest) (f : RunFault)
+pub broken_goes : (set : SetFacts) (t : ℕ) (shown : Shown) (rest : Rest) (f : StepFault)
     → KnowsMonitors shown rest
     → IsStep set t (ask.Broken f) shown rest (stepped.Over f) shown rest
 broken_goes set t shown rest f known =

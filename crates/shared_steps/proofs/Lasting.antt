@@ -1,10 +1,13 @@
 -- What a step leaves, by the plain step.
-use Rattle.std.proofs.Common.{◌≡◌, ℕ, zero, suc, pred, ◌<◌, ◌≤◌, ◌+◌, ◌-◌, ◌^◌, true, false, nat_eq, List, [], ◌∷◌, ◌++◌, map, length, length-append, length-set, slice_index_or, Option, Some, None, if◌then◌else◌, refl, ap, ◌∙◌, sym, subst, inl, inr, arith}
+use Rattle.std.proofs.Common.{◌≡◌, ℕ, zero, suc, pred, ◌<◌, ◌≤◌, ◌+◌, ◌-◌, ◌^◌, true, false, nat_eq, List, [], ◌∷◌, ◌++◌, map}
+use Rattle.std.proofs.Common.{length, length-append, length-set, slice_index_or, Option, Some, None, if◌then◌else◌, refl, ap}
+use Rattle.std.proofs.Common.{◌∙◌, sym, subst, inl, inr, arith}
 use Rattle.std.specs.Prelude.{All, slice_set, replicate, drop, sum_by}
 use Rattle.std.proofs.lemmas.Bool.{cases_lt}
 use Rattle.std.proofs.lemmas.List.{length-map, set_past}
 use Rattle.std.proofs.lemmas.List.Sums.{sum_by-append, sum_by-cons}
-use Rattle.std.proofs.lemmas.List.Elements.{All-nil, All-cons, All-head, All-tail, All-weaker, All-set, All-push, All-get_or, All-map}
+use Rattle.std.proofs.lemmas.List.Elements.{All-nil, All-cons, All-head, All-tail, All-weaker, All-set, All-push, All-get_or}
+use Rattle.std.proofs.lemmas.List.Elements.{All-map}
 use Rattle.ap_base.specs.declared.reference.Ref.{Ref}
 use Rattle.ap_base.specs.declared.reference.Item.{Item}
 use Rattle.ap_base.specs.declared.kind.Kind.{Kind}
@@ -24,7 +27,8 @@ use Rattle.run_history.specs.declared.act.Stage.TheVariants as stage
 use Rattle.run_history.specs.declared.act.PlainKey.{PlainKey}
 use Rattle.run_history.specs.declared.plain.Monitor.{Monitor as PlainMonitor}
 use Rattle.run_history.specs.declared.plain.Progress.{Progress}
-use Rattle.run_history.specs.Worlds.{Thread, World, after, entered, exited, one_less, key_is, at_thread, new_thread, heap_after_op, monitors_after_op, classes_after_op, threads_after_op}
+use Rattle.run_history.specs.Worlds.{Thread, World, after, entered, exited, one_less, key_is, at_thread, new_thread}
+use Rattle.run_history.specs.Worlds.{heap_after_op, monitors_after_op, classes_after_op, threads_after_op}
 use Rattle.monitors.specs.declared.monitor.Monitor.{Monitor}
 use Rattle.plain_model.specs.Facts.{SetFacts}
 use Rattle.plain_model.specs.Requests.{PlainRequest, PlainReply}

@@ -1,5 +1,6 @@
 // Laws of steps.
-ghost use Rattle.shared_steps.specs.Lasting.{StepsCountOne, StepsKeepClasses, StepsKeepHeaps, StepsKeepObjects, StepsLeaveTheWords, StepsLeaveWhatAgrees};
+ghost use Rattle.shared_steps.specs.Lasting.{StepsCountOne, StepsKeepClasses, StepsKeepHeaps, StepsKeepObjects};
+ghost use Rattle.shared_steps.specs.Lasting.{StepsLeaveTheWords, StepsLeaveWhatAgrees};
 
 /// What a step of a fit request leaves is what the next step needs.
 pub fn a_step_leaves_what_agrees()

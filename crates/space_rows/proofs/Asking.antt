@@ -1,5 +1,6 @@
 -- What a request needs, by what it is.
-use Rattle.std.proofs.Common.{◌≡◌, ◌≢◌, inl, inr, ℕ, ℤ, ◌<◌, Bool, true, false, nat_lt, ◌&&◌, List, [], length, Option, Some, None, IsSome, refl, sym, ◌∙◌, ap, subst, arith, if◌then◌else◌}
+use Rattle.std.proofs.Common.{◌≡◌, ◌≢◌, inl, inr, ℕ, ℤ, ◌<◌, Bool, true, false, nat_lt, ◌&&◌, List, [], length, Option, Some}
+use Rattle.std.proofs.Common.{None, IsSome, refl, sym, ◌∙◌, ap, subst, arith, if◌then◌else◌}
 use Rattle.ap_base.specs.declared.kind.Kind.{Kind}
 use Rattle.ap_base.specs.declared.kind.Kind.TheVariants.{Z, B, C, S, I, J, L, Text}
 use Rattle.ap_base.specs.declared.place.Place.{Place}

@@ -1,5 +1,6 @@
 -- A world holds as it begins.
-use Rattle.std.proofs.Common.{◌≡◌, ◌⊎◌, inl, inr, ℕ, zero, suc, pos, ◌+◌, ◌*◌, ◌-◌, ◌/◌, ◌%◌, ◌^◌, ◌<◌, ◌≤◌, true, List, [], ◌∷◌, map, length, Option, Some, None, refl, sym, ◌∙◌, ap, subst, arith}
+use Rattle.std.proofs.Common.{◌≡◌, ◌⊎◌, inl, inr, ℕ, zero, suc, pos, ◌+◌, ◌*◌, ◌-◌, ◌/◌, ◌%◌, ◌^◌, ◌<◌, ◌≤◌, true, List, []}
+use Rattle.std.proofs.Common.{◌∷◌, map, length, Option, Some, None, refl, sym, ◌∙◌, ap, subst, arith}
 use Rattle.std.specs.Prelude.{All, slice_index, slice_index_or}
 use Rattle.std.proofs.lemmas.List.{length-map}
 use Rattle.std.proofs.lemmas.List.Elements.{All-cons, All-nil, All-push, All-weaker}
@@ -32,7 +33,8 @@ use Rattle.twin_forms.specs.declared.kinds.ShapeKinds.{ShapeKinds}
 use Rattle.twin_heap.specs.Here.{IsOpening, kinds_of, opened, opening}
 use Rattle.two_spaces.specs.declared.spaces.Static.TheVariants.{Root}
 use Rattle.two_spaces.specs.Laws.{null_is_no_object}
-use Rattle.two_spaces.specs.Seen.{Spaces, number_in, object_of, objects_in, root_word, shown_of, slot_shown, slot_value, static_value}
+use Rattle.two_spaces.specs.Seen.{Spaces, number_in, object_of, objects_in, root_word, shown_of, slot_shown, slot_value}
+use Rattle.two_spaces.specs.Seen.{static_value}
 use Rattle.two_spaces.specs.Whole.{IsAlone, Stands, no_static}
 use Rattle.two_spaces.specs.Starts.{Begins, IsFirstStatic}
 use Rattle.two_spaces.proofs.Numbering.{is_some, named_number}
@@ -168,7 +170,7 @@ module _ (set : SetFacts) (s : Spaces) (rest : Rest) (shape : ℕ) (h : IsFirst 
 
   int_by : (o : Option Kind) (w : ℕ) → o ≡ Some I → IsOf I (slot_value o (value_of (view_of s.twin) (is_reference o) w))
   int_by o w is = subst (λ x. IsOf I (slot_value x (value_of (view_of s.twin) (is_reference x) w))) (sym is)
-      (record { form = tt; range = refl })
+      (record { form = tt; range = tt })
 
   int_shown : (k : ℕ) → IsOf I (slot_shown (view_of s.twin) (opened s.twin.memory 20577) k)
   int_shown k = int_by (kind_at (view_of s.twin) (opened s.twin.memory 20577) k)
@@ -200,14 +202,14 @@ module _ (set : SetFacts) (s : Spaces) (rest : Rest) (shape : ℕ) (h : IsFirst 
   statics_by : (n : ℕ) → n < 3
       → IsOf (static_kind set n) (slice_index_or (map (static_value (view_of s.twin)) first_statics) n Null)
   statics_by zero lt =
-      subst (λ o. IsOf L (number_value o)) (sym (null_is_no_object (view_of s.twin))) (record { form = tt; range = refl })
+      subst (λ o. IsOf L (number_value o)) (sym (null_is_no_object (view_of s.twin))) (record { form = tt; range = tt })
   statics_by (suc zero) lt =
       let root : root_word (view_of s.twin) 5 ≡ 0 = h.array.root in
       subst (λ k. IsOf k (static_value (view_of s.twin) (Root 5))) (sym h.kept.first)
       (subst (λ w. IsOf L (item_value (number_in (view_of s.twin)) (RefItem (ref_in w)))) (sym root)
-      (subst (λ o. IsOf L (number_value o)) (sym (null_is_no_object (view_of s.twin))) (record { form = tt; range = refl })))
+      (subst (λ o. IsOf L (number_value o)) (sym (null_is_no_object (view_of s.twin))) (record { form = tt; range = tt })))
   statics_by (suc (suc zero)) lt =
-      subst (λ k. IsOf k (Int (pos 0))) (sym h.kept.second) (record { form = tt; range = refl })
+      subst (λ k. IsOf k (Int (pos 0))) (sym h.kept.second) (record { form = tt; range = tt })
   statics_by (suc (suc (suc n))) lt = absurd (omega (arith, lt))
 
   three : length (shown_of s).statics ≡ 3

@@ -18,7 +18,8 @@ use Rattle.shared_objects.specs.declared.rest.Rest.{Rest}
 use Rattle.shared_objects.specs.Plain.{plain_request}
 use Rattle.shared_objects.specs.Shown.{IfNumber, object_in, static_in}
 use Rattle.shared_objects.specs.Worlds.{world_of}
-use Rattle.step_forms.specs.Needs.{ElementIsHere, HeadIsHere, IsHere, ReferredElementIsHere, ReferredIsHere, SlotIsHere, ValueIsHere}
+use Rattle.step_forms.specs.Needs.{ElementIsHere, HeadIsHere, IsHere, ReferredElementIsHere, ReferredIsHere, SlotIsHere}
+use Rattle.step_forms.specs.Needs.{ValueIsHere}
 use Rattle.twin_forms.specs.Sights.{view_of}
 use Rattle.twin_forms.specs.Table.{Entry, entry, line_of, no_entry}
 use Rattle.twin_forms.proofs.Led.{below_or_not}

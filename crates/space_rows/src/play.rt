@@ -15,7 +15,7 @@ use graph_model::Value;
 use line_memory::every_line_is_resident;
 use natives::Reply;
 use run_history::{Op, PlainKey};
-use run_types::{Full, On, RunFault, Which};
+use run_types::{Full, On, StepFault, Which};
 use std::alloc::{AllocError, Global};
 use std::test::Fail;
 use step_forms::Stepped;
@@ -142,9 +142,9 @@ fn of_op(op: &Op, reply: &Reply) -> Got {
     }
 }
 
-fn of_fault(fault: &RunFault) -> Got {
+fn of_fault(fault: &StepFault) -> Got {
     match fault {
-        RunFault::Full(
+        StepFault::Full(
             Full {
                 which: Which::VolatileWords,
                 need,

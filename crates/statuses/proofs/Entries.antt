@@ -2,7 +2,8 @@
 use Rattle.std.proofs.Common.{◌≡◌, ℕ, ◌≤◌, [], Option, Some, None, length, ap}
 use Rattle.std.proofs.lemmas.List.{get_or_past}
 use Rattle.run_types.specs.declared.fault.LinkKind.{LinkKind}
-use Rattle.run_types.specs.declared.fault.LinkKind.TheVariants.{MissingClass, MissingField, MissingMethod, StaticMismatch, NoCode, InitFailed}
+use Rattle.run_types.specs.declared.fault.LinkKind.TheVariants.{MissingClass, MissingField, MissingMethod, StaticMismatch}
+use Rattle.run_types.specs.declared.fault.LinkKind.TheVariants.{NoCode, InitFailed}
 use Rattle.const_pool.specs.declared.entry.Entry.{Entry}
 use Rattle.const_pool.specs.Pool.{Slots, entry_at, class_name_of, member_of}
 use Rattle.class_set.specs.ArrayTypes.{class_of_member}

@@ -1,5 +1,6 @@
 -- No name of a class or of a member is cut, but that of an array type or of a member that it lacks.
-use Rattle.std.proofs.Common.{◌≡◌, inl, inr, ℕ, zero, suc, ◌+◌, ◌-◌, ◌<◌, Bool, true, false, ◌&&◌, nat_lt, List, [], ◌∷◌, ◌++◌, Option, Some, None, map, length, slice_index_or, refl, ap, sym, ◌∙◌, subst, arith}
+use Rattle.std.proofs.Common.{◌≡◌, inl, inr, ℕ, zero, suc, ◌+◌, ◌-◌, ◌<◌, Bool, true, false, ◌&&◌, nat_lt, List, [], ◌∷◌, ◌++◌}
+use Rattle.std.proofs.Common.{Option, Some, None, map, length, slice_index_or, refl, ap, sym, ◌∙◌, subst, arith, ◌⊎◌}
 use Rattle.std.specs.Prelude.{All, codes, slice_get, if◌then◌else◌}
 use Rattle.std.specs.Option.{option_map}
 use Rattle.std.proofs.lemmas.Bool.{false≢true}
@@ -8,7 +9,8 @@ use Rattle.std.proofs.lemmas.List.{take_all, length-append, length-map}
 use Rattle.std.proofs.lemmas.List.Elements.{All-append, All-cons, All-head, All-map, All-nil, All-tail}
 use Rattle.std.proofs.lemmas.Option.{slice_get_cases}
 use Rattle.run_types.specs.declared.fault.LinkKind.{LinkKind}
-use Rattle.run_types.specs.declared.fault.LinkKind.TheVariants.{MissingClass, MissingField, MissingMethod, StaticMismatch, NoCode, InitFailed}
+use Rattle.run_types.specs.declared.fault.LinkKind.TheVariants.{MissingClass, MissingField, MissingMethod, StaticMismatch}
+use Rattle.run_types.specs.declared.fault.LinkKind.TheVariants.{NoCode, InitFailed}
 use Rattle.graph_model.specs.declared.types.Shape.{Shape}
 use Rattle.const_pool.specs.declared.entry.Member.{Member}
 use Rattle.const_pool.specs.declared.entry.Entry.{Entry}
@@ -27,7 +29,9 @@ use Rattle.class_set.specs.Sets.{IsLinked}
 use Rattle.class_set.proofs.FieldsRead.{class_sound}
 use Rattle.class_set.proofs.PoolTexts.{AreShort}
 use Rattle.class_set.proofs.TextBytes.{class_at_has, class_has, text_has}
-use Rattle.statuses.specs.Names.{class_text, described, entry_text, initialiser, is_lost, is_runnable, main, member_name, member_text, method_text, named_text, run, texts_of, to_string, shortened, unnamed, unnamed_text}
+use Rattle.statuses.specs.Names.{class_text, described, entry_text, initialiser, is_lost, is_runnable, main, member_name}
+use Rattle.statuses.specs.Names.{member_text, method_text, named_text, run, texts_of, to_string, shortened, unnamed}
+use Rattle.statuses.specs.Names.{unnamed_text, LosesCalled}
 use Rattle.statuses.proofs.Behind.{own_behind}
 
 -- ---- lengths
@@ -246,3 +250,21 @@ pub unnamed_whole : (set : Linked) (kind : LinkKind) (class : ℕ) → IsLinked 
 unnamed_whole set kind class h l =
     member_whole (class_text set class) (unnamed set kind class) (class_short set class h l)
     (one_short (is_runnable set class && is_lost set kind class run) (is_lost set kind class to_string) (is_lost set kind class main))
+
+-- a method that the class lacks is told, where it lacks one of the two
+pub lost_told : (set : Linked) (kind : LinkKind) (class : ℕ) → LosesCalled set kind class
+    → is_lost set kind class (unnamed set kind class) ≡ true
+lost_told set kind class loses =
+    by_cases (is_runnable set class) (is_lost set kind class run) (is_lost set kind class to_string) refl refl loses
+  where
+    by_cases : (a b d : Bool) → is_lost set kind class run ≡ b → is_lost set kind class to_string ≡ d
+        → ((a ≡ true) × (b ≡ true)) ⊎ (d ≡ true)
+        → is_lost set kind class (if a && b then run else (if d then to_string
+        else (if is_lost set kind class main then main else initialiser))) ≡ true
+    by_cases true true d e f either = e
+    by_cases true false true e f either = f
+    by_cases true false false e f (inl both) = absurd (false≢true both.1)
+    by_cases true false false e f (inr wrong) = absurd (false≢true wrong)
+    by_cases false b true e f either = f
+    by_cases false b false e f (inl both) = absurd (false≢true both.0)
+    by_cases false b false e f (inr wrong) = absurd (false≢true wrong)

@@ -1,5 +1,6 @@
 -- What the faults of a run and its throwables name: classes, and members of classes.
-use Rattle.std.specs.Prelude.{ℕ, ◌==◌, ◌&&◌, not, Bool, true, false, List, [], ◌++◌, take, codes, slice_get, Option, Some, None, if◌then◌else◌}
+use Rattle.std.specs.Prelude.{ℕ, ◌==◌, ◌&&◌, not, Bool, true, false, List, [], ◌++◌, take, codes, slice_get, Option, Some, None}
+use Rattle.std.specs.Prelude.{if◌then◌else◌, ◌≡◌, ◌⊎◌}
 use Rattle.std.specs.Option.{option_map, is_some}
 use Rattle.run_types.specs.declared.fault.LinkKind.{LinkKind}
 use Rattle.run_types.specs.declared.fault.LinkKind.TheVariants.{MissingClass, MissingMethod, StaticMismatch, NoCode, InitFailed}
@@ -107,6 +108,12 @@ unnamed set kind class =
     if is_runnable set class && is_lost set kind class run then run
     else (if is_lost set kind class to_string then to_string
     else (if is_lost set kind class main then main else initialiser))
+
+-- The class's objects lack one of the two methods of objects that frames call without an entry.
+abbrev pub LosesCalled : Linked → LinkKind → (class : ℕ) → Type 0
+LosesCalled set kind class =
+    ((is_runnable set class ≡ true) × (is_lost set kind class run ≡ true))
+    ⊎ (is_lost set kind class to_string ≡ true)
 
 abbrev pub unnamed_text : Linked → LinkKind → (class : ℕ) → List ℕ
 unnamed_text set kind class = described (class_text set class) (Some (unnamed set kind class))

@@ -22,7 +22,9 @@ use Rattle.image_layout.specs.declared.superblock.BadReason.TheVariants as reaso
 use Rattle.plain_model.specs.declared.throws.Throws.{Throws}
 use Rattle.plain_model.specs.declared.throws.Throws.TheVariants as thrown
 use Rattle.statuses.specs.declared.status.Status.{Status}
-use Rattle.statuses.specs.declared.status.Status.TheVariants.{Ok, Uncaught, Usage, BadClass, BadImage, LinkRefused, ShapeChanged, BadCode, RegionRace, Full as FullOf, SourceFault, ImageFault, SinkFault, OutOfMemory, Stuck, LinkFault, NotBuilt}
+use Rattle.statuses.specs.declared.status.Status.TheVariants.{Ok, Uncaught, Usage, BadClass, BadImage, LinkRefused}
+use Rattle.statuses.specs.declared.status.Status.TheVariants.{ShapeChanged, BadCode, RegionRace, Full as FullOf, SourceFault}
+use Rattle.statuses.specs.declared.status.Status.TheVariants.{ImageFault, SinkFault, OutOfMemory, Stuck, LinkFault, NotBuilt}
 
 abbrev pub number_of : Status → ℕ
 number_of Ok = 0

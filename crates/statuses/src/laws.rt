@@ -1,9 +1,10 @@
 // What a NameRoom has room for.
-ghost use Rattle.std.specs.Prelude.{◌≡◌, ◌<◌, ℕ};
+ghost use Rattle.std.specs.Prelude.{◌≡◌, ◌<◌, ℕ, true};
 ghost use Rattle.run_types.specs.declared.fault.LinkKind.{LinkKind};
 ghost use Rattle.class_set.specs.Linked.{Linked, class_count};
 ghost use Rattle.class_set.specs.Sets.{IsLinked};
-ghost use Rattle.statuses.specs.Names.{class_text, method_text, named_text, shortened, unnamed_text};
+ghost use Rattle.statuses.specs.Names.{LosesCalled, class_text, is_lost, method_text, named_text, shortened, unnamed};
+ghost use Rattle.statuses.specs.Names.{unnamed_text};
 
 /// The names that a fault of a linked set tells are told whole, but those of array types and of
 /// members that these lack.
@@ -17,4 +18,11 @@ pub fn names_are_whole()
     ensures unnamed { (set : Linked) (kind : LinkKind) (class : ℕ) → IsLinked set
         → class < class_count set
         → shortened (unnamed_text set kind class) ≡ unnamed_text set kind class }
+{}
+
+/// Where a class's objects lack `run` or `toString`, the method that is told of the class is one that it
+/// lacks so.
+pub fn lost_methods_are_told()
+    ensures { (set : Linked) (kind : LinkKind) (class : ℕ) → LosesCalled set kind class
+        → is_lost set kind class (unnamed set kind class) ≡ true }
 {}

@@ -3,7 +3,8 @@ ghost use Rattle.std.specs.Prelude.{◌≡◌, Some};
 ghost use Rattle.const_pool.specs.Pool.{name_and_type_at};
 ghost use Rattle.class_links.specs.Names.{class_name};
 ghost use Rattle.class_set.specs.ArrayTypes.{class_at};
-ghost use Rattle.statuses.specs.Names.{described, entry_text, fault_text, has_code, is_cause, is_lost, is_runnable, lacks_code, member_text, named_text, unnamed, unnamed_text, shortened};
+ghost use Rattle.statuses.specs.Names.{described, entry_text, fault_text, has_code, is_cause, is_lost, is_runnable, lacks_code};
+ghost use Rattle.statuses.specs.Names.{member_text, named_text, unnamed, unnamed_text, shortened};
 
 use crate::NameRoom;
 use crate::names::class_text;

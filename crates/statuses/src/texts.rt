@@ -1,7 +1,9 @@
 // The texts of statuses.
 ghost use Rattle.std.specs.Prelude.{◌≡◌, ◌<◌, ◌≤◌, ◌∷◌, [], ◌++◌, length, codes, OnOk, IfOk};
 ghost use Rattle.std.specs.List.{flat_map};
-ghost use Rattle.statuses.specs.Statuses.{spaced, with_numbers, pool_text, code_text, class_text, with_names, link_text, class_name, which_text, place_text, on_text, wait_text, waits_text, kind_text, reason_text, what_of, text_of};
+ghost use Rattle.statuses.specs.Statuses.{spaced, with_numbers, pool_text, code_text, class_text, with_names, link_text};
+ghost use Rattle.statuses.specs.Statuses.{class_name, which_text, place_text, on_text, wait_text, waits_text, kind_text};
+ghost use Rattle.statuses.specs.Statuses.{reason_text, what_of, text_of};
 
 use crate::Status;
 use ap_base::{Bytes, Place, ThreadNo};

@@ -1,7 +1,7 @@
 -- How what a step comes to follows the plain step.
 use Rattle.std.proofs.Common.{◌≡◌, ℕ, List, [], Option, None, refl, sym, subst, inl, inr}
 use Rattle.std.proofs.Math.Path.{fun_ext}
-use Rattle.run_types.specs.declared.fault.RunFault.{RunFault}
+use Rattle.run_types.specs.declared.fault.StepFault.{StepFault}
 use Rattle.run_types.specs.declared.wait.On.{On}
 use Rattle.run_types.specs.declared.resolved.At.{At}
 use Rattle.ap_base.specs.declared.reference.Ref.{Ref}
@@ -22,7 +22,7 @@ use Rattle.shared_objects.specs.Plain.{plain_request, plain_reply, KnowsReply}
 use Rattle.shared_objects.specs.Worlds.{heap_of, world_of, KnowsMonitors}
 use Rattle.step_forms.specs.declared.stepped.Stepped.{Stepped}
 use Rattle.step_forms.specs.declared.stepped.Stepped.TheVariants as stepped
-use Rattle.step_forms.specs.Follows.{Goes, IsStep, IsLimit, TakesWords, HeapGoes, IsHeapStep}
+use Rattle.step_forms.specs.Follows.{Goes, IsStep, IsLimit, TakesWords, HeapGoes, IsHeapStep, FindsMonitor}
 
 -- the same by another name of the plain step
 pub same_goes : {p q : List Root → ℕ → Step} {t : ℕ} {before now : Shown} {rest rest_now : Rest} {result :
@@ -44,6 +44,7 @@ wrong_goes {p} {t} {shown} {rest} is known =
     record {
       follows = λ roots. (is roots, refl);
       words = refl;
+      monitor = tt;
       goes_on = goes_on_itself shown;
       monitors =
           known;
@@ -56,30 +57,33 @@ waits_goes {p} {t} {shown} {rest} on is known =
     record {
       follows = λ roots. (is roots, refl);
       words = refl;
+      monitor = tt;
       goes_on = goes_on_itself shown;
       monitors =
           known;
     }
 
 -- a fault that the plain step has too
-pub over_goes : {p : List Root → ℕ → Step} {t : ℕ} {shown : Shown} {rest : Rest} (f : RunFault)
+pub over_goes : {p : List Root → ℕ → Step} {t : ℕ} {shown : Shown} {rest : Rest} (f : StepFault)
     → ((roots : List Root) (taken : ℕ) → p roots taken ≡ IsOver f) → KnowsMonitors shown rest
     → Goes p t shown rest (stepped.Over f) shown rest
 over_goes {p} {t} {shown} {rest} f is known = record {
   follows = λ roots. (inr (is roots), refl);
   words = refl;
+  monitor = tt;
   goes_on = goes_on_itself shown;
   monitors = known;
 }
 
 -- a limit that is met
-pub limit_goes : {p : List Root → ℕ → Step} {t : ℕ} {before now : Shown} {rest : Rest} (f : RunFault)
+pub limit_goes : {p : List Root → ℕ → Step} {t : ℕ} {before now : Shown} {rest : Rest} (f : StepFault)
     → ((roots : List Root) → IsLimit (world_of roots before rest) before.left (p roots 1) f) → now ≡ before
     → KnowsMonitors before rest → Goes p t before rest (stepped.Over f) now rest
 limit_goes {p} {t} {before} {now} {rest} f limit same known =
     subst (λ (s : Shown). Goes p t before rest (stepped.Over f) s rest) (sym same) (record {
       follows = λ roots. (inl (limit roots), refl);
       words = refl;
+      monitor = tt;
       goes_on = goes_on_itself before;
       monitors = known;
     })
@@ -92,12 +96,13 @@ pub did_goes : {p : List Root → ℕ → Step} {t : ℕ} {shown : Shown} {rest 
     Ref Item)
     → ((roots : List Root) → p roots (taken_by o) ≡ Does o (plain_reply shown.number r))
     → KnowsReply shown.number r
-    → words_made (heap_of [] shown) o ≡ None
+    → words_made (heap_of [] shown) o ≡ None → FindsMonitor (world_of [] shown rest) (stepped.Did o r)
     → ((roots : List Root) → world_of roots shown rest_now ≡ after (world_of roots shown rest) t o)
     → KnowsMonitors shown rest_now → Goes p t shown rest (stepped.Did o r) shown rest_now
-did_goes {p} {t} {shown} o r is reply none world known = record {
+did_goes {p} {t} {shown} o r is reply none found world known = record {
   follows = λ roots. (is roots, reply, world roots);
   words = takes_none (words_made (heap_of [] shown) o) shown.left none;
+  monitor = found;
   goes_on = goes_on_itself shown;
   monitors = known;
 }
@@ -136,6 +141,7 @@ pub heap_did : (p : World → Step) {shown : Shown} (o : Op) (r : Reply Ref Item
     → ((roots : List Root) (rest : Rest) → p (world_of roots shown rest) ≡ Does o (plain_reply shown.number
     r))
     → KnowsReply shown.number r → words_made (heap_of [] shown) o ≡ None
+    → ((world : World) → FindsMonitor world (stepped.Did o r))
     → ((world : World) (t : ℕ) → world ≡ after world t o) → HeapGoes p shown (stepped.Did o r) shown
-heap_did p {shown} o r is reply none quiet t rest known =
-    did_goes o r (λ roots. is roots rest) reply none (λ roots. quiet (world_of roots shown rest) t) known
+heap_did p {shown} o r is reply none found quiet t rest known =
+    did_goes o r (λ roots. is roots rest) reply none (found (world_of [] shown rest)) (λ roots. quiet (world_of roots shown rest) t) known

@@ -1,12 +1,13 @@
 -- The world with one more object.
-use Rattle.std.proofs.Common.{◌≡◌, ◌<◌, ℕ, ◌+◌, ◌≤◌, ◌↔◌, inl, inr, true, false, List, [], ◌∷◌, ◌++◌, length, map, Option, Some, None, refl, ap, ◌∙◌, sym, subst, rules}
+use Rattle.std.proofs.Common.{◌≡◌, ◌<◌, ℕ, ◌+◌, ◌≤◌, ◌↔◌, inl, inr, true, false, List, [], ◌∷◌, ◌++◌, length, map, Option, Some}
+use Rattle.std.proofs.Common.{None, refl, ap, ◌∙◌, sym, subst, rules}
 use Rattle.std.proofs.lemmas.Bool.{cases_lt, false≢true}
 use Rattle.std.proofs.lemmas.List.{length-map, length-replicate}
 use Rattle.ap_base.specs.declared.kind.Kind.{Kind}
 use Rattle.ap_base.specs.declared.reference.Ref.{Ref}
 use Rattle.run_types.specs.declared.fault.Full.{Full}
 use Rattle.run_types.specs.declared.fault.Which.TheVariants.{VolatileWords}
-use Rattle.run_types.specs.declared.fault.RunFault.TheVariants as fault
+use Rattle.run_types.specs.declared.fault.StepFault.TheVariants as fault
 use Rattle.graph_model.specs.declared.types.Shape.{Shape}
 use Rattle.graph_model.specs.declared.types.Field.{Field}
 use Rattle.graph_model.specs.declared.types.Obj.{Obj}
@@ -158,6 +159,7 @@ module _ (set : SetFacts) (t shape slots n : ℕ) (r : Ref) (before now : Shown)
     );
     words = (let long = fresh_length (shape_in before shape) slots may in
         subst (λ (k : ℕ). TakesWords (Some (3 + k)) before.left now.left) (sym long) (room, made.left));
+    monitor = tt;
     goes_on = made.goes_on;
     monitors = kept_known before now rest.monitors made.goes_on known;
   }
@@ -181,6 +183,7 @@ module _ (set : SetFacts) (t shape slots n : ℕ) (r : Ref) (before now : Shown)
         );
         words = subst (λ (k : ℕ). TakesWords (Some (3 + k)) before.left now.left)
             (sym (own_length set before shape slots shapes count)) (room, made.left);
+        monitor = tt;
         goes_on = made.goes_on;
         monitors = kept_known before now rest.monitors made.goes_on known;
       }

@@ -1,5 +1,6 @@
 -- Ways through the plain step: an operand, and a class that has to be initialised first.
-use Rattle.std.proofs.Common.{◌≡◌, ◌≢◌, ℕ, zero, suc, ◌<◌, Bool, true, false, ◌&&◌, nat_lt, nat_eq, List, [], ◌∷◌, get_or, length, slice_get, Option, Some, None, if◌then◌else◌, ap, ◌∙◌, sym, arith, rules}
+use Rattle.std.proofs.Common.{◌≡◌, ◌≢◌, ℕ, zero, suc, ◌<◌, Bool, true, false, ◌&&◌, nat_lt, nat_eq, List, [], ◌∷◌, get_or}
+use Rattle.std.proofs.Common.{length, slice_get, Option, Some, None, if◌then◌else◌, ap, ◌∙◌, sym, arith, rules}
 use Rattle.graph_model.specs.declared.types.Value.TheVariants.{Obj as Object}
 use Rattle.natives.specs.declared.requests.Reply.TheVariants as reply
 use Rattle.run_types.specs.declared.wait.On.TheVariants as on
@@ -10,7 +11,8 @@ use Rattle.run_history.specs.declared.plain.Progress.TheVariants.{Untouched, Beg
 use Rattle.run_history.specs.Worlds.{World}
 use Rattle.plain_model.specs.declared.throws.Throws.TheVariants as exception
 use Rattle.plain_model.specs.Facts.{SetFacts}
-use Rattle.plain_model.specs.Steps.{Step, Does, Waits, WrongOperand, throws, with_object, with_reference, with_progress, with_class, next_number}
+use Rattle.plain_model.specs.Steps.{Step, Does, Waits, WrongOperand, throws, with_object, with_reference, with_progress}
+use Rattle.plain_model.specs.Steps.{with_class, next_number}
 use Rattle.shared_objects.specs.Shown.{number_value}
 
 module _ (set : SetFacts) (world : World) where

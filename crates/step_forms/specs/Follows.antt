@@ -7,8 +7,8 @@ use Rattle.run_types.specs.declared.resolved.At.{At}
 use Rattle.run_types.specs.declared.fault.Full.{Full}
 use Rattle.run_types.specs.declared.fault.Which.{Which}
 use Rattle.run_types.specs.declared.fault.Which.TheVariants as which
-use Rattle.run_types.specs.declared.fault.RunFault.{RunFault}
-use Rattle.run_types.specs.declared.fault.RunFault.TheVariants as fault
+use Rattle.run_types.specs.declared.fault.StepFault.{StepFault}
+use Rattle.run_types.specs.declared.fault.StepFault.TheVariants as fault
 use Rattle.graph_model.specs.declared.types.Root.{Root}
 use Rattle.graph_model.specs.declared.types.Value.{Value}
 use Rattle.graph_model.specs.declared.types.Heap.{Heap}
@@ -62,7 +62,7 @@ DoesPrint (Does (op.Print bytes) r) = Unit {0}
 DoesPrint other = ⊥
 
 -- where the plain step, which has no limits of memory and whose sink never fails, would go on
-abbrev pub IsLimit : World → ℕ → Step → RunFault → Type 0
+abbrev pub IsLimit : World → ℕ → Step → StepFault → Type 0
 IsLimit world left plain (fault.Full full) = IsFullOf world left plain full full.which
 IsLimit world left plain fault.SinkFault = DoesPrint plain
 IsLimit world left plain f = ⊥
@@ -77,6 +77,14 @@ TakesWords (Some need) before now = (need ≤ before) × (now ≡ before - need)
 abbrev pub LeavesWords : Heap → Stepped → ℕ → ℕ → Type 0
 LeavesWords heap (stepped.Did o r) before now = TakesWords (words_made heap o) before now
 LeavesWords heap other before now = now ≡ before
+
+-- ---- what is left of the monitors
+
+-- a monitor that nobody holds is taken where one is left
+abbrev pub FindsMonitor : World → Stepped → Type 0
+FindsMonitor world (stepped.Did (op.Enter key) r) =
+    held world.monitors key ≡ None → 0 < monitors_left world.monitors
+FindsMonitor world other = Unit {0}
 
 -- ---- steps
 
@@ -117,6 +125,7 @@ pub record Goes (plain : List Root → ℕ → Step) (t : ℕ) (before : Shown) 
       → Follows (plain roots) t before.left (world_of roots before rest) result now.number (world_of roots
       now rest_now)
   pub words : LeavesWords (heap_of [] before) result before.left now.left
+  pub monitor : FindsMonitor (world_of [] before rest) result
   pub goes_on : GoesOn before now
   pub monitors : KnowsMonitors now rest_now
 

@@ -10,7 +10,7 @@ use crate::Stepped;
 use natives::Reply;
 use plain_model::Throws;
 use run_history::Op;
-use run_types::RunFault;
+use run_types::StepFault;
 use shared_objects::{Objects, Types};
 
 /// How many slots a new object of a class without elements has; none if it has some.
@@ -37,7 +37,7 @@ pub fn throw_class<C: Types, O: Objects>(set: &C, objects: &mut O, class: u32) -
 {
     let slots = slots_of(set, class);
     match objects.alloc(class, slots) {
-        Err(full) => Stepped::Over(RunFault::Full(full)),
+        Err(full) => Stepped::Over(StepFault::Full(full)),
         Ok(object) => Stepped::Did {
             op: Op::Throw {
                 object: objects.number_of(object),

@@ -1,5 +1,6 @@
 -- A run that begins over an image.
-use Rattle.std.proofs.Common.{◌+◌, ◌*◌, ◌≤◌, ◌^◌, ne_eqb, ◌≡◌, ◌≢◌, ⊎_elim, ℕ, zero, suc, ◌<◌, true, List, [], Some, length, map, refl, sym, ◌∙◌, ap, subst, arith, get_or, slice_index}
+use Rattle.std.proofs.Common.{◌+◌, ◌*◌, ◌≤◌, ◌^◌, ne_eqb, ◌≡◌, ◌≢◌, ⊎_elim, ℕ, zero, suc, ◌<◌, true, List, [], Some, length}
+use Rattle.std.proofs.Common.{map, refl, sym, ◌∙◌, ap, subst, arith, get_or, slice_index}
 use Rattle.std.specs.List.{range_with_len, All}
 use Rattle.std.proofs.lemmas.List.FromFn.{get_or-map-range_with_len, length-map-range_with_len}
 use Rattle.std.proofs.lemmas.List.Elements.{All-nil, All-from_get_or}
@@ -7,7 +8,7 @@ use Rattle.std.proofs.lemmas.Bool.{cases_lt}
 use Rattle.std.proofs.Math.ListN.{get_or-eq_default}
 use Rattle.line_image.specs.Told.{IsCounted}
 use Rattle.ap_base.specs.declared.place.Place.TheVariants.{Static}
-use Rattle.stop_invariant.specs.Layouts.{Layout}
+use Rattle.stop_theorem.specs.Layouts.{Layout}
 use Rattle.stop_theorem.specs.Conditions.{StoresAt}
 use Rattle.stop_theorem.proofs.Fenced.{lines_may_be_fenced}
 use Rattle.stop_theorem.proofs.Given.{fenced_stores}
@@ -17,7 +18,8 @@ use Rattle.graph_model.specs.Canon.{canon_of, found_from}
 use Rattle.graph_model.specs.Heaps.{shape_at, object_at, values_of}
 use Rattle.line_memory.specs.Memory.{Memory, line_shown, shown, IsDurable, IsTelling}
 use Rattle.line_memory.specs.Moments.{CountsFrom}
-use Rattle.image_layout.specs.Places.{magic, log_head_line, slot_line, slot_word, directory_line, directory_word, object_line, object_word}
+use Rattle.image_layout.specs.Places.{magic, log_head_line, slot_line, slot_word, directory_line, directory_word, object_line}
+use Rattle.image_layout.specs.Places.{object_word}
 use Rattle.image_meaning.specs.Checks.{Words}
 use Rattle.image_meaning.specs.Logs.{NoneLogged, SameLogs}
 use Rattle.image_meaning.specs.Corresponds.{SameWords, root_static}
@@ -25,7 +27,7 @@ use Rattle.image_meaning.specs.Laws.{SameFront}
 use Rattle.image_meaning.specs.Meaning.{StandsFor}
 use Rattle.image_meaning.specs.Opening.{HoldsGraph, graph_node}
 use Rattle.image_meaning.proofs.Opened.{stands-same}
-use Rattle.stop_invariant.specs.Layouts.{HasRootSlots, root_number}
+use Rattle.stop_theorem.specs.Layouts.{HasRootSlots, root_number}
 use Rattle.run_history.specs.Knowing.{is_root}
 use Rattle.plain_model.specs.First.{numbers_to}
 use Rattle.stop_theorem.specs.Running.{at_start, Runs}
@@ -174,14 +176,14 @@ counts = refl
 durables : nodes_known.durable ≡ numbers_to (length graph.nodes)
 durables = ap numbers_to (sym one_node)
 
-pub begun : (lay : Layout) × Runs nodes_known 32768 0 memory (at_start lay memory)
+pub begun : (lay : Layout) × Runs nodes_known 32768 lay.directory 0 memory (at_start lay memory)
 begun =
     let found = starts_found nodes_known memory graph refl durables holds_graph root_slots_there
     (omega (arith, size_is)) used
     (subst (λ k. StandsFor k (shown memory) graph) (sym size_is) stands_now) none_logged
     (λ l w below outside. durable l w) (λ t below. durable (log_head_line t) 0) in (
       found.0,
-      subst (λ k. Runs nodes_known k 0 memory (at_start found.0 memory)) (found.1 ∙ size_is)
+      subst (λ k. Runs nodes_known k found.0.directory 0 memory (at_start found.0 memory)) (found.1 ∙ size_is)
           (run_starts nodes_known found.0 0 memory found.2 tells counts),
     )
 

@@ -9,10 +9,10 @@ use Rattle.image_layout.specs.Places.{first_object_line, lines_of, object_line, 
 use Rattle.image_meaning.specs.Laws.{WordsLieApart}
 use Rattle.image_meaning.proofs.Apart.{words-apart}
 use Rattle.run_history.specs.Knowing.{Knowledge}
-use Rattle.stop_invariant.specs.Layouts.{Layout, Lies, is_kept_place}
-use Rattle.stop_invariant.specs.Events.{IsFreeWord, line_at, word_at, ShowsKnown}
-use Rattle.stop_invariant.proofs.KeptPlaces.{slot_parts, root_parts, lies_there}
-use Rattle.stop_invariant.proofs.Stored.{root_below}
+use Rattle.stop_theorem.specs.Layouts.{Layout, Lies, is_kept_place}
+use Rattle.stop_theorem.specs.InvariantEvents.{IsFreeWord, line_at, word_at, ShowsKnown}
+use Rattle.stop_theorem.proofs.KeptPlaces.{slot_parts, root_parts, lies_there}
+use Rattle.stop_theorem.proofs.Stored.{root_below}
 use Rattle.stop_theorem.specs.Running.{known_at, FreeStored}
 use Rattle.stop_theorem.specs.GivenCopies.{IsFreeLine, FreeStoresAreEvents}
 

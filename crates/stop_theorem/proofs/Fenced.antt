@@ -1,5 +1,6 @@
 -- A line that is written back and fenced, of any memory, and a store that is.
-use Rattle.std.proofs.Common.{◌≡◌, inl, ⊎_elim, ℕ, ◌^◌, ◌<◌, ◌≤◌, List, Option, Some, None, refl, sym, ◌∙◌, arith, eq-eqb, slice_index}
+use Rattle.std.proofs.Common.{◌≡◌, inl, ⊎_elim, ℕ, ◌^◌, ◌<◌, ◌≤◌, List, Option, Some, None, refl, sym, ◌∙◌, arith, eq-eqb}
+use Rattle.std.proofs.Common.{slice_index}
 use Rattle.std.proofs.lemmas.List.Elements.{All-cons, All-weaker}
 use Rattle.ap_base.specs.Causes.{next_count}
 use Rattle.line_image.specs.Trace.{Trace, MayLeave, did, read_word}

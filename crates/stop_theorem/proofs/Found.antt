@@ -4,10 +4,11 @@ use Rattle.ap_base.specs.declared.place.Place.TheVariants.{Static, Slot}
 use Rattle.image_layout.specs.Places.{logs, log_head_line, directory_line, directory_word}
 use Rattle.image_meaning.specs.Logs.{is_log_line}
 use Rattle.image_meaning.proofs.Standing.{use-within}
-use Rattle.stop_invariant.specs.Layouts.{is_kept_place}
-use Rattle.stop_invariant.specs.Events.{ShowsKnown, line_at, word_at}
-use Rattle.stop_invariant.proofs.Stored.{root_below}
-use Rattle.std.proofs.Common.{◌≡◌, ◌≢◌, inl, inr, ℕ, zero, suc, ◌<◌, ◌≤◌, ◌==◌, Bool, true, false, ◌||◌, List, [], ◌∷◌, ◌++◌, length, refl, sym, ◌∙◌, ap, arith, nat_eq, slice_index_or}
+use Rattle.stop_theorem.specs.Layouts.{is_kept_place}
+use Rattle.stop_theorem.specs.InvariantEvents.{ShowsKnown, line_at, word_at}
+use Rattle.stop_theorem.proofs.Stored.{root_below}
+use Rattle.std.proofs.Common.{◌≡◌, ◌≢◌, inl, inr, ℕ, zero, suc, ◌<◌, ◌≤◌, ◌==◌, Bool, true, false, ◌||◌, List, [], ◌∷◌, ◌++◌}
+use Rattle.std.proofs.Common.{length, refl, sym, ◌∙◌, ap, arith, nat_eq, slice_index_or}
 use Rattle.std.proofs.lemmas.Bool.{cases_Bool, cases_eq, true≢false, and_parts, eqb-true, eq-eqb}
 use Rattle.std.proofs.lemmas.List.{length-map}
 use Rattle.graph_model.specs.declared.types.Graph.{Graph}
@@ -23,9 +24,9 @@ use Rattle.image_meaning.proofs.Logs.{put_back-none, not_log_after, not_log_befo
 use Rattle.image_meaning.proofs.Standings.{standing-found}
 use Rattle.run_history.specs.Knowing.{Knowledge}
 use Rattle.plain_model.specs.First.{numbers_to}
-use Rattle.stop_invariant.specs.Layouts.{Layout, Lies, HasRootSlots}
+use Rattle.stop_theorem.specs.Layouts.{Layout, Lies, HasRootSlots}
 use Rattle.stop_theorem.specs.Starts.{Starts}
-use Rattle.stop_invariant.proofs.KeptPlaces.{slot_parts, root_parts, lies_there}
+use Rattle.stop_theorem.proofs.KeptPlaces.{slot_parts, root_parts, lies_there}
 
 -- ---- the numbers below one
 

@@ -1,5 +1,6 @@
 -- Stores, write-backs and fences that succeed are events.
-use Rattle.std.proofs.Common.{◌≡◌, ◌≢◌, inl, inr, ℕ, Bool, suc, ◌+◌, ◌^◌, ◌<◌, ◌≤◌, true, false, nat_eq, List, [], ◌∷◌, ◌++◌, Some, refl, sym, ◌∙◌, ap, subst, arith, if◌then◌else◌, eq-eqb, ne_eqb, lt-ltb, le-leb}
+use Rattle.std.proofs.Common.{◌≡◌, ◌≢◌, inl, inr, ℕ, Bool, suc, ◌+◌, ◌^◌, ◌<◌, ◌≤◌, true, false, nat_eq, List, [], ◌∷◌, ◌++◌}
+use Rattle.std.proofs.Common.{Some, refl, sym, ◌∙◌, ap, subst, arith, if◌then◌else◌, eq-eqb, ne_eqb, lt-ltb, le-leb}
 use Rattle.std.proofs.lemmas.Bool.{or_parts}
 use Rattle.ap_base.specs.declared.place.Place.{Place}
 use Rattle.graph_model.specs.declared.types.Value.{Value}
@@ -16,17 +17,21 @@ use Rattle.run_history.specs.Knowing.{Knowledge, Fate, Unfenced, is_single, unfe
 use Rattle.run_history.specs.Laws.{IsSingleStore}
 use Rattle.run_history.proofs.Grown.{known_after-append}
 use Rattle.run_history.proofs.Sizes.{stored-sizes}
-use Rattle.kept_places.specs.Choices.{with_thread}
-use Rattle.stop_invariant.specs.Layouts.{Layout}
-use Rattle.stop_invariant.specs.Stops.{regions_of}
-use Rattle.stop_invariant.specs.Events.{Puts, known_by, line_at, word_at}
-use Rattle.stop_invariant.proofs.Places.{line_same, word_same}
-use Rattle.store_stops.proofs.Fencing.{after_fence}
-use Rattle.region_stops.specs.Laws.{number_of}
+use Rattle.stop_theorem.specs.Choices.{with_thread}
+use Rattle.stop_theorem.specs.Layouts.{Layout}
+use Rattle.stop_theorem.specs.Stops.{regions_of}
+use Rattle.stop_theorem.specs.InvariantEvents.{Puts, known_by, line_at, word_at}
+use Rattle.stop_theorem.proofs.Places.{line_same, word_same}
+use Rattle.stop_theorem.proofs.Fencing.{after_fence}
+use Rattle.stop_theorem.specs.RegionLaws.{number_of}
 use Rattle.stop_theorem.specs.Conditions.{AtEachStop, StoresAt, IsWrittenBack, RaisesCount}
-use Rattle.stop_theorem.specs.Running.{State, known_at, act_now, with_act, with_memory, Event, Events, none, more, Called, SingleStored, Written, Fenced, LogWordStored, CountRaised, RegionStored, Closing, CountLowered, Ended}
+use Rattle.stop_theorem.specs.Running.{State, known_at, act_now, with_act, with_memory, Event, Events, none, more, Called}
+use Rattle.stop_theorem.specs.Running.{SingleStored, Written, Fenced, LogWordStored, CountRaised, RegionStored, Closing}
+use Rattle.stop_theorem.specs.Running.{CountLowered, Ended}
 use Rattle.stop_theorem.proofs.Quiet.{quiet_acts}
-use Rattle.stop_theorem.specs.Given.{WroteBack, WroteAndFenced, with_fenced_store, FencedStoresAreEvents, BeginIsAnEvent, IsDurableLog, ShowsEntry, EntryWordsAreEvents, CountedEntriesAreEvents, RegionStoresAreEvents, ClosingIsAnEvent, EmptiedLogsAreEvents, EndedRegionsAreEvents}
+use Rattle.stop_theorem.specs.Given.{WroteBack, WroteAndFenced, with_fenced_store, FencedStoresAreEvents, BeginIsAnEvent}
+use Rattle.stop_theorem.specs.Given.{IsDurableLog, ShowsEntry, EntryWordsAreEvents, CountedEntriesAreEvents}
+use Rattle.stop_theorem.specs.Given.{RegionStoresAreEvents, ClosingIsAnEvent, EmptiedLogsAreEvents, EndedRegionsAreEvents}
 
 -- ---- calls
 

@@ -1,5 +1,6 @@
 -- A group of copies that is closed, written back and fenced becomes durable.
-use Rattle.std.proofs.Common.{◌≡◌, ◌⊎◌, inl, inr, ℕ, ◌<◌, ◌≤◌, ◌==◌, Bool, true, false, ◌||◌, List, [], ◌∷◌, ◌++◌, refl, sym, ◌∙◌, ap, subst, arith, nat_eq, if◌then◌else◌}
+use Rattle.std.proofs.Common.{◌≡◌, ◌⊎◌, inl, inr, ℕ, ◌<◌, ◌≤◌, ◌==◌, Bool, true, false, ◌||◌, List, [], ◌∷◌, ◌++◌, refl, sym}
+use Rattle.std.proofs.Common.{◌∙◌, ap, subst, arith, nat_eq, if◌then◌else◌}
 use Rattle.std.proofs.lemmas.Bool.{cases_Bool, true≢false, and_parts, eqb-true, eq-eqb}
 use Rattle.ap_base.specs.declared.place.Place.{Place}
 use Rattle.ap_base.specs.declared.place.Place.TheVariants.{Static, Slot}
@@ -12,12 +13,12 @@ use Rattle.image_meaning.proofs.Changes.{corresponds-same, corresponds-along, co
 use Rattle.run_history.specs.declared.act.Op.TheVariants as op
 use Rattle.run_history.specs.Knowing.{Knowledge, known_after_op}
 use Rattle.plain_model.proofs.Durable.{has_number-append_left, has_number-append_cases}
-use Rattle.kept_places.specs.Choices.{Threads}
-use Rattle.stop_invariant.specs.Layouts.{Layout, Lies, place_line, place_word, is_kept_place}
-use Rattle.stop_invariant.specs.Stops.{Stands}
-use Rattle.stop_invariant.proofs.Allowed.{lies_parts}
-use Rattle.stop_invariant.proofs.KeptPlaces.{slot_parts, slot_has}
-use Rattle.store_stops.specs.Events.{Joins, joined}
+use Rattle.stop_theorem.specs.Choices.{Threads}
+use Rattle.stop_theorem.specs.Layouts.{Layout, Lies, place_line, place_word, is_kept_place}
+use Rattle.stop_theorem.specs.Stops.{Stands}
+use Rattle.stop_theorem.proofs.Allowed.{lies_parts}
+use Rattle.stop_theorem.proofs.KeptPlaces.{slot_parts, slot_has}
+use Rattle.stop_theorem.specs.StoreEvents.{Joins, joined}
 use Rattle.stop_theorem.specs.Given.{FencedAll}
 use Rattle.stop_theorem.specs.GivenCopies.{LieAt, IsWrittenGroup, with_group, FencedGroupsAreEvents}
 use Rattle.stop_theorem.specs.Running.{State, known_at, with_memory, with_act, none, more, Joined}

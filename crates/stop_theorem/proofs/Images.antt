@@ -1,19 +1,23 @@
 -- Words of an image for small heaps of three nodes.
-use Rattle.std.proofs.Common.{◌≡◌, ◌≢◌, inl, inr, ⊎_elim, ℕ, zero, suc, pos, ◌+◌, ◌-◌, ◌/◌, ◌%◌, ◌*◌, ◌^◌, ◌<◌, ◌≤◌, Bool, true, false, ◌&&◌, nat_eq, nat_lt, List, [], ◌∷◌, length, refl, sym, ◌∙◌, ap, subst, arith, if◌then◌else◌, eq-eqb, ne_eqb, lt-ltb, le-ltb, eqb-true, ltb-true, slice_index_or}
+use Rattle.std.proofs.Common.{◌≡◌, ◌≢◌, inl, inr, ⊎_elim, ℕ, zero, suc, pos, ◌+◌, ◌-◌, ◌/◌, ◌%◌, ◌*◌, ◌^◌, ◌<◌, ◌≤◌, Bool, true}
+use Rattle.std.proofs.Common.{false, ◌&&◌, nat_eq, nat_lt, List, [], ◌∷◌, length, refl, sym, ◌∙◌, ap, subst, arith}
+use Rattle.std.proofs.Common.{if◌then◌else◌, eq-eqb, ne_eqb, lt-ltb, le-ltb, eqb-true, ltb-true, slice_index_or}
 use Rattle.std.specs.Prelude.{Ok}
 use Rattle.std.proofs.lemmas.Bool.{cases_lt, and_parts, true≢false}
 use Rattle.ap_base.specs.declared.kind.Kind.TheVariants.{I}
 use Rattle.graph_model.specs.declared.types.Value.{Value}
 use Rattle.graph_model.specs.declared.types.Value.TheVariants.{Int, Long, Null, Obj as Object}
 use Rattle.graph_model.specs.declared.types.Heap.{Heap}
-use Rattle.image_layout.specs.Places.{magic, log_head_line, first_object_line, object_line, object_word, slot_line, slot_word, root_slots}
+use Rattle.image_layout.specs.Places.{magic, log_head_line, first_object_line, object_line, object_word, slot_line, slot_word}
+use Rattle.image_layout.specs.Places.{root_slots}
 use Rattle.image_meaning.specs.Checks.{Words}
 use Rattle.image_meaning.specs.Directories.{Directory, directory_of, with_entries}
 use Rattle.image_meaning.specs.Entries.{ShapeEntry, RootEntry, read_entry, is_shape}
 use Rattle.image_meaning.specs.Directories.{spelled_all}
 use Rattle.image_meaning.specs.Objects.{kind_of, object_slot, length_at}
 use Rattle.image_meaning.specs.Logs.{put_back, NoneLogged}
-use Rattle.image_meaning.specs.Corresponds.{LiesAt, Holds, HoldsReference, HoldsNumber, IsObject, AreApart, Corresponds, SameWords}
+use Rattle.image_meaning.specs.Corresponds.{LiesAt, Holds, HoldsReference, HoldsNumber, IsObject, AreApart, Corresponds}
+use Rattle.image_meaning.specs.Corresponds.{SameWords}
 use Rattle.image_meaning.specs.Laws.{Opens, told_by}
 use Rattle.image_meaning.proofs.Logs.{logs_fault-none, put_back-none, not_log_before, not_log_after}
 use Rattle.image_meaning.proofs.Changes.{corresponds-same}

@@ -1,5 +1,6 @@
 -- Acts that change no durable place.
-use Rattle.std.proofs.Common.{◌≡◌, inl, inr, ℕ, zero, suc, ◌<◌, Bool, true, false, ◌&&◌, ◌||◌, List, [], ◌∷◌, ◌++◌, length, map, refl, sym, ◌∙◌, ap, arith, nat_eq, eq-eqb, slice_index_or}
+use Rattle.std.proofs.Common.{◌≡◌, inl, inr, ℕ, zero, suc, ◌<◌, Bool, true, false, ◌&&◌, ◌||◌, List, [], ◌∷◌, ◌++◌, length, map}
+use Rattle.std.proofs.Common.{refl, sym, ◌∙◌, ap, arith, nat_eq, eq-eqb, slice_index_or}
 use Rattle.std.proofs.lemmas.Bool.{cases_Bool, true≢false, and_parts}
 use Rattle.ap_base.specs.declared.place.Place.{Place}
 use Rattle.ap_base.specs.declared.place.Place.TheVariants.{Static, Slot}
@@ -14,14 +15,14 @@ use Rattle.run_history.specs.declared.act.Op.TheVariants as op
 use Rattle.run_history.specs.Worlds.{has_place, depth_of}
 use Rattle.run_history.specs.Knowing.{Knowledge, durable_at, is_root, is_outermost, store_fate, after_end, known_after_op}
 use Rattle.run_history.proofs.Sizes.{stored-sizes, sizes_refl}
-use Rattle.kept_places.specs.Choices.{stores_at}
-use Rattle.kept_places.proofs.Joint.{same_place}
-use Rattle.stop_invariant.specs.Layouts.{Layout, Lies, is_kept_place}
-use Rattle.stop_invariant.specs.Events.{known_by, ShowsKnown}
-use Rattle.stop_invariant.proofs.Allowed.{lies_parts}
-use Rattle.stop_invariant.proofs.KeptPlaces.{lies_there}
-use Rattle.stop_invariant.proofs.Places.{keeps_same}
-use Rattle.stop_invariant.proofs.Visible.{keeps_fresh}
+use Rattle.stop_theorem.specs.Choices.{stores_at}
+use Rattle.stop_theorem.proofs.Joint.{same_place}
+use Rattle.stop_theorem.specs.Layouts.{Layout, Lies, is_kept_place}
+use Rattle.stop_theorem.specs.InvariantEvents.{known_by, ShowsKnown}
+use Rattle.stop_theorem.proofs.Allowed.{lies_parts}
+use Rattle.stop_theorem.proofs.KeptPlaces.{lies_there}
+use Rattle.stop_theorem.proofs.Places.{keeps_same}
+use Rattle.stop_theorem.proofs.Visible.{keeps_fresh}
 use Rattle.stop_theorem.specs.Conditions.{IsSureAct}
 use Rattle.stop_theorem.specs.Running.{known_at, Acted}
 use Rattle.stop_theorem.specs.GivenCopies.{IsQuiet, QuietActsAreEvents}

@@ -1,5 +1,6 @@
 -- In a run that begins, a group of two objects is sealed.
-use Rattle.std.proofs.Common.{◌≡◌, inl, inr, ℕ, ◌+◌, ◌/◌, ◌%◌, ◌<◌, ◌==◌, true, false, List, [], ◌∷◌, Result, Ok, refl, sym, ◌∙◌, ap, subst, arith, nat_eq, eq-eqb, ne_eqb, slice_index_or}
+use Rattle.std.proofs.Common.{◌≡◌, inl, inr, ℕ, ◌+◌, ◌/◌, ◌%◌, ◌<◌, ◌==◌, true, false, List, [], ◌∷◌, Result, Ok, refl, sym}
+use Rattle.std.proofs.Common.{◌∙◌, ap, subst, arith, nat_eq, eq-eqb, ne_eqb, slice_index_or}
 use Rattle.std.proofs.lemmas.Bool.{cases_Bool, cases_eq, true≢false, and_parts, eqb-true}
 use Rattle.graph_model.specs.declared.types.Value.TheVariants.{Null, Obj as Object}
 use Rattle.graph_model.specs.declared.types.Heap.{Heap}
@@ -14,10 +15,10 @@ use Rattle.image_meaning.specs.Corresponds.{LiesAt, IsObject, Corresponds, Eithe
 use Rattle.image_meaning.specs.Laws.{Opens}
 use Rattle.image_meaning.proofs.Changes.{corresponds-same, holds_too}
 use Rattle.image_meaning.proofs.Opened.{opens-same}
-use Rattle.kept_places.specs.Choices.{NoThread}
-use Rattle.stop_invariant.specs.Layouts.{Layout, Lies}
-use Rattle.stop_invariant.specs.Stops.{Stands}
-use Rattle.stop_invariant.proofs.Allowed.{lies_parts}
+use Rattle.stop_theorem.specs.Choices.{NoThread}
+use Rattle.stop_theorem.specs.Layouts.{Layout, Lies}
+use Rattle.stop_theorem.specs.Stops.{Stands}
+use Rattle.stop_theorem.proofs.Allowed.{lies_parts}
 use Rattle.stop_theorem.specs.Running.{at_start}
 use Rattle.stop_theorem.specs.WrongOrders.{nodes_known}
 use Rattle.stop_theorem.specs.GivenCopies.{LieAt, IsWrittenGroup, OneGroupIsSealed}

@@ -13,15 +13,15 @@ use Rattle.image_meaning.specs.Corresponds.{Holds}
 use Rattle.image_meaning.proofs.Logs.{put_back-none, not_log_after, not_log_before}
 use Rattle.image_meaning.proofs.Opened.{opens-same}
 use Rattle.run_history.specs.Knowing.{Knowledge}
-use Rattle.kept_places.specs.Choices.{Threads, NoThread, AllKept, left_heap}
-use Rattle.kept_places.specs.Orderly.{IsOrderly}
-use Rattle.stop_invariant.specs.Layouts.{Layout, Lies, place_line, place_word, place_kind, is_kept_place}
-use Rattle.stop_invariant.specs.Stops.{IsCovered, Stands, regions_of}
+use Rattle.stop_theorem.specs.Choices.{Threads, NoThread, AllKept, left_heap}
+use Rattle.stop_theorem.specs.Orderly.{IsOrderly}
+use Rattle.stop_theorem.specs.Layouts.{Layout, Lies, place_line, place_word, place_kind, is_kept_place}
+use Rattle.stop_theorem.specs.Stops.{IsCovered, Stands, regions_of}
 use Rattle.stop_theorem.specs.Starts.{Starts}
-use Rattle.stop_invariant.proofs.Apart.{places_apart, heads_apart}
-use Rattle.stop_invariant.proofs.Stored.{root_below}
-use Rattle.stop_invariant.proofs.Held.{holds_shown}
-use Rattle.stop_invariant.proofs.KeptPlaces.{slot_parts, root_parts, lies_there}
+use Rattle.stop_theorem.proofs.Apart.{places_apart, heads_apart}
+use Rattle.stop_theorem.proofs.Stored.{root_below}
+use Rattle.stop_theorem.proofs.Held.{holds_shown}
+use Rattle.stop_theorem.proofs.KeptPlaces.{slot_parts, root_parts, lies_there}
 
 module _ (known : Knowledge) (lay : Layout) (m : Memory) (s : Starts known lay m) (K : Threads) (c : Outcome)
     (left : CanLeaveAll m c) where

@@ -1,5 +1,6 @@
 -- What wrong orders leave isn't allowed, by computation.
-use Rattle.std.proofs.Common.{◌≡◌, ℕ, pos, Bool, true, false, List, [], ◌∷◌, map, refl, ap, sym, ◌∙◌, ◌⊎◌, inl, inr, ⊎_elim, subst, eq-eqb, arith, if◌then◌else◌}
+use Rattle.std.proofs.Common.{◌≡◌, ℕ, pos, Bool, true, false, List, [], ◌∷◌, map, refl, ap, sym, ◌∙◌, ◌⊎◌, inl, inr, ⊎_elim}
+use Rattle.std.proofs.Common.{subst, eq-eqb, arith, if◌then◌else◌}
 use Rattle.std.specs.Prelude.{Result, Ok, Err}
 use Rattle.graph_model.specs.declared.types.Value.{Value}
 use Rattle.graph_model.specs.declared.types.Value.TheVariants.{Int, Null, Obj as Object}
@@ -13,9 +14,9 @@ use Rattle.ap_base.specs.declared.kind.Kind.TheVariants.{L}
 use Rattle.line_memory.specs.Memory.{Memory, shown}
 use Rattle.image_meaning.specs.Objects.{kind_of, shape_of, object_slot}
 use Rattle.image_meaning.specs.Corresponds.{Holds}
-use Rattle.stop_invariant.specs.Layouts.{Layout, Lies}
-use Rattle.stop_invariant.specs.Stops.{IsAllowedImage}
-use Rattle.store_stops.specs.Events.{Joins, joined}
+use Rattle.stop_theorem.specs.Layouts.{Layout, Lies}
+use Rattle.stop_theorem.specs.Stops.{IsAllowedImage}
+use Rattle.stop_theorem.specs.StoreEvents.{Joins, joined}
 use Rattle.stop_theorem.proofs.Running.{allowed_stops}
 use Rattle.stop_theorem.proofs.Images.{of_an_image}
 use Rattle.image_meaning.specs.Checks.{Bad}
@@ -29,7 +30,9 @@ use Rattle.run_history.specs.Worlds.{heap_after}
 use Rattle.run_history.specs.Knowing.{known_after, known_after_op}
 use Rattle.run_history.specs.Laws.{graph_left}
 use Rattle.run_history.proofs.KeptLists.{left_by}
-use Rattle.stop_theorem.specs.WrongOrders.{nodes_known, MayNotBeLeft, RunsNowhere, IsOfAnImage, IsRefused, WrongOrdersAreRefused, root_acts, does, store_9, store_itself, object_0_with, object_1_with}
+use Rattle.stop_theorem.specs.WrongOrders.{nodes_known, MayNotBeLeft, RunsNowhere, IsOfAnImage, IsRefused}
+use Rattle.stop_theorem.specs.WrongOrders.{WrongOrdersAreRefused, root_acts, does, store_9, store_itself, object_0_with}
+use Rattle.stop_theorem.specs.WrongOrders.{object_1_with}
 use Rattle.ap_base.specs.declared.place.Place.TheVariants.{Static, Slot}
 
 or_graph : Graph → Result Graph Bad → Graph
@@ -45,7 +48,7 @@ never : (acts : List Recorded) (lost : Heap)
     → ((regions singles : ℕ → Bool) → canon_of lost ≡ graph_left nodes_known.world.heap
     (known_after nodes_known acts).marks regions singles → ⊥)
     → MayNotBeLeft acts lost
-never acts lost none lies size c directory opens corresponds allowed =
+never acts lost none lies size c directory kept opens corresponds allowed =
     let told = stands (told_by lies) size c directory lost opens corresponds in
     let same : canon_of lost ≡ allowed.graph = same_ok (canon_of lost) allowed.graph
     (meaning size c) told allowed.stands in
@@ -55,10 +58,10 @@ never acts lost none lies size c directory opens corresponds allowed =
 
 -- and no run comes to it
 nowhere : (acts : List Recorded) (lost : Heap) → MayNotBeLeft acts lost → RunsNowhere acts lost
-nowhere acts lost not lies size begin start s c directory same left opens corresponds runs =
-    let all = allowed_stops nodes_known size begin start s runs in
-    not lies size c directory opens corresponds
-    (subst (λ done. IsAllowedImage nodes_known size done c) same (all.now c left))
+nowhere acts lost not lies size begin start s c directory kept same left opens corresponds runs =
+    let all = allowed_stops nodes_known size kept begin start s runs in
+    not lies size c directory kept opens corresponds
+    (subst (λ done. IsAllowedImage nodes_known size kept done c) same (all.now c left))
 
 refused : (acts : List Recorded) (lost : Heap) → IsOfAnImage lost
     → ((regions singles : ℕ → Bool) → canon_of lost ≡ graph_left nodes_known.world.heap

@@ -9,13 +9,14 @@ use Rattle.image_layout.specs.Places.{logs, log_entries, log_head_line}
 use Rattle.image_meaning.specs.Logs.{log_count, logged_at, is_log_line, SameLogs, log_of, old_word}
 use Rattle.image_meaning.specs.Corresponds.{Holds}
 use Rattle.run_history.specs.declared.act.Op.{Op}
-use Rattle.run_history.specs.Knowing.{Knowledge, Open, guard_of, has_guards, fate_of, with_sure, is_outermost, owes_fence, unfenced_at}
-use Rattle.kept_places.specs.Choices.{Threads, stores_at}
-use Rattle.kept_places.specs.Orderly.{KeepsRule}
-use Rattle.stop_invariant.specs.Layouts.{Layout, Lies, KeepsPlaces, place_kind, is_kept_place}
-use Rattle.stop_invariant.specs.Stops.{regions_of}
-use Rattle.stop_invariant.specs.Events.{Puts, line_at, word_at, ShowsKnown}
-use Rattle.region_stops.specs.Laws.{number_of}
+use Rattle.run_history.specs.Knowing.{Knowledge, Open, guard_of, has_guards, fate_of, with_sure, is_outermost, owes_fence}
+use Rattle.run_history.specs.Knowing.{unfenced_at}
+use Rattle.stop_theorem.specs.Choices.{Threads, stores_at}
+use Rattle.stop_theorem.specs.Orderly.{KeepsRule}
+use Rattle.stop_theorem.specs.Layouts.{Layout, Lies, KeepsPlaces, place_kind, is_kept_place}
+use Rattle.stop_theorem.specs.Stops.{regions_of}
+use Rattle.stop_theorem.specs.InvariantEvents.{Puts, line_at, word_at, ShowsKnown}
+use Rattle.stop_theorem.specs.RegionLaws.{number_of}
 use Rattle.run_history.specs.Laws.{IsSingleStore}
 
 -- so at each stop now

@@ -13,10 +13,10 @@ use Rattle.image_layout.specs.Places.{logs, log_entries, min_lines, log_head_lin
 use Rattle.image_meaning.specs.Logs.{log_count, logged_at, log_of, old_word}
 use Rattle.run_history.specs.declared.act.Op.TheVariants as op
 use Rattle.run_history.specs.Knowing.{Knowledge, Open, guard_of, has_guards, fate_of, owes_fence, is_outermost}
-use Rattle.kept_places.specs.Choices.{with_thread, without_thread}
-use Rattle.stop_invariant.specs.Layouts.{Layout, is_kept_place}
-use Rattle.stop_invariant.specs.Events.{Puts, line_at, word_at, ShowsKnown}
-use Rattle.region_stops.specs.Laws.{number_of}
+use Rattle.stop_theorem.specs.Choices.{with_thread, without_thread}
+use Rattle.stop_theorem.specs.Layouts.{Layout, is_kept_place}
+use Rattle.stop_theorem.specs.InvariantEvents.{Puts, line_at, word_at, ShowsKnown}
+use Rattle.stop_theorem.specs.RegionLaws.{number_of}
 use Rattle.stop_theorem.specs.Conditions.{AtEachStop, StoresAt, IsSingleUnguarded}
 use Rattle.stop_theorem.specs.WrongOrders.{nodes_known}
 use Rattle.stop_theorem.specs.Running.{State, known_at, with_act, with_memory, Event, Events, Runs, at_start}
@@ -68,7 +68,7 @@ LinesMayBeFenced = (m : Memory) (line : ℕ) → IsCounted m.image → m.calls <
 pub record RunBegins : Type 0 where
   pub layout : Layout
   pub memory : Memory
-  pub runs : Runs nodes_known 32768 0 memory (at_start layout memory)
+  pub runs : Runs nodes_known 32768 layout.directory 0 memory (at_start layout memory)
 
 -- In a run that begins so, thread 0 sets the root to null, as the first of all acts, and fences: all these
 -- are events.
@@ -77,7 +77,7 @@ pub record OneStoreIsFenced : Type 0 where
   pub stored : Memory
   pub fenced : Memory
   pub nothing_yet : state.acts ≡ []
-  pub runs : Runs nodes_known 32768 0 state.memory state
+  pub runs : Runs nodes_known 32768 state.layout.directory 0 state.memory state
   pub other_word : shown stored 1 0 ≢ shown state.memory 1 0
   pub events : Events nodes_known state (with_fenced_store state 0 (Static 0) Null stored fenced)
 

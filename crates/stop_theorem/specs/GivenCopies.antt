@@ -8,9 +8,9 @@ use Rattle.image_meaning.specs.Corresponds.{LiesAt, CanJoin}
 use Rattle.run_history.specs.declared.act.Op.{Op}
 use Rattle.run_history.specs.declared.act.Op.TheVariants as op
 use Rattle.run_history.specs.Knowing.{Knowledge, durable_at, owes_fence, is_outermost}
-use Rattle.stop_invariant.specs.Layouts.{Layout, Lies}
-use Rattle.stop_invariant.specs.Stops.{Stands}
-use Rattle.stop_invariant.specs.Events.{Puts, ShowsKnown}
+use Rattle.stop_theorem.specs.Layouts.{Layout, Lies}
+use Rattle.stop_theorem.specs.Stops.{Stands}
+use Rattle.stop_theorem.specs.InvariantEvents.{Puts, ShowsKnown}
 use Rattle.stop_theorem.specs.Running.{State, known_at, with_act, with_memory, Event, Events, Runs}
 use Rattle.stop_theorem.specs.Given.{WroteBack, FencedAll}
 use Rattle.stop_theorem.specs.WrongOrders.{nodes_known}
@@ -111,7 +111,7 @@ pub record OneGroupIsSealed : Type 0 where
   pub fenced : Memory
   pub at : ℕ → ℕ
   pub nothing_yet : state.acts ≡ []
-  pub runs : Runs nodes_known 32768 0 state.memory state
+  pub runs : Runs nodes_known 32768 state.layout.directory 0 state.memory state
   pub events : Events nodes_known state
       (record (with_act (with_memory state fenced) 0 op.Joined (1 ∷ 2 ∷ [])) {
         layout = with_group state.layout state.memory (1 ∷ 2 ∷ []) at;

@@ -6,6 +6,7 @@ use Rattle.graph_model.specs.declared.types.Graph.{Graph}
 use Rattle.line_image.specs.Trace.{Outcome}
 use Rattle.line_memory.specs.Memory.{Memory, CanLeaveAll, IsDurable, SameImage, shown}
 use Rattle.line_memory.specs.Moments.{Goes, CountsFrom}
+use Rattle.image_meaning.specs.Directories.{Directory}
 use Rattle.image_meaning.specs.Logs.{NoneLogged}
 use Rattle.image_meaning.specs.Recovering.{IsRecovering}
 use Rattle.image_meaning.specs.Opening.{HoldsGraph}
@@ -13,18 +14,18 @@ use Rattle.image_meaning.specs.Meaning.{StandsFor}
 use Rattle.run_history.specs.Recorded.{Recorded}
 use Rattle.run_history.specs.Knowing.{Knowledge, known_after}
 use Rattle.plain_model.specs.First.{numbers_to}
-use Rattle.kept_places.specs.Choices.{Threads, NoThread}
-use Rattle.stop_invariant.specs.Layouts.{Layout, HasRootSlots}
-use Rattle.stop_invariant.specs.Stops.{Stands, IsAllowedImage}
+use Rattle.stop_theorem.specs.Choices.{Threads, NoThread}
+use Rattle.stop_theorem.specs.Layouts.{Layout, HasRootSlots}
+use Rattle.stop_theorem.specs.Stops.{Stands, IsAllowedImage}
 use Rattle.stop_theorem.specs.Starts.{Starts}
 use Rattle.stop_theorem.specs.Moments.{IsSafe}
 
 -- ---- moments
 
--- the memory's moments so far, of a run from what was first known over an image of so many lines
-abbrev pub IsSafeRun : Knowledge → ℕ → ℕ → Memory → List Recorded → Memory → Type 0
-IsSafeRun first size begin start acts m =
-    IsSafe (λ done c. IsAllowedImage first size done c) begin start acts m
+-- the memory's moments so far, of a run from what was first known over an image of so many lines with this directory
+abbrev pub IsSafeRun : Knowledge → (size : ℕ) → Directory → (begin : ℕ) → Memory → List Recorded → Memory → Type 0
+IsSafeRun first size directory begin start acts m =
+    IsSafe (λ done c. IsAllowedImage first size directory done c) begin start acts m
 
 -- A call of the image each moment of which leaves what a stop might leave before it: it is allowed by the
 -- acts so far.
@@ -32,21 +33,21 @@ abbrev pub CallsKeepMoments : Type 0
 CallsKeepMoments = (first : Knowledge) (lay : Layout) (Waits : Threads) (begin : ℕ) (start : Memory)
     (acts : List Recorded) (old new : Memory)
     → Stands first.world.heap (known_after first acts) lay Waits old
-    → IsSafeRun first lay.size begin start acts old
+    → IsSafeRun first lay.size lay.directory begin start acts old
     → Goes old.image new.image (CanLeaveAll old) → CountsFrom begin new → old.calls ≤ new.calls
-    → IsSafeRun first lay.size begin start acts new
+    → IsSafeRun first lay.size lay.directory begin start acts new
 
 -- a store, which is no call
 abbrev pub StoresKeepMoments : Type 0
-StoresKeepMoments = (first : Knowledge) (size begin : ℕ) (start : Memory) (acts : List Recorded)
-    (old new : Memory) → IsSafeRun first size begin start acts old
-    → SameImage old new → IsSafeRun first size begin start acts new
+StoresKeepMoments = (first : Knowledge) (size : ℕ) (directory : Directory) (begin : ℕ) (start : Memory)
+    (acts : List Recorded) (old new : Memory) → IsSafeRun first size directory begin start acts old
+    → SameImage old new → IsSafeRun first size directory begin start acts new
 
 -- an act, at the number of calls so far
 abbrev pub ActsKeepMoments : Type 0
-ActsKeepMoments = (first : Knowledge) (size begin : ℕ) (start : Memory) (acts : List Recorded) (m : Memory)
-    (a : Recorded) → IsSafeRun first size begin start acts m
-    → a.act.at ≡ m.calls → IsSafeRun first size begin start (acts ++ a ∷ []) m
+ActsKeepMoments = (first : Knowledge) (size : ℕ) (directory : Directory) (begin : ℕ) (start : Memory)
+    (acts : List Recorded) (m : Memory) (a : Recorded) → IsSafeRun first size directory begin start acts m
+    → a.act.at ≡ m.calls → IsSafeRun first size directory begin start (acts ++ a ∷ []) m
 
 -- ---- beginnings and fences
 
@@ -58,9 +59,9 @@ StartsStand = (known : Knowledge) (lay : Layout) (m : Memory) → Starts known l
 -- What a stop within a recovery leaves is allowed, as what the recovery began with was; so any number of
 -- recoveries that stop.
 abbrev pub RecoveryKeepsAllowed : Type 0
-RecoveryKeepsAllowed = (first : Knowledge) (size : ℕ) (acts : List Recorded) (c d : Outcome)
-    → IsAllowedImage first size acts c → IsRecovering c d
-    → IsAllowedImage first size acts d
+RecoveryKeepsAllowed = (first : Knowledge) (size : ℕ) (directory : Directory) (acts : List Recorded)
+    (c d : Outcome) → IsAllowedImage first size directory acts c → IsRecovering c d
+    → IsAllowedImage first size directory acts d
 
 -- A run starts over a memory whose image stands for the graph that is durable at first, with nothing logged:
 -- each word outside the logs is durable, and so are the logs' counts.

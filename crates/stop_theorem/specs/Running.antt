@@ -7,19 +7,21 @@ use Rattle.graph_model.specs.declared.types.Value.{Value}
 use Rattle.line_image.specs.Trace.{Outcome, LeftWithin}
 use Rattle.line_memory.specs.Memory.{Memory, CanLeaveAll, IsTelling, SameImage, OneCall}
 use Rattle.line_memory.specs.Moments.{KeepsShown, CountsFrom}
+use Rattle.image_meaning.specs.Directories.{Directory}
 use Rattle.run_history.specs.declared.act.Op.{Op}
 use Rattle.run_history.specs.declared.act.Op.TheVariants as op
 use Rattle.run_history.specs.Recorded.{Recorded}
 use Rattle.run_history.specs.Kept.{acts_before}
 use Rattle.run_history.specs.Knowing.{Knowledge, known_after, next_known}
-use Rattle.kept_places.specs.Choices.{Threads, NoThread, with_thread, without_thread}
-use Rattle.stop_invariant.specs.Layouts.{Layout}
-use Rattle.stop_invariant.specs.Stops.{regions_of, IsAfterFence, Stands, IsAllowedImage}
-use Rattle.stop_invariant.specs.Events.{Puts, IsFreeWord}
-use Rattle.stop_theorem.specs.Conditions.{AtEachStop, IsSureAct, StoresAt, IsSingleUnguarded, IsWrittenBack, StoresUncounted, RaisesCount, IsInRegion, LowersCount, EndsRegion}
+use Rattle.stop_theorem.specs.Choices.{Threads, NoThread, with_thread, without_thread}
+use Rattle.stop_theorem.specs.Layouts.{Layout}
+use Rattle.stop_theorem.specs.Stops.{regions_of, IsAfterFence, Stands, IsAllowedImage}
+use Rattle.stop_theorem.specs.InvariantEvents.{Puts, IsFreeWord}
+use Rattle.stop_theorem.specs.Conditions.{AtEachStop, IsSureAct, StoresAt, IsSingleUnguarded, IsWrittenBack, StoresUncounted}
+use Rattle.stop_theorem.specs.Conditions.{RaisesCount, IsInRegion, LowersCount, EndsRegion}
 use Rattle.stop_theorem.specs.Starts.{Starts}
 use Rattle.stop_theorem.specs.Laws.{IsSafeRun}
-use Rattle.store_stops.specs.Events.{Joins}
+use Rattle.stop_theorem.specs.StoreEvents.{Joins}
 
 -- the acts so far, where durable objects lie, which threads wait for a fence, and the memory
 pub record State : Type 0 where
@@ -100,25 +102,29 @@ pub data Events (first : Knowledge) : State → State → Type 0 where
   none : (s : State) → Events first s s
   more : (s middle last : State) → Events first s middle → Event first middle last → Events first s last
 
--- what is so at every point of a run over an image of so many lines that tells what is done to it
-pub record Runs (first : Knowledge) (lines begin : ℕ) (start : Memory) (s : State) : Type 0 where
+-- what is so at every point of a run over an image of so many lines with this directory that tells what is done to it
+pub record Runs (first : Knowledge) (lines : ℕ) (directory : Directory) (begin : ℕ) (start : Memory) (s : State)
+    : Type 0 where
   pub size : s.layout.size ≡ lines
+  pub directory_is : s.layout.directory ≡ directory
   pub tells : IsTelling s.memory.image.trace
   pub stands : Stands first.world.heap (known_at first s) s.layout s.waits s.memory
-  pub safe : IsSafeRun first lines begin start s.acts s.memory
+  pub safe : IsSafeRun first lines directory begin start s.acts s.memory
 
--- Whatever the events: a stop within a call since the start leaves only images that stand for a graph which
--- the acts before that call allow, and a stop after the last call only such that all acts allow.
-pub record StopsAreAllowed (first : Knowledge) (size begin : ℕ) (start : Memory) (s : State) : Type 0 where
+-- Whatever the events: a stop within a call since the start leaves only images that open with the directory and stand
+-- for a graph which the acts before that call allow, and a stop after the last call only such that all acts allow.
+pub record StopsAreAllowed (first : Knowledge) (size : ℕ) (directory : Directory) (begin : ℕ) (start : Memory)
+    (s : State) : Type 0 where
   pub within : (n : ℕ) → 0 < n → n ≤ s.memory.calls → begin + n < 2 ^ 64 - 1 → (c : Outcome)
       → LeftWithin s.memory.image.trace (begin + n) c → start.calls < n
-      → IsAllowedImage first size (acts_before n s.acts) c
-  pub now : (c : Outcome) → CanLeaveAll s.memory c → IsAllowedImage first size s.acts c
+      → IsAllowedImage first size directory (acts_before n s.acts) c
+  pub now : (c : Outcome) → CanLeaveAll s.memory c → IsAllowedImage first size directory s.acts c
 
 -- An event keeps what is so at every point of a run.
 abbrev pub EventsKeep : Type 0
-EventsKeep = (first : Knowledge) (size begin : ℕ) (start : Memory) (old new : State) → 33 ≤ size
-    → Event first old new → Runs first size begin start old → Runs first size begin start new
+EventsKeep = (first : Knowledge) (size : ℕ) (directory : Directory) (begin : ℕ) (start : Memory) (old new : State)
+    → 33 ≤ size
+    → Event first old new → Runs first size directory begin start old → Runs first size directory begin start new
 
 -- the run at its start
 abbrev pub at_start : Layout → Memory → State
@@ -128,26 +134,30 @@ at_start lay m = record { acts = []; layout = lay; waits = NoThread; memory = m 
 -- something of what is durable.
 abbrev pub RunsStart : Type 0
 RunsStart = (first : Knowledge) (lay : Layout) (begin : ℕ) (m : Memory) → Starts first lay m
-    → IsTelling m.image.trace → CountsFrom begin m → Runs first lay.size begin m (at_start lay m)
+    → IsTelling m.image.trace → CountsFrom begin m → Runs first lay.size lay.directory begin m (at_start lay m)
 
 -- THE STOP THEOREM.
 abbrev pub EveryStopIsAllowed : Type 0
-EveryStopIsAllowed = (first : Knowledge) (size begin : ℕ) (start : Memory) (old new : State) → 33 ≤ size
-    → Runs first size begin start old → Events first old new
-    → StopsAreAllowed first size begin start new
+EveryStopIsAllowed = (first : Knowledge) (size : ℕ) (directory : Directory) (begin : ℕ) (start : Memory)
+    (old new : State) → 33 ≤ size
+    → Runs first size directory begin start old → Events first old new
+    → StopsAreAllowed first size directory begin start new
 
 -- An image may tell nothing of what is done to it: all this is then said where the image tells it at the
 -- start of the run.
-abbrev pub RunsWhereTold : Knowledge → ℕ → ℕ → Memory → State → Type 0
-RunsWhereTold first lines begin start s = IsTelling start.image.trace → Runs first lines begin start s
+abbrev pub RunsWhereTold : Knowledge → (size : ℕ) → Directory → (begin : ℕ) → Memory → State → Type 0
+RunsWhereTold first size directory begin start s = IsTelling start.image.trace
+    → Runs first size directory begin start s
 
 abbrev pub EventsKeepWhereTold : Type 0
-EventsKeepWhereTold = (first : Knowledge) (size begin : ℕ) (start : Memory) (old new : State) → 33 ≤ size
+EventsKeepWhereTold = (first : Knowledge) (size : ℕ) (directory : Directory) (begin : ℕ) (start : Memory)
+    (old new : State) → 33 ≤ size
     → (IsTelling start.image.trace → Event first old new)
-    → RunsWhereTold first size begin start old → RunsWhereTold first size begin start new
+    → RunsWhereTold first size directory begin start old → RunsWhereTold first size directory begin start new
 
 -- So at each point of a run, however its events came.
 abbrev pub RunningStopsAreAllowed : Type 0
-RunningStopsAreAllowed = (first : Knowledge) (size begin : ℕ) (start : Memory) (s : State)
-    → Runs first size begin start s
-    → StopsAreAllowed first size begin start s
+RunningStopsAreAllowed = (first : Knowledge) (size : ℕ) (directory : Directory) (begin : ℕ) (start : Memory)
+    (s : State)
+    → Runs first size directory begin start s
+    → StopsAreAllowed first size directory begin start s

@@ -1,16 +1,16 @@
 -- The start of a run.
 use Rattle.image_layout.specs.Places.{logs, root_slots, slot_line, slot_word, directory_line, directory_word, log_head_line}
-use Rattle.stop_invariant.specs.Events.{line_at, word_at}
+use Rattle.stop_theorem.specs.InvariantEvents.{line_at, word_at}
 use Rattle.ap_base.specs.declared.place.Place.{Place}
-use Rattle.stop_invariant.specs.Layouts.{is_kept_place}
+use Rattle.stop_theorem.specs.Layouts.{is_kept_place}
 use Rattle.std.specs.Prelude.{◌≡◌, ◌<◌, ◌≤◌, ℕ, true, []}
 use Rattle.graph_model.specs.Heaps.{has_number}
 use Rattle.line_memory.specs.Memory.{Memory, shown, IsDurable}
 use Rattle.image_meaning.specs.Logs.{NoneLogged}
 use Rattle.image_meaning.specs.Laws.{Opens}
 use Rattle.run_history.specs.Knowing.{Knowledge}
-use Rattle.stop_invariant.specs.Layouts.{Layout, HasRootSlots}
-use Rattle.stop_invariant.specs.Events.{ShowsKnown}
+use Rattle.stop_theorem.specs.Layouts.{Layout, HasRootSlots}
+use Rattle.stop_theorem.specs.InvariantEvents.{ShowsKnown}
 
 -- A run starts: the image was opened, with nothing logged, each word durable that says something of
 -- what is durable, and the memory shows the first heap.

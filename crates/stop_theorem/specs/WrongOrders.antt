@@ -17,9 +17,9 @@ use Rattle.run_history.specs.Recorded.{Recorded}
 use Rattle.run_history.specs.Ring.{node}
 use Rattle.run_history.specs.Worlds.{new_thread}
 use Rattle.run_history.specs.Knowing.{Knowledge, known_at_first, known_after}
-use Rattle.stop_invariant.specs.Layouts.{Layout}
-use Rattle.stop_invariant.specs.Stops.{IsAllowedImage}
-use Rattle.store_stops.specs.Events.{Joins}
+use Rattle.stop_theorem.specs.Layouts.{Layout}
+use Rattle.stop_theorem.specs.Stops.{IsAllowedImage}
+use Rattle.stop_theorem.specs.StoreEvents.{Joins}
 use Rattle.stop_theorem.specs.Running.{State, Runs}
 
 -- Of class N with `int v; N n`: the root refers to object 0, and object 1 to object 2.
@@ -58,16 +58,16 @@ joins named = record { act = record { thread = 0; at = 1; op = op.Joined }; name
 -- What a stop leaves may not correspond to this heap, once the logs are put back: these acts don't allow its
 -- graph.
 abbrev pub MayNotBeLeft : List Recorded → Heap → Type 0
-MayNotBeLeft acts lost = (lies : ℕ → ℕ → Bool) (size : ℕ) (c : Outcome) (directory : Directory)
+MayNotBeLeft acts lost = (lies : ℕ → ℕ → Bool) (size : ℕ) (c : Outcome) (directory kept : Directory)
     → Opens size c directory
-    → Corresponds (told_by lies) directory size (put_back c) lost → ¬ IsAllowedImage nodes_known size acts c
+    → Corresponds (told_by lies) directory size (put_back c) lost → ¬ IsAllowedImage nodes_known size kept acts c
 
 -- so no run has made these acts over a memory of which a stop may leave this now
 abbrev pub RunsNowhere : List Recorded → Heap → Type 0
 RunsNowhere acts lost = (lies : ℕ → ℕ → Bool) (size begin : ℕ) (start : Memory) (s : State) (c : Outcome)
-    (directory : Directory)
+    (directory kept : Directory)
     → s.acts ≡ acts → CanLeaveAll s.memory c → Opens size c directory
-    → Corresponds (told_by lies) directory size (put_back c) lost → ¬ Runs nodes_known size begin start s
+    → Corresponds (told_by lies) directory size (put_back c) lost → ¬ Runs nodes_known size kept begin start s
 
 -- Words of an image that opens, which correspond to the heap: a stop that leaves them would be of this order.
 pub record IsOfAnImage (lost : Heap) : Type 0 where

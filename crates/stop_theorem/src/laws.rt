@@ -1,9 +1,14 @@
 //! The stop theorem. Each function states a part of it in its contract, and does nothing.
-ghost use Rattle.stop_theorem.specs.Laws.{CallsKeepMoments, StoresKeepMoments, ActsKeepMoments, StartsStand, RecoveryKeepsAllowed, FoundImagesStart};
-ghost use Rattle.stop_theorem.specs.Given.{FencedStoresAreEvents, LinesMayBeFenced, RunBegins, OneStoreIsFenced, BeginIsAnEvent, EntryWordsAreEvents, CountedEntriesAreEvents, RegionStoresAreEvents, ClosingIsAnEvent, EmptiedLogsAreEvents, EndedRegionsAreEvents};
-ghost use Rattle.stop_theorem.specs.GivenCopies.{FreeStoresAreEvents, QuietActsAreEvents, WrittenLinesAreEvents, FencedGroupsAreEvents, OneGroupIsSealed};
+ghost use Rattle.stop_theorem.specs.Laws.{CallsKeepMoments, StoresKeepMoments, ActsKeepMoments, StartsStand};
+ghost use Rattle.stop_theorem.specs.Laws.{RecoveryKeepsAllowed, FoundImagesStart};
+ghost use Rattle.stop_theorem.specs.Given.{FencedStoresAreEvents, LinesMayBeFenced, RunBegins, OneStoreIsFenced};
+ghost use Rattle.stop_theorem.specs.Given.{BeginIsAnEvent, EntryWordsAreEvents, CountedEntriesAreEvents, RegionStoresAreEvents};
+ghost use Rattle.stop_theorem.specs.Given.{ClosingIsAnEvent, EmptiedLogsAreEvents, EndedRegionsAreEvents};
+ghost use Rattle.stop_theorem.specs.GivenCopies.{FreeStoresAreEvents, QuietActsAreEvents, WrittenLinesAreEvents};
+ghost use Rattle.stop_theorem.specs.GivenCopies.{FencedGroupsAreEvents, OneGroupIsSealed};
 ghost use Rattle.stop_theorem.specs.WrongOrders.{WrongOrdersAreRefused};
-ghost use Rattle.stop_theorem.specs.Running.{RunsStart, EventsKeep, EveryStopIsAllowed, EventsKeepWhereTold, RunningStopsAreAllowed};
+ghost use Rattle.stop_theorem.specs.Running.{RunsStart, EventsKeep, EveryStopIsAllowed, EventsKeepWhereTold};
+ghost use Rattle.stop_theorem.specs.Running.{RunningStopsAreAllowed};
 
 /// The moments so far.
 pub fn events_keep_moments()

@@ -1,5 +1,6 @@
 -- No two durable places of a machine's heap lie in one word of the image.
-use Rattle.std.proofs.Common.{◌≡◌, ◌≢◌, inl, inr, ℕ, ◌+◌, ◌/◌, ◌<◌, ◌≤◌, true, List, length, sym, ◌∙◌, ap, subst, arith, map, slice_index_or}
+use Rattle.std.proofs.Common.{◌≡◌, ◌≢◌, inl, inr, ℕ, ◌+◌, ◌/◌, ◌<◌, ◌≤◌, true, List, length, sym, ◌∙◌, ap, subst, arith, map}
+use Rattle.std.proofs.Common.{slice_index_or}
 use Rattle.std.proofs.lemmas.Bool.{cases_lt}
 use Rattle.std.proofs.Math.ListN.{get_or-eq_default}
 use Rattle.ap_base.specs.declared.place.Place.{Place}
@@ -10,10 +11,10 @@ use Rattle.graph_model.specs.Heaps.{values_of}
 use Rattle.image_layout.specs.Places.{first_object_line, slot_line, slot_word, object_line, object_word}
 use Rattle.image_meaning.specs.Corresponds.{root_static}
 use Rattle.run_history.specs.Knowing.{Knowledge}
-use Rattle.stop_invariant.specs.Layouts.{root_number, is_kept_place}
-use Rattle.stop_invariant.specs.Events.{line_at, word_at}
-use Rattle.stop_invariant.proofs.Held.{root_is}
-use Rattle.stop_invariant.proofs.KeptPlaces.{IsKeptSlot, slot_parts, root_parts}
+use Rattle.stop_theorem.specs.Layouts.{root_number, is_kept_place}
+use Rattle.stop_theorem.specs.InvariantEvents.{line_at, word_at}
+use Rattle.stop_theorem.proofs.Held.{root_is}
+use Rattle.stop_theorem.proofs.KeptPlaces.{IsKeptSlot, slot_parts, root_parts}
 use Rattle.twin_forms.specs.Table.{Entry, entry, InP}
 use Rattle.twin_forms.specs.Sights.{view_of}
 use Rattle.twin_forms.proofs.Led.{same_or_not}

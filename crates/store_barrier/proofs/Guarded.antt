@@ -1,5 +1,6 @@
 -- Who has guarded the word of a durable place, by the logs of a machine and by its acts.
-use Rattle.std.proofs.Common.{◌≡◌, inl, inr, ℕ, ◌<◌, true, false, nat_lt, List, [], length, Option, Some, None, refl, sym, ◌∙◌, ap, subst, arith}
+use Rattle.std.proofs.Common.{◌≡◌, inl, inr, ℕ, ◌<◌, true, false, nat_lt, List, [], length, Option, Some, None, refl, sym, ◌∙◌}
+use Rattle.std.proofs.Common.{ap, subst, arith}
 use Rattle.std.proofs.lemmas.Bool.{and_from, false≢true, lt-ltb}
 use Rattle.std.proofs.lemmas.List.{get_or_past}
 use Rattle.ap_base.specs.declared.place.Place.{Place}
@@ -7,14 +8,13 @@ use Rattle.ap_base.specs.declared.place.Place.TheVariants.{Static, Slot}
 use Rattle.ap_base.specs.declared.place.Spot.{Spot}
 use Rattle.graph_model.specs.declared.types.Obj.{Obj}
 use Rattle.graph_model.specs.Heaps.{no_object, values_of}
-use Rattle.image_layout.specs.Places.{log_entries}
 use Rattle.line_memory.specs.Memory.{shown}
 use Rattle.graph_model.specs.declared.types.Value.{Value}
 use Rattle.run_history.specs.Knowing.{Knowledge, durable_at, guard_of}
 use Rattle.run_history.specs.Worlds.{has_place}
 use Rattle.shared_objects.specs.Shown.{Shown}
 use Rattle.shared_objects.specs.Worlds.{heap_of}
-use Rattle.stop_invariant.specs.Layouts.{Layout, is_kept_place}
+use Rattle.stop_theorem.specs.Layouts.{Layout, is_kept_place}
 use Rattle.object_steps.specs.declared.storing.Store.{Store}
 use Rattle.object_steps.specs.declared.storing.Target.{Target}
 use Rattle.object_steps.specs.declared.storing.Target.TheVariants as target
@@ -22,7 +22,7 @@ use Rattle.object_steps.specs.Stores.{CanStore, CanTake, place_of}
 use Rattle.region_log.specs.declared.entry.Underway.{Underway}
 use Rattle.region_log.specs.declared.entry.Underway.TheVariants.{Nothing, Adding, Ending}
 use Rattle.region_log.specs.Guarding.{IsAdded, IsGuarded, is_adding}
-use Rattle.region_log.specs.Log.{Log, SameWord, entry_of}
+use Rattle.region_log.specs.Log.{Log, SameWord, entry_of, most_entries}
 use Rattle.region_log.specs.Readers.{is_ending}
 use Rattle.region_events.specs.Guards.{IsWordOf}
 use Rattle.region_events.specs.Laws.{MayBeGuarded}
@@ -35,7 +35,8 @@ use Rattle.machine_forms.specs.Machines.{Opening, Machine, empty_log, known_in, 
 use Rattle.machine_forms.specs.Keeping.{KeepsLogOf, KeepsRun}
 use Rattle.store_barrier.specs.Barriers.{IsDurablePlace, IsSpotAt, line_of_place, static_at, word_of_place, word_of_static}
 use Rattle.store_barrier.specs.Regions.{HasLogged, IsApart, LogsFirst}
-use Rattle.store_barrier.specs.Laws.{GuardedBy, GuardsAgree, GuardsItsStore, PlacesMayBeGuarded, StoredPlacesAreKept, StoresAreLogged, StoresAreOutside}
+use Rattle.store_barrier.specs.Laws.{GuardedBy, GuardsAgree, GuardsItsStore, PlacesMayBeGuarded, StoredPlacesAreKept}
+use Rattle.store_barrier.specs.Laws.{StoresAreLogged, StoresAreOutside}
 use Rattle.store_barrier.proofs.Apart.{places_apart}
 use Rattle.store_barrier.proofs.Machines.{durable_places, spot_is, word_is}
 use Rattle.store_barrier.proofs.Spots.{moved}
@@ -209,7 +210,7 @@ module _ (o : Opening) (m : Machine) (es : List Entry) (k : KeepsRun o m es) whe
 
   may_guard : (t : ℕ) (p : Place) (spot : Spot) (old : ℕ) → is_kept_place known p ≡ true
       → LogsFirst m.spaces es m.logs t p spot → is_adding (log_of m t).underway ≡ false
-      → is_ending (log_of m t).underway ≡ false → length (log_of m t).entries < log_entries
+      → is_ending (log_of m t).underway ≡ false → length (log_of m t).entries < most_entries
       → old ≡ shown (memory_of m) spot.line spot.word
       → MayBeGuarded known lay (memory_of m) (log_of m t) (entry_of spot old) p
   may_guard t p spot old kept first added ends room shows =

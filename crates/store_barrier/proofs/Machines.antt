@@ -1,5 +1,6 @@
 -- The answers of a machine that keeps its run.
-use Rattle.std.proofs.Common.{◌≡◌, ◌⊎◌, inl, inr, ℕ, suc, ◌-◌, ◌<◌, ◌||◌, true, false, nat_eq, not, List, [], ◌∷◌, length, map, Option, Some, None, refl, sym, ◌∙◌, ap, subst, arith, rules, if◌then◌else◌}
+use Rattle.std.proofs.Common.{◌≡◌, ◌⊎◌, inl, inr, ℕ, suc, ◌-◌, ◌<◌, ◌||◌, true, false, nat_eq, not, List, [], ◌∷◌, length, map}
+use Rattle.std.proofs.Common.{Option, Some, None, refl, sym, ◌∙◌, ap, subst, arith, rules, if◌then◌else◌}
 use Rattle.std.specs.Prelude.{slice_index_or, ◌↔◌}
 use Rattle.std.proofs.lemmas.Bool.{false≢true}
 use Rattle.std.proofs.lemmas.List.{get_or_past}
@@ -15,8 +16,8 @@ use Rattle.image_layout.specs.Places.{slot_line, slot_word}
 use Rattle.run_history.specs.Knowing.{durable_at, is_root}
 use Rattle.plain_model.specs.Runs.{is_volatile}
 use Rattle.shared_objects.specs.Shown.{item_value, number_value}
-use Rattle.stop_invariant.specs.Events.{line_at, word_at}
-use Rattle.stop_invariant.specs.Layouts.{root_number}
+use Rattle.stop_theorem.specs.InvariantEvents.{line_at, word_at}
+use Rattle.stop_theorem.specs.Layouts.{root_number}
 use Rattle.object_steps.specs.declared.storing.Store.{Store}
 use Rattle.object_steps.specs.Stores.{place_of}
 use Rattle.twin_forms.specs.Sights.{view_of}
@@ -30,8 +31,10 @@ use Rattle.machine_forms.specs.Keeping.{KeepsRun}
 use Rattle.machine_forms.specs.Events.{IsSlotOfClaimed, value_in}
 use Rattle.machine_forms.proofs.Layouts.{layouts}
 use Rattle.region_events.specs.Guards.{IsWordOf}
-use Rattle.store_barrier.specs.Barriers.{ConvertsFirst, HoldsDurable, IsDurablePlace, IsRoot, IsSpotAt, IsVolatile, line_of_place, line_of_static, static_at, word_of_place, word_of_static}
-use Rattle.store_barrier.specs.Laws.{Asks, ConversionsAreAsked, DurableLinesAgree, DurablePlacesAgree, DurableWordsAgree, StoresKeepDurable}
+use Rattle.store_barrier.specs.Barriers.{ConvertsFirst, HoldsDurable, IsDurablePlace, IsRoot, IsSpotAt, IsVolatile}
+use Rattle.store_barrier.specs.Barriers.{line_of_place, line_of_static, static_at, word_of_place, word_of_static}
+use Rattle.store_barrier.specs.Laws.{Asks, ConversionsAreAsked, DurableLinesAgree, DurablePlacesAgree, DurableWordsAgree}
+use Rattle.store_barrier.specs.Laws.{StoresKeepDurable}
 use Rattle.store_barrier.proofs.Holders.{durable_or_not}
 
 -- ---- roots

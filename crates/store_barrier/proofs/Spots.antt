@@ -1,5 +1,6 @@
 -- The word of a durable place, and how a store goes on by it.
-use Rattle.std.proofs.Common.{◌≡◌, ◌≢◌, inl, inr, ℕ, ◌+◌, ◌<◌, Bool, true, false, List, Option, Some, None, refl, sym, ◌∙◌, ap, subst, arith}
+use Rattle.std.proofs.Common.{◌≡◌, ◌≢◌, inl, inr, ℕ, ◌+◌, ◌<◌, Bool, true, false, List, Option, Some, None, refl, sym, ◌∙◌, ap}
+use Rattle.std.proofs.Common.{subst, arith}
 use Rattle.std.specs.Prelude.{IfSome, IsNone, is_none, is_some}
 use Rattle.std.proofs.lemmas.Bool.{true≢false}
 use Rattle.ap_base.specs.declared.place.Place.{Place}
@@ -21,7 +22,8 @@ use Rattle.two_spaces.specs.Seen.{Spaces}
 use Rattle.store_barrier.specs.declared.barrier.Barrier.{Barrier}
 use Rattle.store_barrier.specs.declared.barrier.Barrier.TheVariants as barrier
 use Rattle.store_barrier.specs.Barriers.{IfConverts, IfFollows, IfLogs, IfNoRace, IfRaces, IfStores, IsSpotAt, IsSpotOf}
-use Rattle.store_barrier.specs.Regions.{GoesFor, HasLogged, HasWord, IsLineLeft, IsOtherGuard, LacksWord, LogsFirst, Races, log_in}
+use Rattle.store_barrier.specs.Regions.{GoesFor, HasLogged, HasWord, IsLineLeft, IsOtherGuard, LacksWord, LogsFirst, Races}
+use Rattle.store_barrier.specs.Regions.{log_in}
 use Rattle.store_barrier.proofs.Holders.{Held}
 
 -- ---- words

@@ -5,15 +5,14 @@ use Rattle.ap_base.specs.declared.place.Place.{Place}
 use Rattle.ap_base.specs.declared.place.Spot.{Spot}
 use Rattle.ap_base.specs.declared.reference.Ref.{Ref}
 use Rattle.graph_model.specs.declared.types.Value.TheVariants.{Obj as Object}
-use Rattle.image_layout.specs.Places.{log_entries}
 use Rattle.line_memory.specs.Memory.{shown}
 use Rattle.run_history.specs.Knowing.{durable_at, guard_of}
 use Rattle.plain_model.specs.Runs.{is_volatile}
-use Rattle.stop_invariant.specs.Layouts.{is_kept_place}
-use Rattle.stop_invariant.specs.Events.{line_at}
+use Rattle.stop_theorem.specs.Layouts.{is_kept_place}
+use Rattle.stop_theorem.specs.InvariantEvents.{line_at}
 use Rattle.region_log.specs.declared.entry.Underway.TheVariants.{Nothing}
 use Rattle.region_log.specs.Guarding.{IsGuarded, is_adding}
-use Rattle.region_log.specs.Log.{entry_of}
+use Rattle.region_log.specs.Log.{entry_of, most_entries}
 use Rattle.region_log.specs.Readers.{is_ending}
 use Rattle.region_events.specs.Guards.{IsWordOf}
 use Rattle.region_events.specs.Laws.{MayBeGuarded}
@@ -108,5 +107,5 @@ StoresAreLogged = OfApart (λ o m es t p. 0 < (log_of m t).depth → HasLogged m
 abbrev pub PlacesMayBeGuarded : Type 0
 PlacesMayBeGuarded = OfApart (λ o m es t p. (spot : Spot) (old : ℕ) → LogsFirst m.spaces es m.logs t p spot
     → is_adding (log_of m t).underway ≡ false → is_ending (log_of m t).underway ≡ false
-    → length (log_of m t).entries < log_entries → old ≡ shown (memory_of m) spot.line spot.word
+    → length (log_of m t).entries < most_entries → old ≡ shown (memory_of m) spot.line spot.word
     → MayBeGuarded (known_in o m) (layout_in o es) (memory_of m) (log_of m t) (entry_of spot old) p)

@@ -7,8 +7,10 @@ ghost use Rattle.twin_forms.specs.Sights.{sight};
 ghost use Rattle.twin_forms.specs.Table.{Entry, Lies};
 ghost use Rattle.two_spaces.specs.Seen.{shown_of};
 ghost use Rattle.two_spaces.specs.Whole.{IsItem, IsWhole, Stands};
-ghost use Rattle.store_barrier.specs.Barriers.{ConvertsFirst, HoldsDurable, IfConverts, IfFollows, IfLogs, IfNoRace, IfRaces, IfStores, IsSpotOf, IsVolatile, MayFollow, spaces_of};
-ghost use Rattle.store_barrier.specs.Regions.{GoesFor, HasLogged, HasWord, IsApart, IsLineLeft, IsOtherGuard, LacksWord, LogsFirst, Races};
+ghost use Rattle.store_barrier.specs.Barriers.{ConvertsFirst, HoldsDurable, IfConverts, IfFollows, IfLogs, IfNoRace, IfRaces};
+ghost use Rattle.store_barrier.specs.Barriers.{IfStores, IsSpotOf, IsVolatile, MayFollow, spaces_of};
+ghost use Rattle.store_barrier.specs.Regions.{GoesFor, HasLogged, HasWord, IsApart, IsLineLeft, IsOtherGuard, LacksWord};
+ghost use Rattle.store_barrier.specs.Regions.{LogsFirst, Races};
 
 use ap_base::{Item, Ref, Spot, ThreadNo};
 use image_layout::slot_spot;

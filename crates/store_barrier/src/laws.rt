@@ -1,5 +1,7 @@
 // Laws of barriers.
-ghost use Rattle.store_barrier.specs.Laws.{ConversionsAreAsked, DurableLinesAgree, DurablePlacesAgree, DurableWordsAgree, GuardsAgree, PlacesMayBeGuarded, StoredPlacesAreKept, StoresAreLogged, StoresAreOutside, StoresKeepDurable};
+ghost use Rattle.store_barrier.specs.Laws.{ConversionsAreAsked, DurableLinesAgree, DurablePlacesAgree, DurableWordsAgree};
+ghost use Rattle.store_barrier.specs.Laws.{GuardsAgree, PlacesMayBeGuarded, StoredPlacesAreKept, StoresAreLogged};
+ghost use Rattle.store_barrier.specs.Laws.{StoresAreOutside, StoresKeepDurable};
 
 /// Of a machine that keeps its run: durable places, their lines and words, and who has guarded them;
 /// and what its events ask of a store.

@@ -1,5 +1,6 @@
 -- An object whose words stay as they are lies as before.
-use Rattle.std.proofs.Common.{◌≡◌, ◌≢◌, inl, inr, ℕ, ◌+◌, ◌*◌, ◌/◌, ◌<◌, ◌≤◌, Bool, true, false, List, length, refl, sym, ◌∙◌, ap, subst, arith}
+use Rattle.std.proofs.Common.{◌≡◌, ◌≢◌, inl, inr, ℕ, ◌+◌, ◌*◌, ◌/◌, ◌<◌, ◌≤◌, Bool, true, false, List, length, refl, sym, ◌∙◌}
+use Rattle.std.proofs.Common.{ap, subst, arith}
 use Rattle.std.specs.Prelude.{ltb}
 use Rattle.std.proofs.lemmas.Grind.{common_steps}
 use Rattle.twin_forms.specs.Table.{Entry, entry, View, word_of, is_reference, refers, Table, Sits}
@@ -20,12 +21,15 @@ pub record SameSizes (v v' : View) : Type 0 where
   pub shapes : v'.shapes ≡ v.shapes
   pub room : v'.room ≡ v.room
   pub kinds : v'.kinds ≡ v.kinds
+  pub kept : v'.kept ≡ v.kept
 
 pub refers_same : (v v' : View) (e : Entry) (k : ℕ) → SameSizes v v' → refers v' e k ≡ refers v e k
 refers_same v v' e k sizes = ap (λ kinds. is_reference (kinds e.shape k)) sizes.kinds
 
 pub table_same : (v v' : View) (es : List Entry) → SameSizes v v' → Table v.words v.lines v.shapes es → Table v'.words v'.lines v'.shapes es
-table_same v v' es sizes t = subst (λ x. Table x v'.lines v'.shapes es) (sym sizes.words) (subst (λ x. Table v.words x v'.shapes es) (sym sizes.lines) (subst (λ x. Table v.words v.lines x es) (sym sizes.shapes) t))
+table_same v v' es sizes t = subst (λ x. Table x v'.lines v'.shapes es) (sym sizes.words)
+    (subst (λ x. Table v.words x v'.shapes es) (sym sizes.lines)
+    (subst (λ x. Table v.words v.lines x es) (sym sizes.shapes) t))
 
 -- Each word of each object says what it said.
 pub record Agree (v v' : View) (e : Entry) : Type 0 where
@@ -62,14 +66,20 @@ sits_agree v v' n e a h = record {
   copy_head = λ s. shown_at a (omega arith) (8 * e.line) 0 (omega arith) (omega arith) ∙ h.copy_head s;
   count = λ s. a.copied (omega arith) ∙ h.count s;
   mirrored_head = λ s c. shown_at a (omega arith) (8 * e.line) 0 (omega arith) (omega arith) ∙ h.mirrored_head s c;
-  mirrored = λ k s lt c. shown_at a (omega arith) (8 * e.line + 1 + k) (1 + k) (omega arith) (omega arith) ∙ h.mirrored k s lt c ∙ sym (old_at a (omega arith) (e.at + 3 + k) (3 + k) (omega arith) (omega arith));
+  mirrored = λ k s lt c. shown_at a (omega arith) (8 * e.line + 1 + k) (1 + k) (omega arith) (omega arith) ∙ h.mirrored k s
+      lt c ∙ sym (old_at a (omega arith) (e.at + 3 + k) (3 + k) (omega arith) (omega arith));
 }
 
 -- a change of one word of object n's old copy leaves object m alone
-pub old_elsewhere : {words lines shapes : ℕ} {es : List Entry} → Table words lines shapes es → (m n : ℕ) → m < length es → n < length es → m ≢ n → (entry es m).stage < 3 → (entry es n).stage < 3 → (i j : ℕ) → i < (entry es n).slots + 3 → j < (entry es m).slots + 3 → (entry es m).at + j ≢ (entry es n).at + i
+pub old_elsewhere : {words lines shapes : ℕ} {es : List Entry} → Table words lines shapes es → (m n : ℕ) → m < length es →
+    n < length es → m ≢ n → (entry es m).stage < 3 → (entry es n).stage < 3 → (i j : ℕ) → i < (entry es n).slots + 3 → j <
+    (entry es m).slots + 3 → (entry es m).at + j ≢ (entry es n).at + i
 old_elsewhere {words} {lines} {shapes} {es} t m n lm ln ne sm sn i j li lj = let a = t.old_apart m n lm ln ne sm sn in
     elim a [ inl x ↦ λ e. omega (arith, x, e) | inr x ↦ λ e. omega (arith, x, e) ]
 
-pub copy_elsewhere : {words lines shapes : ℕ} {es : List Entry} → Table words lines shapes es → (m n : ℕ) → m < length es → n < length es → m ≢ n → 0 < (entry es m).stage → 0 < (entry es n).stage → (i j : ℕ) → i < 8 * ((entry es n).slots / 8 + 1) → j < 8 * ((entry es m).slots / 8 + 1) → 8 * (entry es m).line + j ≢ 8 * (entry es n).line + i
+pub copy_elsewhere : {words lines shapes : ℕ} {es : List Entry} → Table words lines shapes es → (m n : ℕ) → m < length es →
+    n < length es → m ≢ n → 0 < (entry es m).stage → 0 < (entry es n).stage → (i j : ℕ) → i < 8 *
+    ((entry es n).slots / 8 + 1) → j < 8 * ((entry es m).slots / 8 + 1) → 8 * (entry es m).line + j ≢ 8 * (entry es n).line
+    + i
 copy_elsewhere {words} {lines} {shapes} {es} t m n lm ln ne sm sn i j li lj = let a = t.copy_apart m n lm ln ne sm sn in
     elim a [ inl x ↦ λ e. omega (arith, x, e) | inr x ↦ λ e. omega (arith, x, e) ]

@@ -30,7 +30,10 @@ same_heap v v' es h sizes agree = let lies = lies_same v v' es h sizes agree in 
     slots = λ m lm. refl;
     led = λ m x lm a. a;
     same = λ m k lm lk. ap (λ r. value_of v' r (word_of v' (entry es m) k)) (refers_same v v' (entry es m) k sizes) ∙
-        value_same v v' es es (refers v (entry es m) k) (word_of v (entry es m) k) (word_of v' (entry es m) k) h lies (omega arith) (λ n x ln a. a) (λ r. h.refs m k lm r lk) (as_was (word_agree v v' (entry es m) k (agree m lm) lk));
+        value_same v v' es es (refers v (entry es m) k) (word_of v (entry es m) k) (word_of v' (entry es m) k) h lies
+        (omega arith) (λ n x ln a. a) (λ r. h.refs m k lm r lk)
+        (as_was (word_agree v v' (entry es m) k (agree m lm) lk));
+    kept = sizes.kept;
   };
 }
 
@@ -38,7 +41,7 @@ same_heap v v' es h sizes agree = let lies = lies_same v v' es h sizes agree in 
 pub still_shows : (space : Space) (m m' : Memory) (marks : Marks) (es : List Entry) → m'.size ≡ m.size → ((l w : ℕ) → l < m.size → shown m' l w ≡ shown m l w) →
     Lies (sight space m marks) es → Moved (sight space m marks) es (sight space m' marks) es
 still_shows space m m' marks es size same h = same_heap (sight space m marks) (sight space m' marks) es h
-    (record { words = refl; left = refl; lines = size; marks = refl; birth = λ _. refl; count = refl; shapes = refl; room = refl; kinds = refl })
+    (record { words = refl; left = refl; lines = size; marks = refl; birth = λ _. refl; count = refl; shapes = refl; room = refl; kinds = refl; kept = refl })
     (λ n ln. record {
       old = λ _ _ _. refl;
       shown = λ s j lj. let c = h.table.copy_in n ln s in same ((8 * (entry es n).line + j) / 8) ((8 * (entry es n).line + j) % 8) (omega (arith, c, lj));

@@ -33,7 +33,12 @@ pub data Cases (e : Entry) : Type 0 where
 pub cases : (e : Entry) → e.stage < 3 → Cases e
 cases e lt = elim (same_or_not e.owner 0) [
   | inl o ↦ (elim (same_or_not e.stage 0) [ inl s ↦ is_ordinary s o | inr ns ↦ (elim (same_or_not e.stage 1) [ inl s ↦ is_copying s | inr nt ↦ is_durable (omega (arith, lt, ns, nt)) o ]) ])
-  | inr o ↦ (elim (same_or_not e.stage 0) [ inl s ↦ is_claimed s (omega (arith, o)) | inr ns ↦ (elim (same_or_not e.stage 1) [ inl s ↦ is_copying s | inr nt ↦ is_converted (omega (arith, lt, ns, nt)) (omega (arith, o)) ]) ])
+  | inr o ↦ (elim (same_or_not e.stage 0) [
+    | inl s ↦ is_claimed s (omega (arith, o))
+    | inr ns ↦
+        (elim (same_or_not e.stage 1)
+        [ inl s ↦ is_copying s | inr nt ↦ is_converted (omega (arith, lt, ns, nt)) (omega (arith, o)) ])
+  ])
 ]
 
 abbrev tag : State → ℕ
@@ -111,7 +116,10 @@ is_state {words} {lines} {shapes} {es} t n ln lt =
     elim (cases e lt) [
       | is_ordinary s o ↦ subst IsState (sym (when_ordinary e s o)) tt
       | is_claimed s o ↦ (let k : e.owner - 1 < 64 = omega (arith, most, o) in subst IsState (sym (when_claimed e s o)) k)
-      | is_copying s ↦ (let c = t.copy_in n ln (omega (arith, s)) in let o = t.copying n ln s in let k : e.owner - 1 < 64 = omega (arith, most, o) in let l : e.line < 2 ^ 32 = omega (arith, c, few) in subst IsState (sym (when_copying e s)) (k, l))
-      | is_converted s o ↦ (let c = t.copy_in n ln (omega (arith, s)) in let k : e.owner - 1 < 64 = omega (arith, most, o) in let l : e.line < 2 ^ 32 = omega (arith, c, few) in subst IsState (sym (when_converted e s o)) (k, l))
+      | is_copying s ↦ (let c = t.copy_in n ln (omega (arith, s)) in let o = t.copying n ln s in let k : e.owner - 1 < 64 =
+          omega (arith, most, o) in let l : e.line < 2 ^ 32 = omega (arith, c, few) in subst IsState
+          (sym (when_copying e s)) (k, l))
+      | is_converted s o ↦ (let c = t.copy_in n ln (omega (arith, s)) in let k : e.owner - 1 < 64 = omega (arith, most, o)
+          in let l : e.line < 2 ^ 32 = omega (arith, c, few) in subst IsState (sym (when_converted e s o)) (k, l))
       | is_durable s o ↦ (let c = t.copy_in n ln (omega (arith, s)) in let l : e.line < 2 ^ 32 = omega (arith, c, few) in subst IsState (sym (when_durable e s o)) l)
     ]

@@ -4,7 +4,8 @@ use Rattle.std.specs.Prelude.{◌^◌}
 use Rattle.twin_forms.specs.Table.{Entry, entry, View, word_of, IsRef, refers, Sits, Lies}
 use Rattle.twin_forms.specs.Moves.{Stored}
 use Rattle.twin_forms.proofs.Led.{same_or_not, word_young, word_moved}
-use Rattle.twin_forms.proofs.Frames.{Put, Agree, SameSizes, refers_same, table_same, word_agree, sits_agree, old_elsewhere, copy_elsewhere}
+use Rattle.twin_forms.proofs.Frames.{Put, Agree, SameSizes, refers_same, table_same, word_agree, sits_agree, old_elsewhere}
+use Rattle.twin_forms.proofs.Frames.{copy_elsewhere}
 
 -- where the numbers, the counts and the sizes are as they were
 pub record Rest (v v' : View) : Type 0 where
@@ -42,12 +43,16 @@ whole v v' es n i w h ln li ref rest others mine is slots =
           | inr ne ↦ subst (IsRef es) (sym (same m k lm lk (inl ne))) (h.refs m k lm r lk)
           | inl e ↦ (elim (same_or_not k i) [
             | inr ne ↦ subst (IsRef es) (sym (same m k lm lk (inr ne))) (h.refs m k lm r lk)
-            | inl f ↦ subst (IsRef es) (sym (subst (λ x. word_of v' (entry es x) k ≡ w) (sym e) (subst (λ x. word_of v' (entry es n) x ≡ w) (sym f) is))) (ref (subst (λ x. refers v (entry es n) x ≡ true) f (subst (λ x. refers v (entry es x) k ≡ true) e r)))
+            | inl f ↦ subst (IsRef es)
+                (sym (subst (λ x. word_of v' (entry es x) k ≡ w) (sym e)
+                (subst (λ x. word_of v' (entry es n) x ≡ w) (sym f) is)))
+                (ref (subst (λ x. refers v (entry es n) x ≡ true) f (subst (λ x. refers v (entry es x) k ≡ true) e r)))
           ])
         ]);
       };
       here = is;
       same = same;
+      kept = rest.sizes.kept;
     }
 
 -- the copy is current

@@ -3,9 +3,11 @@ use Rattle.std.proofs.Common.{◌≡◌, ◌⊎◌, inl, inr, ℕ, ◌+◌, ◌*
 use Rattle.std.proofs.lemmas.Grind.{common_steps}
 use Rattle.std.specs.Prelude.{◌-◌, ◌^◌}
 use Rattle.object_header.specs.States.{header_word}
-use Rattle.twin_forms.specs.Table.{Entry, entry, View, state_word, head_word, refers, word_of, Names, IsRef, Lies, value_of, shows}
+use Rattle.twin_forms.specs.Table.{Entry, entry, View, state_word, head_word, refers, word_of, Names, IsRef, Lies, value_of}
+use Rattle.twin_forms.specs.Table.{shows}
 use Rattle.twin_forms.proofs.Led.{same_or_not, word_young, word_moved}
-use Rattle.twin_forms.proofs.States.{is_ordinary, is_claimed, is_copying, is_converted, is_durable, cases, when_ordinary, when_claimed, when_copying, when_converted, when_durable}
+use Rattle.twin_forms.proofs.States.{is_ordinary, is_claimed, is_copying, is_converted, is_durable, cases, when_ordinary}
+use Rattle.twin_forms.proofs.States.{when_claimed, when_copying, when_converted, when_durable}
 
 -- what counts of an entry is told by the words
 pub record Alike (e e' : Entry) : Type 0 where
@@ -34,8 +36,11 @@ pub parts : (e : Entry) (w : ℕ) → e.stage < 3 → e.owner ≤ 64 → (e.stag
 parts e w lt most some eq = elim (cases e lt) [
   | is_ordinary s o ↦ (let x : w ≡ 0 = eq ∙ ap header_word (when_ordinary e s o) in inl (omega (arith, x), s, o))
   | is_claimed s o ↦ (let x : w ≡ 1 + 8 * (e.owner - 1) = eq ∙ ap header_word (when_claimed e s o) in inr (inl (omega (arith, x), s, omega (arith, x, o, most))))
-  | is_copying s ↦ (let o = some s in let x : w ≡ 2 + 8 * (e.owner - 1) + 4294967296 * e.line = eq ∙ ap header_word (when_copying e s) in inr (inr (inl (omega (arith, x), s, omega (arith, x, o, most), omega (arith, x, o, most)))))
-  | is_converted s o ↦ (let x : w ≡ 3 + 8 * (e.owner - 1) + 4294967296 * e.line = eq ∙ ap header_word (when_converted e s o) in inr (inr (inr (inl (omega (arith, x), s, omega (arith, x, o, most), omega (arith, x, o, most))))))
+  | is_copying s ↦ (let o = some s in let x : w ≡ 2 + 8 * (e.owner - 1) + 4294967296 * e.line = eq ∙ ap header_word
+      (when_copying e s) in inr (inr (inl (omega (arith, x), s, omega (arith, x, o, most), omega (arith, x, o, most)))))
+  | is_converted s o ↦ (let x : w ≡ 3 + 8 * (e.owner - 1) + 4294967296 * e.line = eq ∙ ap header_word
+      (when_converted e s o) in inr
+      (inr (inr (inl (omega (arith, x), s, omega (arith, x, o, most), omega (arith, x, o, most))))))
   | is_durable s o ↦ (let x : w ≡ 4 + 4294967296 * e.line = eq ∙ ap header_word (when_durable e s o) in inr (inr (inr (inr (omega (arith, x), s, o, omega (arith, x))))))
 ]
 
@@ -58,15 +63,31 @@ alike v es es' n h k ln =
     elim (same_or_not e.stage 3) [
       | inl three ↦
           (let x = h.births.copy n ln three in
-          let three' : (entry es' n).stage ≡ 3 = (elim (same_or_not (entry es' n).stage 3) [ inl y ↦ y | inr ne ↦ (let y = k.births.old n ln' (omega (arith, ne, s3')) in absurd (omega (arith, x, y))) ]) in
+          let three' : (entry es' n).stage ≡ 3 =
+          (elim (same_or_not (entry es' n).stage 3) [
+            | inl y ↦ y
+            | inr ne ↦ (let y = k.births.old n ln' (omega (arith, ne, s3')) in absurd (omega (arith, x, y)))
+          ]) in
           let y = k.births.copy n ln' three' in
           let line : (entry es' n).line ≡ (entry es n).line = omega (arith, x, y) in
           let head = heads_alike (v.shown (8 * (entry es n).line)) e e' few few' (a.copy_head (omega (arith, three))) (ap (λ l. v.shown (8 * l)) (sym line) ∙ b.copy_head (omega (arith, three'))) in
-          record { stage = three' ∙ sym three; owner = k.table.born n ln' three' ∙ sym (h.table.born n ln three); at = λ lt. absurd (omega (arith, lt, three)); line = λ _. line; slots = head.0; shape = head.1 })
+          record {
+            stage = three' ∙ sym three;
+            owner = k.table.born n ln' three' ∙ sym (h.table.born n ln three);
+            at = λ
+                lt. absurd (omega (arith, lt, three));
+            line = λ _. line;
+            slots = head.0;
+            shape = head.1;
+          })
       | inr ne ↦
           (let lt : (entry es n).stage < 3 = omega (arith, ne, s3) in
           let x = h.births.old n ln lt in
-          let lt' : (entry es' n).stage < 3 = (elim (same_or_not (entry es' n).stage 3) [ inl y ↦ (let z = k.births.copy n ln' y in absurd (omega (arith, x, z))) | inr ne ↦ omega (arith, ne, s3') ]) in
+          let lt' : (entry es' n).stage < 3 =
+          (elim (same_or_not (entry es' n).stage 3) [
+            | inl y ↦ (let z = k.births.copy n ln' y in absurd (omega (arith, x, z)))
+            | inr ne ↦ omega (arith, ne, s3')
+          ]) in
           let y = k.births.old n ln' lt' in
           let at : (entry es' n).at ≡ (entry es n).at = omega (arith, x, y) in
           let same = states_alike (entry es n) (entry es' n) (v.old (entry es n).at)

@@ -1,12 +1,15 @@
 -- A claim, the copy of a line, a forwarding and the repair of a line change nothing that the heap shows.
-use Rattle.std.proofs.Common.{◌≡◌, ◌≢◌, ◌⊎◌, inl, inr, ℕ, ◌+◌, ◌-◌, ◌*◌, ◌/◌, ◌%◌, ◌<◌, ◌≤◌, Bool, true, false, List, length, refl, sym, ◌∙◌, ap, subst, arith}
+use Rattle.std.proofs.Common.{◌≡◌, ◌≢◌, ◌⊎◌, inl, inr, ℕ, ◌+◌, ◌-◌, ◌*◌, ◌/◌, ◌%◌, ◌<◌, ◌≤◌, Bool, true, false, List, length}
+use Rattle.std.proofs.Common.{refl, sym, ◌∙◌, ap, subst, arith}
 use Rattle.std.specs.Prelude.{slice_set}
 use Rattle.std.proofs.lemmas.Grind.{common_steps}
 use Rattle.std.proofs.lemmas.List.{set-get_or}
 use Rattle.object_header.specs.States.{header_word}
 use Rattle.object_header.specs.declared.state.State.TheVariants.{Claimed, Copying, Converted, Durable}
-use Rattle.twin_forms.specs.Table.{Entry, no_entry, entry, View, state_word, head_word, word_of, Names, IsRef, refers, Apart, Lies}
-use Rattle.twin_forms.specs.Moves.{Moved, owned, placed, one_more, forwarded, sealed, ToClaim, ToPlace, ToCopy, ToForward, ToSeal, copy_word, repaired, Filled}
+use Rattle.twin_forms.specs.Table.{Entry, no_entry, entry, View, state_word, head_word, word_of, Names, IsRef, refers, Apart}
+use Rattle.twin_forms.specs.Table.{Lies}
+use Rattle.twin_forms.specs.Moves.{Moved, owned, placed, one_more, forwarded, sealed, ToClaim, ToPlace, ToCopy, ToForward}
+use Rattle.twin_forms.specs.Moves.{ToSeal, copy_word, repaired, Filled}
 use Rattle.twin_forms.proofs.Led.{same_or_not, below_or_not, word_young, word_moved}
 use Rattle.twin_forms.proofs.States.{when_claimed, when_copying, when_converted, when_durable}
 use Rattle.twin_forms.proofs.Frames.{Put, SameSizes, old_elsewhere}
@@ -21,7 +24,8 @@ claimed_by t = omega arith
 
 -- the thread's claim, with no lines yet
 pub claim_step : (v v' : View) (es : List Entry) (n at t : ℕ) → Lies v es → n < length es → ToClaim at v es n → t < 64 →
-    Put v.old v'.old at (header_word (Claimed t)) → ((q : ℕ) → v'.shown q ≡ v.shown q) → ((l : ℕ) → v'.number l ≡ v.number l) → ((l : ℕ) → v'.copied l ≡ v.copied l) → ((l : ℕ) → v'.owner l ≡ v.owner l) →
+    Put v.old v'.old at (header_word (Claimed t)) → ((q : ℕ) → v'.shown q ≡ v.shown q) →
+    ((l : ℕ) → v'.number l ≡ v.number l) → ((l : ℕ) → v'.copied l ≡ v.copied l) → ((l : ℕ) → v'.owner l ≡ v.owner l) →
     SameSizes v v' → Moved v es v' (slice_set es n (owned t (entry es n)))
 claim_step v v' es n at t h ln may few old shown number copied owner sizes =
     let e = entry es n in
@@ -63,7 +67,8 @@ claim_step v v' es n at t h ln may few old shown number copied owner sizes =
 
 -- a claimed object's copy gets its first line
 pub place_step : (v v' : View) (es : List Entry) (n at line x : ℕ) → Lies v es → n < length es → ToPlace at line v es n →
-    Put v.old v'.old at (header_word (Copying ((entry es n).owner - 1) line)) → ((q : ℕ) → v'.shown q ≡ v.shown q) → Put v.number v'.number line x → x ≡ v.old (at + 2) → Put v.copied v'.copied line 0 →
+    Put v.old v'.old at (header_word (Copying ((entry es n).owner - 1) line)) → ((q : ℕ) → v'.shown q ≡ v.shown q) → Put
+    v.number v'.number line x → x ≡ v.old (at + 2) → Put v.copied v'.copied line 0 →
     Put v.owner v'.owner line (entry es n).owner → SameSizes v v' → Moved v es v' (slice_set es n (placed line (entry es n)))
 place_step v v' es n at line x h ln may old shown number is copied owner sizes =
     let e = entry es n in
@@ -73,7 +78,16 @@ place_step v v' es n at line x h ln may old shown number is copied owner sizes =
     let y : (entry es n).stage < 3 = omega (arith, c.young) in
     moved v v' es n (placed line e) h ln
     (record { slots = refl; shape = refl; at = refl; old = λ _. omega arith; copy = λ b. absurd (omega (arith, b, c.young)) })
-    (record { stage = omega arith; owner = h.table.owners n ln; copying = λ _. c.claimed; born = λ b. absurd (omega (arith, b)); old = λ _. y; copy_in = λ _. (c.some, c.within); apart = λ m _ lm sm _. c.free m lm sm })
+    (record {
+      stage = omega arith;
+      owner = h.table.owners n ln;
+      copying = λ _. c.claimed;
+      born = λ b. absurd
+          (omega (arith, b));
+      old = λ _. y;
+      copy_in = λ _. (c.some, c.within);
+      apart = λ m _ lm sm _. c.free m lm sm;
+    })
     sizes
     (λ m lm ne. record {
       old = λ sm j lj. old.same ((entry es m).at + j) (λ eq. old_elsewhere h.table m n lm ln ne sm y 0 j (omega arith) lj (omega (arith, eq, a)));
@@ -115,7 +129,16 @@ copy_step v v' es n at line done head slots h ln may le de he se old fill number
     λ m ne lm sm. h.table.copy_apart n m ln lm (λ eq. ne (sym eq)) (omega (arith, y)) sm in
     moved v v' es n (one_more e) h ln
     (record { slots = refl; shape = refl; at = refl; old = λ b. b; copy = λ b. absurd (omega (arith, b, y)) })
-    (record { stage = h.table.stages n ln; owner = h.table.owners n ln; copying = h.table.copying n ln; born = h.table.born n ln; old = λ b. b; copy_in = λ b. h.table.copy_in n ln b; apart = λ m ne lm sm _. apart m ne lm sm })
+    (record {
+      stage = h.table.stages n ln;
+      owner = h.table.owners n ln;
+      copying = h.table.copying n ln;
+      born = h.table.born
+          n ln;
+      old = λ b. b;
+      copy_in = λ b. h.table.copy_in n ln b;
+      apart = λ m ne lm sm _. apart m ne lm sm;
+    })
     sizes
     (λ m lm ne. record {
       old = λ sm j lj. old ((entry es m).at + j);
@@ -138,7 +161,8 @@ copy_step v v' es n at line done head slots h ln may le de he se old fill number
       ];
       mirrored = λ k _ lk b. elim (below_or_not (1 + k) (8 * done)) [
         | inl z ↦ fill.outside (8 * e.line + 1 + k) (inl (omega (arith, z, le))) ∙ s.mirrored k y lk (omega (arith, z, de)) ∙ sym (old (e.at + 3 + k))
-        | inr z ↦ fill.inside (8 * e.line + 1 + k) (omega (arith, z, le)) (omega (arith, b, le, de)) ∙ copied_slot v.old head (at + 2) slots (8 * e.line + 1 + k - 8 * line) (omega (arith, le)) (omega (arith, le, se, lk))
+        | inr z ↦ fill.inside (8 * e.line + 1 + k) (omega (arith, z, le)) (omega (arith, b, le, de)) ∙ copied_slot v.old
+            head (at + 2) slots (8 * e.line + 1 + k - 8 * line) (omega (arith, le)) (omega (arith, le, se, lk))
             ∙ ap v.old (omega (arith, le, may.0)) ∙ sym (old (e.at + 3 + k))
       ];
     })
@@ -146,7 +170,9 @@ copy_step v v' es n at line done head slots h ln may le de he se old fill number
 
 -- only the word of its state and its owner change
 pub forward_step : (v v' : View) (es : List Entry) (n at : ℕ) → Lies v es → n < length es → ToForward at v es n →
-    Put v.old v'.old at (header_word (Converted ((entry es n).owner - 1) (entry es n).line)) → ((q : ℕ) → v'.shown q ≡ v.shown q) → ((l : ℕ) → v'.number l ≡ v.number l) → ((l : ℕ) → v'.copied l ≡ v.copied l) → ((l : ℕ) → v'.owner l ≡ v.owner l) →
+    Put v.old v'.old at (header_word (Converted ((entry es n).owner - 1) (entry es n).line)) →
+    ((q : ℕ) → v'.shown q ≡ v.shown q) → ((l : ℕ) → v'.number l ≡ v.number l) → ((l : ℕ) → v'.copied l ≡ v.copied l) →
+    ((l : ℕ) → v'.owner l ≡ v.owner l) →
     SameSizes v v' → Moved v es v' (slice_set es n (forwarded (entry es n)))
 forward_step v v' es n at h ln may old shown number copied owner sizes =
     let e = entry es n in
@@ -156,7 +182,16 @@ forward_step v v' es n at h ln may old shown number copied owner sizes =
     let some = h.table.copying n ln y in
     moved v v' es n (forwarded e) h ln
     (record { slots = refl; shape = refl; at = refl; old = λ _. omega arith; copy = λ b. absurd (omega (arith, b, y)) })
-    (record { stage = omega arith; owner = h.table.owners n ln; copying = λ _. some; born = λ b. absurd (omega (arith, b)); old = λ _. y3; copy_in = λ _. h.table.copy_in n ln (omega (arith, y)); apart = λ m ne lm sm _. h.table.copy_apart n m ln lm (λ eq. ne (sym eq)) (omega (arith, y)) sm })
+    (record {
+      stage = omega arith;
+      owner = h.table.owners n ln;
+      copying = λ _. some;
+      born = λ b. absurd (omega (arith, b));
+      old = λ _. y3;
+      copy_in = λ _. h.table.copy_in n ln (omega (arith, y));
+      apart = λ m ne lm sm _. h.table.copy_apart n
+          m ln lm (λ eq. ne (sym eq)) (omega (arith, y)) sm;
+    })
     sizes
     (λ m lm ne. record {
       old = λ sm j lj. old.same ((entry es m).at + j) (λ eq. old_elsewhere h.table m n lm ln ne sm y3 0 j (omega arith) lj (omega (arith, eq, may.0)));
@@ -179,7 +214,9 @@ forward_step v v' es n at h ln may old shown number copied owner sizes =
     (λ k lk. as_was (word_moved v' (forwarded e) k (omega arith) ∙ shown (8 * e.line + 1 + k) ∙ s.mirrored k y lk (omega (arith, may.2, lk)) ∙ sym (word_young v e k (omega (arith, y)))))
 
 pub seal_step : (v v' : View) (es : List Entry) (n at : ℕ) → Lies v es → n < length es → ToSeal at v es n →
-    Put v.old v'.old at (header_word (Durable (entry es n).line)) → ((q : ℕ) → v'.shown q ≡ v.shown q) → ((l : ℕ) → v'.number l ≡ v.number l) → ((l : ℕ) → v'.copied l ≡ v.copied l) → Put v.owner v'.owner (entry es n).line 0 →
+    Put v.old v'.old at (header_word (Durable (entry es n).line)) → ((q : ℕ) → v'.shown q ≡ v.shown q) →
+    ((l : ℕ) → v'.number l ≡ v.number l) → ((l : ℕ) → v'.copied l ≡ v.copied l) → Put v.owner v'.owner
+    (entry es n).line 0 →
     SameSizes v v' → Moved v es v' (slice_set es n (sealed (entry es n)))
 seal_step v v' es n at h ln may old shown number copied owner sizes =
     let e = entry es n in
@@ -190,7 +227,16 @@ seal_step v v' es n at h ln may old shown number copied owner sizes =
     λ m ne lm sm. h.table.copy_apart n m ln lm (λ eq. ne (sym eq)) (omega (arith, y)) sm in
     moved v v' es n (sealed e) h ln
     (record { slots = refl; shape = refl; at = refl; old = λ b. b; copy = λ b. (b, refl) })
-    (record { stage = h.table.stages n ln; owner = omega arith; copying = λ b. absurd (omega (arith, b, y)); born = λ _. refl; old = λ b. b; copy_in = λ b. h.table.copy_in n ln b; apart = λ m ne lm sm _. apart m ne lm sm })
+    (record {
+      stage = h.table.stages n ln;
+      owner = omega arith;
+      copying = λ b. absurd (omega (arith, b, y));
+      born = λ _.
+          refl;
+      old = λ b. b;
+      copy_in = λ b. h.table.copy_in n ln b;
+      apart = λ m ne lm sm _. apart m ne lm sm;
+    })
     sizes
     (λ m lm ne. record {
       old = λ sm j lj. old.same ((entry es m).at + j) (λ eq. old_elsewhere h.table m n lm ln ne sm y3 0 j (omega arith) lj (omega (arith, eq, may.0)));
@@ -239,7 +285,9 @@ entry_same es n = set-get_or es n no_entry
 -- the words from low to before high are slots of the object
 pub repair_step : (v v' : View) (es : List Entry) (n low high : ℕ) → Lies v es → n < length es → 1 < (entry es n).stage →
     8 * (entry es n).line + 1 ≤ low → high ≤ 8 * (entry es n).line + 1 + (entry es n).slots →
-    ((k m : ℕ) → k < (entry es n).slots → low ≤ 8 * (entry es n).line + 1 + k → 8 * (entry es n).line + 1 + k < high → refers v (entry es n) k ≡ true → m < length es → word_of v (entry es n) k ≡ 2 * (entry es m).at + 1 → (entry es m).stage < 3 → (entry es m).stage ≡ 2) →
+    ((k m : ℕ) → k < (entry es n).slots → low ≤ 8 * (entry es n).line + 1 + k → 8 * (entry es n).line + 1 + k < high →
+    refers v (entry es n) k ≡ true → m < length es → word_of v (entry es n) k ≡ 2 * (entry es m).at + 1 →
+    (entry es m).stage < 3 → (entry es m).stage ≡ 2) →
     ((q : ℕ) → v'.old q ≡ v.old q) → Filled low high (λ q. repaired v.old (refers v (entry es n) (q - (8 * (entry es n).line + 1))) (v.shown q)) v.shown v'.shown →
     ((l : ℕ) → v'.number l ≡ v.number l) → ((l : ℕ) → v'.copied l ≡ v.copied l) → ((l : ℕ) → v'.owner l ≡ v.owner l) → SameSizes v v' → Moved v es v' (slice_set es n (entry es n))
 repair_step v v' es n low high h ln y lo hi ready old fill number copied owner sizes =
@@ -248,7 +296,16 @@ repair_step v v' es n low high h ln y lo hi ready old fill number copied owner s
     let apart : (m : ℕ) → m ≢ n → m < length es → 0 < (entry es m).stage → Apart (entry es n).line ((entry es n).slots / 8 + 1) (entry es m).line ((entry es m).slots / 8 + 1) =
     λ m ne lm sm. h.table.copy_apart n m ln lm (λ eq. ne (sym eq)) (omega (arith, y)) sm in
     moved v v' es n e h ln (still e)
-    (record { stage = h.table.stages n ln; owner = h.table.owners n ln; copying = h.table.copying n ln; born = h.table.born n ln; old = λ b. b; copy_in = λ b. h.table.copy_in n ln b; apart = λ m ne lm sm _. apart m ne lm sm })
+    (record {
+      stage = h.table.stages n ln;
+      owner = h.table.owners n ln;
+      copying = h.table.copying n ln;
+      born = h.table.born
+          n ln;
+      old = λ b. b;
+      copy_in = λ b. h.table.copy_in n ln b;
+      apart = λ m ne lm sm _. apart m ne lm sm;
+    })
     sizes
     (λ m lm ne. record {
       old = λ sm j lj. old ((entry es m).at + j);

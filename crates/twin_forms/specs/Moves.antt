@@ -1,9 +1,11 @@
 -- What the calls on a heap over two spaces change.
 --
 -- A contract asks for some table and speaks of every one: the words alone tell where the objects lie.
-use Rattle.std.specs.Prelude.{◌≡◌, ◌≢◌, ◌⊎◌, ℕ, ◌+◌, ◌*◌, ◌/◌, ◌%◌, ◌<◌, ◌≤◌, ◌==◌, ltb, Bool, true, List, [], ◌∷◌, ◌++◌, length, slice_set, if◌then◌else◌}
+use Rattle.std.specs.Prelude.{◌≡◌, ◌≢◌, ◌⊎◌, ℕ, ◌+◌, ◌*◌, ◌/◌, ◌%◌, ◌<◌, ◌≤◌, ◌==◌, ltb, Bool, true, List, [], ◌∷◌, ◌++◌}
+use Rattle.std.specs.Prelude.{length, slice_set, if◌then◌else◌}
 use Rattle.line_memory.specs.Memory.{Memory, shown, CanLeave, SameImage, SameResident}
-use Rattle.twin_forms.specs.Table.{Entry, View, entry, refers, word_of, Names, IsRef, shows, Apart, Lies, HasCopied, line_of}
+use Rattle.twin_forms.specs.Table.{Entry, View, entry, refers, kept_at, word_of, Names, IsRef, shows, Apart, Lies, HasCopied}
+use Rattle.twin_forms.specs.Table.{line_of}
 
 -- ---- a store
 
@@ -17,24 +19,27 @@ pub record MayStore (v : View) (r i w : ℕ) (es : List Entry) (n : ℕ) : Type 
   pub reference : refers v (entry es n) i ≡ true → IsRef es w
   pub line_word : refers v (entry es n) i ≡ true → HasCopied (entry es n) (line_of i) → w % 2 ≡ 0
 
--- One slot of one object has another word, no other slot of any object has, and all objects lie where they lay.
+-- One slot of one object has another word, no other slot of any object has, all objects lie where they lay, and the same
+-- slots are kept.
 pub record Stored (v v' : View) (es : List Entry) (n i w : ℕ) : Type 0 where
   pub lies : Lies v' es
   pub here : word_of v' (entry es n) i ≡ w
   pub same : (m k : ℕ) → m < length es → k < (entry es m).slots → (m ≢ n) ⊎ (k ≢ i) → word_of v' (entry es m) k ≡ word_of v (entry es m) k
+  pub kept : v'.kept ≡ v.kept
 
 abbrev pub Stores : ℕ → ℕ → ℕ → View → View → Type 0
 Stores r i w v v' = (es : List Entry) (n : ℕ) → MayStore v r i w es n → Stored v v' es n i w
 
 -- ---- moves
 
--- Each slot of each object shows what it showed, and what led to an object leads to it.
+-- Each slot of each object shows what it showed, what led to an object leads to it, and the same slots are kept.
 pub record SameHeap (v : View) (es : List Entry) (v' : View) (es' : List Entry) : Type 0 where
   pub long : length es' ≡ length es
   pub shapes : (n : ℕ) → n < length es → (entry es' n).shape ≡ (entry es n).shape
   pub slots : (n : ℕ) → n < length es → (entry es' n).slots ≡ (entry es n).slots
   pub led : (n w : ℕ) → n < length es → Names (entry es n) w → Names (entry es' n) w
   pub same : (n k : ℕ) → n < length es → k < (entry es n).slots → shows v' es' n k ≡ shows v es n k
+  pub kept : v'.kept ≡ v.kept
 
 -- Objects lie otherwise, and the heap shows what it showed.
 pub record Moved (v : View) (es : List Entry) (v' : View) (es' : List Entry) : Type 0 where
@@ -93,15 +98,16 @@ ToCopy at v es n = ((entry es n).at ≡ at) × ((entry es n).stage ≡ 1) × (8 
 abbrev pub ToForward : ℕ → View → List Entry → ℕ → Type 0
 ToForward at v es n = ((entry es n).at ≡ at) × ((entry es n).stage ≡ 1) × ((entry es n).slots < 8 * (entry es n).copied)
 
--- It is forwarded, and so is each object of the space to which its line c refers.
+-- It is forwarded, and so is each object of the space to which a kept slot of its line c refers.
 abbrev pub ToRepair : ℕ → ℕ → View → List Entry → ℕ → Type 0
 ToRepair at c v es n = ((entry es n).at ≡ at) × ((entry es n).stage ≡ 2) × (8 * c ≤ (entry es n).slots) ×
-    ((k m : ℕ) → k < (entry es n).slots → line_of k ≡ c → refers v (entry es n) k ≡ true → m < length es
+    ((k m : ℕ) → k < (entry es n).slots → line_of k ≡ c → refers v (entry es n) k ≡ true → kept_at v (entry es n) k ≡ true → m < length es
     → word_of v (entry es n) k ≡ 2 * (entry es m).at + 1 → (entry es m).stage < 3 → (entry es m).stage ≡ 2)
 
--- Line c of its copy holds no volatile reference.
+-- No kept slot of line c of its copy holds a volatile reference.
 abbrev pub IsRepaired : ℕ → View → List Entry → ℕ → Type 0
-IsRepaired c v es n = (k : ℕ) → k < (entry es n).slots → line_of k ≡ c → refers v (entry es n) k ≡ true → word_of v (entry es n) k % 2 ≡ 0
+IsRepaired c v es n = (k : ℕ) → k < (entry es n).slots → line_of k ≡ c → refers v (entry es n) k ≡ true
+    → kept_at v (entry es n) k ≡ true → word_of v (entry es n) k % 2 ≡ 0
 
 -- It is forwarded and not sealed.
 abbrev pub ToSeal : ℕ → View → List Entry → ℕ → Type 0
@@ -112,11 +118,13 @@ ToSeal at v es n = ((entry es n).at ≡ at) × ((entry es n).stage ≡ 2) × (0 
 abbrev pub fresh : ℕ → ℕ → ℕ → Entry
 fresh shape slots at = record { shape = shape; slots = slots; at = at; line = 0; copied = 0; owner = 0; stage = 0 }
 
--- All objects are and show what they did, and one more lies behind the words that were taken: all its words are 0.
+-- All objects are and show what they did, and one more lies behind the words that were taken: all its words are 0. The
+-- same slots are kept.
 pub record Added (shape slots : ℕ) (v : View) (es : List Entry) (v' : View) : Type 0 where
   pub lies : Lies v' (es ++ fresh shape slots v.words ∷ [])
   pub zeros : (k : ℕ) → k < slots → v'.old (v.words + 3 + k) ≡ 0
   pub same : (n k : ℕ) → n < length es → k < (entry es n).slots → shows v' (es ++ fresh shape slots v.words ∷ []) n k ≡ shows v es n k
+  pub kept : v'.kept ≡ v.kept
 
 abbrev pub Adds : ℕ → ℕ → View → View → Type 0
 Adds shape slots v v' = (es : List Entry) → Lies v es → Added shape slots v es v'

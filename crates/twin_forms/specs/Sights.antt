@@ -1,5 +1,6 @@
 -- The words of a heap: those of its space, those that its memory shows, and what it keeps beside them.
-use Rattle.std.specs.Prelude.{ℕ, ◌/◌, ◌%◌, ◌<◌, List, [], length, slice_index, slice_index_or, slice_get, Option, Some, None}
+use Rattle.std.specs.Prelude.{ℕ, ◌/◌, ◌%◌, ◌<◌, Bool, true, List, [], length, slice_index, slice_index_or, slice_get, Option}
+use Rattle.std.specs.Prelude.{Some, None}
 use Rattle.ap_base.specs.declared.kind.Kind.{Kind}
 use Rattle.volatile_space.specs.Spaces.{Space}
 use Rattle.line_memory.specs.Memory.{Memory, shown, CanLeave, IsWritten, IsKnown}
@@ -30,6 +31,10 @@ pub record Marks : Type 0 where
   pub kinds : List ShapeKinds
   pub room : ℕ
 
+-- Which slots of a shape's objects are kept in the image: all of them.
+abbrev pub kept_slots : ℕ → ℕ → Bool
+kept_slots shape k = true
+
 abbrev pub sight : Space → Memory → Marks → View
 sight space m marks = record {
   old = λ p. slice_index space.words p;
@@ -39,6 +44,7 @@ sight space m marks = record {
   owner = λ l. slice_index marks.owners l;
   birth = λ n. slice_index marks.births n;
   kinds = λ shape k. slot_kind marks.kinds shape k;
+  kept = kept_slots;
   words = length space.words;
   left = space.left;
   lines = m.size;

@@ -3,7 +3,8 @@
 -- An object is born in volatile memory: its first three words are its state, its head and its number, and a word for
 -- each slot follows. A thread that makes it durable copies it into lines of the image and forwards it, so that all
 -- references to its old place lead to the copy (Shull, Huang and Torrellas, "AutoPersist", PLDI 2019).
-use Rattle.std.specs.Prelude.{◌≡◌, ◌≢◌, ◌⊎◌, ℕ, ◌+◌, ◌-◌, ◌*◌, ◌/◌, ◌%◌, ◌<◌, ◌≤◌, ◌^◌, ◌==◌, ltb, Bool, true, false, List, length, Option, Some, None, slice_index_or, if◌then◌else◌}
+use Rattle.std.specs.Prelude.{◌≡◌, ◌≢◌, ◌⊎◌, ℕ, ◌+◌, ◌-◌, ◌*◌, ◌/◌, ◌%◌, ◌<◌, ◌≤◌, ◌^◌, ◌==◌, ltb, Bool, true, false, List}
+use Rattle.std.specs.Prelude.{length, Option, Some, None, slice_index_or, if◌then◌else◌}
 use Rattle.ap_base.specs.declared.kind.Kind.{Kind}
 use Rattle.ap_base.specs.declared.kind.Kind.TheVariants.{Z, B, C, S, I, J, L, Text}
 use Rattle.object_header.specs.States.{header_word}
@@ -77,6 +78,8 @@ pub record View : Type 0 where
   pub birth : ℕ → ℕ
   -- by a shape's number and a slot's: the slot's kind, if it has one
   pub kinds : ℕ → ℕ → Option Kind
+  -- by the same two: whether what stands in the slot is kept in the image
+  pub kept : ℕ → ℕ → Bool
   -- how many words are taken, how many are left, and how many lines the image has
   pub words : ℕ
   pub left : ℕ
@@ -90,9 +93,9 @@ pub record View : Type 0 where
 abbrev pub kind_at : View → Entry → ℕ → Option Kind
 kind_at v e k = v.kinds e.shape k
 
--- Whether what stands in the slot is kept in the image: every slot is.
+-- Whether what stands in the slot is kept in the image.
 abbrev pub kept_at : View → Entry → ℕ → Bool
-kept_at v e k = true
+kept_at v e k = v.kept e.shape k
 
 abbrev pub is_reference : Option Kind → Bool
 is_reference None = false

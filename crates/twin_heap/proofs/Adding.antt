@@ -1,5 +1,6 @@
 -- A new object lies behind the words that were taken.
-use Rattle.std.proofs.Common.{◌≡◌, ◌≢◌, inl, inr, ℕ, ◌+◌, ◌-◌, ◌*◌, ◌/◌, ◌<◌, ◌≤◌, ◌^◌, Bool, true, List, [], ◌∷◌, ◌++◌, length, refl, sym, ◌∙◌, ap, subst, arith, length-set, length-append}
+use Rattle.std.proofs.Common.{◌≡◌, ◌≢◌, inl, inr, ℕ, ◌+◌, ◌-◌, ◌*◌, ◌/◌, ◌<◌, ◌≤◌, ◌^◌, Bool, true, List, [], ◌∷◌, ◌++◌, length}
+use Rattle.std.proofs.Common.{refl, sym, ◌∙◌, ap, subst, arith, length-set, length-append}
 use Rattle.std.specs.Prelude.{slice_index, slice_set, replicate, Option, Some, IsNone, if◌then◌else◌}
 use Rattle.std.proofs.Math.ListN.{get_or-append}
 use Rattle.std.proofs.Math.Seq.{get_or-append_seam}
@@ -25,7 +26,8 @@ zeros_behind l n q = elim (below_or_not q (length l)) [
   | inr ge ↦ get_or-append_right l (replicate n 0) (length l) q 0 refl ge ∙ zero_at n (q - length l) ∙ sym (get_or_past l q 0 ge)
 ]
 
-pub by_new : (P : ℕ → Entry → Type 0) (es : List Entry) (e : Entry) → P (length es) e → ((m : ℕ) → m < length es → P m (entry es m)) → (m : ℕ) → m < length (es ++ e ∷ []) → P m (entry (es ++ e ∷ []) m)
+pub by_new : (P : ℕ → Entry → Type 0) (es : List Entry) (e : Entry) → P (length es) e →
+    ((m : ℕ) → m < length es → P m (entry es m)) → (m : ℕ) → m < length (es ++ e ∷ []) → P m (entry (es ++ e ∷ []) m)
 by_new P es e new old m lm = elim (below_or_not m (length es)) [
   | inl lt ↦ subst (P m) (sym (get_or-append es (e ∷ []) no_entry m lt)) (old m lt)
   | inr ge ↦ (let long : length (es ++ e ∷ []) ≡ length es + 1 = length-append es (e ∷ []) in
@@ -33,7 +35,8 @@ by_new P es e new old m lm = elim (below_or_not m (length es)) [
       subst (λ x. P x (entry (es ++ e ∷ []) x)) (sym eq) (subst (P (length es)) (sym (get_or-append_seam es e [] no_entry)) new))
 ]
 
-pub adds_is : (s s' : Space) (m : Memory) (k : Marks) (es : List Entry) (shape slots head number : ℕ) → Lies (sight s m k) es → shape < length k.kinds → slots < 2 ^ 31 → length s.words + (3 + slots) < 2 ^ 32 →
+pub adds_is : (s s' : Space) (m : Memory) (k : Marks) (es : List Entry) (shape slots head number : ℕ) → Lies (sight s m k)
+    es → shape < length k.kinds → slots < 2 ^ 31 → length s.words + (3 + slots) < 2 ^ 32 →
     s'.words ≡ slice_set (slice_set (s.words ++ replicate (3 + slots) 0) (length s.words + 1) head) (length s.words + 2) number → s'.left ≡ s.left - (3 + slots) → 3 + slots ≤ s.left →
     head ≡ head_of shape slots → number ≡ length k.births →
     Added shape slots (sight s m k) es (sight s' m (record k { births = k.births ++ (2 * length s.words + 1) ∷ []; room = k.room - 1 }))
@@ -52,7 +55,8 @@ adds_is s s' m k es shape slots head number h in_shapes few_slots few words left
     let p1 = put l1 (length s.words + 1) head (omega (arith, long1)) in
     let p2 = put l2 (length s.words + 2) number (omega (arith, long2)) in
     let to : (q : ℕ) → slice_index s'.words q ≡ slice_index (slice_set l2 (length s.words + 2) number) q = λ q. ap (λ (l : List ℕ). slice_index l q) words in
-    let same : (q : ℕ) → q ≢ length s.words + 1 → q ≢ length s.words + 2 → slice_index s'.words q ≡ slice_index s.words q = λ q a b. to q ∙ p2.same q b ∙ p1.same q a ∙ zeros_behind s.words (3 + slots) q in
+    let same : (q : ℕ) → q ≢ length s.words + 1 → q ≢ length s.words + 2 → slice_index s'.words q ≡ slice_index s.words q =
+    λ q a b. to q ∙ p2.same q b ∙ p1.same q a ∙ zeros_behind s.words (3 + slots) q in
     let head_there : slice_index s'.words (length s.words + 1) ≡ head = to (length s.words + 1) ∙ p2.same (length s.words + 1) (λ x. omega (arith, x)) ∙ p1.here in
     let number_there : slice_index s'.words (length s.words + 2) ≡ number = to (length s.words + 2) ∙ p2.here in
     let zero_there : (q : ℕ) → length s.words ≤ q → q ≢ length s.words + 1 → q ≢ length s.words + 2 → slice_index s'.words q ≡ 0 = λ q ge a b. same q a b ∙ get_or_past s.words q 0 ge in
@@ -126,9 +130,12 @@ adds_is s s' m k es shape slots head number h in_shapes few_slots few words left
     } in
     record {
       lies = lies;
+      kept = refl;
       zeros = λ i li. zero_there (length s.words + 3 + i) (omega arith) (λ x. omega (arith, x)) (λ x. omega (arith, x));
       same = λ n i ln li. subst (λ e. value_of v' (refers v' e i) (word_of v' e i) ≡ shows v es n i) (sym (get_or-append es (e ∷ []) no_entry n ln))
-          (value_same v v' es es' (refers v (entry es n) i) (word_of v (entry es n) i) (word_of v' (entry es n) i) h lies (omega (arith, longer)) mono (λ r. h.refs n i ln r li) (as_was (word_agree v v' (entry es n) i (agree n ln) li)));
+          (value_same v v' es es' (refers v (entry es n) i) (word_of v (entry es n) i) (word_of v' (entry es n) i) h lies
+          (omega (arith, longer)) mono (λ r. h.refs n i ln r li)
+          (as_was (word_agree v v' (entry es n) i (agree n ln) li)));
     }
 
 pub not_none : (o : Option ℕ) (x : ℕ) → o ≡ Some x → IsNone o → ⊥

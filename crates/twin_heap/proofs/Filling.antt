@@ -26,7 +26,8 @@ changes_twice line m m' m'' a b = record {
 pub none_filled : (line low high : ℕ) (P : ℕ → ℕ) (m : Memory) → high ≤ low → IsFilled line low high P m m
 none_filled line low high P m le = record { inside = λ w a b. absurd (omega arith); outside = λ w o. refl; changes = unchanged line m }
 
-pub one_filled : (line low high next x : ℕ) (P : ℕ → ℕ) (m m' m'' : Memory) → low ≤ high → next ≡ high + 1 → x ≡ P high → IsFilled line low high P m m' → StoresAt line high x m' m'' → IsFilled line low next P m m''
+pub one_filled : (line low high next x : ℕ) (P : ℕ → ℕ) (m m' m'' : Memory) → low ≤ high → next ≡ high + 1 → x ≡ P high →
+    IsFilled line low high P m m' → StoresAt line high x m' m'' → IsFilled line low next P m m''
 one_filled line low high next x P m m' m'' le eq is f s = record {
   inside = λ w a b. elim (same_or_not w high) [
     | inl e ↦ subst (λ y. shown m'' line y ≡ P y) (sym e) (s.here ∙ is)

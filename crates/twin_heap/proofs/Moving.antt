@@ -1,5 +1,6 @@
 -- Claims, copies, forwards, repairs and seals of a heap's words.
-use Rattle.std.proofs.Common.{◌≡◌, ◌⊎◌, inl, inr, ℕ, ◌+◌, ◌-◌, ◌*◌, ◌/◌, ◌%◌, ◌<◌, ◌≤◌, ◌^◌, Bool, true, List, length, refl, sym, ◌∙◌, ap, subst, arith, length-set}
+use Rattle.std.proofs.Common.{◌≡◌, ◌⊎◌, inl, inr, ℕ, ◌+◌, ◌-◌, ◌*◌, ◌/◌, ◌%◌, ◌<◌, ◌≤◌, ◌^◌, Bool, true, List, length, refl}
+use Rattle.std.proofs.Common.{sym, ◌∙◌, ap, subst, arith, length-set}
 use Rattle.std.specs.Prelude.{slice_index, slice_set, min}
 use Rattle.object_header.specs.States.{header_word}
 use Rattle.object_header.specs.declared.state.State.{State}
@@ -11,7 +12,8 @@ use Rattle.image_layout.specs.Places.{head_of}
 use Rattle.volatile_space.specs.Spaces.{Space}
 use Rattle.line_memory.specs.Memory.{Memory, shown}
 use Rattle.twin_forms.specs.Table.{Entry, entry, Lies, state_in, head_word, word_of, is_reference, refers}
-use Rattle.twin_forms.specs.Moves.{Moved, owned, placed, one_more, forwarded, sealed, LiesAt, ToClaim, ToPlace, ToCopy, ToForward, ToRepair, ToSeal, IsRepaired, copy_word, repaired, Filled}
+use Rattle.twin_forms.specs.Moves.{Moved, owned, placed, one_more, forwarded, sealed, LiesAt, ToClaim, ToPlace, ToCopy}
+use Rattle.twin_forms.specs.Moves.{ToForward, ToRepair, ToSeal, IsRepaired, copy_word, repaired, Filled}
 use Rattle.twin_forms.specs.Sights.{Marks, sight, slot_kind}
 use Rattle.twin_forms.proofs.Led.{same_or_not, below_or_not, word_moved}
 use Rattle.twin_forms.proofs.States.{when_ordinary, when_copying, when_converted, when_durable}
@@ -26,7 +28,9 @@ use Rattle.twin_heap.proofs.Filling.{fills}
 pub at_object : (s : Space) (m : Memory) (k : Marks) (es : List Entry) (n at : ℕ) → Lies (sight s m k) es → n < length es → LiesAt at (entry es n) → There s.words at (entry es n)
 at_object s m k es n at h ln x = there s m k es n at h ln (inl (x.0, omega (arith, x.1)))
 
-sizes_of : (s s' : Space) (m m' : Memory) (k k' : Marks) → length s'.words ≡ length s.words → s'.left ≡ s.left → m'.size ≡ m.size → length k'.numbers ≡ length k.numbers → k'.births ≡ k.births → k'.kinds ≡ k.kinds → k'.room ≡ k.room → SameSizes (sight s m k) (sight s' m' k')
+sizes_of : (s s' : Space) (m m' : Memory) (k k' : Marks) → length s'.words ≡ length s.words → s'.left ≡ s.left → m'.size ≡
+    m.size → length k'.numbers ≡ length k.numbers → k'.births ≡ k.births → k'.kinds ≡ k.kinds → k'.room ≡ k.room →
+    SameSizes (sight s m k) (sight s' m' k')
 sizes_of s s' m m' k k' words left size numbers births kinds room = record {
   words = words;
   left = left;
@@ -37,6 +41,7 @@ sizes_of s s' m m' k k' words left size numbers births kinds room = record {
   shapes = ap length kinds;
   room = room;
   kinds = ap slot_kind kinds;
+  kept = refl;
 }
 
 pub claim_is : (s s' : Space) (m : Memory) (k : Marks) (es : List Entry) (n at t : ℕ) → Lies (sight s m k) es → n < length es → ToClaim at (sight s m k) es n → t < 64 →
@@ -46,7 +51,8 @@ claim_is s s' m k es n at t h ln may few words left =
     claim_step (sight s m k) (sight s' m k) es n at t h ln may few (put_to s.words s'.words at (header_word (Claimed t)) words x.state.taken) (λ _. refl) (λ _. refl) (λ _. refl) (λ _. refl)
     (sizes_of s s' m m k k (ap length words ∙ length-set s.words at (header_word (Claimed t))) left refl refl refl refl refl)
 
-pub claims_now : (s : Space) (m : Memory) (k : Marks) (es : List Entry) (n at : ℕ) → Lies (sight s m k) es → n < length es → ToClaim at (sight s m k) es n → HasState s.words at (state_in (entry es n)) × (state_in (entry es n) ≡ Ordinary)
+pub claims_now : (s : Space) (m : Memory) (k : Marks) (es : List Entry) (n at : ℕ) → Lies (sight s m k) es → n < length es
+    → ToClaim at (sight s m k) es n → HasState s.words at (state_in (entry es n)) × (state_in (entry es n) ≡ Ordinary)
 claims_now s m k es n at h ln may = ((at_object s m k es n at h ln may.0).state, when_ordinary (entry es n) may.1 may.2)
 
 abbrev is_now : Answer → ℕ
@@ -81,16 +87,22 @@ place_is s s' m k k' es n at line x o w h ln may is owner words left number copi
     (sizes_of s s' m m k k1 (ap length words ∙ length-set s.words at w) left refl (length-set k.numbers line x) refl refl refl))
 
 pub forward_is : (s s' : Space) (m : Memory) (k : Marks) (es : List Entry) (n at line u : ℕ) → Lies (sight s m k) es → n < length es → ToForward at (sight s m k) es n →
-    line ≡ (entry es n).line → u ≡ (entry es n).owner - 1 → s'.words ≡ slice_set s.words at (header_word (Converted u line)) → s'.left ≡ s.left → Moved (sight s m k) es (sight s' m k) (slice_set es n (forwarded (entry es n)))
+    line ≡ (entry es n).line → u ≡ (entry es n).owner - 1 → s'.words ≡ slice_set s.words at
+    (header_word (Converted u line)) → s'.left ≡ s.left → Moved (sight s m k) es (sight s' m k)
+    (slice_set es n (forwarded (entry es n)))
 forward_is s s' m k es n at line u h ln may first thread words left =
     let t = at_object s m k es n at h ln (omega (arith, may.1), may.0) in
     let w = header_word (Converted ((entry es n).owner - 1) (entry es n).line) in
-    let now : s'.words ≡ slice_set s.words at w = words ∙ ap (slice_set s.words at) (ap (λ x. header_word (Converted x line)) thread ∙ ap (λ x. header_word (Converted ((entry es n).owner - 1) x)) first) in
+    let now : s'.words ≡ slice_set s.words at w = words ∙ ap (slice_set s.words at)
+    (ap (λ x. header_word (Converted x line)) thread ∙ ap (λ x. header_word (Converted ((entry es n).owner - 1) x))
+    first) in
     forward_step (sight s m k) (sight s' m k) es n at h ln may (put_to s.words s'.words at w now t.state.taken) (λ _. refl) (λ _. refl) (λ _. refl) (λ _. refl)
     (sizes_of s s' m m k k (ap length now ∙ length-set s.words at w) left refl refl refl refl refl)
 
 -- while it is copied, the state tells thread and line
-pub copying_at : (s : Space) (m : Memory) (k : Marks) (es : List Entry) (n at line : ℕ) → Lies (sight s m k) es → n < length es → (entry es n).at ≡ at → (entry es n).stage ≡ 1 → line ≡ (entry es n).line → HasState s.words at (Copying ((entry es n).owner - 1) line)
+pub copying_at : (s : Space) (m : Memory) (k : Marks) (es : List Entry) (n at line : ℕ) → Lies (sight s m k) es → n <
+    length es → (entry es n).at ≡ at → (entry es n).stage ≡ 1 → line ≡ (entry es n).line → HasState s.words at
+    (Copying ((entry es n).owner - 1) line)
 copying_at s m k es n at line h ln a one eq =
     subst (HasState s.words at) (when_copying (entry es n) one ∙ ap (Copying ((entry es n).owner - 1)) (sym eq)) (at_object s m k es n at h ln (omega (arith, one), a)).state
 
@@ -147,7 +159,9 @@ copy_is s m m' k k' es n at line done head h ln may first dones heads fill copie
     subst (λ (x : Marks). Moved (sight s m k) es (sight s m' x) (slice_set es n (one_more (entry es n)))) (sym eq)
     (copy_step (sight s m k) (sight s m' k1) es n at line done head (head / 4294967296) h ln may first count head_is slots (λ _. refl)
     (fills m m' (line + done) 0 8 (8 * line + 8 * done) (8 * line + (8 * done + 8))
-    (λ w. copy_word (slice_index s.words) head (at + 2) (head / 4294967296) (8 * done + w)) (λ q. copy_word (slice_index s.words) head (at + 2) (head / 4294967296) (q - 8 * line)) fill (omega arith) (omega arith) (omega arith)
+    (λ w. copy_word (slice_index s.words) head (at + 2) (head / 4294967296) (8 * done + w))
+    (λ q. copy_word (slice_index s.words) head (at + 2) (head / 4294967296) (q - 8 * line)) fill (omega arith)
+    (omega arith) (omega arith)
     (λ w _ _. ap (copy_word (slice_index s.words) head (at + 2) (head / 4294967296)) (omega arith)))
     (λ _. refl) (λ _. refl) (put k.copies line (done + 1) lt)
     (sizes_of s s m m' k k1 refl refl fill.changes.size refl refl refl refl))
@@ -201,7 +215,9 @@ pub record Bounds (c slots from to : ℕ) : Type 0 where
 pub repair_fill : (s : Space) (m m' : Memory) (k : Marks) (es : List Entry) (n line shape c from to : ℕ) → Lies (sight s m k) es → n < length es →
     line ≡ (entry es n).line + c → shape ≡ (entry es n).shape → Bounds c (entry es n).slots from to →
     IsFilled line from to (λ w. repaired (slice_index s.words) (is_reference (kind_in_line k.kinds shape c w)) (shown m line w)) m m' →
-    Filled (8 * line + from) (8 * line + to) (λ q. repaired (slice_index s.words) (refers (sight s m k) (entry es n) (q - (8 * (entry es n).line + 1))) (shown m (q / 8) (q % 8))) (λ q. shown m (q / 8) (q % 8)) (λ q. shown m' (q / 8) (q % 8))
+    Filled (8 * line + from) (8 * line + to)
+    (λ q. repaired (slice_index s.words) (refers (sight s m k) (entry es n) (q - (8 * (entry es n).line + 1)))
+    (shown m (q / 8) (q % 8))) (λ q. shown m (q / 8) (q % 8)) (λ q. shown m' (q / 8) (q % 8))
 repair_fill s m m' k es n line shape c from to h ln first is b fill =
     fills m m' line from to (8 * line + from) (8 * line + to) (λ w. repaired (slice_index s.words) (is_reference (kind_in_line k.kinds shape c w)) (shown m line w))
     (λ q. repaired (slice_index s.words) (refers (sight s m k) (entry es n) (q - (8 * (entry es n).line + 1))) (shown m (q / 8) (q % 8)))
@@ -220,7 +236,7 @@ repair_is s m m' k es n at line shape c from to h ln may first is b fill =
     let f0 = b.first in
     let l0 = b.last in
     repair_step (sight s m k) (sight s m' k) es n (8 * line + from) (8 * line + to) h ln (omega (arith, may.1)) (omega (arith, first, f0)) (omega (arith, first, l0))
-    (λ i x lk lo hi one lx eq st. may.3 i x lk (omega (arith, first, lo, hi, l0)) one lx eq st) (λ _. refl)
+    (λ i x lk lo hi one lx eq st. may.3 i x lk (omega (arith, first, lo, hi, l0)) one refl lx eq st) (λ _. refl)
     (repair_fill s m m' k es n line shape c from to h ln first is b fill) (λ _. refl) (λ _. refl) (λ _. refl)
     (sizes_of s s m m' k k refl refl fill.changes.size refl refl refl refl)
 
@@ -228,7 +244,7 @@ pub clean_is : (s : Space) (m m' : Memory) (k : Marks) (es : List Entry) (n at l
     line ≡ (entry es n).line + c → shape ≡ (entry es n).shape → Bounds c (entry es n).slots from to →
     IsFilled line from to (λ w. repaired (slice_index s.words) (is_reference (kind_in_line k.kinds shape c w)) (shown m line w)) m m' →
     IsRepaired c (sight s m' k) es n
-clean_is s m m' k es n at line shape c from to h ln may first is b fill = λ i li here one.
+clean_is s m m' k es n at line shape c from to h ln may first is b fill = λ i li here one kept.
     let e = entry es n in
     let q = 8 * e.line + 1 + i in
     let f0 = b.first in
@@ -249,7 +265,8 @@ bounds_of c slots from to first left last = elim (below_or_not (slots + 1 - 8 * 
 ]
 
 -- the head of an object in the space
-pub head_at : (s : Space) (m : Memory) (k : Marks) (es : List Entry) (n at head : ℕ) → Lies (sight s m k) es → n < length es → (entry es n).at ≡ at → (entry es n).stage < 3 → head ≡ slice_index s.words (at + 1) →
+pub head_at : (s : Space) (m : Memory) (k : Marks) (es : List Entry) (n at head : ℕ) → Lies (sight s m k) es → n < length
+    es → (entry es n).at ≡ at → (entry es n).stage < 3 → head ≡ slice_index s.words (at + 1) →
     ((entry es n).shape < 2 ^ 32) × (head_of (entry es n).shape (entry es n).slots ≡ head)
 head_at s m k es n at head h ln a lt is =
     let f = h.table.shape_in n ln in

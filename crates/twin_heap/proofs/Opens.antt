@@ -1,5 +1,6 @@
 -- The objects of an image that is opened lie as their heads tell.
-use Rattle.std.proofs.Common.{◌≡◌, ◌≢◌, inl, inr, ℕ, zero, suc, ◌+◌, ◌*◌, ◌/◌, ◌%◌, ◌<◌, ◌≤◌, ◌^◌, true, List, [], ◌∷◌, length, refl, sym, ◌∙◌, ap, subst, arith}
+use Rattle.std.proofs.Common.{◌≡◌, ◌≢◌, inl, inr, ℕ, zero, suc, ◌+◌, ◌*◌, ◌/◌, ◌%◌, ◌<◌, ◌≤◌, ◌^◌, true, List, [], ◌∷◌, length}
+use Rattle.std.proofs.Common.{refl, sym, ◌∙◌, ap, subst, arith}
 use Rattle.std.specs.Prelude.{slice_index}
 use Rattle.volatile_space.specs.Spaces.{Space}
 use Rattle.line_memory.specs.Memory.{Memory, shown}
@@ -19,10 +20,13 @@ opening_at m [] n lt = absurd (omega (arith, lt))
 opening_at m (l ∷ lines) zero lt = refl
 opening_at m (l ∷ lines) (suc n) lt = opening_at m lines n (omega (arith, lt))
 
-by_opening : (P : ℕ → Entry → Type 0) (m : Memory) (lines : List ℕ) → ((n : ℕ) → n < length lines → P n (opened m (slice_index lines n))) → (n : ℕ) → n < length (opening m lines) → P n (entry (opening m lines) n)
+by_opening : (P : ℕ → Entry → Type 0) (m : Memory) (lines : List ℕ) →
+    ((n : ℕ) → n < length lines → P n (opened m (slice_index lines n))) → (n : ℕ) → n < length (opening m lines) → P n
+    (entry (opening m lines) n)
 by_opening P m lines f n ln = let lt : n < length lines = subst (λ x. n < x) (opening_long m lines) ln in subst (P n) (sym (opening_at m lines n lt)) (f n lt)
 
-pub opens_is : (s : Space) (m : Memory) (k : Marks) (kinds : List ShapeKinds) (lines : List ℕ) (room : ℕ) → s.words ≡ [] → IsOpening m kinds lines → Begins kinds lines m.size room k → length lines + room < 2 ^ 32 → s.left < 3 * room + 3 →
+pub opens_is : (s : Space) (m : Memory) (k : Marks) (kinds : List ShapeKinds) (lines : List ℕ) (room : ℕ) → s.words ≡ [] →
+    IsOpening m kinds lines → Begins kinds lines m.size room k → length lines + room < 2 ^ 32 → s.left < 3 * room + 3 →
     Lies (sight s m k) (opening m lines)
 opens_is s m k kinds lines room empty o b few left =
     let es = opening m lines in
@@ -47,11 +51,15 @@ opens_is s m k kinds lines room empty o b few left =
         owners = by_opening (λ n e. e.owner ≤ 64) m lines (λ n ln. omega arith);
         copying = by_opening (λ n e. e.stage ≡ 1 → 0 < e.owner) m lines (λ n ln st. absurd (omega (arith, st)));
         born = by_opening (λ n e. e.stage ≡ 3 → e.owner ≡ 0) m lines (λ n ln st. refl);
-        shape_in = by_opening (λ n e. e.shape < length k.kinds) m lines (λ n ln. subst (λ (x : List ShapeKinds). (opened m (slice_index lines n)).shape < length x) (sym b.kinds_are) (o.shape_in n ln));
+        shape_in = by_opening (λ n e. e.shape < length k.kinds) m lines
+            (λ n ln. subst (λ (x : List ShapeKinds). (opened m (slice_index lines n)).shape < length x) (sym b.kinds_are)
+            (o.shape_in n ln));
         few_slots = by_opening (λ n e. e.slots < 2 ^ 31) m lines o.few_slots;
         old_in = by_opening (λ n e. e.stage < 3 → e.at + 3 + e.slots ≤ length s.words) m lines (λ n ln st. absurd (omega (arith, st)));
         copy_in = by_opening (λ n e. 0 < e.stage → (0 < e.line) × (e.line + e.slots / 8 + 1 ≤ m.size)) m lines (λ n ln st. o.within n ln);
-        old_apart = λ x y lx ly. by_opening (λ x e. x ≢ y → e.stage < 3 → (entry es y).stage < 3 → Apart e.at (e.slots + 3) (entry es y).at ((entry es y).slots + 3)) m lines (λ n ln ne st _. absurd (omega (arith, st))) x lx;
+        old_apart = λ x y lx ly. by_opening
+            (λ x e. x ≢ y → e.stage < 3 → (entry es y).stage < 3 → Apart e.at (e.slots + 3) (entry es y).at
+            ((entry es y).slots + 3)) m lines (λ n ln ne st _. absurd (omega (arith, st))) x lx;
         copy_apart = λ x y lx ly. by_opening (λ x e. x ≢ y → 0 < e.stage → 0 < (entry es y).stage → Apart e.line (e.slots / 8 + 1) (entry es y).line ((entry es y).slots / 8 + 1)) m lines
             (λ x lx. by_opening (λ y e. x ≢ y → 0 < 3 → 0 < e.stage → Apart (slice_index lines x) ((opened m (slice_index lines x)).slots / 8 + 1) e.line (e.slots / 8 + 1)) m lines
             (λ y ly ne _ _. o.apart x y lx ly ne) y ly) x lx;
@@ -75,6 +83,11 @@ opens_is s m k kinds lines room empty o b few left =
           word_moved v e i (omega arith) ∙ spot_is m (8 * slice_index lines n + 1 + i) (slice_index lines n + line_of i) ((1 + i) % 8) (omega arith) (omega arith) in
           elim (o.refs n i ln (sym (kind_same e i) ∙ r) li) [
             | inl z ↦ inl (word ∙ z)
-            | inr x ↦ (let w = o.within x.0 x.1 in inr (x.0, omega (arith, long, x.1), subst (λ y. Names y (word_of v e i)) (sym (opening_at m lines x.0 x.1)) (inr (omega arith, word ∙ x.2, omega (arith, word, x.2, w)))))
+            | inr x ↦ (let w = o.within x.0 x.1 in inr (
+              x.0,
+              omega (arith, long, x.1),
+              subst (λ y. Names y (word_of v e i)) (sym (opening_at m lines x.0 x.1))
+                  (inr (omega arith, word ∙ x.2, omega (arith, word, x.2, w))),
+            ))
           ]) n ln;
     }

@@ -1,5 +1,6 @@
 -- What the words of an object say, by the references that lead to it.
-use Rattle.std.proofs.Common.{◌≡◌, inl, inr, ℕ, ◌+◌, ◌-◌, ◌*◌, ◌/◌, ◌%◌, ◌<◌, ◌≤◌, ◌==◌, ◌^◌, true, false, List, length, refl, sym, ◌∙◌, ap, subst, arith}
+use Rattle.std.proofs.Common.{◌≡◌, inl, inr, ℕ, ◌+◌, ◌-◌, ◌*◌, ◌/◌, ◌%◌, ◌<◌, ◌≤◌, ◌==◌, ◌^◌, true, false, List, length, refl}
+use Rattle.std.proofs.Common.{sym, ◌∙◌, ap, subst, arith}
 use Rattle.std.specs.Prelude.{ltb, Option, None, Some, slice_index, IsTrue, nat_eq, Result, Ok, Err, IfOk, if◌then◌else◌}
 use Rattle.std.proofs.lemmas.Grind.{common_steps}
 use Rattle.ap_base.specs.References.{reference_word}
@@ -12,7 +13,8 @@ use Rattle.line_memory.specs.Memory.{Memory, shown}
 use Rattle.twin_forms.specs.Table.{Entry, entry, Lies, Leads, Names, IsClaimed, state_in, head_word}
 use Rattle.twin_forms.specs.Sights.{Marks, sight}
 use Rattle.twin_forms.proofs.Led.{same_or_not, below_or_not, even_moved, odd_old}
-use Rattle.twin_forms.proofs.States.{is_state, cases, is_ordinary, is_claimed, is_copying, is_converted, is_durable, when_ordinary, when_claimed, when_copying, when_converted, when_durable}
+use Rattle.twin_forms.proofs.States.{is_state, cases, is_ordinary, is_claimed, is_copying, is_converted, is_durable}
+use Rattle.twin_forms.proofs.States.{when_ordinary, when_claimed, when_copying, when_converted, when_durable}
 use Rattle.twin_heap.specs.Here.{current}
 
 -- what a volatile reference says of its object
@@ -21,7 +23,8 @@ pub record There (words : List ℕ) (at : ℕ) (e : Entry) : Type 0 where
   pub at_is : e.at ≡ at
   pub state : HasState words at (state_in e)
 
-pub there : (space : Space) (m : Memory) (marks : Marks) (es : List Entry) (n at : ℕ) → Lies (sight space m marks) es → n < length es → Names (entry es n) (2 * at + 1) → There space.words at (entry es n)
+pub there : (space : Space) (m : Memory) (marks : Marks) (es : List Entry) (n at : ℕ) → Lies (sight space m marks) es → n <
+    length es → Names (entry es n) (2 * at + 1) → There space.words at (entry es n)
 there space m marks es n at h ln names =
     let o = odd_old (entry es n) at names in
     let b = h.table.old_in n ln o.0 in
@@ -58,7 +61,9 @@ read_current e lt = elim (cases e lt) [
   | is_durable s o ↦ ap (read_at e.at) (when_durable e s o) ∙ sym (when_copy e (omega (arith, s)))
 ]
 
-pub resolved_is : (space : Space) (m : Memory) (marks : Marks) (r result : Ref) → Resolves space.words r result → (es : List Entry) (n : ℕ) → Lies (sight space m marks) es → n < length es → Names (entry es n) (reference_word r) → result ≡ current (entry es n)
+pub resolved_is : (space : Space) (m : Memory) (marks : Marks) (r result : Ref) → Resolves space.words r result →
+    (es : List Entry) (n : ℕ) → Lies (sight space m marks) es → n < length es → Names (entry es n) (reference_word r) →
+    result ≡ current (entry es n)
 resolved_is space m marks Null result res es n h ln (inl s) = absurd (omega (arith, s.1))
 resolved_is space m marks Null result res es n h ln (inr s) = absurd (omega (arith, s.2))
 resolved_is space m marks (Persistent line) result res es n h ln names =

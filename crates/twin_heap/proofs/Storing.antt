@@ -1,5 +1,6 @@
 -- A store to the current copy, and to a copied line.
-use Rattle.std.proofs.Common.{◌≡◌, ◌⊎◌, inl, inr, ℕ, ◌+◌, ◌*◌, ◌/◌, ◌%◌, ◌<◌, List, length, refl, sym, ◌∙◌, ap, subst, arith, length-set}
+use Rattle.std.proofs.Common.{◌≡◌, ◌⊎◌, inl, inr, ℕ, ◌+◌, ◌*◌, ◌/◌, ◌%◌, ◌<◌, List, length, refl, sym, ◌∙◌, ap, subst, arith}
+use Rattle.std.proofs.Common.{length-set}
 use Rattle.std.specs.Prelude.{Option, None, Some, slice_index, slice_set, IfSome, IsNone}
 use Rattle.std.proofs.lemmas.List.{get_or-set_same, get_or-set_other}
 use Rattle.ap_base.specs.declared.reference.Ref.{Ref}
@@ -33,7 +34,7 @@ rest_of s s' m m' k words left size = record {
   number = λ _. refl;
   copied = λ _. refl;
   owner = λ _. refl;
-  sizes = record { words = words; left = left; lines = size; marks = refl; birth = λ _. refl; count = refl; shapes = refl; room = refl; kinds = refl };
+  sizes = record { words = words; left = left; lines = size; marks = refl; birth = λ _. refl; count = refl; shapes = refl; room = refl; kinds = refl; kept = refl };
 }
 
 -- what copied_line tells

@@ -1,5 +1,6 @@
 -- What the calls on a heap need of its lines, and what they tell of an object.
-use Rattle.std.specs.Prelude.{◌≡◌, ◌≢◌, ℕ, ◌+◌, ◌-◌, ◌*◌, ◌/◌, ◌%◌, ◌<◌, ◌≤◌, ◌⊎◌, ltb, List, Option, length, slice_set, if◌then◌else◌}
+use Rattle.std.specs.Prelude.{◌≡◌, ◌≢◌, ℕ, ◌+◌, ◌-◌, ◌*◌, ◌/◌, ◌%◌, ◌<◌, ◌≤◌, ◌⊎◌, ltb, List, Option, length, slice_set}
+use Rattle.std.specs.Prelude.{if◌then◌else◌}
 use Rattle.ap_base.specs.declared.reference.Ref.{Ref}
 use Rattle.ap_base.specs.declared.reference.Ref.TheVariants.{Null, Persistent, Volatile}
 use Rattle.line_memory.specs.Memory.{Memory, shown, IsAwaited, IsResident}
@@ -112,7 +113,9 @@ pub record IsOpening (m : Memory) (kinds : List ShapeKinds) (lines : List ℕ) :
   pub within : (n : ℕ) → n < length lines → (0 < slice_index lines n) × (slice_index lines n + (opened m (slice_index lines n)).slots / 8 + 1 ≤ m.size)
   pub shape_in : (n : ℕ) → n < length lines → (opened m (slice_index lines n)).shape < length kinds
   pub few_slots : (n : ℕ) → n < length lines → (opened m (slice_index lines n)).slots < 2 ^ 31
-  pub apart : (i j : ℕ) → i < length lines → j < length lines → i ≢ j → Apart (slice_index lines i) ((opened m (slice_index lines i)).slots / 8 + 1) (slice_index lines j) ((opened m (slice_index lines j)).slots / 8 + 1)
+  pub apart : (i j : ℕ) → i < length lines → j < length lines → i ≢ j → Apart (slice_index lines i)
+      ((opened m (slice_index lines i)).slots / 8 + 1) (slice_index lines j)
+      ((opened m (slice_index lines j)).slots / 8 + 1)
   pub refs : (n k : ℕ) → n < length lines → is_reference (slot_kind kinds (opened m (slice_index lines n)).shape k) ≡ true → k < (opened m (slice_index lines n)).slots
       → (shown m (slice_index lines n + line_of k) ((1 + k) % 8) ≡ 0) ⊎ ((i : ℕ) × (i < length lines) × (shown m (slice_index lines n + line_of k) ((1 + k) % 8) ≡ 2 * slice_index lines i))
 

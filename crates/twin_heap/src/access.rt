@@ -1,7 +1,9 @@
 // Reading.
-ghost use Rattle.std.specs.Prelude.{◌≡◌, ◌+◌, ◌*◌, ◌/◌, ◌<◌, ◌≤◌, ◌↔◌, ◌%◌, ◌-◌, ◌==◌, ℕ, List, IsTrue, IfSome, IsNone, None, Some, length, slice_index, if◌then◌else◌};
+ghost use Rattle.std.specs.Prelude.{◌≡◌, ◌+◌, ◌*◌, ◌/◌, ◌<◌, ◌≤◌, ◌↔◌, ◌%◌, ◌-◌, ◌==◌, ℕ, List, IsTrue, IfSome, IsNone, None};
+ghost use Rattle.std.specs.Prelude.{Some, length, slice_index, if◌then◌else◌};
 ghost use Rattle.ap_base.specs.References.{reference_word};
-ghost use Rattle.twin_forms.specs.Table.{Entry, entry, Lies, Names, Leads, HasSlot, head_word, word_of, kind_at, kept_at, HasCopied, InP, IsClaimed, line_of};
+ghost use Rattle.twin_forms.specs.Table.{Entry, entry, Lies, Names, Leads, HasSlot, head_word, word_of, kind_at, kept_at};
+ghost use Rattle.twin_forms.specs.Table.{HasCopied, InP, IsClaimed, line_of};
 ghost use Rattle.twin_forms.specs.Sights.{sight};
 ghost use Rattle.twin_heap.specs.Here.{HasHead, HasWord, Says, SaysIn, current};
 
@@ -113,7 +115,7 @@ impl<I: Image> TwinHeap<I> {
         self.marks.kind(self.shape_of(r), index)
     }
 
-    /// Whether what stands in the slot is kept in the image: every slot is.
+    /// Whether what stands in the slot is kept in the image: today every slot is.
     pub fn kept_at(&self, r: Ref, index: u32) -> bool
         requires head { HasHead (sight self.now.space self.now.memory self.now.marks) self.now.memory (reference_word r) }
         ensures kept { Says (sight self.now.space self.now.memory self.now.marks) (reference_word r)

@@ -1,5 +1,6 @@
 // What a heap keeps of its objects beside their words.
-ghost use Rattle.std.specs.Prelude.{◌≡◌, ◌<◌, ◌≤◌, ◌+◌, ◌-◌, ◌^◌, [], ◌∷◌, ◌++◌, ◌≢◌, ℕ, IfOk, length, map, slice_index, slice_set};
+ghost use Rattle.std.specs.Prelude.{◌≡◌, ◌<◌, ◌≤◌, ◌+◌, ◌-◌, ◌^◌, [], ◌∷◌, ◌++◌, ◌≢◌, ℕ, IfOk, length, map, slice_index};
+ghost use Rattle.std.specs.Prelude.{slice_set};
 ghost use Rattle.twin_forms.specs.Sights.{Marks as Kept, slot_kind};
 ghost use Rattle.twin_heap.specs.Here.{Begins, kinds_of};
 

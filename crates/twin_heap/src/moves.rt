@@ -4,7 +4,9 @@ ghost use Rattle.forwarding.specs.Forwards.{HasState, IsObject, claim_answer};
 ghost use Rattle.object_header.specs.declared.state.State.{State as ObjectState};
 ghost use Rattle.line_memory.specs.Memory.{IsResident, shown};
 ghost use Rattle.twin_forms.specs.Table.{Entry, entry, Lies, state_in, is_reference};
-ghost use Rattle.twin_forms.specs.Moves.{Becomes, SomeObject, ToClaim, ToPlace, ToCopy, ToForward, ToRepair, ToSeal, IsRepaired, IsAt, LiesAt, owned, placed, one_more, forwarded, sealed, ChangesLine, copy_word, repaired};
+ghost use Rattle.twin_forms.specs.Moves.{Becomes, SomeObject, ToClaim, ToPlace, ToCopy, ToForward, ToRepair, ToSeal};
+ghost use Rattle.twin_forms.specs.Moves.{IsRepaired, IsAt, LiesAt, owned, placed, one_more, forwarded, sealed, ChangesLine};
+ghost use Rattle.twin_forms.specs.Moves.{copy_word, repaired};
 ghost use Rattle.twin_forms.specs.Sights.{sight};
 ghost use Rattle.twin_heap.specs.Here.{IsFilled, copied_in, kind_in_line, line_in, repaired_in};
 

@@ -1,5 +1,6 @@
 -- What a store leaves: to a slot, to a root slot, beside.
-use Rattle.std.proofs.Common.{◌≡◌, ◌≢◌, ◌⊎◌, inl, inr, ℕ, ◌+◌, ◌*◌, ◌/◌, ◌%◌, ◌<◌, ◌≤◌, List, length, map, set, Option, None, Some, refl, sym, ◌∙◌, ap, subst, arith}
+use Rattle.std.proofs.Common.{◌≡◌, ◌≢◌, ◌⊎◌, inl, inr, ℕ, ◌+◌, ◌*◌, ◌/◌, ◌%◌, ◌<◌, ◌≤◌, List, length, map, set, Option, None}
+use Rattle.std.proofs.Common.{Some, refl, sym, ◌∙◌, ap, subst, arith}
 use Rattle.std.specs.Prelude.{slice_index_or, slice_set}
 use Rattle.std.proofs.lemmas.List.{get_or-set_same, get_or-set_other, length-set}
 use Rattle.ap_base.specs.declared.kind.Kind.{Kind}
@@ -21,7 +22,8 @@ use Rattle.one_space.proofs.Laid.{get_or-map}
 use Rattle.shared_objects.specs.Shown.{IsOfKindIn, IsSameForm, Keeps, item_value, number_value, ref_value, static_in}
 use Rattle.shared_objects.specs.Changes.{StoresSlot, StoresStatic}
 use Rattle.twin_forms.specs.Sights.{Twin, view_of, slot_kind}
-use Rattle.twin_forms.specs.Table.{Entry, entry, Lies, IsRef, is_reference, kind_at, refers, value_of, word_of, HasCopied, line_of}
+use Rattle.twin_forms.specs.Table.{Entry, entry, Lies, IsRef, is_reference, kind_at, refers, value_of, word_of, HasCopied}
+use Rattle.twin_forms.specs.Table.{line_of}
 use Rattle.twin_forms.specs.Moves.{Moved, Stored}
 use Rattle.twin_forms.proofs.Led.{below_or_not, same_or_not}
 use Rattle.twin_forms.proofs.Frames.{Agree}
@@ -31,7 +33,8 @@ use Rattle.twin_heap.proofs.Reading.{spot_is}
 use Rattle.two_spaces.specs.declared.spaces.Static.{Static}
 use Rattle.two_spaces.specs.declared.spaces.Static.TheVariants.{Beside, Root}
 use Rattle.two_spaces.specs.Seen.{Spaces, shown_of, number_in, objects_in, root_word, slot_value, static_item, static_value}
-use Rattle.two_spaces.specs.Whole.{Stands, AreClasses, IsStatic, IsAlone, IsItem, IsWordOf, IsNumberOf, HasLine, SlotStored, RootStored, BesideStored, no_static}
+use Rattle.two_spaces.specs.Whole.{Stands, AreClasses, IsStatic, IsAlone, IsItem, IsWordOf, IsNumberOf, HasLine, SlotStored}
+use Rattle.two_spaces.specs.Whole.{RootStored, BesideStored, no_static}
 use Rattle.two_spaces.proofs.Numbering.{keeps_numbers, known_to}
 use Rattle.two_spaces.proofs.Valuing.{is_to, item_ref, item_shown, stored_shown, word_ref}
 use Rattle.two_spaces.proofs.Finding.{even_word}
@@ -250,7 +253,7 @@ keeps_root s m' es f slot w item h lf is stores to word line kind =
     let v' = view_of t' in
     let slot_is = subst (IsStatic s es) is (h.statics f lf) in
     let moved : Moved v es v' es = same_heap v v' es h.lies
-    (record { words = refl; left = refl; lines = stores.changes.size; marks = refl; birth = λ _. refl; count = refl; shapes = refl; room = refl; kinds = refl })
+    (record { words = refl; left = refl; lines = stores.changes.size; marks = refl; birth = λ _. refl; count = refl; shapes = refl; room = refl; kinds = refl; kept = refl })
     (other_lines s.twin m' es slot w h.lies h.behind slot_is.0 stores) in
     let lies : Lies v' es = moved.lies in
     let keeps : Keeps (number_in v) (number_in v') =

@@ -1,5 +1,6 @@
 -- One more object.
-use Rattle.std.proofs.Common.{◌≡◌, inl, inr, ℕ, suc, ◌+◌, ◌-◌, ◌*◌, ◌/◌, ◌%◌, ◌<◌, ◌≤◌, true, List, [], ◌∷◌, ◌++◌, length, slice_get, Option, Some, None, refl, sym, ◌∙◌, ap, subst, arith, rules, length-append, add-one}
+use Rattle.std.proofs.Common.{◌≡◌, inl, inr, ℕ, suc, ◌+◌, ◌-◌, ◌*◌, ◌/◌, ◌%◌, ◌<◌, ◌≤◌, true, List, [], ◌∷◌, ◌++◌, length}
+use Rattle.std.proofs.Common.{slice_get, Option, Some, None, refl, sym, ◌∙◌, ap, subst, arith, rules, length-append, add-one}
 use Rattle.std.specs.Prelude.{slice_index, slice_index_or}
 use Rattle.std.proofs.Math.ListN.{get_or-append}
 use Rattle.std.proofs.Math.Seq.{get_or-append_seam}
@@ -29,7 +30,8 @@ use Rattle.twin_forms.proofs.Led.{word_young}
 use Rattle.twin_heap.proofs.Adding.{by_new}
 use Rattle.two_spaces.specs.declared.spaces.Static.{Static}
 use Rattle.two_spaces.specs.declared.spaces.Static.TheVariants.{Beside, Root}
-use Rattle.two_spaces.specs.Seen.{Spaces, shown_of, number_in, slot_value, slot_shown, object_of, objects_in, root_word, current_word}
+use Rattle.two_spaces.specs.Seen.{Spaces, shown_of, number_in, slot_value, slot_shown, object_of, objects_in, root_word}
+use Rattle.two_spaces.specs.Seen.{current_word}
 use Rattle.two_spaces.specs.Whole.{Stands, IsStatic, IsItem, IsNamed, IsHereIn, Made, no_static}
 use Rattle.twin_heap.specs.Here.{IsHere}
 use Rattle.two_spaces.proofs.Telling.{objects_are}

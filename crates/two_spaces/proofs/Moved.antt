@@ -1,5 +1,6 @@
 -- What a move leaves of what is shown.
-use Rattle.std.proofs.Common.{◌≡◌, inl, inr, ℕ, ◌+◌, ◌*◌, ◌/◌, ◌%◌, ◌<◌, ◌≤◌, true, List, [], ◌∷◌, length, map, refl, sym, ◌∙◌, ap, subst, arith, length-set}
+use Rattle.std.proofs.Common.{◌≡◌, inl, inr, ℕ, ◌+◌, ◌*◌, ◌/◌, ◌%◌, ◌<◌, ◌≤◌, true, List, [], ◌∷◌, length, map, refl, sym, ◌∙◌}
+use Rattle.std.proofs.Common.{ap, subst, arith, length-set}
 use Rattle.std.specs.Prelude.{slice_index, slice_index_or, slice_set}
 use Rattle.std.specs.List.{AllByRecursion}
 use Rattle.ap_base.specs.References.{reference_word}
@@ -26,8 +27,10 @@ use Rattle.two_spaces.specs.declared.spaces.Static.{Static}
 use Rattle.two_spaces.specs.declared.spaces.Static.TheVariants.{Beside, Root as RootSlot}
 use Rattle.two_spaces.specs.Seen.{Spaces, shown_of, current_word, number_in, is_key_in, root_word}
 use Rattle.two_spaces.specs.Whole.{Stands, IsStatic, IsItem, IsNamed, no_static}
-use Rattle.two_spaces.specs.Moving.{IsMove, SparesRoots, LinesBehindSpareRoots, OneLineSparesRoots, MovesFollow, ShowsSame, MovesKey, MonitorsStayKnown, SameCurrent}
-use Rattle.two_spaces.proofs.Numbering.{is_some, key_named, key_number, keeps_numbers, named_key, named_number, names_current, number_named, word_copy, word_old}
+use Rattle.two_spaces.specs.Moving.{IsMove, SparesRoots, LinesBehindSpareRoots, OneLineSparesRoots, MovesFollow, ShowsSame}
+use Rattle.two_spaces.specs.Moving.{MovesKey, MonitorsStayKnown, SameCurrent}
+use Rattle.two_spaces.proofs.Numbering.{is_some, key_named, key_number, keeps_numbers, named_key, named_number, names_current}
+use Rattle.two_spaces.proofs.Numbering.{number_named, word_copy, word_old}
 use Rattle.two_spaces.proofs.Shifting.{keys_same, objects_moved}
 use Rattle.two_spaces.proofs.Keeping.{SameRoots, all_same, classes_on, kinds_same}
 
@@ -133,6 +136,7 @@ moved_twice v v' v'' es es' es'' m m' =
         slots = λ n ln. m'.same.slots n (on n ln) ∙ m.same.slots n ln;
         led = λ n w ln names. m'.same.led n w (on n ln) (m.same.led n w ln names);
         same = λ n k ln lk. m'.same.same n k (on n ln) (subst (λ c. k < c) (sym (m.same.slots n ln)) lk) ∙ m.same.same n k ln lk;
+        kept = m'.same.kept ∙ m.same.kept;
       };
     }
 

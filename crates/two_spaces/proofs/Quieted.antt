@@ -8,7 +8,8 @@ use Rattle.twin_forms.proofs.Frames.{Agree, SameSizes}
 use Rattle.twin_forms.proofs.Quiet.{same_heap}
 use Rattle.two_spaces.specs.Seen.{Spaces, shown_of}
 use Rattle.two_spaces.specs.Moving.{IsMove}
-use Rattle.two_spaces.specs.Quiet.{IsQuiet, IsImageCall, QuietMovesNone, QuietLeavesWhole, QuietShowsTheSame, QuietKeepsKeys, QuietShowsSameWorld, QuietKeepsMonitors, ImageCallsAreQuiet, StoresBesideAreQuiet}
+use Rattle.two_spaces.specs.Quiet.{IsQuiet, IsImageCall, QuietMovesNone, QuietLeavesWhole, QuietShowsTheSame, QuietKeepsKeys}
+use Rattle.two_spaces.specs.Quiet.{QuietShowsSameWorld, QuietKeepsMonitors, ImageCallsAreQuiet, StoresBesideAreQuiet}
 use Rattle.two_spaces.proofs.Moved.{keys, monitors_stay, same_world, shows, whole}
 use Rattle.two_spaces.proofs.Keeping.{kinds_same}
 
@@ -24,6 +25,7 @@ module _ (s : Spaces) (t' : Twin) (es : List Entry) (q : IsQuiet s t' es) where
     shapes = ap (λ (m : Marks). length m.kinds) q.marks;
     room = ap (λ (m : Marks). m.room) q.marks;
     kinds = kinds_same s.twin t' (ap (λ (m : Marks). m.kinds) q.marks);
+    kept = refl;
   }
 
   agrees : (n : ℕ) → n < length es → Agree (view_of s.twin) (view_of t') (entry es n)

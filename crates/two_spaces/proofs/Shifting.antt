@@ -1,5 +1,6 @@
 -- From one view of a heap to another: what is shown of its objects, static fields, references and keys.
-use Rattle.std.proofs.Common.{◌≡◌, ◌≢◌, ◌⊎◌, inl, inr, ℕ, zero, suc, ◌<◌, ◌≤◌, true, List, [], ◌∷◌, length, map, set, get_or, refl, sym, ◌∙◌, ap, subst, arith}
+use Rattle.std.proofs.Common.{◌≡◌, ◌≢◌, ◌⊎◌, inl, inr, ℕ, zero, suc, ◌<◌, ◌≤◌, true, List, [], ◌∷◌, length, map, set, get_or}
+use Rattle.std.proofs.Common.{refl, sym, ◌∙◌, ap, subst, arith}
 use Rattle.std.specs.Prelude.{slice_index, slice_index_or, slice_set}
 use Rattle.std.proofs.lemmas.List.{get_or-set_same, get_or-set_other, length-set, length-map, ext_get_or}
 use Rattle.ap_base.specs.declared.reference.Ref.{Ref}
@@ -19,7 +20,8 @@ use Rattle.twin_forms.specs.Moves.{SameHeap, Stored}
 use Rattle.twin_forms.proofs.Led.{same_or_not}
 use Rattle.twin_forms.proofs.Elsewhere.{value_same, as_was}
 use Rattle.two_spaces.specs.declared.spaces.Static.{Static}
-use Rattle.two_spaces.specs.Seen.{current_word, number_in, is_key_in, slot_value, slot_shown, object_of, objects_in, static_item, static_value}
+use Rattle.two_spaces.specs.Seen.{current_word, number_in, is_key_in, slot_value, slot_shown, object_of, objects_in}
+use Rattle.two_spaces.specs.Seen.{static_item, static_value}
 use Rattle.two_spaces.specs.Laws.{null_is_no_object}
 use Rattle.two_spaces.specs.Whole.{IsTo, IsItem, no_static}
 use Rattle.two_spaces.proofs.Telling.{objects_are}

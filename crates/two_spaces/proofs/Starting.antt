@@ -15,7 +15,8 @@ use Rattle.two_spaces.specs.declared.spaces.Static.{Static}
 use Rattle.two_spaces.specs.declared.spaces.Static.TheVariants.{Beside, Root}
 use Rattle.two_spaces.specs.Seen.{Spaces, root_word}
 use Rattle.two_spaces.specs.Whole.{AreClasses, IsItem, IsStatic, Stands, no_static}
-use Rattle.two_spaces.specs.Starts.{Begins, HoldsNone, IsFirstStatic, IsFirstWord, BeginningsStand, OwnShapesAreClasses, OwnShapesStand}
+use Rattle.two_spaces.specs.Starts.{Begins, HoldsNone, IsFirstStatic, IsFirstWord, BeginningsStand, OwnShapesAreClasses}
+use Rattle.two_spaces.specs.Starts.{OwnShapesStand}
 
 none_held : (es : List Entry) (item : Item) → HoldsNone item → IsItem es item
 none_held es (IntItem i) none = tt

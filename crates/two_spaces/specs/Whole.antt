@@ -1,5 +1,6 @@
 -- When a heap over two spaces is whole, what its calls need, and what stores and new objects make of it.
-use Rattle.std.specs.Prelude.{◌≡◌, ◌≢◌, ℕ, ◌+◌, ◌%◌, ◌<◌, ◌≤◌, pos, List, [], ◌∷◌, ◌++◌, length, slice_index, slice_index_or, slice_set}
+use Rattle.std.specs.Prelude.{◌≡◌, ◌≢◌, ℕ, ◌+◌, ◌%◌, ◌<◌, ◌≤◌, pos, List, [], ◌∷◌, ◌++◌, length, slice_index, slice_index_or}
+use Rattle.std.specs.Prelude.{slice_set}
 use Rattle.std.specs.Int.{w32, w64, cast_unsigned}
 use Rattle.ap_base.specs.declared.place.Place.{Place}
 use Rattle.ap_base.specs.declared.place.Place.TheVariants as place

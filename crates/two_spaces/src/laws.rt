@@ -1,6 +1,9 @@
 // Laws of the start, of moves, and of calls of the image.
-ghost use Rattle.two_spaces.specs.Moving.{ForwardsMoveKeys, LinesBehindSpareRoots, MonitorsStayKnown, MovesFollow, MovesLeaveWhole, MovesShowTheSame, OneLineSparesRoots, OthersKeepKeys, RekeyedShowsSameWorld, SameShowsSameWorld};
-ghost use Rattle.two_spaces.specs.Quiet.{ImageCallsAreQuiet, QuietKeepsKeys, QuietKeepsMonitors, QuietLeavesWhole, QuietMovesNone, QuietShowsSameWorld, QuietShowsTheSame, StoresBesideAreQuiet};
+ghost use Rattle.two_spaces.specs.Moving.{ForwardsMoveKeys, LinesBehindSpareRoots, MonitorsStayKnown, MovesFollow};
+ghost use Rattle.two_spaces.specs.Moving.{MovesLeaveWhole, MovesShowTheSame, OneLineSparesRoots, OthersKeepKeys};
+ghost use Rattle.two_spaces.specs.Moving.{RekeyedShowsSameWorld, SameShowsSameWorld};
+ghost use Rattle.two_spaces.specs.Quiet.{ImageCallsAreQuiet, QuietKeepsKeys, QuietKeepsMonitors, QuietLeavesWhole};
+ghost use Rattle.two_spaces.specs.Quiet.{QuietMovesNone, QuietShowsSameWorld, QuietShowsTheSame, StoresBesideAreQuiet};
 ghost use Rattle.two_spaces.specs.Starts.{BeginningsStand, OwnShapesAreClasses, OwnShapesStand};
 
 /// A twin heap as it is made of an image's objects is whole with tables of their classes and static fields that hold

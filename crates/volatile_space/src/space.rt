@@ -1,5 +1,6 @@
 // A space of words.
-ghost use Rattle.std.specs.Prelude.{◌≡◌, ◌<◌, ◌≤◌, ◌+◌, ◌-◌, ◌^◌, ◌↔◌, [], ◌++◌, length, replicate, slice_index, slice_set, IfOk, IfSome, IsNone, IsSome, vec_capacity};
+ghost use Rattle.std.specs.Prelude.{◌≡◌, ◌<◌, ◌≤◌, ◌+◌, ◌-◌, ◌^◌, ◌↔◌, [], ◌++◌, length, replicate, slice_index, slice_set};
+ghost use Rattle.std.specs.Prelude.{IfOk, IfSome, IsNone, IsSome, vec_capacity};
 ghost use Rattle.volatile_space.specs.Spaces.{Space};
 
 use std::alloc::{AllocError, Global};

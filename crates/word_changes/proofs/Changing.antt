@@ -2,10 +2,12 @@
 use Rattle.std.proofs.Common.{◌≡◌, ◌≢◌, ◌⊎◌, inl, inr, ⊎_elim, ◌<◌, ℕ, Option, Some, None, refl, sym, ◌∙◌, subst, arith}
 use Rattle.line_image.specs.Trace.{Trace, Outcome, read_word}
 use Rattle.line_image.specs.Told.{Told}
-use Rattle.line_memory.specs.Memory.{Memory, shown, IsResident, IsTelling, CanLeave, CanLeaveAll, IsWritten, IsDurable, ReadsWord, SameResident, SameImage, KeepsTelling}
+use Rattle.line_memory.specs.Memory.{Memory, shown, IsResident, IsTelling, CanLeave, CanLeaveAll, IsWritten, IsDurable}
+use Rattle.line_memory.specs.Memory.{ReadsWord, SameResident, SameImage, KeepsTelling}
 use Rattle.line_memory.specs.Moments.{Goes, KeepsShown}
 use Rattle.line_memory.proofs.Chain.{goes_on, goes_nowhere}
-use Rattle.word_changes.specs.Changes.{Tells, AllKnown, IsFixed, IsWrittenAs, Nothing, IsGiven, IsLeft, OldOrGiven, ChangesTo, CallsGoOn, StopsLeave}
+use Rattle.word_changes.specs.Changes.{Tells, AllKnown, IsFixed, IsWrittenAs, Nothing, IsGiven, IsLeft, OldOrGiven, ChangesTo}
+use Rattle.word_changes.specs.Changes.{CallsGoOn, StopsLeave}
 
 -- ---- what is known
 

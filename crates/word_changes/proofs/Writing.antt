@@ -3,8 +3,10 @@ use Rattle.std.proofs.Common.{inl, refl, ◌≡◌, ◌⊎◌, ⊎_elim, ◌<◌
 use Rattle.line_image.specs.Trace.{Outcome}
 use Rattle.line_memory.specs.Memory.{Memory, shown, IsWritten, IsDurable, SameImage, OneCall}
 use Rattle.line_memory.specs.Moments.{CountsFrom}
-use Rattle.word_changes.specs.Changes.{Tells, AllKnown, IsFixed, Nothing, OldOrGiven, ChangesTo, CallsGoOn, GoesOn, WritesAll, AllFixed}
-use Rattle.word_changes.proofs.Changing.{telling_knows, changes_more, changes_nowhere, stays_written, stays_fixed, left_fixed, fence_fixes}
+use Rattle.word_changes.specs.Changes.{Tells, AllKnown, IsFixed, Nothing, OldOrGiven, ChangesTo, CallsGoOn, GoesOn, WritesAll}
+use Rattle.word_changes.specs.Changes.{AllFixed}
+use Rattle.word_changes.proofs.Changing.{telling_knows, changes_more, changes_nowhere, stays_written, stays_fixed, left_fixed}
+use Rattle.word_changes.proofs.Changing.{fence_fixes}
 use Rattle.word_changes.proofs.Going.{goes_more, goes_by_fetch, goes_by_store, goes_by_call}
 
 -- the words lie in an image of so many lines

@@ -3,7 +3,8 @@
 use Rattle.std.specs.Prelude.{◌≡◌, ◌⊎◌, ◌<◌, ◌≤◌, ◌^◌, ℕ}
 use Rattle.line_image.specs.Trace.{Outcome}
 use Rattle.ap_base.specs.Causes.{next_count}
-use Rattle.line_memory.specs.Memory.{Memory, shown, IsKnown, IsTelling, CanLeave, CanLeaveAll, IsWritten, KeepsTelling, SameImage, OneCall}
+use Rattle.line_memory.specs.Memory.{Memory, shown, IsKnown, IsTelling, CanLeave, CanLeaveAll, IsWritten, KeepsTelling}
+use Rattle.line_memory.specs.Memory.{SameImage, OneCall}
 use Rattle.line_memory.specs.Moments.{Goes, CountsFrom}
 
 -- the image tells what was done to it

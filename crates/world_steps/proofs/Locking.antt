@@ -1,5 +1,6 @@
 -- Monitors by reference are monitors by number.
-use Rattle.std.proofs.Common.{◌≡◌, ◌≢◌, ◌<◌, ◌≤◌, ◌-◌, ◌^◌, ℕ, suc, pred, Bool, true, false, nat_eq, ltb, List, [], ◌∷◌, map, length, Option, Some, None, IsSome, if◌then◌else◌, refl, ap, ◌∙◌, sym, subst, arith, rules}
+use Rattle.std.proofs.Common.{◌≡◌, ◌≢◌, ◌<◌, ◌≤◌, ◌-◌, ◌^◌, ℕ, suc, pred, Bool, true, false, nat_eq, ltb, List, [], ◌∷◌, map}
+use Rattle.std.proofs.Common.{length, Option, Some, None, IsSome, if◌then◌else◌, refl, ap, ◌∙◌, sym, subst, arith, rules}
 use Rattle.std.specs.List.{AllByRecursion}
 use Rattle.std.specs.Prelude.{All}
 use Rattle.std.proofs.lemmas.Bool.{eqb-true, eq-eqb, ne_eqb, false≢true}
@@ -12,7 +13,7 @@ use Rattle.run_types.specs.declared.key.Key.{Key}
 use Rattle.run_types.specs.declared.key.Key.TheVariants as key
 use Rattle.run_types.specs.declared.wait.On.TheVariants as on
 use Rattle.run_types.specs.declared.fault.Which.TheVariants as which
-use Rattle.run_types.specs.declared.fault.RunFault.TheVariants as fault
+use Rattle.run_types.specs.declared.fault.StepFault.TheVariants as fault
 use Rattle.graph_model.specs.declared.types.Root.{Root}
 use Rattle.run_history.specs.declared.plain.Monitor.{Monitor as PlainMonitor}
 use Rattle.run_history.specs.declared.act.PlainKey.{PlainKey}
@@ -26,6 +27,7 @@ use Rattle.monitors.specs.Keys.{is_ref, is_key}
 use Rattle.monitors.specs.Held.{monitor_of, entry_of, enter_answer, entered, exited, one_less, IsHeldBy}
 use Rattle.natives.specs.declared.requests.Reply.TheVariants as reply
 use Rattle.plain_model.specs.Facts.{SetFacts}
+use Rattle.plain_model.specs.Limits.{monitors_left}
 use Rattle.plain_model.specs.Steps.{Step, Does, Waits, enters, enters_held, exits, exits_held, throws}
 use Rattle.plain_model.specs.declared.throws.Throws.TheVariants as exception
 use Rattle.shared_objects.specs.declared.rest.Rest.{Rest}
@@ -223,6 +225,18 @@ no_room : (t count : ℕ) (o : Option Monitor) → NoRoom ≡ entry_of t count o
 no_room t count None e = (by_full (ltb count 4096) count refl e, refl)
 no_room t count (Some m) e = absurd (by_held (nat_eq m.owner t) m.owner e)
 
+by_few : (b : Bool) (count : ℕ) → ltb count 4096 ≡ b → Taken ≡ (if b then Taken else NoRoom) → count < 4096
+by_few true count test e = search (rules, test)
+by_few false count test e = absurd (false≢true (sym (ap is_taken e)))
+
+found_room : (t count : ℕ) (o : Option Monitor) → Taken ≡ entry_of t count o → o ≡ None → count < 4096
+found_room t count None e none = by_few (ltb count 4096) count refl e
+found_room t count (Some m) e none = absurd (let no = none in cc)
+
+none_held : (shown : Shown) (o : Option Monitor) → plain_held shown o ≡ None → o ≡ None
+none_held shown None e = refl
+none_held shown (Some m) e = absurd (let no = e in cc)
+
 module _ (set : SetFacts) (t : ℕ) (shown : Shown) (rest : Rest) (k : Key Ref) (pk : PlainKey) (one :
     HasOneKey shown)
     (monitors : KnowsMonitors shown rest) (known : IsHeldKey shown k) (is : pk ≡ plain_key shown.number k)
@@ -239,6 +253,15 @@ module _ (set : SetFacts) (t : ℕ) (shown : Shown) (rest : Rest) (k : Key Ref) 
         k)
         ∙ ap (entry_step set (world_of roots shown rest) t pk) (sym e)
 
+    -- a monitor that is taken was left, where nobody held it
+    monitor_found : Taken ≡ enter_answer t rest.monitors k → plain.held (map (plain_monitor shown.number) rest.monitors) pk ≡ None
+        → 0 < monitors_left (map (plain_monitor shown.number) rest.monitors)
+    monitor_found e free =
+        let few = found_room t (length rest.monitors) (monitor_of rest.monitors k) e
+        (none_held shown (monitor_of rest.monitors k) (sym held_by_number ∙ free)) in
+        let long = length-map rest.monitors (plain_monitor shown.number) in
+        omega (arith, few, long)
+
     abbrev world_with : List Root → List PlainMonitor → World
     world_with roots ms = record (world_of roots shown rest) { monitors = ms }
 
@@ -247,6 +270,7 @@ module _ (set : SetFacts) (t : ℕ) (shown : Shown) (rest : Rest) (k : Key Ref) 
         → Goes (λ roots taken. enters set (world_of roots shown rest) t pk) t shown rest
         (stepped.Did (op.Enter pk) reply.Done) shown (record rest { monitors = now })
     enter_goes now counts e left = did_goes (op.Enter pk) reply.Done (λ roots. entry_is roots Taken e) tt refl
+        (monitor_found e)
         (λ roots. ap (λ ms. world_with roots (map (plain_monitor shown.number) ms)) left
         ∙ ap (world_with roots) (entered_plain shown one k known t rest.monitors monitors counts.monitors)
         ∙ ap (λ q. world_with roots (plain.entered (map (plain_monitor shown.number) rest.monitors) q t)) (sym
@@ -303,7 +327,7 @@ module _ (set : SetFacts) (t : ℕ) (shown : Shown) (rest : Rest) (k : Key Ref) 
         (stepped.Did (op.Exit pk) reply.Done) shown (record rest { monitors = now })
     exit_goes now by left = did_goes (op.Exit pk) reply.Done
         (λ roots. ap (exits_held set (world_of roots shown rest) t pk) held_by_number
-        ∙ own_exit (world_of roots shown rest) (monitor_of rest.monitors k) by) tt refl
+        ∙ own_exit (world_of roots shown rest) (monitor_of rest.monitors k) by) tt refl tt
         (λ roots. ap (λ ms. world_with roots (map (plain_monitor shown.number) ms)) left
         ∙ ap (world_with roots) (exited_plain shown one k known rest.monitors monitors)
         ∙ ap (λ q. world_with roots (plain.exited (map (plain_monitor shown.number) rest.monitors) q)) (sym is))

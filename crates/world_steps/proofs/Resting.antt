@@ -1,11 +1,12 @@
 -- Threads and regions: what they come to.
-use Rattle.std.proofs.Common.{◌≡◌, ℕ, ◌<◌, ◌≤◌, ◌↔◌, inl, inr, is_some, Bool, true, false, nat_lt, List, [], ◌∷◌, ◌++◌, map, length, Option, Some, None, if◌then◌else◌, refl, ap, ◌∙◌, sym, subst, arith, rules}
+use Rattle.std.proofs.Common.{◌≡◌, ℕ, ◌<◌, ◌≤◌, ◌↔◌, inl, inr, is_some, Bool, true, false, nat_lt, List, [], ◌∷◌, ◌++◌, map}
+use Rattle.std.proofs.Common.{length, Option, Some, None, if◌then◌else◌, refl, ap, ◌∙◌, sym, subst, arith, rules}
 use Rattle.std.proofs.lemmas.Bool.{cases_lt, false≢true}
 use Rattle.std.proofs.lemmas.List.{length-map, map-append}
 use Rattle.run_types.specs.declared.resolved.At.{At}
 use Rattle.run_types.specs.declared.wait.On.TheVariants as on
 use Rattle.run_types.specs.declared.fault.Full.{Full}
-use Rattle.run_types.specs.declared.fault.RunFault.TheVariants as fault
+use Rattle.run_types.specs.declared.fault.StepFault.TheVariants as fault
 use Rattle.graph_model.specs.declared.types.Root.{Root}
 use Rattle.natives.specs.declared.requests.Request.TheVariants as ask
 use Rattle.natives.specs.declared.requests.Reply.TheVariants as reply
@@ -35,14 +36,14 @@ module _ (t : ℕ) (shown : Shown) (rest : Rest) (known : KnowsMonitors shown re
       → Goes (λ roots taken. step set (world_of roots shown rest) t taken (ask.Begin from)) t shown rest
       (stepped.Did op.Begin reply.Done) shown (record rest { threads = now })
   begin_goes set from now counts is = did_goes op.Begin reply.Done (λ roots. step_begin set (world_of roots
-      shown rest) t 1 from) tt refl
+      shown rest) t 1 from) tt refl tt
       (λ roots. ap (λ ss. world_with roots (map plain_thread ss)) is
       ∙ ap (world_with roots) (deepened_plain rest.threads t counts.threads)) known
 
   pub end_goes : {p : List Root → ℕ → Step} → ((roots : List Root) → p roots 1 ≡ Does op.End reply.Done)
       → (now : List ThreadState) → now ≡ at_state raised rest.threads t
       → Goes p t shown rest (stepped.Did op.End reply.Done) shown (record rest { threads = now })
-  end_goes same now is = did_goes op.End reply.Done same tt refl
+  end_goes same now is = did_goes op.End reply.Done same tt refl tt
       (λ roots. ap (λ ss. world_with roots (map plain_thread ss)) is
       ∙ ap (world_with roots) (raised_plain rest.threads t)) known
 
@@ -52,7 +53,7 @@ module _ (t : ℕ) (shown : Shown) (rest : Rest) (known : KnowsMonitors shown re
       (stepped.Did (op.Ended uncaught) reply.Done) shown (record rest { threads = now })
   leave_goes set uncaught now is = did_goes (op.Ended uncaught) reply.Done
       (λ roots. step_leave set (world_of roots shown rest) t 1 (record { class = 0; method = 0; pc = 0 })
-      uncaught) tt refl
+      uncaught) tt refl tt
       (λ roots. ap (λ ss. world_with roots (map plain_thread ss)) is
       ∙ ap (world_with roots) (ended_plain uncaught rest.threads t)) known
 
@@ -80,7 +81,7 @@ module _ (t : ℕ) (shown : Shown) (rest : Rest) (known : KnowsMonitors shown re
         left = threads_left (map
             plain_thread rest.threads);
       }))) room
-      ∙ ap (λ c. Does (op.Start n c) reply.Done) (plain_count ∙ sym number)) tt refl
+      ∙ ap (λ c. Does (op.Start n c) reply.Done) (plain_count ∙ sym number)) tt refl tt
       (λ roots. ap (λ ss. world_with roots (map plain_thread ss)) is
       ∙ ap (world_with roots) (map-append plain_thread rest.threads (new_state (Some n) ∷ []))) known
 
@@ -126,6 +127,6 @@ pub awaited_goes : {p : List Root → ℕ → Step} (t : ℕ) (shown : Shown) (r
     → ((roots : List Root) (taken : ℕ) → p roots taken ≡ (if b then Does (op.Join n) reply.Done else Waits
     (on.Join u)))
     → Goes p t shown rest (awaited n u b) shown rest
-awaited_goes t shown rest n u true known is = did_goes (op.Join n) reply.Done (λ roots. is roots 1) tt refl
+awaited_goes t shown rest n u true known is = did_goes (op.Join n) reply.Done (λ roots. is roots 1) tt refl tt
     (λ roots. refl) known
 awaited_goes t shown rest n u false known is = waits_goes (on.Join u) is known

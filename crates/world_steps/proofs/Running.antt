@@ -1,5 +1,6 @@
 -- Threads by their states are plain threads.
-use Rattle.std.proofs.Common.{◌≡◌, ℕ, zero, suc, pred, ◌<◌, ◌-◌, ◌^◌, sub-one, Bool, true, false, nat_eq, List, [], ◌∷◌, map, slice_get, Option, Some, None, is_some, if◌then◌else◌, refl, ap, ◌∙◌, arith}
+use Rattle.std.proofs.Common.{◌≡◌, ℕ, zero, suc, pred, ◌<◌, ◌-◌, ◌^◌, sub-one, Bool, true, false, nat_eq, List, [], ◌∷◌, map}
+use Rattle.std.proofs.Common.{slice_get, Option, Some, None, is_some, if◌then◌else◌, refl, ap, ◌∙◌, arith}
 use Rattle.std.specs.Prelude.{All}
 use Rattle.std.proofs.lemmas.List.Elements.{All-head, All-tail, All-from_get_or}
 use Rattle.ap_base.specs.Causes.{next_count}

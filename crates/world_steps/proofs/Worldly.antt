@@ -1,5 +1,6 @@
 -- Ways through the plain step: initialisation, threads, regions and the output.
-use Rattle.std.proofs.Common.{◌≡◌, ℕ, zero, suc, ◌<◌, ◌≤◌, Bool, true, false, ◌&&◌, nat_lt, nat_le, List, length, take, Option, Some, None, if◌then◌else◌, refl, ap, ◌∙◌, sym, arith, rules}
+use Rattle.std.proofs.Common.{◌≡◌, ℕ, zero, suc, ◌<◌, ◌≤◌, Bool, true, false, ◌&&◌, nat_lt, nat_le, List, length, take, Option}
+use Rattle.std.proofs.Common.{Some, None, if◌then◌else◌, refl, ap, ◌∙◌, sym, arith, rules}
 use Rattle.run_types.specs.declared.resolved.At.{At}
 use Rattle.run_types.specs.declared.key.Key.TheVariants as key
 use Rattle.graph_model.specs.declared.types.Value.{Value}
@@ -12,7 +13,9 @@ use Rattle.run_history.specs.Worlds.{World, depth_of}
 use Rattle.plain_model.specs.declared.throws.Throws.TheVariants as exception
 use Rattle.plain_model.specs.BuiltIn.{thread_place}
 use Rattle.plain_model.specs.Facts.{SetFacts, is_sub, built_in_number}
-use Rattle.plain_model.specs.Steps.{Does, WrongOperand, step, throws, with_object, with_class, any_object, is_thread, starts_thread, joins_thread, thread_of, shape_of, next_number, enters, exits, prints, ends_region}
+use Rattle.plain_model.specs.Steps.{Does, WrongOperand, step, throws, with_object, with_class, any_object, is_thread}
+use Rattle.plain_model.specs.Steps.{starts_thread, joins_thread, thread_of, shape_of, next_number, enters, exits, prints}
+use Rattle.plain_model.specs.Steps.{ends_region}
 use Rattle.shared_objects.specs.Shown.{number_value}
 use Rattle.step_forms.proofs.Ways.{object_none, object_wrong, object_right}
 

@@ -16,7 +16,7 @@ use monitors::Enter;
 use natives::Reply;
 use plain_model::Throws;
 use run_history::{Op, PlainKey};
-use run_types::{Full, Key, On, RunFault, Which};
+use run_types::{Full, Key, On, StepFault, Which};
 use shared_objects::{Objects, Rest, Types};
 use step_forms::{Stepped, numbered, throw};
 
@@ -44,7 +44,7 @@ fn enter_key<O: Objects>(
             reply: Reply::Done,
         },
         Enter::Held(u) => Stepped::Waits(On::Monitor(u)),
-        Enter::Full => Stepped::Over(RunFault::Full(Full {
+        Enter::Full => Stepped::Over(StepFault::Full(Full {
             which: Which::Monitors,
             need: 1,
             left: 0,

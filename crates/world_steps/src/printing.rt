@@ -10,7 +10,7 @@ ghost use Rattle.world_steps.specs.Printing.{HasSinkCause, PrintsTo, TakesShare}
 use ap_base::{Piece, Sink};
 use natives::Reply;
 use run_history::Op;
-use run_types::RunFault;
+use run_types::StepFault;
 use step_forms::Stepped;
 
 /// Prints as many bytes of a piece as the sink takes, at least one.
@@ -25,9 +25,9 @@ pub fn print<S: Sink>(sink: &mut S, piece: Piece) -> Stepped
     ensures cause { HasSinkCause (S.faults sink.old) (S.faults sink.new) result }
 {
     match sink.put(piece.as_slice()) {
-        Err(_) => Stepped::Over(RunFault::SinkFault),
+        Err(_) => Stepped::Over(StepFault::SinkFault),
         Ok(taken) => match Piece::new(&piece.as_slice()[..taken]) {
-            None => Stepped::Over(RunFault::SinkFault),
+            None => Stepped::Over(StepFault::SinkFault),
             Some(bytes) => Stepped::Did {
                 op: Op::Print { bytes },
                 reply: Reply::Printed(taken as u32),

@@ -15,7 +15,7 @@ use ap_base::{Ref, ThreadNo};
 use natives::Reply;
 use plain_model::Throws;
 use run_history::Op;
-use run_types::{On, RunFault};
+use run_types::{On, StepFault};
 use shared_objects::{Objects, Rest, Types};
 use step_forms::{Stepped, numbered, throw};
 
@@ -57,7 +57,7 @@ pub fn start<C: Types, O: Objects>(
         return throw(set, objects, Throws::IllegalThreadState);
     }
     match rest.threads.start(object) {
-        Err(full) => Stepped::Over(RunFault::Full(full)),
+        Err(full) => Stepped::Over(StepFault::Full(full)),
         Ok(child) => Stepped::Did {
             op: Op::Start { object, child },
             reply: Reply::Done,

@@ -1,15 +1,17 @@
-use Rattle.std.proofs.Common.{◌≡◌, List, Option, Some, Ok, Err, Result, [], sym, ap}
+use Rattle.std.proofs.Common.{◌≡◌, List, Option, Some, Ok, Err, Result, [], sym, ap, ◌∙◌}
 use Rattle.std.specs.Option.{option_map}
 use Rattle.std.proofs.lemmas.Result.{err_from_is_err_and}
-use Rattle.std.specs.Prelude.{ℕ, IfErr, IsOk}
+use Rattle.std.specs.Prelude.{ℕ, IfErr, IfOk, IsOk}
 use Rattle.ap_base.specs.declared.source.NamedBytes.{NamedBytes}
 use Rattle.autopersist.specs.declared.choice.Found.{Found}
 use Rattle.statuses.specs.declared.status.Status.{Status}
 use Rattle.autopersist.specs.Files.{Choice, classes_among}
 use Rattle.autopersist.specs.Reading.{IsLeft, IsOfClasses}
 use Rattle.autopersist.specs.TopCall.{IsOfWords}
-use Rattle.autopersist.specs.Words.{Asked, asked_by, main_class, texts}
-use Rattle.autopersist.proofs.Causes.{cause_of_files, choice_asked, cause_of_choice, class_unrefused, of_words_too, left_of_choice}
+use Rattle.autopersist.specs.Words.{Asked, asked_by, main_class, texts, asked_limits}
+use Rattle.autopersist.proofs.Causes.{cause_of_files, choice_asked, cause_of_choice, class_unrefused, of_words_too}
+use Rattle.autopersist.proofs.Causes.{left_of_choice}
+use Rattle.run_types.specs.declared.limits.Limits.{Limits}
 use Rattle.autopersist.proofs.choice.find_choice.Goals as goal
 
 -- what was found to run
@@ -19,6 +21,10 @@ given found = record { set = found.set; main = found.main.items }
 -- the class for which the words ask
 named : (words : List (List ℕ)) (a : Asked) → Some a ≡ asked_by words → main_class words ≡ Some a.main
 named words a is = sym (ap (λ (asked : Option Asked). option_map (λ (b : Asked). b.main) asked) is)
+
+-- and the limits
+allowed : (words : List (List ℕ)) (a : Asked) → Some a ≡ asked_by words → asked_limits words ≡ Some a.limits
+allowed words a is = sym (ap (λ (asked : Option Asked). option_map (λ (b : Asked). b.limits) asked) is)
 
 pub returns-in_err-classes-clause-cause : goal.returns-in_err-classes-clause-cause
 returns-in_err-classes-clause-cause g c =
@@ -31,6 +37,16 @@ returns-clause-found g c =
     choice_asked given (texts c.args.words.now) (g.C.ClassSource.left c.args.source.now) c.in-Some.command.main.now
     c.in_ok-classes.classes.items c.choose.result (named (texts c.args.words.now) _ c.in-Some.ensures) c.in_ok-classes.ensures.classes
     c.choose.ensures.found
+
+allows : (r : Result Found Status) (words : List (List ℕ)) (limits : Limits) → asked_limits words ≡ Some limits
+    → IfOk r (λ found. found.limits ≡ limits) → IfOk r (λ found. asked_limits words ≡ Some found.limits)
+allows (Ok found) words limits are same = are ∙ ap (λ (l : Limits). Some l) (sym same)
+allows (Err s) words limits are same = tt
+
+pub returns-clause-limits : goal.returns-clause-limits
+returns-clause-limits g c =
+    allows c.choose.result (texts c.args.words.now) c.in-Some.command.limits
+    (allowed (texts c.args.words.now) _ c.in-Some.ensures) c.choose.ensures.limits
 
 pub returns-clause-cause : goal.returns-clause-cause
 returns-clause-cause g c =

@@ -1,4 +1,5 @@
-use Rattle.std.proofs.Common.{◌≡◌, ◌⊎◌, suc, ◌+◌, ◌-◌, List, [], ◌∷◌, ◌++◌, Result, Ok, Err, false, inl, inr, subst, sym, ◌∙◌, arith, if◌then◌else◌}
+use Rattle.std.proofs.Common.{◌≡◌, ◌⊎◌, suc, ◌+◌, ◌-◌, List, [], ◌∷◌, ◌++◌, Result, Ok, Err, false, inl, inr, subst, sym, ◌∙◌}
+use Rattle.std.proofs.Common.{arith, if◌then◌else◌}
 use Rattle.std.specs.Prelude.{All}
 use Rattle.std.specs.Result.{is_ok, is_err}
 use Rattle.class_file.specs.Classes.{CanBeRead}
@@ -11,7 +12,8 @@ use Rattle.statuses.specs.declared.status.Status.{Status}
 use Rattle.statuses.specs.declared.status.Status.TheVariants as status
 use Rattle.autopersist.specs.Files.{class_of}
 use Rattle.autopersist.specs.Reading.{FilesComeTo, HasNoCause, IsLeft}
-use Rattle.autopersist.proofs.SourceFiles.{HasRead, goes_on, few, ends, refuses, passes, whole, left_failed, left_refused, left_no_memory, left_full}
+use Rattle.autopersist.proofs.SourceFiles.{HasRead, goes_on, few, ends, refuses, passes, whole, left_failed, left_refused}
+use Rattle.autopersist.proofs.SourceFiles.{left_no_memory, left_full}
 use Rattle.autopersist.proofs.files.read_files.Goals as goal
 
 pub returns-in_default-clause-classes : goal.returns-in_default-clause-classes
@@ -56,7 +58,9 @@ pub loop-preserved : goal.loop-preserved
 loop-preserved g c =
     let more : 4096 - c.loop.counter ≡ suc (4096 - (c.loop.counter + 1)) = omega arith in
     record {
-      read = goes_on (g.C.ClassSource.left c.args.source.now) (g.C.ClassSource.left c.loop.source) (g.C.ClassSource.left c.next_file.new.source) (4096 - (c.loop.counter + 1)) c.loop.classes.items c.push.new.self.items c.in-Some.file c.in_ok-class.class
+      read = goes_on (g.C.ClassSource.left c.args.source.now) (g.C.ClassSource.left c.loop.source)
+          (g.C.ClassSource.left c.next_file.new.source) (4096 - (c.loop.counter + 1)) c.loop.classes.items
+          c.push.new.self.items c.in-Some.file c.in_ok-class.class
           (subst (λ n. HasRead (g.C.ClassSource.left c.args.source.now) (g.C.ClassSource.left c.loop.source) n c.loop.classes.items) more c.loop.invariant.read)
           (subst (λ f. given.Gives (g.C.ClassSource.left c.loop.source) f (g.C.ClassSource.left c.next_file.new.source)) c.in-Some.is c.in_ok-file.ensures.file) c.in_ok-class.ensures.class
           (pushed c.loop.classes.items c.push.new.self.items c.in_ok-class.class c.push.result c.push.ensures.items (sym c.is_err.ensures.value ∙ c.if-is_err.false));

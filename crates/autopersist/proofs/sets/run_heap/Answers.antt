@@ -8,7 +8,6 @@ use Rattle.durable_launch.specs.Launching.{launch_over, opening_over}
 use Rattle.statuses.specs.Names.{main_text, shortened}
 use Rattle.statuses.specs.declared.status.Status.TheVariants as status
 use Rattle.autopersist.specs.Began.{RanBy}
-use Rattle.autopersist.specs.Sets.{default_limits}
 use Rattle.autopersist.proofs.SetRan.{has_run_over, unbegun_ran}
 use Rattle.autopersist.proofs.sets.run_heap.Goals as goal
 
@@ -19,7 +18,7 @@ returns-in-Err-clause-ran g c = λ start old can.
     let heap = c.args.heap in
     rw (c.unbegun.ensures.opening, c.unbegun.ensures.acts, c.unbegun.ensures.image, c.unbegun.ensures.status)
     (unbegun_ran old set start heap.spaces.heap.memory can.directory can.lines heap.graph heap.free can.opened name
-    (g.I.Image.told c.into_image-image.result) c.main_status-status.result c.into_image-image.ensures.told
+    c.args.limits.now (g.I.Image.told c.into_image-image.result) c.main_status-status.result c.into_image-image.ensures.told
     c.into_image-image.ensures.size
     (inr (inl (record {
       fits = can.over.shows.within;
@@ -35,7 +34,7 @@ run_launched-requires-clause-ready g c =
     let heap = c.args.heap in
     let l = c.in-Ok-launch.ensures.ready r.0 r.1 r.2 in (
       opening_over r.0 heap.spaces.heap.memory (entries_in r.2.directory)
-          (launch_over c.args.set.now c.in-Ok.main default_limits heap.graph l.literals),
+          (launch_over c.args.set.now c.in-Ok.main c.args.limits.now heap.graph l.literals),
       heap.free,
       l.ready,
     )
@@ -52,8 +51,8 @@ returns-in-Ok-launch-clause-ran g c = λ start old can.
     let after = g.I.Image.told result.image in
     let l = c.in-Ok-launch.ensures.ready start old can in
     let o = opening_over start heap.spaces.heap.memory (entries_in can.directory)
-    (launch_over set c.in-Ok.main default_limits heap.graph l.literals) in
-    has_run_over old set c.args.class.now start heap can c.in-Ok.main (sym c.in-Ok.ensures.found)
+    (launch_over set c.in-Ok.main c.args.limits.now heap.graph l.literals) in
+    has_run_over old set c.args.class.now c.args.limits.now start heap can c.in-Ok.main (sym c.in-Ok.ensures.found)
     c.in-Ok-launch.launched l result.opening result.acts.acts after result.status
     (subst (λ (graph : Graph). RanBy o heap.free set graph result.opening result.acts.acts after result.status)
     c.in-Ok-launch.ensures.graph (c.run_launched.ensures.ran o heap.free l.ready))
@@ -76,6 +75,6 @@ returns-in-Err-launch-clause-ran g c = λ start old can.
       c.unbegun-in-Err-launch.ensures.status,
     )
     (unbegun_ran old set start heap.spaces.heap.memory can.directory can.lines heap.graph heap.free can.opened
-    c.args.class.now (g.I.Image.told c.into_image.result) status.OutOfMemory
+    c.args.class.now c.args.limits.now (g.I.Image.told c.into_image.result) status.OutOfMemory
     (c.into_image.ensures.told ∙ ap (λ (m : Memory). m.image) c.in-Err-launch.ensures.given_back)
     (c.into_image.ensures.size ∙ ap (λ (m : Memory). m.size) c.in-Err-launch.ensures.given_back) (inr (inr refl)))

@@ -4,7 +4,7 @@ use Rattle.run_history.specs.Recorded.{History}
 use Rattle.class_set.specs.Linked.{Linked}
 use Rattle.class_set.specs.Facts.{facts_of}
 use Rattle.program_host.specs.Hosts.{setting_in}
-use Rattle.durable_run.specs.Turning.{IsReady}
+use Rattle.durable_launch.specs.Passed.{IsReady}
 use Rattle.autopersist.proofs.sets.run_launched.Goals as goal
 
 pub returns-clause-ran : goal.returns-clause-ran

@@ -1,16 +1,10 @@
 use Rattle.std.proofs.Common.{sym, ◌∙◌}
 use Rattle.autopersist.proofs.Outside.{failed_opening, never_by_sink, rose_since, tells_nothing}
-use Rattle.autopersist.proofs.SetRan.{still_apart, unopened_ran}
+use Rattle.autopersist.proofs.SetRan.{unopened_ran}
 use Rattle.autopersist.proofs.sets.run_set.Goals as goal
 
-pub run_opened-requires-clause-opened : goal.run_opened-requires-clause-opened
-run_opened-requires-clause-opened g c = (g.I.Image.told c.args.image, c.args.set, c.in-Ok.ensures.opened)
-
-pub run_opened-requires-clause-differ : goal.run_opened-requires-clause-differ
-run_opened-requires-clause-differ g c =
-    let opened = c.in-Ok.opened in
-    still_apart c.args.set c.open_for.new.set (g.I.Image.told c.args.image) opened.memory opened.directory opened.lines
-    opened.graph opened.free c.in-Ok.ensures.opened c.requires.differ
+pub run_opened-requires : goal.run_opened-requires
+run_opened-requires g c = record { opened = (g.I.Image.told c.args.image, c.args.set, c.in-Ok.ensures.opened) }
 
 pub returns-in-Ok-clause-ran : goal.returns-in-Ok-clause-ran
 returns-in-Ok-clause-ran g c =
@@ -25,7 +19,7 @@ pub returns-clause-ran : goal.returns-clause-ran
 returns-clause-ran g c =
     rw (c.unbegun.ensures.opening, c.unbegun.ensures.acts, c.unbegun.ensures.image, c.unbegun.ensures.status, c.of_unopened.ensures)
     (unopened_ran c.args.set c.open_for.new.set (g.I.Image.told c.args.image) (g.I.Image.told c.in-Err.image) c.in-Err.why
-    c.args.class.now c.in-Err.ensures.unopened)
+    c.args.class.now c.args.limits.now c.in-Err.ensures.unopened)
 
 pub returns-clause-told : goal.returns-clause-told
 returns-clause-told g c =

@@ -9,6 +9,9 @@ use Rattle.class_set.proofs.arrays.add_for_class.Given as goal
 
 abbrev pub invariant-loop-method : goal.invariant-loop-method
 invariant-loop-method l = record {
-  listed : with_arrays l.arrays (flat_map (λ (m : Method). listed_by_code l.what l.file.pool (code_in m.attributes)) (drop l.method-index l.method-items)) ≡ with_arrays l.fn.arrays (flat_map (λ (m : Method). listed_by_code l.what l.file.pool (code_in m.attributes)) l.method-items);
+  listed : with_arrays l.arrays
+      (flat_map (λ (m : Method). listed_by_code l.what l.file.pool (code_in m.attributes))
+      (drop l.method-index l.method-items)) ≡ with_arrays l.fn.arrays
+      (flat_map (λ (m : Method). listed_by_code l.what l.file.pool (code_in m.attributes)) l.method-items);
   marked : AreMarked l.what l.file.pool l.arrays l.marks;
 }

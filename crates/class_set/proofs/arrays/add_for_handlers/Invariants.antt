@@ -8,6 +8,8 @@ use Rattle.class_set.proofs.arrays.add_for_handlers.Given as goal
 
 abbrev pub invariant-loop-handler : goal.invariant-loop-handler
 invariant-loop-handler l = record {
-  listed : with_arrays l.arrays (flat_map (λ (h : Handler). named l.what (class_name l.pool h.catch)) (drop l.handler-index l.handler-items)) ≡ with_arrays l.fn.arrays (flat_map (λ (h : Handler). named l.what (class_name l.pool h.catch)) l.handler-items);
+  listed : with_arrays l.arrays
+      (flat_map (λ (h : Handler). named l.what (class_name l.pool h.catch)) (drop l.handler-index l.handler-items)) ≡
+      with_arrays l.fn.arrays (flat_map (λ (h : Handler). named l.what (class_name l.pool h.catch)) l.handler-items);
   marked : AreMarked l.what l.pool l.arrays l.marks;
 }

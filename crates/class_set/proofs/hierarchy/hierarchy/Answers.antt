@@ -11,7 +11,8 @@ use Rattle.class_set.proofs.Above.{supers_counted}
 use Rattle.class_set.proofs.Chains.{chain_within}
 use Rattle.class_set.proofs.Circles.{edges_counted, no_class_above_itself}
 use Rattle.class_set.proofs.EachOnce.{above_once, once_free, once_there, orders_once}
-use Rattle.class_set.proofs.Edges.{edges_apart, edges_within, interfaces_counted, interfaces_free, interfaces_within, supers_within}
+use Rattle.class_set.proofs.Edges.{edges_apart, edges_within, interfaces_counted, interfaces_free, interfaces_within}
+use Rattle.class_set.proofs.Edges.{supers_within}
 use Rattle.class_set.proofs.hierarchy.hierarchy.Goals as goal
 
 pub class_edges-requires : goal.class_edges-requires

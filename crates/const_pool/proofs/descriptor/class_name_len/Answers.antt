@@ -16,7 +16,8 @@ returns-in-None-clause-len c =
 
 pub loop-len-preserved : goal.loop-len-preserved
 loop-len-preserved c =
-    goes_on c.loop-len.fresh c.in-Some.next c.args.bytes.now c.loop-len.len (get_or c.args.bytes.now c.loop-len.len 0) c.loop-len-test.true refl c.if-byte-eq59.false c.in-Some.ensures ∙ c.loop-len.invariant
+    goes_on c.loop-len.fresh c.in-Some.next c.args.bytes.now c.loop-len.len (get_or c.args.bytes.now c.loop-len.len 0)
+    c.loop-len-test.true refl c.if-byte-eq59.false c.in-Some.ensures ∙ c.loop-len.invariant
 
 pub returns-clause-len : goal.returns-clause-len
 returns-clause-len c = is_past c.loop-len.fresh c.args.bytes.now c.loop-len.len c.loop-len-test.false ∙ c.loop-len.invariant

@@ -1,4 +1,5 @@
-use Rattle.std.proofs.Common.{◌≡◌, ℕ, ◌+◌, ◌<◌, ◌≤◌, ◌∷◌, [], ◌++◌, length, None, Ok, Err, ◌⊎◌, ap, subst, ◌∙◌, arith, vec_len, length-append}
+use Rattle.std.proofs.Common.{◌≡◌, ℕ, ◌+◌, ◌<◌, ◌≤◌, ◌∷◌, [], ◌++◌, length, None, Ok, Err, ◌⊎◌, ap, subst, ◌∙◌, arith, vec_len}
+use Rattle.std.proofs.Common.{length-append}
 use Rattle.std.proofs.lemmas.Result.{err_from_is_err_and}
 use Rattle.const_pool.specs.declared.refusal.PoolRefusal.TheVariants.{OutOfMemory}
 use Rattle.const_pool.specs.Pool.{Slots, slots_of}

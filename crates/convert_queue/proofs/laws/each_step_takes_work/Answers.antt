@@ -1,4 +1,5 @@
-use Rattle.convert_queue.proofs.WorkLaws.{work_stored, work_written, work_fenced, work_put, work_copied, work_forwarded, work_repaired, work_to_repair, work_next, work_to_flush, work_begun}
+use Rattle.convert_queue.proofs.WorkLaws.{work_stored, work_written, work_fenced, work_put, work_copied, work_forwarded}
+use Rattle.convert_queue.proofs.WorkLaws.{work_repaired, work_to_repair, work_next, work_to_flush, work_begun}
 use Rattle.convert_queue.proofs.laws.each_step_takes_work.Goals as goal
 
 pub returns-clause-stored : goal.returns-clause-stored

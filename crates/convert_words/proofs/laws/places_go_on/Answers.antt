@@ -1,4 +1,6 @@
-use Rattle.convert_words.proofs.StepLaws.{starts_agree, needs_keep, places_keep, answered, met_lines_go_on, forwarded_queues_repair, repaired_lines_go_on, repaired_objects_go_on, repaired_queues_flush}
+use Rattle.convert_words.proofs.StepLaws.{starts_agree, needs_keep, places_keep, answered, met_lines_go_on}
+use Rattle.convert_words.proofs.StepLaws.{forwarded_queues_repair, repaired_lines_go_on, repaired_objects_go_on}
+use Rattle.convert_words.proofs.StepLaws.{repaired_queues_flush}
 use Rattle.convert_words.proofs.laws.places_go_on.Goals as goal
 
 pub returns-clause-needs : goal.returns-clause-needs

@@ -1,4 +1,5 @@
-use Rattle.convert_words.proofs.StepLaws.{copied_stores_keep, old_stores_keep, ordinary_stores_keep, durable_stores_keep, other_stores_keep, new_objects_keep}
+use Rattle.convert_words.proofs.StepLaws.{copied_stores_keep, old_stores_keep, ordinary_stores_keep, durable_stores_keep}
+use Rattle.convert_words.proofs.StepLaws.{other_stores_keep, new_objects_keep}
 use Rattle.convert_words.proofs.laws.stores_keep_agreement.Goals as goal
 
 pub returns-clause-copied : goal.returns-clause-copied

@@ -40,7 +40,16 @@ take_in-requires g c =
       | inl lt ↦ absurd (false≢true (sym (c.in-Some.ensures.none.1 lt)))
       | inr le ↦ omega (arith, le, lines)
     ] in
-    record { takable = (q.0, q.1, q.2, begin_takable s c.go_to.new.queue q.1 c.args.t c.args.object c.in-Some.line c.count_of-lines.result q.2 q.3 c.requires.empty c.go_to.ensures.goes c.in-Some.ensures.first q.4 q.5 q.6 q.7 need fits (omega (arith, within, lines))) }
+    record {
+      takable = (
+        q.0,
+        q.1,
+        q.2,
+        begin_takable s c.go_to.new.queue q.1 c.args.t c.args.object c.in-Some.line
+            c.count_of-lines.result q.2 q.3 c.requires.empty c.go_to.ensures.goes c.in-Some.ensures.first q.4 q.5 q.6 q.7 need
+            fits (omega (arith, within, lines)),
+      );
+    }
 
 pub returns-in-Some-clause-begins : goal.returns-in-Some-clause-begins
 returns-in-Some-clause-begins g c = λ keys es m a lm index young nobody.
@@ -54,11 +63,16 @@ returns-in-Some-clause-begins g c = λ keys es m a lm index young nobody.
       | inl lt ↦ absurd (false≢true (sym (c.in-Some.ensures.none.1 lt)))
       | inr le ↦ omega (arith, le, lines)
     ] in
-    let k = begin_takable s c.go_to.new.queue es c.args.t c.args.object c.in-Some.line c.count_of-lines.result m a c.requires.empty c.go_to.ensures.goes c.in-Some.ensures.first lm index young nobody need fits (omega (arith, within, lines)) in
+    let k = begin_takable s c.go_to.new.queue es c.args.t c.args.object c.in-Some.line c.count_of-lines.result m a
+    c.requires.empty c.go_to.ensures.goes c.in-Some.ensures.first lm index young nobody need fits
+    (omega (arith, within, lines)) in
     let n = c.take_in.new.heap in
     let new : Twin = record { space = n.space; memory = n.memory; marks = n.marks } in
-    begin_claims s new c.go_to.new.queue c.take_in.new.queue c.take.new.self.free es c.args.t c.args.object c.in-Some.line c.count_of-lines.result m a c.requires.empty c.go_to.ensures.goes c.go_to.ensures.whole c.take_in.ensures.thread
-    c.in-Some.ensures.first lm index young nobody need fits (c.take_in.ensures.claimed keys es m k) c.take_in.ensures.memory c.take_in.ensures.kinds c.take_in.ensures.left c.take_in.ensures.queue (c.in-Some.ensures.free refl)
+    begin_claims s new c.go_to.new.queue c.take_in.new.queue c.take.new.self.free es c.args.t c.args.object c.in-Some.line
+    c.count_of-lines.result m a c.requires.empty c.go_to.ensures.goes c.go_to.ensures.whole c.take_in.ensures.thread
+    c.in-Some.ensures.first lm index young nobody need fits (c.take_in.ensures.claimed keys es m k)
+    c.take_in.ensures.memory c.take_in.ensures.kinds c.take_in.ensures.left c.take_in.ensures.queue
+    (c.in-Some.ensures.free refl)
 
 pub returns-in-Some-clause-within : goal.returns-in-Some-clause-within
 returns-in-Some-clause-within g c =

@@ -62,7 +62,9 @@ returns-in-Forward-clause-converts g c = λ es a.
     let on = c.next_work.ensures.goes_on free (keys_of ms) es a in
     let w = c.in-Forward.ensures.work free (keys_of ms) es a in
     let x = c.forward_next.ensures.converts free es on.agrees w in
-    event_forward c.args.t c.in-Forward.object c.in-Forward.line s at (scene n.heap.space n.heap.memory n.heap.marks n.queue free (keys_of n.monitors)) es x.0 ms n.monitors on w x.1 c.forward_next.ensures.monitors
+    event_forward c.args.t c.in-Forward.object c.in-Forward.line s at
+    (scene n.heap.space n.heap.memory n.heap.marks n.queue free (keys_of n.monitors)) es x.0 ms n.monitors on w x.1
+    c.forward_next.ensures.monitors
 
 pub returns-in-Forward-clause-lines : goal.returns-in-Forward-clause-lines
 returns-in-Forward-clause-lines g c = c.requires.lines ∙ sym (ap (λ (m : Memory). m.size) c.forward_next.ensures.memory)
@@ -87,11 +89,17 @@ returns-in-Copy-clause-converts g c =
     let at : Scene = scene h.space h.memory h.marks c.next_work.new.queue free keys in
     let n = c.copy_next.new in
     let s' : Scene = scene n.heap.space n.heap.memory n.heap.marks n.queue free keys in
-    ok_both c.copy_next.result (λ (y : ConvertStep). (f : ℕ) (k : List ℕ) (es : List Entry) → AgreesAt (scene h.space h.memory h.marks c.next_work.new.queue f k) es → IsToCopy (scene h.space h.memory h.marks c.next_work.new.queue f k) es c.args.t c.in-Copy.object c.in-Copy.line → (es' : List Entry) × Converts c.args.t y (scene h.space h.memory h.marks c.next_work.new.queue f k) (scene n.heap.space n.heap.memory n.heap.marks n.queue f k) es es')
+    ok_both c.copy_next.result
+    (λ (y : ConvertStep). (f : ℕ) (k : List ℕ) (es : List Entry) → AgreesAt
+    (scene h.space h.memory h.marks c.next_work.new.queue f k) es → IsToCopy
+    (scene h.space h.memory h.marks c.next_work.new.queue f k) es c.args.t c.in-Copy.object c.in-Copy.line →
+    (es' : List Entry) × Converts c.args.t y (scene h.space h.memory h.marks c.next_work.new.queue f k)
+    (scene n.heap.space n.heap.memory n.heap.marks n.queue f k) es es')
     IsOther
     (λ (y : ConvertStep). (es : List Entry) → AgreesAt s es → Event c.args.t y s s' es ms ms)
     c.copy_next.ensures.converts c.copy_next.ensures.other
-    (λ y p other es a. let on = c.next_work.ensures.goes_on free keys es a in let x = p free keys es on.agrees (c.in-Copy.ensures.work free keys es a) in event_of c.args.t y s at s' es x.0 ms ms on x.1 other refl)
+    (λ y p other es a. let on = c.next_work.ensures.goes_on free keys es a in let x = p free keys es on.agrees
+    (c.in-Copy.ensures.work free keys es a) in event_of c.args.t y s at s' es x.0 ms ms on x.1 other refl)
 
 pub returns-in-Copy-clause-failed : goal.returns-in-Copy-clause-failed
 returns-in-Copy-clause-failed g c =
@@ -103,7 +111,10 @@ returns-in-Copy-clause-failed g c =
     let at : Scene = scene h.space h.memory h.marks c.next_work.new.queue free keys in
     let n = c.copy_next.new in
     let s' : Scene = scene n.heap.space n.heap.memory n.heap.marks n.queue free keys in
-    err_on c.copy_next.result ((f : ℕ) (k : List ℕ) (es : List Entry) → AgreesAt (scene h.space h.memory h.marks c.next_work.new.queue f k) es → Fails (scene h.space h.memory h.marks c.next_work.new.queue f k) (scene n.heap.space n.heap.memory n.heap.marks n.queue f k) es)
+    err_on c.copy_next.result
+    ((f : ℕ) (k : List ℕ) (es : List Entry) → AgreesAt (scene h.space h.memory h.marks c.next_work.new.queue f k) es →
+    Fails (scene h.space h.memory h.marks c.next_work.new.queue f k)
+    (scene n.heap.space n.heap.memory n.heap.marks n.queue f k) es)
     ((es : List Entry) → AgreesAt s es → FailedEvent c.args.t s s' es ms ms)
     c.copy_next.ensures.failed
     (λ p es a. let on = c.next_work.ensures.goes_on free keys es a in fails_of c.args.t s at s' es ms ms on (p free keys es on.agrees) refl)
@@ -121,8 +132,19 @@ returns-in-Copy-clause-lines g c =
     let q = c.requires.agrees in
     let on = c.next_work.ensures.goes_on free keys q.0 q.1 in
     let size : n.heap.memory.size ≡ h.memory.size = either c.copy_next.result (n.heap.memory.size ≡ h.memory.size)
-    (ok_on c.copy_next.result (λ (y : ConvertStep). (f : ℕ) (k : List ℕ) (es : List Entry) → AgreesAt (scene h.space h.memory h.marks c.next_work.new.queue f k) es → IsToCopy (scene h.space h.memory h.marks c.next_work.new.queue f k) es c.args.t c.in-Copy.object c.in-Copy.line → (es' : List Entry) × Converts c.args.t y (scene h.space h.memory h.marks c.next_work.new.queue f k) (scene n.heap.space n.heap.memory n.heap.marks n.queue f k) es es') (λ _. n.heap.memory.size ≡ h.memory.size) c.copy_next.ensures.converts (λ y p. let x = p free keys q.0 on.agrees (c.in-Copy.ensures.work free keys q.0 q.1) in x.1.size))
-    (err_on c.copy_next.result ((f : ℕ) (k : List ℕ) (es : List Entry) → AgreesAt (scene h.space h.memory h.marks c.next_work.new.queue f k) es → Fails (scene h.space h.memory h.marks c.next_work.new.queue f k) (scene n.heap.space n.heap.memory n.heap.marks n.queue f k) es) (n.heap.memory.size ≡ h.memory.size) c.copy_next.ensures.failed (λ p. (p free keys q.0 on.agrees).keeps.size)) in
+    (ok_on c.copy_next.result
+    (λ (y : ConvertStep). (f : ℕ) (k : List ℕ) (es : List Entry) → AgreesAt
+    (scene h.space h.memory h.marks c.next_work.new.queue f k) es → IsToCopy
+    (scene h.space h.memory h.marks c.next_work.new.queue f k) es c.args.t c.in-Copy.object c.in-Copy.line →
+    (es' : List Entry) × Converts c.args.t y (scene h.space h.memory h.marks c.next_work.new.queue f k)
+    (scene n.heap.space n.heap.memory n.heap.marks n.queue f k) es es') (λ _. n.heap.memory.size ≡ h.memory.size)
+    c.copy_next.ensures.converts (λ y p. let x = p free keys q.0 on.agrees (c.in-Copy.ensures.work free keys q.0 q.1)
+    in x.1.size))
+    (err_on c.copy_next.result
+    ((f : ℕ) (k : List ℕ) (es : List Entry) → AgreesAt (scene h.space h.memory h.marks c.next_work.new.queue f k) es →
+    Fails (scene h.space h.memory h.marks c.next_work.new.queue f k)
+    (scene n.heap.space n.heap.memory n.heap.marks n.queue f k) es) (n.heap.memory.size ≡ h.memory.size)
+    c.copy_next.ensures.failed (λ p. (p free keys q.0 on.agrees).keeps.size)) in
     c.requires.lines ∙ sym size
 
 pub repair_next-requires-clause-agrees : goal.repair_next-requires-clause-agrees
@@ -142,11 +164,17 @@ returns-in-Repair-clause-converts g c =
     let at : Scene = scene h.space h.memory h.marks c.next_work.new.queue free keys in
     let n = c.repair_next.new in
     let s' : Scene = scene n.heap.space n.heap.memory n.heap.marks n.queue free keys in
-    ok_both c.repair_next.result (λ (y : ConvertStep). (f : ℕ) (k : List ℕ) (es : List Entry) → AgreesAt (scene h.space h.memory h.marks c.next_work.new.queue f k) es → IsToRepair (scene h.space h.memory h.marks c.next_work.new.queue f k) es c.args.t c.in-Repair.object c.in-Repair.first c.in-Repair.c → Converts c.args.t y (scene h.space h.memory h.marks c.next_work.new.queue f k) (scene n.heap.space n.heap.memory n.heap.marks n.queue f k) es es)
+    ok_both c.repair_next.result
+    (λ (y : ConvertStep). (f : ℕ) (k : List ℕ) (es : List Entry) → AgreesAt
+    (scene h.space h.memory h.marks c.next_work.new.queue f k) es → IsToRepair
+    (scene h.space h.memory h.marks c.next_work.new.queue f k) es c.args.t c.in-Repair.object c.in-Repair.first
+    c.in-Repair.c → Converts c.args.t y (scene h.space h.memory h.marks c.next_work.new.queue f k)
+    (scene n.heap.space n.heap.memory n.heap.marks n.queue f k) es es)
     IsOther
     (λ (y : ConvertStep). (es : List Entry) → AgreesAt s es → Event c.args.t y s s' es ms ms)
     c.repair_next.ensures.converts c.repair_next.ensures.other
-    (λ y p other es a. let on = c.next_work.ensures.goes_on free keys es a in let x = p free keys es on.agrees (c.in-Repair.ensures.work free keys es a) in event_of c.args.t y s at s' es es ms ms on x other refl)
+    (λ y p other es a. let on = c.next_work.ensures.goes_on free keys es a in let x = p free keys es on.agrees
+    (c.in-Repair.ensures.work free keys es a) in event_of c.args.t y s at s' es es ms ms on x other refl)
 
 pub returns-in-Repair-clause-failed : goal.returns-in-Repair-clause-failed
 returns-in-Repair-clause-failed g c =
@@ -158,7 +186,10 @@ returns-in-Repair-clause-failed g c =
     let at : Scene = scene h.space h.memory h.marks c.next_work.new.queue free keys in
     let n = c.repair_next.new in
     let s' : Scene = scene n.heap.space n.heap.memory n.heap.marks n.queue free keys in
-    err_on c.repair_next.result ((f : ℕ) (k : List ℕ) (es : List Entry) → AgreesAt (scene h.space h.memory h.marks c.next_work.new.queue f k) es → Fails (scene h.space h.memory h.marks c.next_work.new.queue f k) (scene n.heap.space n.heap.memory n.heap.marks n.queue f k) es)
+    err_on c.repair_next.result
+    ((f : ℕ) (k : List ℕ) (es : List Entry) → AgreesAt (scene h.space h.memory h.marks c.next_work.new.queue f k) es →
+    Fails (scene h.space h.memory h.marks c.next_work.new.queue f k)
+    (scene n.heap.space n.heap.memory n.heap.marks n.queue f k) es)
     ((es : List Entry) → AgreesAt s es → FailedEvent c.args.t s s' es ms ms)
     c.repair_next.ensures.failed
     (λ p es a. let on = c.next_work.ensures.goes_on free keys es a in fails_of c.args.t s at s' es ms ms on (p free keys es on.agrees) refl)
@@ -176,8 +207,19 @@ returns-in-Repair-clause-lines g c =
     let q = c.requires.agrees in
     let on = c.next_work.ensures.goes_on free keys q.0 q.1 in
     let size : n.heap.memory.size ≡ h.memory.size = either c.repair_next.result (n.heap.memory.size ≡ h.memory.size)
-    (ok_on c.repair_next.result (λ (y : ConvertStep). (f : ℕ) (k : List ℕ) (es : List Entry) → AgreesAt (scene h.space h.memory h.marks c.next_work.new.queue f k) es → IsToRepair (scene h.space h.memory h.marks c.next_work.new.queue f k) es c.args.t c.in-Repair.object c.in-Repair.first c.in-Repair.c → Converts c.args.t y (scene h.space h.memory h.marks c.next_work.new.queue f k) (scene n.heap.space n.heap.memory n.heap.marks n.queue f k) es es) (λ _. n.heap.memory.size ≡ h.memory.size) c.repair_next.ensures.converts (λ y p. let x = p free keys q.0 on.agrees (c.in-Repair.ensures.work free keys q.0 q.1) in x.size))
-    (err_on c.repair_next.result ((f : ℕ) (k : List ℕ) (es : List Entry) → AgreesAt (scene h.space h.memory h.marks c.next_work.new.queue f k) es → Fails (scene h.space h.memory h.marks c.next_work.new.queue f k) (scene n.heap.space n.heap.memory n.heap.marks n.queue f k) es) (n.heap.memory.size ≡ h.memory.size) c.repair_next.ensures.failed (λ p. (p free keys q.0 on.agrees).keeps.size)) in
+    (ok_on c.repair_next.result
+    (λ (y : ConvertStep). (f : ℕ) (k : List ℕ) (es : List Entry) → AgreesAt
+    (scene h.space h.memory h.marks c.next_work.new.queue f k) es → IsToRepair
+    (scene h.space h.memory h.marks c.next_work.new.queue f k) es c.args.t c.in-Repair.object c.in-Repair.first
+    c.in-Repair.c → Converts c.args.t y (scene h.space h.memory h.marks c.next_work.new.queue f k)
+    (scene n.heap.space n.heap.memory n.heap.marks n.queue f k) es es) (λ _. n.heap.memory.size ≡ h.memory.size)
+    c.repair_next.ensures.converts
+    (λ y p. let x = p free keys q.0 on.agrees (c.in-Repair.ensures.work free keys q.0 q.1) in x.size))
+    (err_on c.repair_next.result
+    ((f : ℕ) (k : List ℕ) (es : List Entry) → AgreesAt (scene h.space h.memory h.marks c.next_work.new.queue f k) es →
+    Fails (scene h.space h.memory h.marks c.next_work.new.queue f k)
+    (scene n.heap.space n.heap.memory n.heap.marks n.queue f k) es) (n.heap.memory.size ≡ h.memory.size)
+    c.repair_next.ensures.failed (λ p. (p free keys q.0 on.agrees).keeps.size)) in
     c.requires.lines ∙ sym size
 
 pub flush_next-requires-clause-agrees : goal.flush_next-requires-clause-agrees
@@ -201,7 +243,11 @@ returns-in-Flush-clause-converts g c =
     let at : Scene = scene h.space h.memory h.marks c.next_work.new.queue free keys in
     let n = c.flush_next.new in
     let s' : Scene = scene n.heap.space n.heap.memory n.heap.marks n.queue free keys in
-    ok_both c.flush_next.result (λ (y : ConvertStep). (f : ℕ) (k : List ℕ) (es : List Entry) → AgreesAt (scene h.space h.memory h.marks c.next_work.new.queue f k) es → (es' : List Entry) × Converts c.args.t y (scene h.space h.memory h.marks c.next_work.new.queue f k) (scene n.heap.space n.heap.memory n.heap.marks n.queue f k) es es')
+    ok_both c.flush_next.result
+    (λ (y : ConvertStep). (f : ℕ) (k : List ℕ) (es : List Entry) → AgreesAt
+    (scene h.space h.memory h.marks c.next_work.new.queue f k) es → (es' : List Entry) × Converts c.args.t y
+    (scene h.space h.memory h.marks c.next_work.new.queue f k)
+    (scene n.heap.space n.heap.memory n.heap.marks n.queue f k) es es')
     IsOther
     (λ (y : ConvertStep). (es : List Entry) → AgreesAt s es → Event c.args.t y s s' es ms ms)
     c.flush_next.ensures.converts c.flush_next.ensures.other
@@ -217,7 +263,10 @@ returns-in-Flush-clause-failed g c =
     let at : Scene = scene h.space h.memory h.marks c.next_work.new.queue free keys in
     let n = c.flush_next.new in
     let s' : Scene = scene n.heap.space n.heap.memory n.heap.marks n.queue free keys in
-    err_on c.flush_next.result ((f : ℕ) (k : List ℕ) (es : List Entry) → AgreesAt (scene h.space h.memory h.marks c.next_work.new.queue f k) es → Fails (scene h.space h.memory h.marks c.next_work.new.queue f k) (scene n.heap.space n.heap.memory n.heap.marks n.queue f k) es)
+    err_on c.flush_next.result
+    ((f : ℕ) (k : List ℕ) (es : List Entry) → AgreesAt (scene h.space h.memory h.marks c.next_work.new.queue f k) es →
+    Fails (scene h.space h.memory h.marks c.next_work.new.queue f k)
+    (scene n.heap.space n.heap.memory n.heap.marks n.queue f k) es)
     ((es : List Entry) → AgreesAt s es → FailedEvent c.args.t s s' es ms ms)
     c.flush_next.ensures.failed
     (λ p es a. let on = c.next_work.ensures.goes_on free keys es a in fails_of c.args.t s at s' es ms ms on (p free keys es on.agrees) refl)
@@ -235,6 +284,15 @@ returns-in-Flush-clause-lines g c =
     let q = c.requires.agrees in
     let on = c.next_work.ensures.goes_on free keys q.0 q.1 in
     let size : n.heap.memory.size ≡ h.memory.size = either c.flush_next.result (n.heap.memory.size ≡ h.memory.size)
-    (ok_on c.flush_next.result (λ (y : ConvertStep). (f : ℕ) (k : List ℕ) (es : List Entry) → AgreesAt (scene h.space h.memory h.marks c.next_work.new.queue f k) es → (es' : List Entry) × Converts c.args.t y (scene h.space h.memory h.marks c.next_work.new.queue f k) (scene n.heap.space n.heap.memory n.heap.marks n.queue f k) es es') (λ _. n.heap.memory.size ≡ h.memory.size) c.flush_next.ensures.converts (λ y p. let x = p free keys q.0 on.agrees in x.1.size))
-    (err_on c.flush_next.result ((f : ℕ) (k : List ℕ) (es : List Entry) → AgreesAt (scene h.space h.memory h.marks c.next_work.new.queue f k) es → Fails (scene h.space h.memory h.marks c.next_work.new.queue f k) (scene n.heap.space n.heap.memory n.heap.marks n.queue f k) es) (n.heap.memory.size ≡ h.memory.size) c.flush_next.ensures.failed (λ p. (p free keys q.0 on.agrees).keeps.size)) in
+    (ok_on c.flush_next.result
+    (λ (y : ConvertStep). (f : ℕ) (k : List ℕ) (es : List Entry) → AgreesAt
+    (scene h.space h.memory h.marks c.next_work.new.queue f k) es → (es' : List Entry) × Converts c.args.t y
+    (scene h.space h.memory h.marks c.next_work.new.queue f k)
+    (scene n.heap.space n.heap.memory n.heap.marks n.queue f k) es es') (λ _. n.heap.memory.size ≡ h.memory.size)
+    c.flush_next.ensures.converts (λ y p. let x = p free keys q.0 on.agrees in x.1.size))
+    (err_on c.flush_next.result
+    ((f : ℕ) (k : List ℕ) (es : List Entry) → AgreesAt (scene h.space h.memory h.marks c.next_work.new.queue f k) es →
+    Fails (scene h.space h.memory h.marks c.next_work.new.queue f k)
+    (scene n.heap.space n.heap.memory n.heap.marks n.queue f k) es) (n.heap.memory.size ≡ h.memory.size)
+    c.flush_next.ensures.failed (λ p. (p free keys q.0 on.agrees).keeps.size)) in
     c.requires.lines ∙ sym size

@@ -20,7 +20,8 @@ make_ready-requires-clause-within g c =
 pub returns-in_err-make_ready-clause-failed : goal.returns-in_err-make_ready-clause-failed
 returns-in_err-make_ready-clause-failed g c = on_err c.from_residual.result _ (λ free keys es a.
     let h = c.args.heap.now in
-    call_fails (scene h.space h.memory h.marks c.args.queue.now free keys) c.make_ready.new.memory es c.requires.known c.make_ready.ensures.known c.make_ready.ensures.keeps c.in_err-make_ready.ensures.failed a)
+    call_fails (scene h.space h.memory h.marks c.args.queue.now free keys) c.make_ready.new.memory es c.requires.known
+    c.make_ready.ensures.known c.make_ready.ensures.keeps c.in_err-make_ready.ensures.failed a)
 
 pub returns-then-not-branch-clause-converts : goal.returns-then-not-branch-clause-converts
 returns-then-not-branch-clause-converts g c = λ free keys es a w.
@@ -39,7 +40,9 @@ copy_resident-requires-clause-agrees g c =
     let h = c.args.heap.now in
     let q = c.requires.agrees in
     let same = (c.in_ok-make_ready.ensures.ready c.if-not-branch.false).1 in
-    subst (λ (m : Memory). (free : ℕ) × (keys : List ℕ) × (es : List Entry) × AgreesAt (scene h.space m h.marks c.args.queue.now free keys) es × IsToCopy (scene h.space m h.marks c.args.queue.now free keys) es c.args.t c.args.object c.args.line)
+    subst (λ (m : Memory). (free : ℕ) × (keys : List ℕ) × (es : List Entry) × AgreesAt
+    (scene h.space m h.marks c.args.queue.now free keys) es × IsToCopy
+    (scene h.space m h.marks c.args.queue.now free keys) es c.args.t c.args.object c.args.line)
     (sym same) q
 
 pub copy_resident-requires-clause-resident : goal.copy_resident-requires-clause-resident

@@ -43,7 +43,8 @@ returns-clause-converts g c = λ free es a w.
     let ms = c.args.monitors.now in
     let s : Scene = scene h.space h.memory h.marks c.args.queue.now free (keys_of ms) in
     let new : Twin = record { space = c.forward.new.self.space; memory = c.forward.new.self.memory; marks = c.forward.new.self.marks } in
-    forward_is s new c.go_to.new.queue (keys_of c.rekey.new.self) es c.args.t c.args.object c.args.line c.place-n.result.0 a w c.forward.ensures.forwarded c.forward.ensures.memory c.forward.ensures.marks c.forward.ensures.left
+    forward_is s new c.go_to.new.queue (keys_of c.rekey.new.self) es c.args.t c.args.object c.args.line c.place-n.result.0
+    a w c.forward.ensures.forwarded c.forward.ensures.memory c.forward.ensures.marks c.forward.ensures.left
     (ap (λ (x : ℕ × ℕ). x.0) c.place-n.ensures.place) c.go_to.ensures.goes
     (λ x key. rekeyed_keys ms c.args.object c.args.line x c.requires.sound (subst (λ (y : List Monitor). IsKey (keys_of y) x) c.rekey.ensures.rekeyed key))
 
@@ -53,5 +54,7 @@ returns-clause-sound g c =
     let ms = c.args.monitors.now in
     let q = c.requires.agrees in let w = q.4 in
     let s : Scene = scene h.space h.memory h.marks c.args.queue.now q.0 (keys_of ms) in
-    let free : monitor_of ms (Object (Persistent c.args.line)) ≡ None = no_monitor ms c.args.line (λ x key same. not_keyed s q.1 w.n q.3 w.copying.is.claimed.0 w.copying.young x key (same ∙ ap (λ l. 2 * l) (sym w.copying.first))) in
+    let free : monitor_of ms (Object (Persistent c.args.line)) ≡ None = no_monitor ms c.args.line
+    (λ x key same. not_keyed s q.1 w.n q.3 w.copying.is.claimed.0 w.copying.young x key
+    (same ∙ ap (λ l. 2 * l) (sym w.copying.first))) in
     subst AreSound (sym c.rekey.ensures.rekeyed) (sound_rekeyed ms (Object (Volatile c.args.object)) c.args.line c.requires.sound free)

@@ -13,7 +13,8 @@ pub returns-in_err-fence-clause-failed : goal.returns-in_err-fence-clause-failed
 returns-in_err-fence-clause-failed g c = on_err c.from_residual.result _ (λ free keys es a.
     let h = c.args.heap.now in
     let w = c.fence.ensures in
-    call_fails (scene h.space h.memory h.marks c.args.queue.now free keys) c.fence.new.self es c.requires.known (known_kept h.memory c.fence.new.self w.keeps w.resident.kept c.requires.known) w.keeps w.count a)
+    call_fails (scene h.space h.memory h.marks c.args.queue.now free keys) c.fence.new.self es c.requires.known
+    (known_kept h.memory c.fence.new.self w.keeps w.resident.kept c.requires.known) w.keeps w.count a)
 
 pub returns-in_err-fence-clause-known : goal.returns-in_err-fence-clause-known
 returns-in_err-fence-clause-known g c = let w = c.fence.ensures in known_kept c.args.heap.now.memory c.fence.new.self w.keeps w.resident.kept c.requires.known

@@ -20,7 +20,8 @@ make_ready-requires-clause-within g c =
 pub returns-in_err-make_ready-clause-failed : goal.returns-in_err-make_ready-clause-failed
 returns-in_err-make_ready-clause-failed g c = on_err c.from_residual.result _ (λ free keys es a.
     let h = c.args.heap.now in
-    call_fails (scene h.space h.memory h.marks c.args.queue.now free keys) c.make_ready.new.memory es c.requires.known c.make_ready.ensures.known c.make_ready.ensures.keeps c.in_err-make_ready.ensures.failed a)
+    call_fails (scene h.space h.memory h.marks c.args.queue.now free keys) c.make_ready.new.memory es c.requires.known
+    c.make_ready.ensures.known c.make_ready.ensures.keeps c.in_err-make_ready.ensures.failed a)
 
 pub returns-then-not-branch-clause-converts : goal.returns-then-not-branch-clause-converts
 returns-then-not-branch-clause-converts g c = λ free keys es a.

@@ -19,7 +19,8 @@ pub returns-in_err-write_back-clause-failed : goal.returns-in_err-write_back-cla
 returns-in_err-write_back-clause-failed g c = on_err c.from_residual.result _ (λ free keys es a.
     let h = c.args.heap.now in
     let w = c.write_back.ensures in
-    call_fails (scene h.space h.memory h.marks c.args.queue.now free keys) c.write_back.new.self es c.requires.known (known_kept h.memory c.write_back.new.self w.keeps w.resident.kept c.requires.known) w.keeps w.count a)
+    call_fails (scene h.space h.memory h.marks c.args.queue.now free keys) c.write_back.new.self es c.requires.known
+    (known_kept h.memory c.write_back.new.self w.keeps w.resident.kept c.requires.known) w.keeps w.count a)
 
 pub returns-in_err-write_back-clause-known : goal.returns-in_err-write_back-clause-known
 returns-in_err-write_back-clause-known g c = let w = c.write_back.ensures in known_kept c.args.heap.now.memory c.write_back.new.self w.keeps w.resident.kept c.requires.known

@@ -1,4 +1,5 @@
-use Rattle.converter.proofs.Unwritten.{first_lines_are_unwritten, beginnings_stay_unwritten, events_stay_unwritten, stores_stay_unwritten}
+use Rattle.converter.proofs.Unwritten.{first_lines_are_unwritten, beginnings_stay_unwritten, events_stay_unwritten}
+use Rattle.converter.proofs.Unwritten.{stores_stay_unwritten}
 use Rattle.converter.proofs.laws.lines_stay_unwritten_until_the_flush.Goals as goal
 
 pub returns-clause-first : goal.returns-clause-first

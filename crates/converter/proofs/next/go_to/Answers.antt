@@ -6,7 +6,11 @@ use Rattle.converter.proofs.next.go_to.Goals as goal
 
 pub returns-clause-goes : goal.returns-clause-goes
 returns-clause-goes c =
-    let whole : c.set_place.new.self ≡ record c.args.queue.now { places = slice_set c.args.queue.now.places c.args.t (c.args.n, c.args.line); phases = slice_set c.args.queue.now.phases c.args.t c.args.phase } =
+    let whole : c.set_place.new.self ≡ record c.args.queue.now {
+      places = slice_set c.args.queue.now.places c.args.t (c.args.n, c.args.line);
+      phases = slice_set
+          c.args.queue.now.phases c.args.t c.args.phase;
+    } =
     c.set_place.ensures.place ∙ ap (λ (q : Queues). record q { places = slice_set q.places c.args.t (c.args.n, c.args.line) }) c.set_phase.ensures.phase in
     let few = c.phase-phase.ensures.threads in
     let below = c.number-number.ensures.below in

@@ -11,7 +11,9 @@ copy_work-requires g c =
     let h = c.args.heap.now in
     let q = c.requires.agrees in
     let s : Scene = scene h.space h.memory h.marks c.args.queue.now q.0 q.1 in
-    let item : Some c.in-Some.item ≡ slice_get (queue_of c.args.queue.now c.args.t) (place_of c.args.queue.now c.args.t).0 = c.in-Some.ensures.queued ∙ ap (λ (x : ℕ × ℕ). slice_get (queue_of c.args.queue.now c.args.t) x.0) c.place-n.ensures.place in
+    let item : Some c.in-Some.item ≡ slice_get (queue_of c.args.queue.now c.args.t) (place_of c.args.queue.now c.args.t).0
+    = c.in-Some.ensures.queued ∙ ap (λ (x : ℕ × ℕ). slice_get (queue_of c.args.queue.now c.args.t) x.0)
+    c.place-n.ensures.place in
     let x = object_here s q.2 c.args.t c.in-Some.item q.4 c.requires.phase item in
     record { agrees = (q.0, q.1, q.2, x.0, q.4, x.1) }
 
@@ -19,7 +21,9 @@ pub returns-in-Some-clause-goes_on : goal.returns-in-Some-clause-goes_on
 returns-in-Some-clause-goes_on g c = λ free keys es a.
     let h = c.args.heap.now in
     let s : Scene = scene h.space h.memory h.marks c.args.queue.now free keys in
-    let item : Some c.in-Some.item ≡ slice_get (queue_of c.args.queue.now c.args.t) (place_of c.args.queue.now c.args.t).0 = c.in-Some.ensures.queued ∙ ap (λ (x : ℕ × ℕ). slice_get (queue_of c.args.queue.now c.args.t) x.0) c.place-n.ensures.place in
+    let item : Some c.in-Some.item ≡ slice_get (queue_of c.args.queue.now c.args.t) (place_of c.args.queue.now c.args.t).0
+    = c.in-Some.ensures.queued ∙ ap (λ (x : ℕ × ℕ). slice_get (queue_of c.args.queue.now c.args.t) x.0)
+    c.place-n.ensures.place in
     let x = object_here s es c.args.t c.in-Some.item a c.requires.phase item in
     c.copy_work.ensures.goes_on free keys es x.0 a x.1
 
@@ -27,7 +31,9 @@ pub returns-in-Some-clause-work : goal.returns-in-Some-clause-work
 returns-in-Some-clause-work g c = λ free keys es a.
     let h = c.args.heap.now in
     let s : Scene = scene h.space h.memory h.marks c.args.queue.now free keys in
-    let item : Some c.in-Some.item ≡ slice_get (queue_of c.args.queue.now c.args.t) (place_of c.args.queue.now c.args.t).0 = c.in-Some.ensures.queued ∙ ap (λ (x : ℕ × ℕ). slice_get (queue_of c.args.queue.now c.args.t) x.0) c.place-n.ensures.place in
+    let item : Some c.in-Some.item ≡ slice_get (queue_of c.args.queue.now c.args.t) (place_of c.args.queue.now c.args.t).0
+    = c.in-Some.ensures.queued ∙ ap (λ (x : ℕ × ℕ). slice_get (queue_of c.args.queue.now c.args.t) x.0)
+    c.place-n.ensures.place in
     let x = object_here s es c.args.t c.in-Some.item a c.requires.phase item in
     c.copy_work.ensures.work free keys es x.0 a x.1
 
@@ -36,7 +42,8 @@ in_repair-requires-clause-agrees g c =
     let h = c.args.heap.now in
     let q = c.requires.agrees in
     let s : Scene = scene h.space h.memory h.marks c.args.queue.now q.0 q.1 in
-    let all = subst (λ (x : ℕ × ℕ). length (queue_of c.args.queue.now c.args.t) ≤ x.0) c.place-n.ensures.place (past (queue_of c.args.queue.now c.args.t) c.place-n.result.0 c.in_default.ensures.queued) in
+    let all = subst (λ (x : ℕ × ℕ). length (queue_of c.args.queue.now c.args.t) ≤ x.0) c.place-n.ensures.place
+    (past (queue_of c.args.queue.now c.args.t) c.place-n.result.0 c.in_default.ensures.queued) in
     (q.0, q.1, q.2, q.3, (repairs s c.go_to.new.queue q.2 c.args.t q.4 c.requires.phase all c.go_to.ensures.goes).agrees)
 
 pub in_repair-requires-clause-phase : goal.in_repair-requires-clause-phase
@@ -46,15 +53,19 @@ pub returns-clause-goes_on : goal.returns-clause-goes_on
 returns-clause-goes_on g c = λ free keys es a.
     let h = c.args.heap.now in
     let s : Scene = scene h.space h.memory h.marks c.args.queue.now free keys in
-    let all = subst (λ (x : ℕ × ℕ). length (queue_of c.args.queue.now c.args.t) ≤ x.0) c.place-n.ensures.place (past (queue_of c.args.queue.now c.args.t) c.place-n.result.0 c.in_default.ensures.queued) in
+    let all = subst (λ (x : ℕ × ℕ). length (queue_of c.args.queue.now c.args.t) ≤ x.0) c.place-n.ensures.place
+    (past (queue_of c.args.queue.now c.args.t) c.place-n.result.0 c.in_default.ensures.queued) in
     let x = repairs s c.go_to.new.queue es c.args.t a c.requires.phase all c.go_to.ensures.goes in
-    goes_on_on s (scene h.space h.memory h.marks c.go_to.new.queue free keys) (scene h.space h.memory h.marks c.in_repair.new.queue free keys) es c.args.t x (c.in_repair.ensures.goes_on free keys es x.agrees)
+    goes_on_on s (scene h.space h.memory h.marks c.go_to.new.queue free keys)
+    (scene h.space h.memory h.marks c.in_repair.new.queue free keys) es c.args.t x
+    (c.in_repair.ensures.goes_on free keys es x.agrees)
 
 pub returns-clause-work : goal.returns-clause-work
 returns-clause-work g c = λ free keys es a.
     let h = c.args.heap.now in
     let s : Scene = scene h.space h.memory h.marks c.args.queue.now free keys in
-    let all = subst (λ (x : ℕ × ℕ). length (queue_of c.args.queue.now c.args.t) ≤ x.0) c.place-n.ensures.place (past (queue_of c.args.queue.now c.args.t) c.place-n.result.0 c.in_default.ensures.queued) in
+    let all = subst (λ (x : ℕ × ℕ). length (queue_of c.args.queue.now c.args.t) ≤ x.0) c.place-n.ensures.place
+    (past (queue_of c.args.queue.now c.args.t) c.place-n.result.0 c.in_default.ensures.queued) in
     let x = repairs s c.go_to.new.queue es c.args.t a c.requires.phase all c.go_to.ensures.goes in
     c.in_repair.ensures.work free keys es x.agrees
 

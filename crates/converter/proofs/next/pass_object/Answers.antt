@@ -43,7 +43,8 @@ pub returns-then-line-count-clause-within : goal.returns-then-line-count-clause-
 returns-then-line-count-clause-within g c = λ free keys es n a is.
     let q = c.args.queue.now in
     let s : Scene = scene c.args.heap.now.space c.args.heap.now.memory c.args.heap.now.marks q free keys in
-    let item : Some c.in-Some.item ≡ slice_get (queue_of q c.args.t) (place_of q c.args.t).0 = c.in-Some.ensures.queued ∙ ap (λ (x : ℕ × ℕ). slice_get (queue_of q c.args.t) x.0) c.place-n.ensures.place in
+    let item : Some c.in-Some.item ≡ slice_get (queue_of q c.args.t) (place_of q c.args.t).0 = c.in-Some.ensures.queued ∙
+    ap (λ (x : ℕ × ℕ). slice_get (queue_of q c.args.t) x.0) c.place-n.ensures.place in
     let counts : Counts es c.in-Some.item.0 c.count_of-count.result = λ m lm low at. c.count_of-count.ensures.count ∙ ap (λ x. x / 8 + 1) (c.slots_at.ensures.slots es m a.lies lm (low, at)) in
     let left = c.if-line-count.true in
     let line = ap (λ (x : ℕ × ℕ). x.1) c.place-n.ensures.place in
@@ -53,11 +54,14 @@ pub returns-clause-goes_on : goal.returns-clause-goes_on
 returns-clause-goes_on g c = λ free keys es a.
     let q = c.args.queue.now in
     let s : Scene = scene c.args.heap.now.space c.args.heap.now.memory c.args.heap.now.marks q free keys in
-    let item : Some c.in-Some.item ≡ slice_get (queue_of q c.args.t) (place_of q c.args.t).0 = c.in-Some.ensures.queued ∙ ap (λ (x : ℕ × ℕ). slice_get (queue_of q c.args.t) x.0) c.place-n.ensures.place in
+    let item : Some c.in-Some.item ≡ slice_get (queue_of q c.args.t) (place_of q c.args.t).0 = c.in-Some.ensures.queued ∙
+    ap (λ (x : ℕ × ℕ). slice_get (queue_of q c.args.t) x.0) c.place-n.ensures.place in
     let counts : Counts es c.in-Some.item.0 c.count_of-count.result = λ m lm low at. c.count_of-count.ensures.count ∙ ap (λ x. x / 8 + 1) (c.slots_at.ensures.slots es m a.lies lm (low, at)) in
     let left = c.if-line-count.false in
     let line = ap (λ (x : ℕ × ℕ). x.1) c.place-n.ensures.place in
-    let goes : GoesTo c.args.t Repair ((place_of q c.args.t).0 + 1) 0 q c.go_to.new.queue = subst (λ (x : ℕ × ℕ). GoesTo c.args.t Repair (x.0 + 1) 0 q c.go_to.new.queue) c.place-n.ensures.place c.go_to.ensures.goes in
+    let goes : GoesTo c.args.t Repair ((place_of q c.args.t).0 + 1) 0 q c.go_to.new.queue = subst
+    (λ (x : ℕ × ℕ). GoesTo c.args.t Repair (x.0 + 1) 0 q c.go_to.new.queue) c.place-n.ensures.place
+    c.go_to.ensures.goes in
     passes_object s c.go_to.new.queue es c.args.t c.in-Some.item.0 c.in-Some.item.1 c.count_of-count.result a c.requires.phase item counts (omega (arith, left, line)) goes
 
 pub returns-clause-phase : goal.returns-clause-phase

@@ -14,7 +14,8 @@ pub returns-in-Some-clause-work : goal.returns-in-Some-clause-work
 returns-in-Some-clause-work g c = λ free keys es a within.
     let q = c.args.queue.now in
     let s : Scene = scene c.args.heap.now.space c.args.heap.now.memory c.args.heap.now.marks q free keys in
-    let item : Some c.in-Some.item ≡ slice_get (queue_of q c.args.t) (place_of q c.args.t).0 = c.in-Some.ensures.queued ∙ ap (λ (x : ℕ × ℕ). slice_get (queue_of q c.args.t) x.0) c.place-n.ensures.place in
+    let item : Some c.in-Some.item ≡ slice_get (queue_of q c.args.t) (place_of q c.args.t).0 = c.in-Some.ensures.queued ∙
+    ap (λ (x : ℕ × ℕ). slice_get (queue_of q c.args.t) x.0) c.place-n.ensures.place in
     subst (λ (x : ℕ × ℕ). IsToRepair s es c.args.t c.in-Some.item.0 c.in-Some.item.1 x.1) (sym c.place-n.ensures.place)
     (to_repair_here s es c.args.t c.in-Some.item.0 c.in-Some.item.1 a c.requires.phase item within)
 

@@ -23,7 +23,16 @@ behind-requires g c =
     let q = c.requires.object in let o = q.2 in
     let y = o.moved in
     let r : refers v (entry q.0 q.1) c.args.k ≡ true = sym (c.refers_at.ensures.refers q.0 q.1 o.lies o.there (omega (arith, y), o.at)) ∙ c.if-not-refers_at.false in
-    record { reference = (q.0, o.lies, subst (IsRef q.0) (moved_word h.space h.memory h.marks c.args.object c.args.line c.args.k q.0 q.1 o ∙ ap (λ x. shown h.memory c.args.line ((x + 1) % 8)) (sym at) ∙ sym c.load.ensures) (o.lies.refs q.1 c.args.k o.there r o.slot)) }
+    record {
+      reference = (
+        q.0,
+        o.lies,
+        subst (IsRef q.0)
+            (moved_word h.space h.memory h.marks c.args.object c.args.line c.args.k q.0 q.1 o ∙ ap
+            (λ x. shown h.memory c.args.line ((x + 1) % 8)) (sym at) ∙ sym c.load.ensures)
+            (o.lies.refs q.1 c.args.k o.there r o.slot),
+      );
+    }
 
 pub returns-clause-some : goal.returns-clause-some
 returns-clause-some g c =

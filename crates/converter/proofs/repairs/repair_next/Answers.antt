@@ -33,7 +33,8 @@ make_ready-requires-clause-within g c =
 pub returns-in_err-make_ready-clause-failed : goal.returns-in_err-make_ready-clause-failed
 returns-in_err-make_ready-clause-failed g c = on_err c.from_residual.result _ (λ free keys es a.
     let h = c.args.heap.now in
-    call_fails (scene h.space h.memory h.marks c.args.queue.now free keys) c.make_ready.new.memory es c.requires.known c.make_ready.ensures.known c.make_ready.ensures.keeps c.in_err-make_ready.ensures.failed a)
+    call_fails (scene h.space h.memory h.marks c.args.queue.now free keys) c.make_ready.new.memory es c.requires.known
+    c.make_ready.ensures.known c.make_ready.ensures.keeps c.in_err-make_ready.ensures.failed a)
 
 pub returns-then-not-branch-clause-converts : goal.returns-then-not-branch-clause-converts
 returns-then-not-branch-clause-converts g c = λ free keys es a w.
@@ -52,7 +53,8 @@ slots_at-slots-requires g c =
     let s : Scene = scene h.space h.memory h.marks c.args.queue.now q.0 q.1 in
     let two = own_forwarded (view_of s.heap) (held_of s.heap.memory) (written_of s.heap.memory) s.queue s.free (IsKey s.keys) q.2 c.args.t w.n q.3 w.phase w.is.claimed in
     let same = (c.in_ok-make_ready.ensures.ready c.if-not-branch.false).1 in
-    let moved : AgreesAt (scene h.space c.make_ready.new.memory h.marks c.args.queue.now q.0 q.1) q.2 = subst (λ (m : Memory). AgreesAt (scene h.space m h.marks c.args.queue.now q.0 q.1) q.2) (sym same) q.3 in
+    let moved : AgreesAt (scene h.space c.make_ready.new.memory h.marks c.args.queue.now q.0 q.1) q.2 = subst
+    (λ (m : Memory). AgreesAt (scene h.space m h.marks c.args.queue.now q.0 q.1) q.2) (sym same) q.3 in
     record { object = (q.2, w.n, moved.lies, w.is.claimed.0, (omega (arith, two), w.at)) }
 
 pub find_behind-requires-clause-object : goal.find_behind-requires-clause-object
@@ -63,12 +65,16 @@ find_behind-requires-clause-object g c =
     let same = (c.in_ok-make_ready.ensures.ready c.if-not-branch.false).1 in
     let s : Scene = scene h.space m h.marks c.args.queue.now q.0 q.1 in
     let a1 : AgreesAt s q.2 = subst (λ (x : Memory). AgreesAt (scene h.space x h.marks c.args.queue.now q.0 q.1) q.2) (sym same) q.3 in
-    let w1 : IsToRepair s q.2 c.args.t c.args.object c.args.first c.args.c = subst (λ (x : Memory). IsToRepair (scene h.space x h.marks c.args.queue.now q.0 q.1) q.2 c.args.t c.args.object c.args.first c.args.c) (sym same) q.4 in
+    let w1 : IsToRepair s q.2 c.args.t c.args.object c.args.first c.args.c = subst
+    (λ (x : Memory). IsToRepair (scene h.space x h.marks c.args.queue.now q.0 q.1) q.2 c.args.t c.args.object
+    c.args.first c.args.c) (sym same) q.4 in
     let two = own_forwarded (view_of s.heap) (held_of s.heap.memory) (written_of s.heap.memory) s.queue s.free (IsKey s.keys) q.2 c.args.t w1.n a1 w1.phase w1.is.claimed in
     let slots = c.slots_at-slots.ensures.slots q.2 w1.n a1.lies w1.is.claimed.0 (omega (arith, two), w1.at) in
     let first = c.first_slot-from.ensures.first in
     let end = c.end_slot-to.ensures.end in
-    let holds1 : Holds c.args.c (entry q.2 w1.n).slots c.first_slot-from.result c.end_slot-to.result = holds c.args.c (entry q.2 w1.n).slots c.first_slot-from.result c.end_slot-to.result (omega (arith, first, slots)) (omega (arith, end, slots)) in
+    let holds1 : Holds c.args.c (entry q.2 w1.n).slots c.first_slot-from.result c.end_slot-to.result = holds c.args.c
+    (entry q.2 w1.n).slots c.first_slot-from.result c.end_slot-to.result (omega (arith, first, slots))
+    (omega (arith, end, slots)) in
     (q.2, w1.n, λ k lo hi. moved_here s q.2 c.args.t c.args.object c.args.first c.args.c c.first_slot-from.result c.end_slot-to.result a1 w1 holds1 k lo hi)
 
 pub find_behind-requires-clause-resident : goal.find_behind-requires-clause-resident
@@ -83,12 +89,16 @@ returns-in-Some-clause-converts g c = λ free keys es a w.
     let same = (c.in_ok-make_ready.ensures.ready c.if-not-branch.false).1 in
     let s : Scene = scene h.space m h.marks c.args.queue.now free keys in
     let a1 : AgreesAt s es = subst (λ (x : Memory). AgreesAt (scene h.space x h.marks c.args.queue.now free keys) es) (sym same) a in
-    let w1 : IsToRepair s es c.args.t c.args.object c.args.first c.args.c = subst (λ (x : Memory). IsToRepair (scene h.space x h.marks c.args.queue.now free keys) es c.args.t c.args.object c.args.first c.args.c) (sym same) w in
+    let w1 : IsToRepair s es c.args.t c.args.object c.args.first c.args.c = subst
+    (λ (x : Memory). IsToRepair (scene h.space x h.marks c.args.queue.now free keys) es c.args.t c.args.object
+    c.args.first c.args.c) (sym same) w in
     let two = own_forwarded (view_of s.heap) (held_of s.heap.memory) (written_of s.heap.memory) s.queue s.free (IsKey s.keys) es c.args.t w1.n a1 w1.phase w1.is.claimed in
     let slots = c.slots_at-slots.ensures.slots es w1.n a1.lies w1.is.claimed.0 (omega (arith, two), w1.at) in
     let first = c.first_slot-from.ensures.first in
     let end = c.end_slot-to.ensures.end in
-    let holds1 : Holds c.args.c (entry es w1.n).slots c.first_slot-from.result c.end_slot-to.result = holds c.args.c (entry es w1.n).slots c.first_slot-from.result c.end_slot-to.result (omega (arith, first, slots)) (omega (arith, end, slots)) in
+    let holds1 : Holds c.args.c (entry es w1.n).slots c.first_slot-from.result c.end_slot-to.result = holds c.args.c
+    (entry es w1.n).slots c.first_slot-from.result c.end_slot-to.result (omega (arith, first, slots))
+    (omega (arith, end, slots)) in
     let hit = c.in-Some.ensures.some in
     let x = hit.3 es w1.n (moved_here s es c.args.t c.args.object c.args.first c.args.c c.first_slot-from.result c.end_slot-to.result a1 w1 holds1 hit.0 hit.1 hit.2) in
     let lacks = lacks_here s es c.args.t c.args.object c.args.first c.args.c c.first_slot-from.result c.end_slot-to.result c.in-Some.u hit.0 x.0 a1 w1 holds1 hit.1 hit.2 x.1 x.2 x.3 in
@@ -102,12 +112,16 @@ repair_resident-requires-clause-agrees g c =
     let same = (c.in_ok-make_ready.ensures.ready c.if-not-branch.false).1 in
     let s : Scene = scene h.space m h.marks c.args.queue.now q.0 q.1 in
     let a1 : AgreesAt s q.2 = subst (λ (x : Memory). AgreesAt (scene h.space x h.marks c.args.queue.now q.0 q.1) q.2) (sym same) q.3 in
-    let w1 : IsToRepair s q.2 c.args.t c.args.object c.args.first c.args.c = subst (λ (x : Memory). IsToRepair (scene h.space x h.marks c.args.queue.now q.0 q.1) q.2 c.args.t c.args.object c.args.first c.args.c) (sym same) q.4 in
+    let w1 : IsToRepair s q.2 c.args.t c.args.object c.args.first c.args.c = subst
+    (λ (x : Memory). IsToRepair (scene h.space x h.marks c.args.queue.now q.0 q.1) q.2 c.args.t c.args.object
+    c.args.first c.args.c) (sym same) q.4 in
     let two = own_forwarded (view_of s.heap) (held_of s.heap.memory) (written_of s.heap.memory) s.queue s.free (IsKey s.keys) q.2 c.args.t w1.n a1 w1.phase w1.is.claimed in
     let slots = c.slots_at-slots.ensures.slots q.2 w1.n a1.lies w1.is.claimed.0 (omega (arith, two), w1.at) in
     let first = c.first_slot-from.ensures.first in
     let end = c.end_slot-to.ensures.end in
-    let holds1 : Holds c.args.c (entry q.2 w1.n).slots c.first_slot-from.result c.end_slot-to.result = holds c.args.c (entry q.2 w1.n).slots c.first_slot-from.result c.end_slot-to.result (omega (arith, first, slots)) (omega (arith, end, slots)) in
+    let holds1 : Holds c.args.c (entry q.2 w1.n).slots c.first_slot-from.result c.end_slot-to.result = holds c.args.c
+    (entry q.2 w1.n).slots c.first_slot-from.result c.end_slot-to.result (omega (arith, first, slots))
+    (omega (arith, end, slots)) in
     let lacks = lacks_none s q.2 c.args.t c.args.object c.args.first c.args.c c.first_slot-from.result c.end_slot-to.result a1 w1 holds1
     (λ k lo hi n m o r. c.in_default.ensures.none refl k lo hi q.2 n m o r)
     (λ n ln at moved. same_object (view_of s.heap) q.2 q.2 w1.n n c.args.object a1.lies a1.lies w1.is.claimed.0 ln w1.at at (omega (arith, two)) (omega (arith, moved))) in
@@ -125,12 +139,16 @@ returns-clause-converts g c = λ free keys es a w.
     let same = (c.in_ok-make_ready.ensures.ready c.if-not-branch.false).1 in
     let s : Scene = scene h.space m h.marks c.args.queue.now free keys in
     let a1 : AgreesAt s es = subst (λ (x : Memory). AgreesAt (scene h.space x h.marks c.args.queue.now free keys) es) (sym same) a in
-    let w1 : IsToRepair s es c.args.t c.args.object c.args.first c.args.c = subst (λ (x : Memory). IsToRepair (scene h.space x h.marks c.args.queue.now free keys) es c.args.t c.args.object c.args.first c.args.c) (sym same) w in
+    let w1 : IsToRepair s es c.args.t c.args.object c.args.first c.args.c = subst
+    (λ (x : Memory). IsToRepair (scene h.space x h.marks c.args.queue.now free keys) es c.args.t c.args.object
+    c.args.first c.args.c) (sym same) w in
     let two = own_forwarded (view_of s.heap) (held_of s.heap.memory) (written_of s.heap.memory) s.queue s.free (IsKey s.keys) es c.args.t w1.n a1 w1.phase w1.is.claimed in
     let slots = c.slots_at-slots.ensures.slots es w1.n a1.lies w1.is.claimed.0 (omega (arith, two), w1.at) in
     let first = c.first_slot-from.ensures.first in
     let end = c.end_slot-to.ensures.end in
-    let holds1 : Holds c.args.c (entry es w1.n).slots c.first_slot-from.result c.end_slot-to.result = holds c.args.c (entry es w1.n).slots c.first_slot-from.result c.end_slot-to.result (omega (arith, first, slots)) (omega (arith, end, slots)) in
+    let holds1 : Holds c.args.c (entry es w1.n).slots c.first_slot-from.result c.end_slot-to.result = holds c.args.c
+    (entry es w1.n).slots c.first_slot-from.result c.end_slot-to.result (omega (arith, first, slots))
+    (omega (arith, end, slots)) in
     let n = c.repair_resident.new in
     let lacks = lacks_none s es c.args.t c.args.object c.args.first c.args.c c.first_slot-from.result c.end_slot-to.result a1 w1 holds1
     (λ k lo hi n m o r. c.in_default.ensures.none refl k lo hi es n m o r)

@@ -53,7 +53,9 @@ returns-clause-converts g c = λ free keys es a w lacks.
     ∙ ap (λ (x : Marks). record { space = h.space; memory = new.memory; marks = x }) c.repair_line.ensures.marks in
     let place = ap (λ (x : ℕ × ℕ). x.0) c.place-n.ensures.place in
     let same_place : c.place-n.result.0 ≡ (place_of c.args.queue.now c.args.t).0 = place ∙ ap (λ (q : Queues). (place_of q c.args.t).0) c.dirty.ensures.noted in
-    repair_is s new c.dirty.new.self c.go_to.new.queue es c.args.t c.args.object c.args.first c.args.c (c.args.first + c.args.c) c.place-n.result.0 a w lacks c.repair_line.ensures.repaired c.repair_line.ensures.clean refl
+    repair_is s new c.dirty.new.self c.go_to.new.queue es c.args.t c.args.object c.args.first c.args.c
+    (c.args.first + c.args.c) c.place-n.result.0 a w lacks c.repair_line.ensures.repaired c.repair_line.ensures.clean
+    refl
     (subst (λ l. ChangesLine l h.memory c.repair_line.new.self.memory) at c.repair_line.ensures.line) same c.dirty.ensures.noted same_place c.go_to.ensures.goes
 
 pub returns-clause-known : goal.returns-clause-known

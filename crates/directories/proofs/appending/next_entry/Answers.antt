@@ -1,4 +1,5 @@
-use Rattle.std.proofs.Common.{◌≡◌, ◌<◌, ◌-◌, ◌/◌, ◌^◌, ℕ, List, [], ◌∷◌, length, drop, take, slice_index_or, sym, ◌∙◌, ap, arith}
+use Rattle.std.proofs.Common.{◌≡◌, ◌<◌, ◌-◌, ◌/◌, ◌^◌, ℕ, List, [], ◌∷◌, length, drop, take, slice_index_or, sym, ◌∙◌, ap}
+use Rattle.std.proofs.Common.{arith}
 use Rattle.std.proofs.lemmas.List.{take_all, length-append, length-drop, length-take-le}
 use Rattle.image_meaning.specs.Entries.{DirectoryEntry, spelled}
 use Rattle.image_meaning.specs.Directories.{spelled_all}

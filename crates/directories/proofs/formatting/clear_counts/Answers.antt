@@ -2,7 +2,8 @@ use Rattle.std.proofs.Common.{◌≤◌, ◌+◌, arith}
 use Rattle.line_memory.specs.Memory.{Memory}
 use Rattle.image_layout.specs.Places.{min_lines, logs, log_head_line}
 use Rattle.word_changes.proofs.Going.{goes_nowhere, goes_more}
-use Rattle.directories.proofs.Formats.{counts_begin, counts_more, counts_changes, counts_of_logs, counts_within, changes_at, wrote_at}
+use Rattle.directories.proofs.Formats.{counts_begin, counts_more, counts_changes, counts_of_logs, counts_within, changes_at}
+use Rattle.directories.proofs.Formats.{wrote_at}
 use Rattle.directories.proofs.formatting.clear_counts.Goals as goal
 
 pub loop-thread-init : goal.loop-thread-init

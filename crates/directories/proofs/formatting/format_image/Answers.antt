@@ -3,7 +3,8 @@ use Rattle.word_changes.specs.Changes.{Nothing}
 use Rattle.word_changes.proofs.Going.{goes_more, goes_by_call}
 use Rattle.word_changes.proofs.Writing.{durable_stays}
 use Rattle.directories.specs.Formatting.{OfLayout}
-use Rattle.directories.proofs.Formats.{front_of_layout, marked_changes, marked_fenced, marked_shown, marked_fixed, front_stops, layout_stops, fence_behind, mark_stops}
+use Rattle.directories.proofs.Formats.{front_of_layout, marked_changes, marked_fenced, marked_shown, marked_fixed, front_stops}
+use Rattle.directories.proofs.Formats.{layout_stops, fence_behind, mark_stops}
 use Rattle.directories.proofs.formatting.format_image.Goals as goal
 
 pub returns-in_err-write_front-clause-changes : goal.returns-in_err-write_front-clause-changes

@@ -4,7 +4,8 @@ use Rattle.word_changes.specs.Changes.{Nothing}
 use Rattle.word_changes.proofs.Changing.{changes_weaker, changes_more, changes_nowhere}
 use Rattle.word_changes.proofs.Going.{goes_more, goes_by_call}
 use Rattle.directories.specs.Formatting.{OfCleared, OfSuperblock, OfFront}
-use Rattle.directories.proofs.Formats.{front_changes, front_done, front_fixed, fenced_changes, superblock_sized, superblock_wrote, clearing_stops, super_stops}
+use Rattle.directories.proofs.Formats.{front_changes, front_done, front_fixed, fenced_changes, superblock_sized}
+use Rattle.directories.proofs.Formats.{superblock_wrote, clearing_stops, super_stops}
 use Rattle.directories.proofs.formatting.write_front.Goals as goal
 
 pub returns-in_err-clear_front-clause-changes : goal.returns-in_err-clear_front-clause-changes

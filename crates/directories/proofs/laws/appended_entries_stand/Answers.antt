@@ -1,4 +1,5 @@
-use Rattle.directories.proofs.Growths.{durable_leaves, durable_stands, begun_appended, further_appended, growing_stops, whole_stands}
+use Rattle.directories.proofs.Growths.{durable_leaves, durable_stands, begun_appended, further_appended, growing_stops}
+use Rattle.directories.proofs.Growths.{whole_stands}
 use Rattle.directories.proofs.laws.appended_entries_stand.Goals as goal
 
 pub returns : goal.returns

@@ -1,9 +1,11 @@
-use Rattle.std.proofs.Common.{◌≡◌, ◌<◌, ◌≤◌, ◌+◌, ◌-◌, ℕ, List, Some, None, true, false, length, take, drop, sym, ◌∙◌, ap, subst, arith}
+use Rattle.std.proofs.Common.{◌≡◌, ◌<◌, ◌≤◌, ◌+◌, ◌-◌, ℕ, List, Some, None, true, false, length, take, drop, sym, ◌∙◌, ap}
+use Rattle.std.proofs.Common.{subst, arith}
 use Rattle.std.proofs.lemmas.List.{length-drop, drop-drop}
 use Rattle.image_meaning.specs.Entries.{spelled, read_entry}
 use Rattle.image_meaning.specs.Directories.{Directory, is_refused, with_entry, with_entries}
 use Rattle.directories.specs.Read.{entry_of, the_directory}
-use Rattle.directories.proofs.Readings.{whole_slice, read_nothing, read_one, none_begins, refused_entry, taken_entry, nothing_more, not_not, count_within}
+use Rattle.directories.proofs.Readings.{whole_slice, read_nothing, read_one, none_begins, refused_entry, taken_entry}
+use Rattle.directories.proofs.Readings.{nothing_more, not_not, count_within}
 use Rattle.directories.proofs.reading.parse.Goals as goal
 
 pub returns-in-None-clause-bad : goal.returns-in-None-clause-bad

@@ -2,6 +2,7 @@ use Rattle.std.proofs.Common.{◌∙◌, ℕ, Some, None, refl, arith, length}
 use Rattle.run_forms.specs.Views.{ThreadFrames}
 use Rattle.machine_forms.specs.Machines.{Opening}
 use Rattle.machine.specs.declared.events.Event.TheVariants.{Did, Over}
+use Rattle.machine.specs.Halts.{fault_of_halt}
 use Rattle.durable_run.specs.Events.{HasDue}
 use Rattle.durable_run.proofs.Going.{leads-since, limit-still, room-so}
 use Rattle.durable_run.proofs.Telling.{tells-both, tells-nothing}
@@ -30,13 +31,13 @@ returns-in-Did-clause-tells g c =
 
 pub returns-in-Over-clause-leads : goal.returns-in-Over-clause-leads
 returns-in-Over-clause-leads g c o first fs due =
-    leads-since o first (g.C.Types.facts c.args.set.now) fs c.args.request.now (Over c.in-Over.fault)
+    leads-since o first (g.C.Types.facts c.args.set.now) fs c.args.request.now (Over c.in-Over.halt)
     c.args.heap.now c.acts.heap c.next_act.new.heap c.acts.invariant.later
     (c.in-Over.ensures.leads o first fs (c.acts.invariant.due o first fs due))
 
 pub returns-in-Over-clause-tells : goal.returns-in-Over-clause-tells
 returns-in-Over-clause-tells g c =
-    tells-both c.args.request.now (Some c.in-Over.fault) c.args.heap.now c.acts.heap c.next_act.new.heap _ _ _
+    tells-both c.args.request.now (Some (fault_of_halt c.in-Over.halt)) c.args.heap.now c.acts.heap c.next_act.new.heap _ _ _
     c.acts.invariant.takes c.acts.invariant.tells c.in-Over.ensures.tells
 
 pub acts-smaller : goal.acts-smaller

@@ -1,7 +1,7 @@
 use Rattle.std.proofs.Common.{◌≡◌, ℕ, None}
 use Rattle.run_forms.specs.Views.{ThreadFrames}
 use Rattle.machine_forms.specs.Machines.{Opening}
-use Rattle.machine_lines.specs.Work.{measure}
+use Rattle.machine.specs.Passed.{measure}
 use Rattle.durable_run.specs.Events.{HasDue, Tells, outside}
 use Rattle.durable_run.proofs.events.next_act.Given as goal
 

@@ -1,6 +1,9 @@
-use Rattle.std.proofs.Common.{◌∙◌, refl, ap, sym}
-use Rattle.durable_run.specs.Turning.{is_live, uncaught_in}
-use Rattle.durable_run.proofs.Going.{acts-again, begins, finishes, unbuilt}
+use Rattle.std.proofs.Common.{◌∙◌, refl, ap, sym, subst}
+use Rattle.run_forms.specs.Views.{ThreadFrames}
+use Rattle.private_steps.specs.Ahead.{HasCome}
+use Rattle.machine.specs.Passed.{Shared}
+use Rattle.durable_run.specs.Turning.{IsReady, TurnsTo, is_live, uncaught_in}
+use Rattle.durable_run.proofs.Going.{finishes}
 use Rattle.durable_run.proofs.turns.turn.Goals as goal
 
 pub returns-then-not-is_live-clause-goes : goal.returns-then-not-is_live-clause-goes
@@ -12,51 +15,37 @@ returns-then-not-is_live-clause-goes g c o first ready = (
       c.uncaught_in.result (c.uncaught_in.ensures ∙ ap uncaught_in c.threads-then-not-is_live.ensures),
 )
 
-pub returns-then-not-is_built-clause-goes : goal.returns-then-not-is_built-clause-goes
-returns-then-not-is_built-clause-goes g c o first ready = (
-  refl,
-  unbuilt o first (g.C.Types.facts c.args.set.now) (g.H.Host.setting c.args.host.now) c.args.run.now.heap
-      c.args.run.now.frames ready c.asked-request.result c.asked-request.ensures.asks
-      (ap is_live (sym c.threads.ensures) ∙ sym c.is_live.ensures ∙ c.if-not-is_live.false)
-      c.machines_ask_as_plain_runs.ensures.idle (sym c.is_built.ensures ∙ c.if-not-is_built.true),
-)
+pub returns-then-reads_at_once-clause-goes : goal.returns-then-reads_at_once-clause-goes
+returns-then-reads_at_once-clause-goes g c o first ready =
+    let acted = c.reads_at_once.ensures.acted c.if-reads_at_once.true o first c.args.run.now.frames ready
+    c.begun-stop.ensures.come in (acted.ready, acted.more)
 
-pub does-requires : goal.does-requires
-does-requires g c =
-    let o = c.requires.ready.0 in
-    let first = c.requires.ready.1 in
-    record {
-      due = (
-        o,
-        first,
-        c.args.run.now.frames,
-        begins o first (g.C.Types.facts c.args.set.now) (g.H.Host.setting c.args.host.now) c.args.run.now.heap
-            c.args.run.now.frames c.requires.ready.2 c.asked-request.result c.asked-request.ensures.asks
-            (ap is_live (sym c.threads.ensures) ∙ sym c.is_live.ensures ∙ c.if-not-is_live.false)
-            c.machines_ask_as_plain_runs.ensures.idle (sym c.is_built.ensures ∙ c.if-not-is_built.false),
-      );
-    }
+pub returns-then-reads_at_once-clause-told : goal.returns-then-reads_at_once-clause-told
+returns-then-reads_at_once-clause-told g c =
+    (c.reads_at_once.ensures.acted c.if-reads_at_once.true c.requires.ready.0 c.requires.ready.1
+    c.args.run.now.frames c.requires.ready.2 c.begun-stop.ensures.come).told
+    (g.S.Sink.taken c.args.run.now.sink)
 
-pub returns-in-Ok-clause-goes : goal.returns-in-Ok-clause-goes
-returns-in-Ok-clause-goes g c o first ready =
-    let due = begins o first (g.C.Types.facts c.args.set.now) (g.H.Host.setting c.args.host.now)
-    c.args.run.now.heap c.args.run.now.frames ready c.asked-request.result c.asked-request.ensures.asks
-    (ap is_live (sym c.threads.ensures) ∙ sym c.is_live.ensures ∙ c.if-not-is_live.false)
-    c.machines_ask_as_plain_runs.ensures.idle (sym c.is_built.ensures ∙ c.if-not-is_built.false) in
-    let done = c.in-Ok.ensures.leads o first c.args.run.now.frames due in (
-      acts-again o first (g.C.Types.facts c.args.set.now) (g.H.Host.setting c.args.host.now)
-          c.args.run.now.heap
-          c.does.new.heap c.args.run.now.frames c.asked-request.new.frames c.answer.new.self c.in-Ok.reply
-          ready
-          done.0 c.does.ensures.numbers c.asked-request.ensures.frames c.answer.ensures.answer
-          c.answer.ensures.of,
-      done.1,
-    )
+pub returns-then-reads_at_once-clause-share : goal.returns-then-reads_at_once-clause-share
+returns-then-reads_at_once-clause-share g c =
+    (c.reads_at_once.ensures.acted c.if-reads_at_once.true c.requires.ready.0 c.requires.ready.1
+    c.args.run.now.frames c.requires.ready.2 c.begun-stop.ensures.come).share
+    (g.S.Sink.takes c.args.run.now.sink)
 
-pub returns-in-Err-clause-goes : goal.returns-in-Err-clause-goes
-returns-in-Err-clause-goes g c o first ready =
-    c.in-Err.ensures.leads o first c.args.run.now.frames
-    (begins o first (g.C.Types.facts c.args.set.now) (g.H.Host.setting c.args.host.now) c.args.run.now.heap
-    c.args.run.now.frames ready c.asked-request.result c.asked-request.ensures.asks
-    (ap is_live (sym c.threads.ensures) ∙ sym c.is_live.ensures ∙ c.if-not-is_live.false)
-    c.machines_ask_as_plain_runs.ensures.idle (sym c.is_built.ensures ∙ c.if-not-is_built.false))
+pub returns-then-reads_at_once-clause-cause : goal.returns-then-reads_at_once-clause-cause
+returns-then-reads_at_once-clause-cause g c =
+    (c.reads_at_once.ensures.acted c.if-reads_at_once.true c.requires.ready.0 c.requires.ready.1
+    c.args.run.now.frames c.requires.ready.2 c.begun-stop.ensures.come).cause
+    (g.S.Sink.faults c.args.run.now.sink)
+
+pub returns-clause-goes : goal.returns-clause-goes
+returns-clause-goes g c o first ready =
+    let x = g.H.Host.setting c.args.host.now in
+    let set = g.C.Types.facts c.args.set.now in
+    let fs = c.args.run.now.frames in
+    let same = c.reads_at_once.ensures.none c.if-reads_at_once.false in
+    subst (λ (s : Shared). TurnsTo o first set x s c.goes_on.result c.goes_on.new.run.heap c.goes_on.new.run.frames)
+    same.1
+    (c.goes_on.ensures.goes o first fs
+    (subst (λ (s : Shared). IsReady o first set x s fs) (sym same.1) ready)
+    (subst (λ (now : ThreadFrames). HasCome x c.begun-stop.result fs now) (sym same.0) c.begun-stop.ensures.come))

@@ -6,7 +6,8 @@ use Rattle.two_spaces.specs.Seen.{shown_of}
 use Rattle.first_spaces.specs.Items.{AreNumbered}
 use Rattle.first_spaces.specs.Parts.{volatile_objects}
 use Rattle.first_spaces.specs.Spaces.{spaces_of}
-use Rattle.first_spaces.proofs.Objects.{all_grown, arguments_kept, arguments_lack, both_long, if_full, literals_lack, stream_kept}
+use Rattle.first_spaces.proofs.Objects.{all_grown, arguments_kept, arguments_lack, both_long, if_full, literals_lack}
+use Rattle.first_spaces.proofs.Objects.{stream_kept}
 use Rattle.first_spaces.proofs.adding.add_objects.Goals as goal
 
 pub returns-in_err-arguments-clause-full : goal.returns-in_err-arguments-clause-full

@@ -3,4 +3,4 @@ use Rattle.frame_cells.specs.declared.cell.Cell.TheVariants.{Empty}
 use Rattle.frame_cells.proofs.cells.fill.Given as goal
 
 abbrev pub invariant-loop : goal.invariant-loop
-invariant-loop g l = l.items ≡ l.fn.items ++ replicate l.counter Empty
+invariant-loop g l = (l.items.entries ≡ l.fn.items.entries ++ replicate l.counter Empty) × (l.items.ready ≡ l.fn.items.ready)

@@ -1,6 +1,6 @@
 use Rattle.std.proofs.Common.{◌≡◌, ◌∙◌, [], ◌∷◌, refl, sym, ap, arith}
 use Rattle.run_types.specs.declared.fault.LinkKind.TheVariants as kind
-use Rattle.run_types.specs.declared.fault.RunFault.TheVariants as fault
+use Rattle.run_types.specs.declared.fault.StepFault.TheVariants as fault
 use Rattle.frame_cells.specs.declared.cell.Cell.TheVariants.{Reference}
 use Rattle.frames.specs.declared.given.Given.TheVariants as given
 use Rattle.frames.specs.declared.program.Body.TheVariants as body

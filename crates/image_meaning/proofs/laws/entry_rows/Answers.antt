@@ -1,6 +1,7 @@
 use Rattle.std.proofs.Common.{refl}
 use Rattle.const_pool.specs.Utf8.{bad_place, char_len}
-use Rattle.const_pool.specs.Parsing.{descriptor_at, only_field, field_at, element_at, base_at, brackets, after_front, class_at, name_len, method_at, parameters_at, result_at}
+use Rattle.const_pool.specs.Parsing.{descriptor_at, only_field, field_at, element_at, base_at, brackets, after_front, class_at}
+use Rattle.const_pool.specs.Parsing.{name_len, method_at, parameters_at, result_at}
 use Rattle.image_meaning.specs.Directories.{with_entries}
 use Rattle.image_meaning.specs.Entries.{is_shape, read_entry}
 use Rattle.image_meaning.proofs.laws.entry_rows.Goals as goal

@@ -2,8 +2,9 @@ use Rattle.std.proofs.Common.{◌≡◌, ◌≤◌, ℕ, inr, arith, sym, ◌∙
 use Rattle.std.specs.Prelude.{IfOk}
 use Rattle.line_memory.specs.Memory.{Memory, shown}
 use Rattle.image_meaning.specs.Directories.{Directory, directory_of}
+use Rattle.word_changes.proofs.Changing.{changes_more, changes_nowhere}
 use Rattle.word_changes.proofs.Going.{goes_more}
-use Rattle.directories.specs.Formatting.{IsBlankOrFormatted}
+use Rattle.directories.specs.Formatting.{IsBlankOrFormatted, OfLayout}
 use Rattle.directories.proofs.Formatted.{formatted_opens}
 use Rattle.image_meaning.specs.Directories.{no_entries}
 use Rattle.image_walk.proofs.Looking.{looks_nowhere}
@@ -88,3 +89,17 @@ returns-in_err-directory-clause-later g c = omega (arith, c.format_image.ensures
 
 pub returns-clause-later : goal.returns-clause-later
 returns-clause-later g c = omega (arith, c.format_image.ensures.cause.later, c.read_entries.ensures.looks.later)
+
+pub returns-in_err-directory-clause-changes : goal.returns-in_err-directory-clause-changes
+returns-in_err-directory-clause-changes g c =
+    changes_more (OfLayout c.args.memory.now.size) c.args.memory.now c.format_image.new.memory c.read_entries.new.memory
+    c.format_image.ensures.changes
+    (changes_nowhere (OfLayout c.args.memory.now.size) c.format_image.new.memory c.read_entries.new.memory
+    c.read_entries.ensures.looks.changes)
+
+pub returns-clause-changes : goal.returns-clause-changes
+returns-clause-changes g c =
+    changes_more (OfLayout c.args.memory.now.size) c.args.memory.now c.format_image.new.memory c.read_entries.new.memory
+    c.format_image.ensures.changes
+    (changes_nowhere (OfLayout c.args.memory.now.size) c.format_image.new.memory c.read_entries.new.memory
+    c.read_entries.ensures.looks.changes)

@@ -6,7 +6,8 @@ use Rattle.image_meaning.proofs.Order.{put_back-each}
 use Rattle.word_changes.proofs.Changing.{changes_more, changes_nowhere, telling_knows}
 use Rattle.image_recovery.specs.Putting.{IsPutBack, AllWritten, IsPutting, PutsBack}
 use Rattle.word_changes.proofs.Going.{goes_more, goes_nowhere}
-use Rattle.image_recovery.proofs.PutSteps.{none_put, logs_none, logs_more, nothing_put, nothing_written, all_durable, at_success}
+use Rattle.image_recovery.proofs.PutSteps.{none_put, logs_none, logs_more, nothing_put, nothing_written, all_durable}
+use Rattle.image_recovery.proofs.PutSteps.{at_success}
 use Rattle.image_recovery.proofs.putting.put_back_logs.Goals as goal
 
 pub loop-thread-init : goal.loop-thread-init

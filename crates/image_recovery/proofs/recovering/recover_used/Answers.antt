@@ -1,18 +1,18 @@
-use Rattle.std.proofs.Common.{◌≡◌, None, ◌<◌, ℕ, List, ◌≤◌, length, arith, sym, ◌∙◌, subst}
+use Rattle.std.proofs.Common.{◌≡◌, None, inl, inr, ◌<◌, ℕ, List, ◌≤◌, length, arith, sym, ◌∙◌, subst}
 use Rattle.std.proofs.lemmas.Result.{on_ok_weaker}
 use Rattle.line_memory.specs.Memory.{Memory, shown}
 use Rattle.image_layout.specs.Places.{root_slots}
 use Rattle.image_meaning.specs.Directories.{Directory}
 use Rattle.image_meaning.specs.Logs.{put_back}
 use Rattle.image_meaning.specs.Meaning.{meaning, graph_from}
-use Rattle.word_changes.proofs.Changing.{changes_more, changes_nowhere, stops_then, telling_knows}
+use Rattle.word_changes.proofs.Changing.{changes_more, changes_nowhere, changes_weaker, stops_then, telling_knows}
 use Rattle.word_changes.proofs.Going.{goes_more}
 use Rattle.word_changes.specs.Changes.{Nothing, ChangesTo}
 use Rattle.image_walk.specs.Walking.{Looks, IsFaultOf, directory_with}
 use Rattle.image_walk.specs.Found.{IsFoundGraph}
 use Rattle.image_walk.proofs.Looking.{looks_more}
 use Rattle.image_walk.proofs.Reading.{err_is}
-use Rattle.image_recovery.specs.Putting.{IsPutBack, AllWritten, IsRecoveringIn}
+use Rattle.image_recovery.specs.Putting.{IsCleared, IsPutBack, IsRestored, AllWritten, IsRecoveringIn}
 use Rattle.image_recovery.specs.Recovered.{IsBadFault, entries_in}
 use Rattle.image_recovery.proofs.PutSteps.{nothing_written}
 use Rattle.image_recovery.proofs.Recovers.{goes_by_looks, back_shows, fails_behind, same_directory, stops_putting}
@@ -207,3 +207,72 @@ returns-in_err-empty_logs-clause-later g c =
 pub returns-clause-later : goal.returns-clause-later
 returns-clause-later g c =
     omega (arith, c.read_front.ensures.looks.later, c.put_back_logs.ensures.cause.later, c.find_graph.ensures.looks.later, c.empty_logs.ensures.cause.later)
+
+-- ---- what is stored
+
+-- words were put back, alone
+put_back_alone : (first new : Memory) → ChangesTo (IsPutBack (shown first)) first new → ChangesTo (IsRestored (shown first)) first new
+put_back_alone first new changes =
+    changes_weaker (IsPutBack (shown first)) (IsRestored (shown first)) first new (λ l w v is. inl is) changes
+
+pub returns-in_err-front-clause-changes : goal.returns-in_err-front-clause-changes
+returns-in_err-front-clause-changes g c first known looks =
+    let seen = looks_more first c.args.memory.now c.read_front.new.memory looks c.read_front.ensures.looks in
+    changes_nowhere (IsRestored (shown first)) first c.read_front.new.memory seen.changes
+
+pub returns-in_err-put_back_logs-clause-changes : goal.returns-in_err-put_back_logs-clause-changes
+returns-in_err-put_back_logs-clause-changes g c first known looks =
+    let seen = looks_more first c.args.memory.now c.read_front.new.memory looks c.read_front.ensures.looks in
+    let pass = c.in_ok-front.ensures.passes first known looks in
+    put_back_alone first c.put_back_logs.new.memory (c.put_back_logs.ensures.changes first known seen pass)
+
+pub returns-in_err-found-clause-changes : goal.returns-in_err-found-clause-changes
+returns-in_err-found-clause-changes g c first known looks =
+    let mid : Memory = c.put_back_logs.new.memory in
+    let walked : Memory = c.find_graph.new.memory in
+    let seen = looks_more first c.args.memory.now c.read_front.new.memory looks c.read_front.ensures.looks in
+    let pass = c.in_ok-front.ensures.passes first known looks in
+    changes_more (IsRestored (shown first)) first mid walked
+    (put_back_alone first mid (c.put_back_logs.ensures.changes first known seen pass))
+    (changes_nowhere (IsRestored (shown first)) mid walked c.find_graph.ensures.looks.changes)
+
+-- and then counts were cleared
+cleared_too : (first mid walked new : Memory) → ChangesTo (IsPutBack (shown first)) first mid → ChangesTo Nothing mid walked
+    → ChangesTo IsCleared walked new → ChangesTo (IsRestored (shown first)) first new
+cleared_too first mid walked new back looked cleared =
+    changes_more (IsRestored (shown first)) first walked new
+    (changes_more (IsRestored (shown first)) first mid walked (put_back_alone first mid back)
+    (changes_nowhere (IsRestored (shown first)) mid walked looked))
+    (changes_weaker IsCleared (IsRestored (shown first)) walked new (λ l w v is. inr is) cleared)
+
+pub returns-in_err-empty_logs-clause-changes : goal.returns-in_err-empty_logs-clause-changes
+returns-in_err-empty_logs-clause-changes g c first known looks =
+    let seen = looks_more first c.args.memory.now c.read_front.new.memory looks c.read_front.ensures.looks in
+    let pass = c.in_ok-front.ensures.passes first known looks in
+    cleared_too first c.put_back_logs.new.memory c.find_graph.new.memory c.empty_logs.new.memory
+    (c.put_back_logs.ensures.changes first known seen pass) c.find_graph.ensures.looks.changes c.empty_logs.ensures.changes
+
+pub returns-clause-changes : goal.returns-clause-changes
+returns-clause-changes g c first known looks =
+    let seen = looks_more first c.args.memory.now c.read_front.new.memory looks c.read_front.ensures.looks in
+    let pass = c.in_ok-front.ensures.passes first known looks in
+    cleared_too first c.put_back_logs.new.memory c.find_graph.new.memory c.empty_logs.new.memory
+    (c.put_back_logs.ensures.changes first known seen pass) c.find_graph.ensures.looks.changes c.empty_logs.ensures.changes
+
+pub returns-in_err-front-clause-unlogged : goal.returns-in_err-front-clause-unlogged
+returns-in_err-front-clause-unlogged g c first known looks fails =
+    (looks_more first c.args.memory.now c.read_front.new.memory looks c.read_front.ensures.looks).changes
+
+pub returns-in_err-put_back_logs-clause-unlogged : goal.returns-in_err-put_back_logs-clause-unlogged
+returns-in_err-put_back_logs-clause-unlogged g c first known looks fails =
+    absurd (fails (c.in_ok-front.ensures.passes first known looks))
+
+pub returns-in_err-found-clause-unlogged : goal.returns-in_err-found-clause-unlogged
+returns-in_err-found-clause-unlogged g c first known looks fails = absurd (fails (c.in_ok-front.ensures.passes first known looks))
+
+pub returns-in_err-empty_logs-clause-unlogged : goal.returns-in_err-empty_logs-clause-unlogged
+returns-in_err-empty_logs-clause-unlogged g c first known looks fails =
+    absurd (fails (c.in_ok-front.ensures.passes first known looks))
+
+pub returns-clause-unlogged : goal.returns-clause-unlogged
+returns-clause-unlogged g c first known looks fails = absurd (fails (c.in_ok-front.ensures.passes first known looks))

@@ -1,4 +1,5 @@
-use Rattle.std.proofs.Common.{◌≡◌, ◌<◌, ◌≤◌, List, Bool, false, replicate, length, slice_index_or, Some, sym, ◌∙◌, ap, arith, rules, inl, inr, take}
+use Rattle.std.proofs.Common.{◌≡◌, ◌<◌, ◌≤◌, List, Bool, false, replicate, length, slice_index_or, Some, sym, ◌∙◌, ap, arith}
+use Rattle.std.proofs.Common.{rules, inl, inr, take}
 use Rattle.std.specs.Prelude.{slice_get}
 use Rattle.std.proofs.lemmas.Bool.{cases_lt}
 use Rattle.std.proofs.lemmas.List.{get_or-replicate, length-replicate}

@@ -1,4 +1,5 @@
-use Rattle.std.proofs.Common.{◌≡◌, ◌≢◌, ◌<◌, ◌+◌, ℕ, [], ◌∙◌, ap, sym, arith, length, get_or, slice_index, length-set, get_or-set_same, get_or-set_other, below_more}
+use Rattle.std.proofs.Common.{◌≡◌, ◌≢◌, ◌<◌, ◌+◌, ℕ, [], ◌∙◌, ap, sym, arith, length, get_or, slice_index, length-set}
+use Rattle.std.proofs.Common.{get_or-set_same, get_or-set_other, below_more}
 use Rattle.line_image.specs.Crash.{next_state, state_after, choice}
 use Rattle.line_image.proofs.Generator.{state_after-one}
 use Rattle.line_image.proofs.crash.pick_words.Goals as goal

@@ -1,11 +1,12 @@
 use Rattle.std.proofs.Common.{ℕ, List, subst, sym}
 use Rattle.ap_base.specs.declared.place.Place.{Place}
-use Rattle.run_types.specs.declared.fault.RunFault.TheVariants as fault
+use Rattle.run_types.specs.declared.fault.StepFault.TheVariants as met
 use Rattle.twin_forms.specs.Table.{Entry}
 use Rattle.two_spaces.specs.Whole.{Stands}
 use Rattle.object_steps.specs.Stores.{place_of}
 use Rattle.store_barrier.specs.Regions.{HasLogged, IsApart, Races}
 use Rattle.machine.specs.declared.events.Event.TheVariants.{Over}
+use Rattle.machine.specs.declared.events.Halt.TheVariants.{Met}
 use Rattle.machine.specs.Ended.{StoreComesTo}
 use Rattle.machine.proofs.Guarding.{race-comes-to}
 use Rattle.machine.proofs.storing.store.Goals as goal
@@ -33,10 +34,10 @@ make-requires-clause-logged g c =
 
 pub returns-in-Race : goal.returns-in-Race
 returns-in-Race g c =
-    subst (λ (p : Place). StoreComesTo c.args.store (Over (fault.RegionRace c.main-in-Race.result c.in-Race.other p))
+    subst (λ (p : Place). StoreComesTo c.args.store (Over (Met (met.RegionRace c.main-in-Race.result c.in-Race.other p)))
     c.args.heap.now c.args.heap.now) (sym c.place_of.ensures)
     (subst (λ (t : ℕ). StoreComesTo c.args.store
-    (Over (fault.RegionRace t c.in-Race.other (place_of c.args.store.target))) c.args.heap.now c.args.heap.now)
+    (Over (Met (met.RegionRace t c.in-Race.other (place_of c.args.store.target)))) c.args.heap.now c.args.heap.now)
     (sym c.main-in-Race.ensures.zero)
     (race-comes-to c.laws.ensures c.args.heap.now c.args.store c.in-Race.other c.requires.room
     (subst (λ (t : ℕ). (es : List Entry) → Stands c.args.heap.now.machine.spaces es

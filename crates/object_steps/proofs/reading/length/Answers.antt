@@ -50,4 +50,4 @@ returns-clause-step g c =
     (λ roots rest. ap (λ (x : ℕ). Does (op.Length n x) (reply.Item (Int (pos x)))) (sym long)
     ∙ ap (λ (x : ℤ). Does (op.Length n count) (reply.Item (Int x))) (sym (to_z_pos w32 count
     c.length_of-length.ensures.few)))
-    tt refl (λ world t. refl))
+    tt refl (λ world. tt) (λ world t. refl))

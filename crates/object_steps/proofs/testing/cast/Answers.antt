@@ -19,7 +19,7 @@ returns-in_default-clause-step g c =
     (λ roots rest t taken from. cast_none facts (world_of roots before rest) t taken from _ c.args.target
     (search rules))
     (heap_did (λ world. Does (op.Class None None) reply.Done) (op.Class None None) reply.Done
-    (λ roots rest. refl) tt refl (λ world t. refl))
+    (λ roots rest. refl) tt refl (λ world. tt) (λ world t. refl))
 
 pub returns-then-not-is_sub-clause-step : goal.returns-then-not-is_sub-clause-step
 returns-then-not-is_sub-clause-step g c =
@@ -48,4 +48,4 @@ returns-clause-step g c =
     c.in-Some.ensures.number) c.args.target test)
     (heap_did (λ world. Does (op.Class (Some n) (Some shape)) reply.Done) (op.Class (Some n) (Some shape))
     reply.Done
-    (λ roots rest. refl) tt refl (λ world t. refl))
+    (λ roots rest. refl) tt refl (λ world. tt) (λ world t. refl))

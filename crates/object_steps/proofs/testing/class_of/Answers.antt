@@ -46,4 +46,4 @@ returns-clause-step g c =
     c.in-Some.ensures.number) c.args.within test)
     (heap_did (λ world. Does (op.Class (Some n) (Some shape)) (reply.Shape shape)) (op.Class (Some n) (Some
     shape)) (reply.Shape shape)
-    (λ roots rest. refl) tt refl (λ world t. refl))
+    (λ roots rest. refl) tt refl (λ world. tt) (λ world t. refl))

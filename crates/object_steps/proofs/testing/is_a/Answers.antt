@@ -20,7 +20,7 @@ returns-in_default-clause-step g c =
     (search rules))
     (rw c.bool_item.ensures (heap_did (λ world. Does (op.Class None None) (reply.Item (bool_value false)))
     (op.Class None None)
-    (reply.Item (item_of false)) (λ roots rest. refl) tt refl (λ world t. refl)))
+    (reply.Item (item_of false)) (λ roots rest. refl) tt refl (λ world. tt) (λ world t. refl)))
 
 pub returns-clause-step : goal.returns-clause-step
 returns-clause-step g c =
@@ -38,4 +38,4 @@ returns-clause-step g c =
     (search rules))
     (rw c.bool_item-2.ensures (heap_did (λ world. Does (op.Class (Some n) (Some shape)) (reply.Item value))
     (op.Class (Some n) (Some shape))
-    (reply.Item (item_of yes)) (λ roots rest. refl) (known_bool before.number yes) refl (λ world t. refl)))
+    (reply.Item (item_of yes)) (λ roots rest. refl) (known_bool before.number yes) refl (λ world. tt) (λ world t. refl)))

@@ -28,4 +28,4 @@ returns-clause-step g c set =
     c.args.left) (before.number c.args.right) before.number)
     (heap_did (λ world. Does (op.Same yes) (reply.Item value)) (op.Same yes) (reply.Item (item_of yes)) (λ
     roots rest. refl)
-    (known_bool before.number yes) refl (λ world t. refl)))
+    (known_bool before.number yes) refl (λ world. tt) (λ world t. refl)))

@@ -6,7 +6,9 @@ use Rattle.run_history.specs.declared.plain.Progress.{Progress}
 use Rattle.plain_heap.specs.Heaps.{shown_of}
 use Rattle.plain_heap.specs.Laws.{one_key_in}
 use Rattle.plain_machine.specs.Foreseeing.{op_begun}
-use Rattle.plain_machine.proofs.Foreseen.{at-request, begin-foreseen, done-foreseen, end-foreseen, enter-foreseen, exit-asked, get-foreseen, init-foreseen, leave-foreseen, new-foreseen, others-foreseen, others-mild, put-foreseen, start-foreseen}
+use Rattle.plain_machine.proofs.Foreseen.{at-request, begin-foreseen, done-foreseen, end-foreseen, enter-foreseen, exit-asked}
+use Rattle.plain_machine.proofs.Foreseen.{get-foreseen, init-foreseen, leave-foreseen, new-foreseen, others-foreseen}
+use Rattle.plain_machine.proofs.Foreseen.{others-mild, put-foreseen, start-foreseen}
 use Rattle.plain_machine.proofs.foreseeing.foreseen.Goals as goal
 
 pub returns-in-New-clause-op : goal.returns-in-New-clause-op

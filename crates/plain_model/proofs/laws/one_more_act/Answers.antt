@@ -1,7 +1,8 @@
 use Rattle.run_history.specs.Wanted.{NoWish}
 use Rattle.plain_model.specs.First.{first_known}
 use Rattle.plain_model.specs.Runs.{first_frames}
-use Rattle.plain_model.proofs.Appended.{known_after-append, wants_after-push, frames_after-push, GoesOn-push, GoesOn-pushed, GoesOn-front}
+use Rattle.plain_model.proofs.Appended.{known_after-append, wants_after-push, frames_after-push, GoesOn-push, GoesOn-pushed}
+use Rattle.plain_model.proofs.Appended.{GoesOn-front}
 use Rattle.std.proofs.Common.{[], ◌∷◌}
 use Rattle.plain_model.proofs.Visible.{visible_is_step}
 use Rattle.plain_model.proofs.laws.one_more_act.Goals as goal

@@ -1,4 +1,4 @@
-use Rattle.std.proofs.Common.{◌≡◌, ◌∙◌, [], ◌∷◌, Some, reverse, map, refl, sym, ap, arith}
+use Rattle.std.proofs.Common.{◌≡◌, ◌∙◌, [], ◌∷◌, Some, reverse, take, map, refl, sym, ap, arith}
 use Rattle.run_types.specs.declared.resolved.At.{At}
 use Rattle.frame_cells.specs.Own.{Own}
 use Rattle.frames.specs.Tables.{method_at, start_of}
@@ -8,6 +8,7 @@ use Rattle.frame_thread.specs.declared.form.Form.TheVariants as form
 use Rattle.frame_thread.specs.Stacked.{list_of, frames_with, without}
 use Rattle.frame_steps.proofs.Sizes.{room-yes, room-no}
 use Rattle.frame_steps.proofs.Begun.{other-begun}
+use Rattle.private_steps.proofs.Parameters.{first-two}
 use Rattle.private_steps.proofs.calls.native.Goals as goal
 
 pub returns-then-left-lt16-clause-step : goal.returns-then-left-lt16-clause-step
@@ -32,9 +33,9 @@ returns-clause-step g c given empty h =
     let v = ap reverse c.as_slice.ensures ∙ r in
     other-begun c.push.new.self c.set_doing.new.self (form.Native c.start-from.result c.start-state.result) b
     c.push.ensures.form (c.push.ensures.below ∙ l) c.set_doing.ensures ∙
-    ap (λ state. goes_on Runs (Native c.start-from.result state ∷ b)) c.start-state.ensures ∙
-    ap (λ vs. goes_on Runs (Native c.start-from.result (x.start c.args.method c.start-from.result
-    (map (value_of x) vs)) ∷ b)) v ∙
+    ap (λ state. goes_on Runs (Native c.start-from.result state ∷ b))
+    (c.start-state.ensures (map (value_of x) given)
+    (ap (λ vs. take 2 (map (value_of x) vs)) v ∙ first-two (value_of x) given)) ∙
     ap (λ (at : At). goes_on Runs (Native at (x.start c.args.method at (map (value_of x) given)) ∷ b)) from ∙
     sym (room-yes x 16 (list_of t) _ c.requires.of
     (omega (arith, c.if-left-lt16.false, c.left.ensures.left)))

@@ -1,5 +1,6 @@
 -- Both graphs of the ring, by computation.
-use Rattle.std.proofs.Common.{◌≡◌, pos, Bool, true, false, [], ◌∷◌, refl, ap, sym, ◌∙◌, ◌⊎◌, inl, inr, slice_index_or, if◌then◌else◌}
+use Rattle.std.proofs.Common.{◌≡◌, pos, Bool, true, false, [], ◌∷◌, refl, ap, sym, ◌∙◌, ◌⊎◌, inl, inr, slice_index_or}
+use Rattle.std.proofs.Common.{if◌then◌else◌}
 use Rattle.ap_base.specs.declared.place.Place.TheVariants.{Slot}
 use Rattle.graph_model.specs.declared.types.Value.{Value}
 use Rattle.graph_model.specs.declared.types.Value.TheVariants.{Int, Null}

@@ -1,6 +1,5 @@
-use Rattle.std.proofs.Common.{ℕ, List, inl, inr, refl, subst}
+use Rattle.std.proofs.Common.{inl, inr, refl}
 use Rattle.line_image.specs.Told.{Told}
-use Rattle.set_opening.specs.Fitted.{IsUnfit}
 use Rattle.image_recovery.specs.Recovered.{entries_in}
 use Rattle.directories.specs.Planning.{lacking}
 use Rattle.set_opening.proofs.Opened.{found_left, found_roots, found_shapes, is_opened_for, unappended}
@@ -33,9 +32,7 @@ returns-in-Err-prepare-clause-unopened g c =
       found = found.1;
       left = found_left start found.0 r.memory r.directory r.graph r.lines r.free found.1 (g.I.Image.told
           c.into_image.result) c.into_image.ensures.size c.into_image.ensures.told;
-      cause = subst (λ (ls : List ℕ). IsUnfit c.args.set.now c.prepare.new.set r.directory r.graph ls
-          c.in-Err-prepare.why) c.as_slice.ensures
-          c.in-Err-prepare.ensures.unfit;
+      cause = c.in-Err-prepare.ensures.unfit;
     })))
 
 pub returns-in-Ok-append_all-clause-opened : goal.returns-in-Ok-append_all-clause-opened

@@ -21,7 +21,6 @@ behind-requires c =
 
 pub returns-clause-fitted : goal.returns-clause-fitted
 returns-clause-fitted c = record {
-  ranges = c.in_default.ensures.in_range;
   agree = c.in_ok-check_shapes.ensures.agree;
   set_is = c.in_ok-number_arrays.ensures.numbered;
   linked = c.what_sets_keep.ensures.linked;

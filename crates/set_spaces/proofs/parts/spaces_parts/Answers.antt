@@ -21,7 +21,7 @@ returns-clause-parts c graph named =
           c.in_ok-objects_of.field-0 c.in_ok-objects_of.ensures (c.literals_are_short.ensures set linked);
       statics = c.in_ok-first_fields.ensures
           ∙ sym (homes_named set graph c.roots.result.now (named ∙ sym c.roots.ensures));
-      roots_differ = c.requires.roots_differ;
+      roots_differ = c.roots_of_linked_sets_differ.ensures set linked;
     }
 
 pub returns-clause-listed : goal.returns-clause-listed

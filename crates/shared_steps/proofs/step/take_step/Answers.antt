@@ -6,7 +6,8 @@ use Rattle.plain_model.proofs.SetHeaps.{form_is}
 use Rattle.shared_objects.specs.Worlds.{world_of}
 use Rattle.step_forms.proofs.Going.{asked, same_goes}
 use Rattle.step_forms.proofs.Becoming.{quiet_becomes}
-use Rattle.shared_steps.proofs.Asking.{asks_is, class_there, field_there, held_kind, broken_goes, step_raise, quiet_output, quiet_faults, output_is, faults_are, share_is, given_none, given_some, may_is}
+use Rattle.shared_steps.proofs.Asking.{asks_is, class_there, field_there, held_kind, broken_goes, step_raise, quiet_output}
+use Rattle.shared_steps.proofs.Asking.{quiet_faults, output_is, faults_are, share_is, given_none, given_some, may_is}
 use Rattle.shared_steps.proofs.step.take_step.Goals as goal
 
 pub returns-in-Pause-clause-step : goal.returns-in-Pause-clause-step

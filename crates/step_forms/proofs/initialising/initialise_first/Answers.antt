@@ -15,7 +15,7 @@ returns-in-Untouched-clause-first c set shown go known =
     c.requires.there c.index.ensures c.in-Untouched.is in
     did_goes (op.Init c.args.class stage.Begun) (reply.Init c.args.class)
     (λ roots. class_untouched set (world_of roots shown c.args.rest.now) c.args.t c.args.class (go roots 1)
-    is) tt refl (λ roots. refl) known
+    is) tt refl tt (λ roots. refl) known
 
 pub returns-then-number-clause-first : goal.returns-then-number-clause-first
 returns-then-number-clause-first c =

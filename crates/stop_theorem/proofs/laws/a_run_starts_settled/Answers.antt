@@ -1,4 +1,4 @@
-use Rattle.kept_places.proofs.Runs.{orderly_first}
+use Rattle.stop_theorem.proofs.Runs.{orderly_first}
 use Rattle.stop_theorem.proofs.Found.{starts_found}
 use Rattle.stop_theorem.proofs.Starting.{stands_first}
 use Rattle.stop_theorem.proofs.laws.a_run_starts_settled.Goals as goal

@@ -1,4 +1,5 @@
-use Rattle.stop_theorem.proofs.Given.{fenced_stores, begin_is, entry_words, counted_entries, region_stores, closing_is, emptied_logs, ended_regions}
+use Rattle.stop_theorem.proofs.Given.{fenced_stores, begin_is, entry_words, counted_entries, region_stores, closing_is}
+use Rattle.stop_theorem.proofs.Given.{emptied_logs, ended_regions}
 use Rattle.stop_theorem.proofs.Begun.{run_begins, one_store}
 use Rattle.stop_theorem.proofs.Fenced.{lines_may_be_fenced}
 use Rattle.stop_theorem.proofs.Copies.{free_stores}

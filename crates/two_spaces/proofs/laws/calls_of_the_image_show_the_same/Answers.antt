@@ -1,4 +1,5 @@
-use Rattle.two_spaces.proofs.Quieted.{calls_quiet, quiet_keys, quiet_monitors, quiet_moves, quiet_shows, quiet_whole, quiet_world, stores_quiet}
+use Rattle.two_spaces.proofs.Quieted.{calls_quiet, quiet_keys, quiet_monitors, quiet_moves, quiet_shows, quiet_whole}
+use Rattle.two_spaces.proofs.Quieted.{quiet_world, stores_quiet}
 use Rattle.two_spaces.proofs.laws.calls_of_the_image_show_the_same.Goals as goal
 
 pub returns-clause-calls : goal.returns-clause-calls

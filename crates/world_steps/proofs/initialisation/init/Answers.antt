@@ -20,4 +20,4 @@ returns-clause-step c set shown from known =
     (λ roots. step_init set (world_of roots shown c.args.rest.now) c.args.t 1 from c.args.class
     ∙ c.in_default.ensures.first.0 set (world_of roots shown c.args.rest.now) (Does (op.Init c.args.class
     stage.Ready) reply.Done) refl)
-    tt refl (λ roots. refl) known)
+    tt refl tt (λ roots. refl) known)

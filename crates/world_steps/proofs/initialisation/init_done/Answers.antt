@@ -9,5 +9,5 @@ use Rattle.world_steps.proofs.initialisation.init_done.Goals as goal
 
 pub returns-clause-step : goal.returns-clause-step
 returns-clause-step c set t shown from known = did_goes (op.Init c.args.class stage.Done) reply.Done
-    (λ roots. step_init_done set (world_of roots shown c.args.rest.now) t 1 from c.args.class) tt refl (λ
+    (λ roots. step_init_done set (world_of roots shown c.args.rest.now) t 1 from c.args.class) tt refl tt (λ
     roots. refl) known

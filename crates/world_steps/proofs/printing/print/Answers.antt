@@ -3,7 +3,7 @@ use Rattle.std.proofs.lemmas.List.{length-take-le}
 use Rattle.natives.specs.declared.requests.Request.TheVariants as ask
 use Rattle.natives.specs.declared.requests.Reply.TheVariants as reply
 use Rattle.run_history.specs.declared.act.Op.TheVariants as op
-use Rattle.run_types.specs.declared.fault.RunFault.TheVariants as fault
+use Rattle.run_types.specs.declared.fault.StepFault.TheVariants as fault
 use Rattle.plain_model.specs.Steps.{Does, step}
 use Rattle.shared_objects.specs.Worlds.{world_of}
 use Rattle.step_forms.specs.Follows.{DoesPrint}
@@ -30,7 +30,7 @@ returns-in-Some-clause-step g c set t rest shown from known =
     did_goes (op.Print c.in-Some.bytes) (reply.Printed c.in-Ok.taken)
     (λ roots. ap (λ k. step set (world_of roots shown rest) t k (ask.Print from c.args.piece)) long
     ∙ some_printed set (world_of roots shown rest) t c.in-Ok.taken from c.args.piece some most
-    ∙ ap (λ bs. Does (op.Print bs) (reply.Printed c.in-Ok.taken)) (sym is)) tt refl (λ roots. refl) known
+    ∙ ap (λ bs. Does (op.Print bs) (reply.Printed c.in-Ok.taken)) (sym is)) tt refl tt (λ roots. refl) known
 
 pub returns-in-Some-clause-share : goal.returns-in-Some-clause-share
 returns-in-Some-clause-share g c =

@@ -46,7 +46,7 @@ returns-in-None-clause-step g c t from =
     ∙ ap (joins_thread facts (world_of roots before rest) n) (found_plain 0 n rest.threads)
     ∙ join_none facts (world_of roots before rest) rest.threads n (started_from 0 rest.threads n) (sym
     c.started.ensures.found ∙ c.in-None.is))
-    tt refl (λ roots. refl) c.requires.monitors)
+    tt refl tt (λ roots. refl) c.requires.monitors)
 
 pub returns-in-Some-started-clause-step : goal.returns-in-Some-started-clause-step
 returns-in-Some-started-clause-step g c t from =

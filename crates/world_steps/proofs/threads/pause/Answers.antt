@@ -8,5 +8,5 @@ use Rattle.world_steps.proofs.threads.pause.Goals as goal
 
 pub returns-clause-step : goal.returns-clause-step
 returns-clause-step c set t rest shown from known =
-    did_goes op.Pause reply.Done (λ roots. step_pause set (world_of roots shown rest) t 1 from) tt refl (λ
+    did_goes op.Pause reply.Done (λ roots. step_pause set (world_of roots shown rest) t 1 from) tt refl tt (λ
     roots. refl) known

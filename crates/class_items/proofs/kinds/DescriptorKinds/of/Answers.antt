@@ -4,4 +4,6 @@ use Rattle.class_items.proofs.kinds.DescriptorKinds.of.Goals as goal
 
 pub returns : goal.returns
 returns c =
-    each_kind c.args.pool.now c.loop-index.kinds.items c.loop-index.index (omega (arith, c.loop-index.invariant.count, c.loop-index.kinds.ok)) (omega (arith, c.len-index-end.ensures.len, c.loop-index-test.false)) c.loop-index.invariant.each
+    each_kind c.args.pool.now c.loop-index.kinds.items c.loop-index.index
+    (omega (arith, c.loop-index.invariant.count, c.loop-index.kinds.ok))
+    (omega (arith, c.len-index-end.ensures.len, c.loop-index-test.false)) c.loop-index.invariant.each

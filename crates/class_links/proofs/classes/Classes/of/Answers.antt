@@ -4,9 +4,11 @@ use Rattle.std.specs.Option.{option_to_list}
 use Rattle.std.proofs.lemmas.List.{take_more, length-take}
 use Rattle.class_links.specs.Names.{NamedClass, built_in, name_of, has_name, file_from}
 use Rattle.class_links.proofs.Known.{AreNumbers-push}
-use Rattle.class_links.proofs.Doubled.{names_after, has_name-kept, has_name-flags, has_name-none, has_name-numbered, numbered-none, doubled_after-here, doubled_after-next}
+use Rattle.class_links.proofs.Doubled.{names_after, has_name-kept, has_name-flags, has_name-none, has_name-numbered}
+use Rattle.class_links.proofs.Doubled.{numbered-none, doubled_after-here, doubled_after-next}
 use Rattle.class_links.proofs.classes.Classes.of.Goals as goal
-use Rattle.class_links.proofs.classes.Classes.of.Goals.{then-is_some-via-then-is_some, then-is_some-via-else-is_some+in_ok-insert+then-is_some-2}
+use Rattle.class_links.proofs.classes.Classes.of.Goals.{then-is_some-via-then-is_some}
+use Rattle.class_links.proofs.classes.Classes.of.Goals.{then-is_some-via-else-is_some+in_ok-insert+then-is_some-2}
 
 pub returns-then-is_some-clause-broken : goal.returns-then-is_some-clause-broken
 returns-then-is_some-clause-broken c =

@@ -22,6 +22,7 @@ loop-preserved c =
       count = c.loop.invariant.count;
       rest = c.loop.invariant.rest
           ∙ next_super (own_method set c.args.name.now c.args.descriptor.now) (classes_of (facts_of set)) next left c.loop.at c.in_ok-at.at
-          (omega arith) (none_own (own_method set c.args.name.now c.args.descriptor.now c.loop.at) c.own_method-found.result (sym c.own_method-found.ensures) (sym c.is_some.ensures ∙ c.if-is_some.false))
+          (omega arith) (none_own (own_method set c.args.name.now c.args.descriptor.now c.loop.at)
+          c.own_method-found.result (sym c.own_method-found.ensures) (sym c.is_some.ensures ∙ c.if-is_some.false))
           (sym c.superclass.ensures ∙ c.in_ok-at.was);
     }

@@ -10,7 +10,8 @@ use Rattle.class_set.proofs.Outside.{has_itself, none_above, past_all}
 use Rattle.class_set.proofs.Supertypes.{above_has}
 use Rattle.class_set.proofs.Walks.{mapped_counted, mapped_read}
 use Rattle.class_set.proofs.set.ClassSet.is_subclass.Goals as goal
-use Rattle.class_set.proofs.set.ClassSet.is_subclass.Goals.{then-n-classes-via-then-n-classes, then-n-classes-via-else-n-classes+then-target-classes}
+use Rattle.class_set.proofs.set.ClassSet.is_subclass.Goals.{then-n-classes-via-then-n-classes}
+use Rattle.class_set.proofs.set.ClassSet.is_subclass.Goals.{then-n-classes-via-else-n-classes+then-target-classes}
 
 pub returns-then-n-target : goal.returns-then-n-target
 returns-then-n-target c =

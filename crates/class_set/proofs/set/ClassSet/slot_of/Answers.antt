@@ -1,4 +1,5 @@
-use Rattle.std.proofs.Common.{rules, ◌≡◌, ◌<◌, ◌+◌, Some, true, false, filter, take, length, slice_index_or, refl, ap, sym, ◌∙◌, arith}
+use Rattle.std.proofs.Common.{rules, ◌≡◌, ◌<◌, ◌+◌, Some, true, false, filter, take, length, slice_index_or, refl, ap, sym, ◌∙◌}
+use Rattle.std.proofs.Common.{arith}
 use Rattle.std.specs.Prelude.{slice_get}
 use Rattle.std.proofs.lemmas.List.{length-map}
 use Rattle.std.proofs.lemmas.Option.{slice_get_read}
@@ -49,7 +50,20 @@ overflow_add-result c =
     c.index-then-found.ensures
     ∙ ap (λ ns. slice_index_or ns c.args.class c.index-then-found.result.now) c.self.invariant.2.firsts_listed
     ∙ mapped_read (first_static files) (length files) c.args.class c.index-then-found.result.now l in
-    omega (arith, read, l, within, short, own, c.self.invariant.0.few, first_static_short files c.args.class c.self.invariant.0.small, c.count_statics-statics.ensures.bound, taken_short c.as_slice-fields.result.now c.args.found.place)
+    omega (
+      arith,
+      read,
+      l,
+      within,
+      short,
+      own,
+      c.self.invariant.0.few,
+      first_static_short files c.args.class
+          c.self.invariant.0.small,
+      c.count_statics-statics.ensures.bound,
+      taken_short c.as_slice-fields.result.now
+          c.args.found.place,
+    )
 
 pub returns-then-found : goal.returns-then-found
 returns-then-found c =

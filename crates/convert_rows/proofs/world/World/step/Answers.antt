@@ -20,7 +20,9 @@ returns c =
     let told = c.convert_next.ensures in
     record {
       whole = either c.convert_next.result (World h' n.queue n.space n.monitors now.objects.items)
-          (ok_on c.convert_next.result (λ (y : ConvertStep). (es : List Entry) → AgreesAt s es → Event c.args.t y s s' es now.monitors n.monitors) (λ _. World h' n.queue n.space n.monitors now.objects.items) told.converts
+          (ok_on c.convert_next.result
+          (λ (y : ConvertStep). (es : List Entry) → AgreesAt s es → Event c.args.t y s s' es now.monitors n.monitors)
+          (λ _. World h' n.queue n.space n.monitors now.objects.items) told.converts
           (λ y p. event_world c.args.t y h h' now.queue n.queue now.space n.space now.monitors n.monitors now.objects.items w (p w.table w.agrees) told.lines told.within told.sound told.known))
           (err_on c.convert_next.result ((es : List Entry) → AgreesAt s es → FailedEvent c.args.t s s' es now.monitors n.monitors) (World h' n.queue n.space n.monitors now.objects.items) told.failed
           (λ p. failed_world c.args.t h h' now.queue n.queue now.space n.space now.monitors n.monitors now.objects.items w (p w.table w.agrees) told.lines told.within told.sound told.known));

@@ -2,7 +2,8 @@ use Rattle.std.proofs.Common.{◌≡◌, ◌<◌, false, refl, sym, subst, arith
 use Rattle.twin_forms.specs.Table.{entry, refers}
 use Rattle.twin_forms.specs.Moves.{LiesAt}
 use Rattle.twin_forms.specs.Sights.{Twin, view_of}
-use Rattle.convert_rows.proofs.Keeping.{scene_of, named, twin_same, agrees_there, may_put, line_noted, copied_world, uncopied_world}
+use Rattle.convert_rows.proofs.Keeping.{scene_of, named, twin_same, agrees_there, may_put, line_noted, copied_world}
+use Rattle.convert_rows.proofs.Keeping.{uncopied_world}
 use Rattle.convert_rows.proofs.world.World.store.Goals as goal
 
 pub dirty-requires-clause-below : goal.dirty-requires-clause-below
@@ -71,7 +72,8 @@ returns-in-Some-copied c =
     let m = c.plain_store.new.self in
     let h' : Twin = record { space = m.space; memory = m.memory; marks = m.marks } in
     record {
-      whole = copied_world h h1 h' now.queue c.dirty.new.self now.space now.monitors now.objects.items c.in-Some.claimer n c.args.slot c.args.word c.in-Some-copied.line w same owner slot copied.0 copied.1 plain
+      whole = copied_world h h1 h' now.queue c.dirty.new.self now.space now.monitors now.objects.items c.in-Some.claimer n
+          c.args.slot c.args.word c.in-Some-copied.line w same owner slot copied.0 copied.1 plain
           (told.stored w.table n may) told.marks (told.line w.table n may copied.0).changes c.dirty.ensures.noted;
     }
 

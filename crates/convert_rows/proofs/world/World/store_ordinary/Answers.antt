@@ -20,8 +20,18 @@ plain_store-requires c =
     let names = named (entry w.table c.args.number) c.args.object lies in
     let o = ordinary_of (view_of h) w.table c.args.number w.agrees.lies there
     (λ t own. none_some t (sym c.in-None.is ∙ (c.claimed_by.ensures.claimer w.table c.args.number w.agrees.lies there names t).1 own)) (λ (p : InP w.table c.args.number). search rules) in
-    let slot : c.args.slot < (entry w.table c.args.number).slots = (let s = c.slots_at.ensures.slots w.table c.args.number w.agrees.lies there lies in let f = c.if-slot-slots_at.false in omega (arith, s, f)) in
-    record { store = (w.table, c.args.number, may_store h w.table c.args.number c.args.object c.args.slot c.args.word w.agrees.lies there lies slot o.0 (c.requires.reference w), λ some. absurd (let z = o.0 in omega (arith, z, some))) }
+    let slot : c.args.slot < (entry w.table c.args.number).slots =
+    (let s = c.slots_at.ensures.slots w.table c.args.number w.agrees.lies there lies in let f =
+    c.if-slot-slots_at.false in omega (arith, s, f)) in
+    record {
+      store = (
+        w.table,
+        c.args.number,
+        may_store h w.table c.args.number c.args.object c.args.slot c.args.word
+            w.agrees.lies there lies slot o.0 (c.requires.reference w),
+        λ some. absurd (let z = o.0 in omega (arith, z, some)),
+      );
+    }
 
 pub returns : goal.returns
 returns c =

@@ -7,8 +7,8 @@ use Rattle.frame_cells.proofs.cells.Cells.put.Goals as goal
 pub returns-clause-own : goal.returns-clause-own
 returns-clause-own g c =
     let i = c.self.inside in
-    let e : c.push.new.self ≡ take (length i.items - c.args.taken) i.items ++ (c.args.cell ∷ []) =
+    let e : c.push.new.self.entries ≡ take (length i.items.entries - c.args.taken) i.items.entries ++ (c.args.cell ∷ []) =
     grind (arith, common_steps) in
-    put-window c.args.self.now i.items (c.args.cell ∷ []) (c.push.new.self) i.locals i.base i.room
+    put-window c.args.self.now i.items.entries (c.args.cell ∷ []) (c.push.new.self.entries) i.locals i.base i.room
     c.args.taken
     Next c.self.view_is e (omega arith) (omega arith) (omega arith) (omega arith)

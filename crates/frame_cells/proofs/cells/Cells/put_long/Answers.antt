@@ -8,7 +8,7 @@ use Rattle.frame_cells.proofs.cells.Cells.put_long.Goals as goal
 pub returns-clause-own : goal.returns-clause-own
 returns-clause-own g c =
     let i = c.self.inside in
-    let e : c.push-2.new.self ≡ take (length i.items - c.args.taken) i.items ++
+    let e : c.push-2.new.self.entries ≡ take (length i.items.entries - c.args.taken) i.items.entries ++
     (Long c.args.value ∷ Half ∷ []) = grind (arith, common_steps) in
-    put-window c.args.self.now i.items (Long c.args.value ∷ Half ∷ []) (c.push-2.new.self) i.locals i.base
+    put-window c.args.self.now i.items.entries (Long c.args.value ∷ Half ∷ []) (c.push-2.new.self.entries) i.locals i.base
     i.room c.args.taken Next c.self.view_is e (omega arith) (omega arith) (omega arith) (omega arith)

@@ -11,7 +11,7 @@ returns-clause-own g c =
     let i = c.self.inside in
     let x = c.unwrap-top.result in
     let y = c.unwrap-second.result in
-    let e : c.push-2.new.self ≡ take (length i.items - 2) i.items ++ (x ∷ y ∷ []) =
+    let e : c.push-2.new.self.entries ≡ take (length i.items.entries - 2) i.items.entries ++ (x ∷ y ∷ []) =
     grind (arith, common_steps) in
     let t : take 2 c.args.self.now.own.stack ≡ x ∷ y ∷ [] =
     take-two c.args.self.now.own.stack x y (cc) (cc) in
@@ -19,5 +19,5 @@ returns-clause-own g c =
     let p : is_whole 1 c.args.self.now.own ≡ true = grind (arith, common_steps) in
     let q : is_whole 2 c.args.self.now.own ≡ true = grind (arith, common_steps) in
     let r : i.room ≡ c.args.self.now.own.room = ap (λ w. w.own.room) c.self.view_is in
-    put-window c.args.self.now i.items (x ∷ y ∷ []) c.push-2.new.self i.locals i.base i.room 2 Next
+    put-window c.args.self.now i.items.entries (x ∷ y ∷ []) c.push-2.new.self.entries i.locals i.base i.room 2 Next
     c.self.view_is e (omega arith) (omega arith) (omega arith) (omega (arith, r)) ∙ simp (p, q, t, o)

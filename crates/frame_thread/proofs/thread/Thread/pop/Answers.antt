@@ -1,31 +1,45 @@
-use Rattle.std.proofs.Common.{◌∙◌, reverse, ap, arith}
-use Rattle.std.proofs.lemmas.List.{reverse-append}
+use Rattle.std.proofs.Common.{refl, arith}
 use Rattle.frame_thread.proofs.Slots.{nested-saved, may-do, laid-left}
 use Rattle.frame_thread.proofs.thread.Thread.pop.Goals as goal
 
 pub leave-requires-clause-order : goal.leave-requires-clause-order
 leave-requires-clause-order g c =
     let i = c.self.inside in
-    let n = ap reverse c.in-Some.ensures.items ∙ reverse-append c.pop.new.self.items _ in
-    let h = nested-saved i.form i.left i.cells (reverse i.saved.items) c.in-Some.saved (reverse c.pop.new.self.items)
-    c.self.invariant.0 n in
+    let b = c.in-Some.ensures in
+    let h = nested-saved i.forms.form i.left i.cells i.forms.saved _ c.pop.new.self.saved c.self.invariant.0 b.saved in
     (h.0.order, h.0.within)
+
+pub leave-requires-clause-stack : goal.leave-requires-clause-stack
+leave-requires-clause-stack g c =
+    let i = c.self.inside in
+    let b = c.in-Some.ensures in
+    let h = nested-saved i.forms.form i.left i.cells i.forms.saved _ c.pop.new.self.saved c.self.invariant.0 b.saved in
+    h.0.room
+
+pub leave-requires-clause-room : goal.leave-requires-clause-room
+leave-requires-clause-room g c =
+    let i = c.self.inside in
+    let b = c.in-Some.ensures in
+    let h = nested-saved i.forms.form i.left i.cells i.forms.saved _ c.pop.new.self.saved c.self.invariant.0 b.saved in
+    omega (arith, h.0.cells)
 
 pub invariant_of-self-2 : goal.invariant_of-self-2
 invariant_of-self-2 g c =
     let i = c.self.inside in
-    let n = ap reverse c.in-Some.ensures.items ∙ reverse-append c.pop.new.self.items _ in
-    let h = nested-saved i.form i.left i.cells (reverse i.saved.items) c.in-Some.saved (reverse c.pop.new.self.items)
-    c.self.invariant.0 n in (
-      rw c.leave.ensures (laid-left c.in-Some.saved (reverse c.pop.new.self.items) i.cells.under h),
-      may-do i.doing c.in-Some.saved.form h.0.waits,
-      omega (arith, c.in-Some.ensures.capacity, c.self.invariant.2),
+    let b = c.in-Some.ensures in
+    let h = nested-saved i.forms.form i.left i.cells i.forms.saved _ c.pop.new.self.saved c.self.invariant.0 b.saved in (
+      rw (b.form, c.leave.ensures) (laid-left _ c.pop.new.self.saved i.cells.under h),
+      rw b.form (may-do i.doing b.last h.0.waits),
     )
+
+pub returns-clause-frames : goal.returns-clause-frames
+returns-clause-frames g c =
+    let b = c.in-Some.ensures in
+    rw (← c.self.view_is, b.form, b.saved, c.leave.ensures) refl
 
 pub returns-clause-waits : goal.returns-clause-waits
 returns-clause-waits g c =
     let i = c.self.inside in
-    let n = ap reverse c.in-Some.ensures.items ∙ reverse-append c.pop.new.self.items _ in
-    let h = nested-saved i.form i.left i.cells (reverse i.saved.items) c.in-Some.saved (reverse c.pop.new.self.items)
-    c.self.invariant.0 n in
-    h.0.waits
+    let b = c.in-Some.ensures in
+    let h = nested-saved i.forms.form i.left i.cells i.forms.saved _ c.pop.new.self.saved c.self.invariant.0 b.saved in
+    rw b.form h.0.waits

@@ -1,12 +1,11 @@
-use Rattle.std.proofs.Common.{reverse, ap}
+use Rattle.std.proofs.Common.{ap}
 use Rattle.frame_thread.proofs.Slots.{laid-after}
 use Rattle.frame_thread.proofs.thread.Thread.put.Goals as goal
 
 pub invariant_of-self : goal.invariant_of-self
 invariant_of-self g c =
     let i = c.self.inside in (
-      laid-after i.form i.left i.cells c.put_given.new.cells (reverse i.saved.items) c.self.invariant.0
+      laid-after i.forms.form i.left i.cells c.put_given.new.cells i.forms.saved c.self.invariant.0
           (ap (λ w. w.under) c.put_given.ensures.own) c.put_given.ensures.size,
       c.self.invariant.1,
-      c.self.invariant.2,
     )

@@ -5,7 +5,8 @@ use Rattle.std.proofs.lemmas.List.{get_or_read}
 use Rattle.graph_walks.proofs.Lists.{no_items}
 use Rattle.graph_walks.specs.Paths.{next_of}
 use Rattle.graph_walks.proofs.Walks.{IsAcyclic-from}
-use Rattle.graph_walks.proofs.Walking.{IsWalk-past, IsWalk-on, IsWalk-end, pending_there, IsInOrder-past, IsInOrder-on, IsInOrder-end, popped, work_left-on}
+use Rattle.graph_walks.proofs.Walking.{IsWalk-past, IsWalk-on, IsWalk-end, pending_there, IsInOrder-past, IsInOrder-on}
+use Rattle.graph_walks.proofs.Walking.{IsInOrder-end, popped, work_left-on}
 use Rattle.graph_walks.proofs.walk.Reached.from.Goals as goal
 
 pub has-requires : goal.has-requires

@@ -1,7 +1,8 @@
 use Rattle.std.proofs.Common.{◌≡◌, ◌≢◌, refl, sym, ◌∙◌, arith}
 use Rattle.monitors.specs.Held.{IsAt, IsFree}
 use Rattle.monitors.specs.Indexed.{IsIndex}
-use Rattle.monitors.proofs.Becomes.{owner_none, owner_other, owner_is, remove_exited, set_exited, held_exited, held_removed, count_some, index_removed}
+use Rattle.monitors.proofs.Becomes.{owner_none, owner_other, owner_is, remove_exited, set_exited, held_exited, held_removed}
+use Rattle.monitors.proofs.Becomes.{count_some, index_removed}
 use Rattle.monitors.proofs.monitors.Monitors.exit.Goals as goal
 
 pub returns-in_default-clause-owner : goal.returns-in_default-clause-owner

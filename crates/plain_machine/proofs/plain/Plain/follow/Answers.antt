@@ -7,7 +7,8 @@ use Rattle.plain_machine.specs.Starts.{begun_of}
 use Rattle.plain_machine.specs.Standing.{recorded}
 use Rattle.plain_machine.specs.Trying.{DoesOr}
 use Rattle.plain_machine.proofs.Ahead.{ahead-none, lane-is, lane-there, set-twice}
-use Rattle.plain_machine.proofs.Following.{did-waits, exact-none, exact-some, lacks, left-done, left-kept, live-askable, live-ready, persisted}
+use Rattle.plain_machine.proofs.Following.{did-waits, exact-none, exact-some, lacks, left-done, left-kept, live-askable}
+use Rattle.plain_machine.proofs.Following.{live-ready, persisted}
 use Rattle.plain_machine.proofs.Lives.{dead-request, idle-refuses, missing-request}
 use Rattle.plain_machine.proofs.plain.Plain.follow.Goals as goal
 

@@ -2,7 +2,8 @@ use Rattle.std.proofs.Common.{◌≡◌, ◌∙◌, Some, None, inr, refl, subst
 use Rattle.shared_objects.specs.declared.rest.Rest.{Rest}
 use Rattle.plain_heap.specs.Heaps.{shown_back, shown_of}
 use Rattle.plain_machine.specs.Trying.{DoesOr, IsKept, IsShort, MakesTo, with_left}
-use Rattle.plain_machine.proofs.Acting.{back-changed, back-kept, back-unchanged, did-ready, did-silent, did-so, no-step-refuses, refuses}
+use Rattle.plain_machine.proofs.Acting.{back-changed, back-kept, back-unchanged, did-ready, did-silent, did-so, no-step-refuses}
+use Rattle.plain_machine.proofs.Acting.{refuses}
 use Rattle.plain_machine.proofs.Keeping.{kept-ready, kept-self}
 use Rattle.plain_machine.proofs.Making.{on-err}
 use Rattle.plain_machine.proofs.Possible.{no-true}

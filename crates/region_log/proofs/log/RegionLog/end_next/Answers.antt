@@ -6,7 +6,9 @@ use Rattle.region_log.specs.Made.{PutsThenCalls}
 use Rattle.region_log.specs.Stages.{EndsAtOnce, next_end, words_to_end, HasEnded}
 use Rattle.region_log.proofs.Ending.{now-at_once, now-touch, now-on, now-fail, now-last, now-fenced}
 use Rattle.region_log.proofs.Regions as words
-use Rattle.region_log.proofs.log.RegionLog.end_next.Goals.{in-Cleared, in_default, in-AllFenced, in_default-matches, then-self-gt1-via-then-self-gt1, then-self-gt1-via-else-self-gt1+then-is_empty}
+use Rattle.region_log.proofs.log.RegionLog.end_next.Goals.{in-Cleared, in_default, in-AllFenced, in_default-matches}
+use Rattle.region_log.proofs.log.RegionLog.end_next.Goals.{then-self-gt1-via-then-self-gt1}
+use Rattle.region_log.proofs.log.RegionLog.end_next.Goals.{then-self-gt1-via-else-self-gt1+then-is_empty}
 use Rattle.region_log.proofs.log.RegionLog.end_next.Goals as goal
 
 no_entries : (entries : List Entry) → length entries ≡ 0 → entries ≡ []

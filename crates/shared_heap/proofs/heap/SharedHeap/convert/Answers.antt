@@ -4,7 +4,8 @@ use Rattle.convert_words.specs.declared.step.ConvertStep.TheVariants as step
 use Rattle.shared_heap.specs.declared.conversions.Conversion.TheVariants as did
 use Rattle.shared_heap.specs.Shared.{Shared}
 use Rattle.shared_heap.proofs.Calling.{on_err}
-use Rattle.shared_heap.proofs.Converting.{under_way, stepped_as, leaves_queues, moves_on, goes_once, claims_once, last_of, named_machine, joins_next, fails_to, goes_all, fails_all, cause_of, cause_same}
+use Rattle.shared_heap.proofs.Converting.{under_way, stepped_as, leaves_queues, moves_on, goes_once, claims_once, last_of}
+use Rattle.shared_heap.proofs.Converting.{named_machine, joins_next, fails_to, goes_all, fails_all, cause_of, cause_same}
 use Rattle.shared_heap.proofs.heap.SharedHeap.convert.Goals as goal
 
 pub returns-in_err-step-clause-failed : goal.returns-in_err-step-clause-failed

@@ -15,7 +15,10 @@ returns-clause-claimed g c = λ es n h ln may.
     let s = c.args.self.now.space in let m = c.args.self.now.memory in let k = c.args.self.now.marks in
     let x = claims_now s m k es n c.args.object h ln may in
     let now = c.claim.ensures.answer (state_in (entry es n)) x.0 ∙ ap claim_answer x.1 in
-    claim_is s c.claim.new.space m k es n c.args.object c.args.thread h ln may (omega (arith, c.number-number.ensures.below, c.number-number.ensures.same)) (c.claim.ensures.claimed now) c.claim.ensures.left
+    claim_is s c.claim.new.space m k es n c.args.object c.args.thread h ln may
+    (omega (arith, c.number-number.ensures.below, c.number-number.ensures.same)) (c.claim.ensures.claimed now)
+    c.claim.ensures.left
 
 pub returns-clause-words : goal.returns-clause-words
-returns-clause-words g c = claim_long c.claim.result c.args.self.now.space.words c.claim.new.space.words c.args.object (header_word (Claimed c.args.thread)) c.claim.ensures.claimed c.claim.ensures.same
+returns-clause-words g c = claim_long c.claim.result c.args.self.now.space.words c.claim.new.space.words c.args.object
+    (header_word (Claimed c.args.thread)) c.claim.ensures.claimed c.claim.ensures.same

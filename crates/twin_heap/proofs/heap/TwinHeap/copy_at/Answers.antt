@@ -15,4 +15,5 @@ returns-in-Claimed-clause-placed g c = λ es n h ln may.
     let o : c.number.result + 1 ≡ (entry es n).owner = omega (arith, x.1, c.number.ensures.same) in
     let less : c.in-Claimed.thread ≡ c.number.result + 1 - 1 = omega (arith, c.number.ensures.same) in
     place_is s c.set.new.self m k c.begin.new.self es n c.args.object c.args.line c.word-number.result (c.number.result + 1) c.state_word.result h ln may
-    (c.state_word.ensures.word ∙ ap (λ u. header_word (Copying u c.args.line)) less) o c.set.ensures.words c.set.ensures.left c.word-number.ensures.word c.begin.ensures.sized.0 c.begin.ensures.sized.1 c.begin.ensures.new
+    (c.state_word.ensures.word ∙ ap (λ u. header_word (Copying u c.args.line)) less) o c.set.ensures.words
+    c.set.ensures.left c.word-number.ensures.word c.begin.ensures.sized.0 c.begin.ensures.sized.1 c.begin.ensures.new

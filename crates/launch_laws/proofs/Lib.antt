@@ -1,0 +1,16 @@
+pub mod Asked
+pub mod Chars
+pub mod Coded
+pub mod Frames
+pub mod Heaps
+pub mod Listed
+pub mod Nodes
+pub mod Queues
+pub mod Roots
+pub mod Runs
+pub mod Shapes
+pub mod Stops
+pub mod Tables
+pub mod Turns
+pub mod Types
+pub mod Worlds

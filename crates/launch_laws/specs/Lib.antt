@@ -1,0 +1,5 @@
+pub mod Asking
+pub mod First
+pub mod Laws
+pub mod Shapes
+pub mod Written

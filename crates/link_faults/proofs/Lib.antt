@@ -1,0 +1,2 @@
+pub mod LinkFaults
+pub mod Steps

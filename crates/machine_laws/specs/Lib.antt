@@ -1,0 +1,6 @@
+pub mod AskLaws
+pub mod Frames
+pub mod HeapLaws
+pub mod Keeping
+pub mod Opened
+pub mod StopLaws

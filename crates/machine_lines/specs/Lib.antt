@@ -1,5 +1,0 @@
-pub mod Laws
-pub mod Lines
-pub mod Regions
-pub mod Unwritten
-pub mod Work

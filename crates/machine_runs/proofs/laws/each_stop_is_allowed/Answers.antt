@@ -1,8 +1,0 @@
-use Rattle.machine_runs.proofs.Keeping.{stops-allowed, world-shown}
-use Rattle.machine_runs.proofs.laws.each_stop_is_allowed.Goals as goal
-
-pub returns-clause-stops : goal.returns-clause-stops
-returns-clause-stops c = stops-allowed c.every_stop_is_allowed.ensures.running
-
-pub returns-clause-shown : goal.returns-clause-shown
-returns-clause-shown c = world-shown

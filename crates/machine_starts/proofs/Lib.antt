@@ -1,9 +1,0 @@
-pub mod Frames
-pub mod Heaps
-pub mod Nodes
-pub mod Queues
-pub mod Roots
-pub mod Shapes
-pub mod Stops
-pub mod Tables
-pub mod Worlds

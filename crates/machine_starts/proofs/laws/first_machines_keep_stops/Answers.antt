@@ -1,6 +1,0 @@
-use Rattle.machine_starts.proofs.Stops.{stops_kept}
-use Rattle.machine_starts.proofs.laws.first_machines_keep_stops.Goals as goal
-
-pub returns : goal.returns
-returns c o lines m es first = stops_kept o lines m es first c.machines_start_with_allowed_stops.ensures
-    c.opened_images_start_machines.ensures

@@ -1,5 +1,0 @@
-use Rattle.plain_natives.proofs.Moving.{methods_go_alike}
-use Rattle.plain_natives.proofs.laws.built_in_methods_go_alike.Goals as goal
-
-pub returns : goal.returns
-returns g c = λ f h x y give give' a. methods_go_alike f h x y give give' a

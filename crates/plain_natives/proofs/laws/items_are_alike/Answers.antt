@@ -1,5 +1,0 @@
-use Rattle.plain_natives.proofs.Items.{items_are_alike}
-use Rattle.plain_natives.proofs.laws.items_are_alike.Goals as goal
-
-pub returns : goal.returns
-returns c = items_are_alike

@@ -1,9 +1,0 @@
-pub mod Methods
-pub mod Moves
-pub mod Worlds
-pub mod Keeping
-pub mod Coded
-pub mod NamedMethods
-pub mod RequestLists
-pub mod Machines
-pub mod Rows

@@ -1,8 +1,0 @@
-use Rattle.region_stops.proofs.Kept.{log_words_keep, raised_keeps}
-use Rattle.region_stops.proofs.laws.logs_keep_stops.Goals as goal
-
-pub returns-clause-words : goal.returns-clause-words
-returns-clause-words c = log_words_keep
-
-pub returns-clause-raised : goal.returns-clause-raised
-returns-clause-raised c = raised_keeps

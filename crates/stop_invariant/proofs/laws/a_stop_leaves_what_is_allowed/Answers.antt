@@ -1,5 +1,0 @@
-use Rattle.stop_invariant.proofs.Allowed.{allowed_now}
-use Rattle.stop_invariant.proofs.laws.a_stop_leaves_what_is_allowed.Goals as goal
-
-pub returns : goal.returns
-returns c first acts lay Waits m out s left = allowed_now first acts lay Waits m out s left

@@ -1,4 +1,0 @@
-pub mod Single
-pub mod Waiting
-pub mod Fencing
-pub mod Joined
