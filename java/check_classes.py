@@ -3,7 +3,9 @@
 
 usage: java/check_classes.py [STATUS] FILE..
 
-With a STATUS past 1, that of a program that is to end so, only members that the library lacks are told of.
+With a STATUS past 1, that of a program that is to end so, only members that the library lacks are told of. Else it warns of
+objects without a toString() of their own that are printed or appended, as a throwable by `println(e)`: the run ends there, with
+status 15. An object's class is guessed from the instructions before. Ends with 1 where something is missing; warnings don't count.
 """
 import re
 import struct
@@ -43,20 +45,39 @@ for name in SUPERS:
     if re.search("Exception|Error|Throwable", name):
         MEMBERS[name] = MEMBERS.get(name, []) + ["<init>()V", f"<init>({TEXT})V"]
 
-# The bytes of each instruction that the runtime has, but for the switches and wide.
-SIZES = {}
-for size, opcodes in {
-    1: "0-10 26-33 42-47 50-53 59-66 75-80 83-97 100 101 104 105 108 109 112 113 116 117 120-131 133 136 145-148 172 173 176 177 190 191 194 195",
-    2: "16 18 21 22 25 54 55 58 188",
-    3: "17 19 20 132 153-167 178-184 187 189 192 193 198 199",
-    5: "185 200",
-}.items():
-    for part in opcodes.split():
+
+def opcodes(text):
+    """The numbers of a text such as `1-3 7`."""
+    for part in text.split():
         first, _, last = part.partition("-")
-        SIZES.update({opcode: size for opcode in range(int(first), int(last or first) + 1)})
+        yield from range(int(first), int(last or first) + 1)
+
+
+# The bytes of each instruction (JVMS 6.5), but for the switches and wide.
+SIZES = {}
+SIZES.update(dict.fromkeys(opcodes("0-15 26-53 59-131 133-152 172-177 190 191 194 195"), 1))
+SIZES.update(dict.fromkeys(opcodes("16 18 21-25 54-58 169 188"), 2))
+SIZES.update(dict.fromkeys(opcodes("17 19 20 132 153-168 178-184 187 189 192 193 198 199"), 3))
+SIZES.update({197: 4, 185: 5, 186: 5, 200: 5, 201: 5})
+
+# The instructions that the runtime doesn't have.
+MISSING = {186: "a lambda or a method reference", 197: "an array of several dimensions made at once"}
+MISSING.update(dict.fromkeys((168, 169, 201), "a subroutine"))
+FLOATS = "11-15 23 24 34-41 48 49 56 57 67-74 81 82 98 99 102 103 106 107 110 111 114 115 118 119 134 135 137-144 149-152 174 175"
+MISSING.update(dict.fromkeys(opcodes(FLOATS), "a float or double"))
 
 MEMBER_OPS = range(178, 186)
 CLASS_OPS = (187, 189, 192, 193)
+TO_STRING = f"toString(){TEXT}"
+WIDE = (OBJECT, "Ljava/lang/Runnable;", "Ljava/lang/Cloneable;", "Ljava/io/Serializable;")
+PRINTS = [f"print({OBJECT})V", f"println({OBJECT})V", f"append({OBJECT})Ljava/lang/StringBuilder;"]
+
+
+def class_of(kind):
+    """The class that a type names, an array's being its type; None for a number, and where the type says little."""
+    if kind in WIDE or not kind.startswith(("L", "[")):
+        return None
+    return kind if kind.startswith("[") else kind[1:-1]
 
 
 class ClassFile:
@@ -73,8 +94,24 @@ class ClassFile:
         self.name = self.class_name(this)
         self.above = [self.class_name(n) for n in (*self.take("H" * count), above) if n]
         self.descriptors = []
+        self.statics = set()
+        self.handlers = {}
         self.fields = self.read_members()
         self.methods = self.read_members()
+
+    def kind(self, n):
+        """The type of the field that an entry names, or of what its method gives."""
+        return self.text(self.pool[self.pool[n][2]][2]).rpartition(")")[2]
+
+    def parameters(self, member):
+        """The class of each parameter, by the local that it is in."""
+        types = re.findall(r"\[*(?:L[^;]*;|[A-Z])", member[member.index("(") : member.index(")")])
+        local = {} if member in self.statics else {0: self.name}
+        at = len(local)
+        for it in types:
+            local[at] = class_of(it)
+            at += 2 if it in "JD" else 1
+        return local
 
     def take(self, form):
         got = struct.unpack_from(">" + form, self.bytes, self.at)
@@ -115,19 +152,25 @@ class ClassFile:
         """The names with descriptors, and the code of those that have some."""
         made = {}
         for _ in range(*self.take("H")):
-            _, name, descriptor, attributes = self.take("HHHH")
+            flags, name, descriptor, attributes = self.take("HHHH")
             member = self.text(name) + self.text(descriptor)
             made[member] = None
+            if flags & 8:
+                self.statics.add(member)
             self.descriptors.append(self.text(descriptor))
             for _ in range(attributes):
                 attribute, size = self.take("HI")
                 content = self.take_bytes(size)
                 if self.text(attribute) == "Code":
-                    made[member] = content[8 : 8 + struct.unpack_from(">I", content, 4)[0]]
+                    end = 8 + struct.unpack_from(">I", content, 4)[0]
+                    made[member] = content[8:end]
+                    (count,) = struct.unpack_from(">H", content, end)
+                    table = struct.iter_unpack(">4H", content[end + 2 : end + 2 + 8 * count])
+                    self.handlers[member] = {at: self.class_name(n) if n else "java/lang/Throwable" for _, _, at, n in table}
         return made
 
     def instructions(self, code):
-        """The place, opcode and first operand of each instruction; no operand, at the end, where the runtime has no such one."""
+        """The place, opcode and first operand of each instruction; no operand, at the end, where Java has no such one."""
         at = 0
         while at < len(code):
             opcode = code[at]
@@ -174,10 +217,12 @@ class Check:
 
     def lacks(self, file, opcode, operand):
         """What an instruction uses that isn't there."""
-        if operand is None:
-            return f"instruction {opcode}" if self.is_whole else None
+        if operand is None or opcode in MISSING:
+            return f"instruction {opcode}, {MISSING.get(opcode, 'which Java lacks')}" if self.is_whole else None
         if opcode in MEMBER_OPS:
             owner, member = file.member(operand)
+            if self.is_whole and owner in self.files and member in ("start()V", "join()V"):
+                return f"{owner}.{member}: a method that is called so counts as a thread's, and the program ends with status 17"
             counts = self.is_whole or owner.startswith("java/")
             return f"{owner}.{member}" if counts and not self.has_member(owner, member) else None
         if opcode in CLASS_OPS:
@@ -188,6 +233,45 @@ class Check:
             return "a constant of another kind"
         return "an array of floats" if opcode == 188 and operand in (6, 7) else None
 
+    def printed(self, file, member, code):
+        """Where objects are printed or appended, and the class of each, guessed from the code above, or None."""
+        local = file.parameters(member)
+        top = array = None
+        for at, opcode, operand in file.instructions(code):
+            top = file.handlers[member].get(at, top)
+            if opcode in MEMBER_OPS and file.member(operand)[1] in PRINTS:
+                yield at, top
+            if opcode == 58 or 75 <= opcode <= 78:
+                local[operand if opcode == 58 else opcode - 75] = top
+            elif opcode == 25 or 42 <= opcode <= 45:
+                top = local.get(operand if opcode == 25 else opcode - 42)
+            elif opcode in MEMBER_OPS:
+                owner, used = file.member(operand)
+                top = owner if used.startswith("<init>") else class_of(file.kind(operand))
+            elif opcode in (187, 192):
+                top = file.class_name(operand)
+            elif opcode == 189:
+                name = file.class_name(operand)
+                top = "[" + (name if name.startswith("[") else f"L{name};")
+            elif opcode != 89:
+                top = class_of(array[1:]) if opcode == 50 and array else None
+            array = top if top and top.startswith("[") else array
+
+    def is_below(self, name, above):
+        return name == above or name in self.files and any(self.is_below(it, above) for it in self.files[name].above)
+
+    def without_text(self, name):
+        """The classes without a toString() that an object may have whose class is said to be this one."""
+        below = [it for it, file in self.files.items() if not file.flags & 0x600 and self.is_below(it, name)]
+        return [it for it in (below if name in self.files else [name, *below]) if not self.has_member(it, TO_STRING)]
+
+    def warnings(self, file):
+        for member, code in file.methods.items():
+            for at, name in self.printed(file, member, code or b""):
+                lacking = self.without_text(name) if name else []
+                if lacking:
+                    yield f"warning: {member} at {at}: prints or appends {lacking[0]}, which has no toString(): status 15 there"
+
     def look_at(self, file):
         if file.version != (0, 52):
             yield f"version {file.version[1]}.{file.version[0]}"
@@ -197,17 +281,20 @@ class Check:
         for member, code in {**file.fields, **file.methods}.items():
             if code and file.flags & 0x200 and not member.startswith("<clinit>"):
                 yield f"{member}: code in an interface"
+            told = {None}
             for at, opcode, operand in file.instructions(code or b""):
                 lacked = self.lacks(file, opcode, operand)
-                if lacked:
+                if lacked not in told:
                     yield f"{member} at {at}: {lacked}"
+                told.add(lacked)
         for name in file.above:
             if self.is_whole and not self.has_class(name):
                 yield f"its superclass or superinterface {name}"
 
     def tell(self):
         told = [f"{file.path}: {line}" for file in self.files.values() for line in self.look_at(file)]
-        for line in told:
+        warned = [f"{file.path}: {line}" for file in self.files.values() if self.is_whole for line in self.warnings(file)]
+        for line in told + warned:
             print(line)
         return 1 if told else 0
 
