@@ -42,22 +42,23 @@ use Rattle.frames.specs.Turns.{turn_of, turn_if, turn, gives_back, throws_top, c
 use Rattle.frames.specs.Turns.{native_answered, frame_answered, answered, settled, answer_if, answer}
 use Rattle.link_faults.specs.LinkFaults.{IsEmpty, IsNamedFault, AsksNamed, BreaksNamed, LinkFaultsAreNamed}
 
-module _ {M R N V : Type 0} (x : Setting M R N V) (quiet : (state : N) → AsksNamed x (Some (x.asks state))) where
+module _ {M R N V : Type 0} (x : Setting M R N V) (quiet : (from : At) (state : N) (below : List (Frame R N))
+    → AsksNamed x (Native from state ∷ below) (Some (x.asks state))) where
   abbrev p : Program M
   p = x.program
 
   record Names (s : Stepped R N V) : Type 0 where
-    asked : AsksNamed x s.asks
-    breaks : BreaksNamed x s.frames.doing
+    asked : AsksNamed x s.frames.frames s.asks
+    breaks : BreaksNamed x s.frames.doing s.frames.frames
 
-  goes_on-names : (doing : Doing R) (frames : List (Frame R N)) → BreaksNamed x doing → Names (goes_on doing frames)
+  goes_on-names : (doing : Doing R) (frames : List (Frame R N)) → BreaksNamed x doing frames → Names (goes_on doing frames)
   goes_on-names doing frames is = record { asked = tt; breaks = is }
 
-  asks_so-names : (request : Request R V) (frames : List (Frame R N)) → AsksNamed x (Some request)
+  asks_so-names : (request : Request R V) (frames : List (Frame R N)) → AsksNamed x frames (Some request)
       → Names (asks_so request frames)
   asks_so-names request frames is = record { asked = is; breaks = tt }
 
-  breaks-names : (f : StepFault) (frames : List (Frame R N)) → IsNamedFault p f → Names (breaks f frames)
+  breaks-names : (f : StepFault) (frames : List (Frame R N)) → IsNamedFault p frames f → Names (breaks f frames)
   breaks-names f frames is = asks_so-names (ask.Broken f) frames is
 
   if-names : (c : Bool) (y z : Stepped R N V) → Names y → Names z → Names (if c then y else z)
@@ -66,56 +67,57 @@ module _ {M R N V : Type 0} (x : Setting M R N V) (quiet : (state : N) → AsksN
 
   -- ---- what instructions ask
 
-  given-named : {X : Type 0} (v : Option X) (go : X → Option (Request R V)) → ((w : X) → AsksNamed x (go w))
-      → AsksNamed x (given v go)
-  given-named None go is = tt
-  given-named (Some w) go is = is w
+  module _ (frames : List (Frame R N)) where
+    given-named : {X : Type 0} (v : Option X) (go : X → Option (Request R V)) → ((w : X) → AsksNamed x frames (go w))
+        → AsksNamed x frames (given v go)
+    given-named None go is = tt
+    given-named (Some w) go is = is w
 
-  value_so-named : (kind : Kind) (own : Own R) (go : V → Option (Request R V)) → ((v : V) → AsksNamed x (go v))
-      → AsksNamed x (value_so x kind own go)
-  value_so-named kinds.J own go is = given-named (long_at 0 own) _ (λ i. is _)
-  value_so-named kinds.L own go is = given-named (reference_at 0 own) _ (λ r. is _)
-  value_so-named kinds.Z own go is = given-named (int_at 0 own) _ (λ i. is _)
-  value_so-named kinds.B own go is = given-named (int_at 0 own) _ (λ i. is _)
-  value_so-named kinds.C own go is = given-named (int_at 0 own) _ (λ i. is _)
-  value_so-named kinds.S own go is = given-named (int_at 0 own) _ (λ i. is _)
-  value_so-named kinds.I own go is = given-named (int_at 0 own) _ (λ i. is _)
-  value_so-named kinds.Text own go is = given-named (int_at 0 own) _ (λ i. is _)
+    value_so-named : (kind : Kind) (own : Own R) (go : V → Option (Request R V)) → ((v : V) → AsksNamed x frames (go v))
+        → AsksNamed x frames (value_so x kind own go)
+    value_so-named kinds.J own go is = given-named (long_at 0 own) _ (λ i. is _)
+    value_so-named kinds.L own go is = given-named (reference_at 0 own) _ (λ r. is _)
+    value_so-named kinds.Z own go is = given-named (int_at 0 own) _ (λ i. is _)
+    value_so-named kinds.B own go is = given-named (int_at 0 own) _ (λ i. is _)
+    value_so-named kinds.C own go is = given-named (int_at 0 own) _ (λ i. is _)
+    value_so-named kinds.S own go is = given-named (int_at 0 own) _ (λ i. is _)
+    value_so-named kinds.I own go is = given-named (int_at 0 own) _ (λ i. is _)
+    value_so-named kinds.Text own go is = given-named (int_at 0 own) _ (λ i. is _)
 
-  init-named : (class : ℕ) (from : At) (of_program : Bool)
-      → AsksNamed x (if of_program then Some (ask.Init from class) else None)
-  init-named class from true = tt
-  init-named class from false = tt
+    init-named : (class : ℕ) (from : At) (of_program : Bool)
+        → AsksNamed x frames (if of_program then Some (ask.Init from class) else None)
+    init-named class from true = tt
+    init-named class from false = tt
 
-  request_of-named : (o : Op) (from : At) (own : Own R) → AsksNamed x (request_of x o from own)
-  request_of-named (op.InvokeStatic m) from own =
-      init-named (method_at p m).class from (class_at p (method_at p m).class).of_program
-  request_of-named (op.InvokeVirtual s) from own =
-      given-named (reference_at ((selector_at p s).arguments - 1) own) _ (λ r. tt)
-  request_of-named (op.Element access.Load kind) from own =
-      given-named (reference_at 1 own) _ (λ r. given-named (int_at 0 own) _ (λ i. tt))
-  request_of-named (op.Element access.Store kind) from own =
-      given-named (reference_at (width_of kind + 1) own) _ (λ r.
-      given-named (int_at (width_of kind) own) _ (λ i. value_so-named kind own _ (λ v. tt)))
-  request_of-named (op.IfSame equality to) from own =
-      given-named (reference_at 1 own) _ (λ a. given-named (reference_at 0 own) _ (λ b. tt))
-  request_of-named (op.Static access.Load f) from own = tt
-  request_of-named (op.Static access.Store f) from own = value_so-named (field_at p f).kind own _ (λ v. tt)
-  request_of-named (op.Field access.Load f) from own = given-named (reference_at 0 own) _ (λ r. tt)
-  request_of-named (op.Field access.Store f) from own =
-      given-named (reference_at (width_of (field_at p f).kind) own) _ (λ r.
-      value_so-named (field_at p f).kind own _ (λ v. tt))
-  request_of-named (op.New class) from own = tt
-  request_of-named (op.NewArray shape) from own = given-named (int_at 0 own) _ (λ i. tt)
-  request_of-named op.Length from own = given-named (reference_at 0 own) _ (λ r. tt)
-  request_of-named op.Throw from own = given-named (reference_at 0 own) _ (λ r. tt)
-  request_of-named (op.Cast class) from own = given-named (reference_at 0 own) _ (λ r. tt)
-  request_of-named (op.IsA class) from own = given-named (reference_at 0 own) _ (λ r. tt)
-  request_of-named op.Enter from own = given-named (reference_at 0 own) _ (λ r. tt)
-  request_of-named op.Exit from own = given-named (reference_at 0 own) _ (λ r. tt)
-  request_of-named other from own = tt
+    request_of-named : (o : Op) (from : At) (own : Own R) → AsksNamed x frames (request_of x o from own)
+    request_of-named (op.InvokeStatic m) from own =
+        init-named (method_at p m).class from (class_at p (method_at p m).class).of_program
+    request_of-named (op.InvokeVirtual s) from own =
+        given-named (reference_at ((selector_at p s).arguments - 1) own) _ (λ r. tt)
+    request_of-named (op.Element access.Load kind) from own =
+        given-named (reference_at 1 own) _ (λ r. given-named (int_at 0 own) _ (λ i. tt))
+    request_of-named (op.Element access.Store kind) from own =
+        given-named (reference_at (width_of kind + 1) own) _ (λ r.
+        given-named (int_at (width_of kind) own) _ (λ i. value_so-named kind own _ (λ v. tt)))
+    request_of-named (op.IfSame equality to) from own =
+        given-named (reference_at 1 own) _ (λ a. given-named (reference_at 0 own) _ (λ b. tt))
+    request_of-named (op.Static access.Load f) from own = tt
+    request_of-named (op.Static access.Store f) from own = value_so-named (field_at p f).kind own _ (λ v. tt)
+    request_of-named (op.Field access.Load f) from own = given-named (reference_at 0 own) _ (λ r. tt)
+    request_of-named (op.Field access.Store f) from own =
+        given-named (reference_at (width_of (field_at p f).kind) own) _ (λ r.
+        value_so-named (field_at p f).kind own _ (λ v. tt))
+    request_of-named (op.New class) from own = tt
+    request_of-named (op.NewArray shape) from own = given-named (int_at 0 own) _ (λ i. tt)
+    request_of-named op.Length from own = given-named (reference_at 0 own) _ (λ r. tt)
+    request_of-named op.Throw from own = given-named (reference_at 0 own) _ (λ r. tt)
+    request_of-named (op.Cast class) from own = given-named (reference_at 0 own) _ (λ r. tt)
+    request_of-named (op.IsA class) from own = given-named (reference_at 0 own) _ (λ r. tt)
+    request_of-named op.Enter from own = given-named (reference_at 0 own) _ (λ r. tt)
+    request_of-named op.Exit from own = given-named (reference_at 0 own) _ (λ r. tt)
+    request_of-named other from own = tt
 
-  asks_or-names : (q : Option (Request R V)) (frames : List (Frame R N)) (go : Stepped R N V) → AsksNamed x q
+  asks_or-names : (q : Option (Request R V)) (frames : List (Frame R N)) (go : Stepped R N V) → AsksNamed x frames q
       → Names go → Names (asks_or x q frames go)
   asks_or-names None frames go asked is = is
   asks_or-names (Some request) frames go asked is = asks_so-names request frames asked
@@ -138,9 +140,9 @@ module _ {M R N V : Type 0} (x : Setting M R N V) (quiet : (state : N) → AsksN
   if_room-names need frames go is =
       if-names (nat_le need (slots_left p frames)) go _ is (breaks-names _ frames tt)
 
-  no-fault : (b : Bool) → BreaksNamed x (if b then Enters else Runs)
-  no-fault true = tt
-  no-fault false = tt
+  no-fault : (b : Bool) (frames : List (Frame R N)) → BreaksNamed x (if b then Enters else Runs) frames
+  no-fault true frames = tt
+  no-fault false frames = tt
 
   -- that of a method which does nothing counts where there is one
   body-names : (m : ℕ) (cells : List (Cell R)) (arguments : List (Given R)) (frames below : List (Frame R N))
@@ -149,7 +151,7 @@ module _ {M R N V : Type 0} (x : Setting M R N V) (quiet : (state : N) → AsksN
   body-names m cells arguments frames below empty (body.Code entry) is =
       if-names (nat_le (length cells) (method_at p m).max_locals) _ _
       (if_room-names (4 + (method_at p m).max_locals + (method_at p m).max_stack) frames _
-      (goes_on-names _ _ (no-fault (method_at p m).is_synchronized)))
+      (goes_on-names _ _ (no-fault (method_at p m).is_synchronized _)))
       (breaks-names _ frames tt)
   body-names m cells arguments frames below empty (body.Native k) is =
       if_room-names 16 frames _ (goes_on-names Runs _ tt)
@@ -250,7 +252,7 @@ module _ {M R N V : Type 0} (x : Setting M R N V) (quiet : (state : N) → AsksN
   caught-names (Fails link) r class m at own held below further e is = breaks-names _ _ (inl (record {
     method = m;
     link = link;
-    of_method = inr (at, class, e);
+    of_method = (refl, inr (class, e));
     kind_is = refl;
     class_is = refl;
     index_is = refl;
@@ -262,7 +264,7 @@ module _ {M R N V : Type 0} (x : Setting M R N V) (quiet : (state : N) → AsksN
       caught-names (caught_by p (method_at p m).handlers at class) r class m at own held below _ refl
       (throws-names r class below)
   throws-names r class (Native from state ∷ below) = throws-names r class below
-  throws-names r class (Initialiser c from ∷ below) = breaks-names _ _ (inr (inr (inr (refl, refl))))
+  throws-names r class (Initialiser c from ∷ below) = breaks-names _ _ (inr (inr (inr (refl, refl, refl))))
   throws-names r class (Main m arguments ∷ below) = goes_on-names (Ends (Some class)) [] tt
 
   -- ---- initialisers
@@ -301,29 +303,30 @@ module _ {M R N V : Type 0} (x : Setting M R N V) (quiet : (state : N) → AsksN
       special-names (reference_at (cells_taken (method_at p k).parameters - 1) own) k m at own held below
   does-names (op.InvokeStatic k) m at own held below e =
       asks_or-names (request_of x (op.InvokeStatic k) (from_of p m at) own) (Running m at own held ∷ below) _
-      (request_of-named (op.InvokeStatic k) (from_of p m at) own) (calls-names k m at own held below)
+      (request_of-named (Running m at own held ∷ below) (op.InvokeStatic k) (from_of p m at) own)
+      (calls-names k m at own held below)
   does-names (op.Unlinked link) m at own held below e = breaks-names _ _ (inl (record {
     method = m;
     link = link;
-    of_method = inl (at, e);
+    of_method = (refl, inl e);
     kind_is = refl;
     class_is = refl;
     index_is = refl;
   }))
   does-names other m at own held below e =
       asks_or-names (request_of x other (from_of p m at) own) (Running m at own held ∷ below) _
-      (request_of-named other (from_of p m at) own)
+      (request_of-named (Running m at own held ∷ below) other (from_of p m at) own)
       (after-names m at held below (private_step x other own))
 
   frame_does-names : (frames : List (Frame R N)) → Names (frame_does x frames)
   frame_does-names [] = asks_so-names (ask.Leave None) [] tt
   frame_does-names (Running m at own held ∷ below) = does-names (placed_at p at).op m at own held below refl
-  frame_does-names (Native from state ∷ below) = asks_so-names (x.asks state) _ (quiet state)
+  frame_does-names (Native from state ∷ below) = asks_so-names (x.asks state) _ (quiet from state below)
   frame_does-names (Initialiser class from ∷ below) = asks_so-names (ask.Leave None) _ tt
   frame_does-names (Main m arguments ∷ below) = asks_so-names (ask.Leave None) _ tt
 
-  asked-named : (doing : Doing R) (frames : List (Frame R N)) → BreaksNamed x doing
-      → AsksNamed x (asked_by x doing frames)
+  asked-named : (doing : Doing R) (frames : List (Frame R N)) → BreaksNamed x doing frames
+      → AsksNamed x frames (asked_by x doing frames)
   asked-named Runs frames is = tt
   asked-named (BeginsMain class) frames is = tt
   asked-named (BeginsThread thread) frames is = tt
@@ -334,12 +337,12 @@ module _ {M R N V : Type 0} (x : Setting M R N V) (quiet : (state : N) → AsksN
   asked-named (Breaks f) frames is = is
   asked-named (Ends uncaught) frames is = tt
 
-  one_of-names : (q : Option (Request R V)) (fs : Frames R N) → AsksNamed x q → BreaksNamed x fs.doing
+  one_of-names : (q : Option (Request R V)) (fs : Frames R N) → AsksNamed x fs.frames q → BreaksNamed x fs.doing fs.frames
       → Names (one_of x q fs)
   one_of-names None fs asked is = frame_does-names fs.frames
   one_of-names (Some request) fs asked is = record { asked = asked; breaks = is }
 
-  one-names : (fs : Frames R N) → BreaksNamed x fs.doing → Names (one x fs)
+  one-names : (fs : Frames R N) → BreaksNamed x fs.doing fs.frames → Names (one x fs)
   one-names fs is = one_of-names (asked_by x fs.doing fs.frames) fs (asked-named fs.doing fs.frames is) is
 
   next-names : (q : Option (Request R V)) (s go : Stepped R N V) → Names s → Names go
@@ -347,18 +350,18 @@ module _ {M R N V : Type 0} (x : Setting M R N V) (quiet : (state : N) → AsksN
   next-names None s go is next = next
   next-names (Some request) s go is next = is
 
-  turn_of-names : (fuel : ℕ) (fs : Frames R N) → BreaksNamed x fs.doing → Names (turn_of x fuel fs)
+  turn_of-names : (fuel : ℕ) (fs : Frames R N) → BreaksNamed x fs.doing fs.frames → Names (turn_of x fuel fs)
   turn_of-names zero fs is = record { asked = tt; breaks = is }
   turn_of-names (suc fuel) fs is =
       let done = one-names fs is in
       next-names (one x fs).asks (one x fs) (turn_of x fuel (one x fs).frames) done
       (turn_of-names fuel (one x fs).frames done.breaks)
 
-  turn_if-names : (paused : Bool) (fs : Frames R N) → BreaksNamed x fs.doing → Names (turn_if x paused fs)
+  turn_if-names : (paused : Bool) (fs : Frames R N) → BreaksNamed x fs.doing fs.frames → Names (turn_if x paused fs)
   turn_if-names true fs is = record { asked = tt; breaks = is }
   turn_if-names false fs is = turn_of-names 1024 fs is
 
-  turn-names : (fs : Frames R N) → BreaksNamed x fs.doing → Names (turn x fs)
+  turn-names : (fs : Frames R N) → BreaksNamed x fs.doing fs.frames → Names (turn x fs)
   unfolding turn
   turn-names fs is = turn_if-names fs.paused fs is
 
@@ -375,37 +378,39 @@ module _ {M R N V : Type 0} (x : Setting M R N V) (quiet : (state : N) → AsksN
   throws_top-names (Some r) class m at own held below = throws-names r class (Running m at own held ∷ below)
 
   selected-names : (found : Target) (s receiver m at : ℕ) (own : Own R) (held : Option (Key R))
-      (below : List (Frame R N)) → dispatched p receiver (selector_at p s).signature ≡ found
+      (below : List (Frame R N)) → (placed_at p at).op ≡ op.InvokeVirtual s
+      → dispatched p receiver (selector_at p s).signature ≡ found
       → Names (calls_selected x found (selector_at p s) m at own held below)
-  selected-names (target.Method k) s receiver m at own held below e = calls-names k m at own held below
-  selected-names (target.Fails kind) s receiver m at own held below e = breaks-names _ _ (inr (inl (record {
+  selected-names (target.Method k) s receiver m at own held below call e = calls-names k m at own held below
+  selected-names (target.Fails kind) s receiver m at own held below call e = breaks-names _ _ (inr (inl (record {
     selector = s;
     receiver = receiver;
+    of_call = call;
     fails = e;
     class_is = refl;
     index_is = refl;
   })))
 
   instruction-names : (o : Op) (m at : ℕ) (own : Own R) (held : Option (Key R)) (below : List (Frame R N))
-      (r : Reply R V) → Names (instruction_answered x o m at own held below r)
-  instruction-names o m at own held below (reply.Thrown r class) = throws-names r class (Running m at own held ∷ below)
-  instruction-names o m at own held below (reply.Init class) =
+      (r : Reply R V) → (placed_at p at).op ≡ o → Names (instruction_answered x o m at own held below r)
+  instruction-names o m at own held below (reply.Thrown r class) is = throws-names r class (Running m at own held ∷ below)
+  instruction-names o m at own held below (reply.Init class) is =
       initialises-names class (from_of p m at) (Running m at own held ∷ below)
-  instruction-names (op.InvokeStatic k) m at own held below r = calls-names k m at own held below
-  instruction-names (op.InvokeVirtual s) m at own held below (reply.Shape class) =
-      selected-names (dispatched p class (selector_at p s).signature) s class m at own held below refl
-  instruction-names op.Throw m at own held below (reply.Shape class) =
+  instruction-names (op.InvokeStatic k) m at own held below r is = calls-names k m at own held below
+  instruction-names (op.InvokeVirtual s) m at own held below (reply.Shape class) is =
+      selected-names (dispatched p class (selector_at p s).signature) s class m at own held below is refl
+  instruction-names op.Throw m at own held below (reply.Shape class) is =
       throws_top-names (reference_at 0 own) class m at own held below
-  instruction-names op.Return m at own held below r = gives_back-names (result_of None own) m at own held below
-  instruction-names (op.ReturnValue sort) m at own held below r =
+  instruction-names op.Return m at own held below r is = gives_back-names (result_of None own) m at own held below
+  instruction-names (op.ReturnValue sort) m at own held below r is =
       gives_back-names (result_of (Some sort) own) m at own held below
-  instruction-names (op.IfSame equality target) m at own held below (reply.Item v) =
+  instruction-names (op.IfSame equality target) m at own held below (reply.Item v) is =
       after-names m at held below (put 2 [] (to (is_so equality (is_yes (x.cells v))) target) own)
-  instruction-names o m at own held below (reply.Item v) =
+  instruction-names o m at own held below (reply.Item v) is =
       after-names m at held below (put (taken_by x o) (x.cells v) Next own)
-  instruction-names o m at own held below (reply.Made r) =
+  instruction-names o m at own held below (reply.Made r) is =
       after-names m at held below (put (taken_by x o) (Reference r ∷ []) Next own)
-  instruction-names o m at own held below r = after-names m at held below (put (taken_by x o) [] Next own)
+  instruction-names o m at own held below r is = after-names m at held below (put (taken_by x o) [] Next own)
 
   native-names : (from : At) (state : N) (below : List (Frame R N)) (r : Reply R V)
       → Names (native_answered x from state below r)
@@ -414,13 +419,13 @@ module _ {M R N V : Type 0} (x : Setting M R N V) (quiet : (state : N) → AsksN
       native_does-names (x.next state r) from below _ (λ v. returns_to-names v below)
 
   frame_answered-names : (frames : List (Frame R N)) (r : Reply R V) → Names (frame_answered x frames r)
-  frame_answered-names (Running m at own held ∷ below) r = instruction-names (placed_at p at).op m at own held below r
+  frame_answered-names (Running m at own held ∷ below) r = instruction-names (placed_at p at).op m at own held below r refl
   frame_answered-names (Native from state ∷ below) r = native-names from state below r
   frame_answered-names [] r = goes_on-names Runs [] tt
   frame_answered-names (Initialiser class from ∷ below) r = goes_on-names Runs _ tt
   frame_answered-names (Main m arguments ∷ below) r = goes_on-names Runs _ tt
 
-  answered-names : (doing : Doing R) (frames : List (Frame R N)) (r : Reply R V) → BreaksNamed x doing
+  answered-names : (doing : Doing R) (frames : List (Frame R N)) (r : Reply R V) → BreaksNamed x doing frames
       → Names (answered x doing frames r)
   answered-names Runs frames r is = frame_answered-names frames r
   answered-names (BeginsMain class) frames (reply.Init c) is = initialises-names c x.main frames
@@ -438,21 +443,22 @@ module _ {M R N V : Type 0} (x : Setting M R N V) (quiet : (state : N) → AsksN
   answered-names Initialised frames r is = resumes-names (drop 1 frames)
   answered-names doing frames r is = goes_on-names doing frames is
 
-  settled-names : (q : Option (Request R V)) (fs : Frames R N) → AsksNamed x q → BreaksNamed x fs.doing
-      → BreaksNamed x (settled x q fs).doing
+  settled-names : (q : Option (Request R V)) (fs : Frames R N) → AsksNamed x fs.frames q → BreaksNamed x fs.doing fs.frames
+      → BreaksNamed x (settled x q fs).doing (settled x q fs).frames
   settled-names None fs asked is = is
   settled-names (Some (ask.Broken f)) fs asked is = asked
   settled-names (Some request) fs asked is = is
 
-  answer_if-names : (paused : Bool) (fs : Frames R N) (r : Reply R V) → BreaksNamed x fs.doing
-      → BreaksNamed x (answer_if x paused fs r).doing
+  answer_if-names : (paused : Bool) (fs : Frames R N) (r : Reply R V) → BreaksNamed x fs.doing fs.frames
+      → BreaksNamed x (answer_if x paused fs r).doing (answer_if x paused fs r).frames
   answer_if-names true fs r is = is
   answer_if-names false fs r is =
       let s = answered x fs.doing fs.frames r in
       let names = answered-names fs.doing fs.frames r is in
       settled-names s.asks s.frames names.asked names.breaks
 
-  answer-names : (fs : Frames R N) (r : Reply R V) → BreaksNamed x fs.doing → BreaksNamed x (answer x fs r).doing
+  answer-names : (fs : Frames R N) (r : Reply R V) → BreaksNamed x fs.doing fs.frames
+      → BreaksNamed x (answer x fs r).doing (answer x fs r).frames
   unfolding answer
   answer-names fs r is = answer_if-names fs.paused fs r is
 

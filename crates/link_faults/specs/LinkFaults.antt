@@ -1,5 +1,6 @@
 -- What a link fault of frames names: an entry of a class's pool, or a class alone.
-use Rattle.std.specs.Prelude.{◌≡◌, ◌⊎◌, ℕ, Option, Some, None}
+use Rattle.std.specs.Prelude.{◌≡◌, ◌⊎◌, ℕ, List, ◌∷◌, Option, Some, None}
+use Rattle.run_types.specs.declared.resolved.At.{At}
 use Rattle.run_types.specs.declared.fault.LinkKind.{LinkKind}
 use Rattle.run_types.specs.declared.fault.LinkKind.TheVariants.{InitFailed, NoCode}
 use Rattle.run_types.specs.declared.fault.StepFault.{StepFault}
@@ -18,33 +19,10 @@ use Rattle.frames.specs.declared.program.Program.{Program}
 use Rattle.frames.specs.declared.program.Target.{Target}
 use Rattle.frames.specs.declared.program.Target.TheVariants as target
 use Rattle.frames.specs.Tables.{Fails, placed_at, method_at, selector_at, dispatched, caught_by}
-use Rattle.frames.specs.Settings.{Doing, Breaks, Frames, Setting}
+use Rattle.frames.specs.Settings.{Frame, Running, Native, Initialiser, Doing, Breaks, Frames, Setting}
 use Rattle.frames.specs.Turns.{turn, answer}
 
 module _ {M : Type 0} (p : Program M) where
-  -- An instruction, or an exception entry of this method that was tried, names what can't be used.
-  abbrev pub IsLinkOf : (method : ℕ) → Link → Type 0
-  IsLinkOf method link =
-      ((at : ℕ) × ((placed_at p at).op ≡ op.Unlinked link))
-      ⊎ ((at thrown : ℕ) × (caught_by p (method_at p method).handlers at thrown ≡ Fails link))
-
-  -- an entry that the method's class names and that can't be resolved or used so
-  pub record NamesLink (kind : LinkKind) (class index : ℕ) : Type 0 where
-    pub method : ℕ
-    pub link : Link
-    pub of_method : IsLinkOf method link
-    pub kind_is : kind ≡ link.kind
-    pub class_is : class ≡ (method_at p method).class
-    pub index_is : index ≡ link.index
-
-  -- the entry of a virtual call, for whose signature the receiver's class has no method, or not so
-  pub record NamesSelector (kind : LinkKind) (class index : ℕ) : Type 0 where
-    pub selector : ℕ
-    pub receiver : ℕ
-    pub fails : dispatched p receiver (selector_at p selector).signature ≡ target.Fails kind
-    pub class_is : class ≡ (selector_at p selector).class
-    pub index_is : index ≡ (selector_at p selector).index
-
   abbrev pub IsEmpty : Target → Type 0
   IsEmpty (target.Method m) = (method_at p m).body ≡ body.Empty
   IsEmpty (target.Fails kind) = ⊥
@@ -62,37 +40,74 @@ module _ {M : Type 0} (p : Program M) where
     pub lacks : Lacks class signature kind
     pub no_index : index ≡ 0
 
-  -- a class alone, whose initialiser a throwable left
-  abbrev pub NamesInitialised : LinkKind → (index : ℕ) → Type 0
-  NamesInitialised kind index = (kind ≡ InitFailed) × (index ≡ 0)
+-- The last of these frames is where the fault was met.
+module _ {M : Type 0} (p : Program M) {R N : Type 0} where
+  -- It is of this method, and its instruction, or an exception entry that was tried for it, names what can't be used.
+  abbrev pub IsLinkOf : List (Frame R N) → (method : ℕ) → Link → Type 0
+  IsLinkOf (Running m at own held ∷ below) method link =
+      (method ≡ m)
+      × (((placed_at p at).op ≡ op.Unlinked link)
+      ⊎ ((thrown : ℕ) × (caught_by p (method_at p m).handlers at thrown ≡ Fails link)))
+  IsLinkOf frames method link = ⊥
 
-  abbrev pub IsNamed : LinkKind → (class index : ℕ) → Type 0
-  IsNamed kind class index =
-      NamesLink kind class index ⊎ NamesSelector kind class index ⊎ NamesCalled kind class index
-      ⊎ NamesInitialised kind index
+  -- an entry that the method's class names and that can't be resolved or used so
+  pub record NamesLink (frames : List (Frame R N)) (kind : LinkKind) (class index : ℕ) : Type 0 where
+    pub method : ℕ
+    pub link : Link
+    pub of_method : IsLinkOf frames method link
+    pub kind_is : kind ≡ link.kind
+    pub class_is : class ≡ (method_at p method).class
+    pub index_is : index ≡ link.index
 
-  abbrev pub IsNamedFault : StepFault → Type 0
-  IsNamedFault (fault.LinkFault kind class index) = IsNamed kind class index
-  IsNamedFault other = Unit {0}
+  -- its instruction is the virtual call by this entry
+  abbrev pub IsCallBy : List (Frame R N) → (selector : ℕ) → Type 0
+  IsCallBy (Running m at own held ∷ below) selector = (placed_at p at).op ≡ op.InvokeVirtual selector
+  IsCallBy frames selector = ⊥
+
+  -- the entry of a virtual call, for whose signature the receiver's class has no method, or not so
+  pub record NamesSelector (frames : List (Frame R N)) (kind : LinkKind) (class index : ℕ) : Type 0 where
+    pub selector : ℕ
+    pub receiver : ℕ
+    pub of_call : IsCallBy frames selector
+    pub fails : dispatched p receiver (selector_at p selector).signature ≡ target.Fails kind
+    pub class_is : class ≡ (selector_at p selector).class
+    pub index_is : index ≡ (selector_at p selector).index
+
+  -- a class alone: the last frame is its initialiser's, which a throwable left
+  abbrev pub NamesInitialised : List (Frame R N) → LinkKind → (class index : ℕ) → Type 0
+  NamesInitialised (Initialiser initialised from ∷ below) kind class index =
+      (kind ≡ InitFailed) × (class ≡ initialised) × (index ≡ 0)
+  NamesInitialised frames kind class index = ⊥
+
+  abbrev pub IsNamed : List (Frame R N) → LinkKind → (class index : ℕ) → Type 0
+  IsNamed frames kind class index =
+      NamesLink frames kind class index ⊎ NamesSelector frames kind class index ⊎ NamesCalled p kind class index
+      ⊎ NamesInitialised frames kind class index
+
+  abbrev pub IsNamedFault : List (Frame R N) → StepFault → Type 0
+  IsNamedFault frames (fault.LinkFault kind class index) = IsNamed frames kind class index
+  IsNamedFault frames other = Unit {0}
 
 module _ {M R N V : Type 0} (x : Setting M R N V) where
-  abbrev pub AsksNamed : Option (Request R V) → Type 0
-  AsksNamed None = Unit {0}
-  AsksNamed (Some (ask.Broken f)) = IsNamedFault x.program f
-  AsksNamed (Some request) = Unit {0}
+  abbrev pub AsksNamed : List (Frame R N) → Option (Request R V) → Type 0
+  AsksNamed frames None = Unit {0}
+  AsksNamed frames (Some (ask.Broken f)) = IsNamedFault x.program frames f
+  AsksNamed frames (Some request) = Unit {0}
 
-  abbrev pub BreaksNamed : Doing R → Type 0
-  BreaksNamed (Breaks f) = IsNamedFault x.program f
-  BreaksNamed doing = Unit {0}
+  abbrev pub BreaksNamed : Doing R → List (Frame R N) → Type 0
+  BreaksNamed (Breaks f) frames = IsNamedFault x.program frames f
+  BreaksNamed doing frames = Unit {0}
 
 -- Where native methods ask for no other fault, each link fault that a turn asks, or to which an answer leads,
--- names an entry that can't be used, or a class alone: one that lacks `run` or `toString`, or whose initialiser
--- a throwable left.
+-- names an entry that can't be used, of the last frame's instruction or of an exception entry for it, or a class
+-- alone: one that lacks `run` or `toString`, or whose initialiser, the last frame, a throwable left.
 abbrev pub LinkFaultsAreNamed : (M R N V : Type 0) → Type 0
-LinkFaultsAreNamed M R N V = (x : Setting M R N V) → ((state : N) → AsksNamed x (Some (x.asks state)))
-    → (fs : Frames R N) → BreaksNamed x fs.doing
-    → AsksNamed x (turn x fs).asks × BreaksNamed x (turn x fs).frames.doing
-    × ((r : Reply R V) → BreaksNamed x (answer x fs r).doing)
+LinkFaultsAreNamed M R N V = (x : Setting M R N V)
+    → ((from : At) (state : N) (below : List (Frame R N)) → AsksNamed x (Native from state ∷ below) (Some (x.asks state)))
+    → (fs : Frames R N) → BreaksNamed x fs.doing fs.frames
+    → AsksNamed x (turn x fs).frames.frames (turn x fs).asks
+    × BreaksNamed x (turn x fs).frames.doing (turn x fs).frames.frames
+    × ((r : Reply R V) → BreaksNamed x (answer x fs r).doing (answer x fs r).frames)
 
 -- A plain step tells no link fault but the one that its turn asks.
 abbrev pub StepsTellWhatIsAsked : Type 0

@@ -2,9 +2,9 @@
 
 ghost use Rattle.link_faults.specs.LinkFaults.{LinkFaultsAreNamed, StepsTellWhatIsAsked};
 
-/// Each link fault that a turn asks, or to which an answer leads, names an entry of a pool that can't be used,
-/// or a class alone: one whose objects lack `run` or `toString`, or whose initialiser a throwable left. M is the
-/// type of native methods.
+/// Each link fault that a turn asks, or to which an answer leads, names an entry of a pool that the last frame's
+/// instruction can't use, or an exception entry for it, or a class alone: one whose objects lack `run` or `toString`,
+/// or whose initialiser, the last frame, a throwable left. M is the type of native methods.
 pub fn link_faults_name_what_is_wrong<M, R, N, V>()
     ensures { LinkFaultsAreNamed M R N V }
 {}
