@@ -200,7 +200,7 @@ so_staged s t is of = subst IsOfRun (sym is) of
 
 module _ (set : Linked) (name : List ℕ) (limits : Limits) (start : Told) (opening : Graph) (acts : List Recorded) (after : Told)
     (s : Status) where
-  began_stage : CannotBegin set name limits start s → IsOfRun s
+  began_stage : CannotBegin set name limits start after s → IsOfRun s
   began_stage c = elim c.cause [
     | inl lacks ↦ so_staged s (status.Full lacks.full) lacks.is tt
     | inr rest ↦ elim rest [
@@ -218,7 +218,9 @@ module _ (set : Linked) (name : List ℕ) (limits : Limits) (start : Told) (open
   -- what a call that had something to run came to is one of the statuses of runs
   pub of_run : SetEnds set name limits start opening acts after s → IsOfRun s
   of_run (inl (none, inl cannot)) = so_staged s (status_of_unopened cannot.why) cannot.is (unopened_stage cannot.why)
-  of_run (inl (none, inr cannot)) = began_stage cannot
+  of_run (inl (none, inr (inl cannot))) = began_stage cannot
+  of_run (inl (none, inr (inr (inl failed)))) = so_staged s status.ImageFault failed.is tt
+  of_run (inl (none, inr (inr (inr lacks)))) = so_staged s status.OutOfMemory lacks.is tt
   of_run (inr ran) = ran_stage ran
 
 -- a run doesn't end for want of memory

@@ -3,3 +3,4 @@ pub mod Causes
 pub mod Outside
 pub mod SetStops
 pub mod SetRan
+pub mod Unappended

@@ -1,5 +1,13 @@
 -- What a run of a class set over an image comes to, by what opening the image and running on it gave.
-use Rattle.std.proofs.Common.{◌≡◌, ◌⊎◌, inl, inr, ℕ, ◌-◌, List, [], ◌∷◌, Some, None, Ok, refl, sym, ◌∙◌, subst}
+use Rattle.std.proofs.Common.{◌≡◌, ◌⊎◌, inl, inr, ℕ, zero, suc, ◌+◌, ◌-◌, ◌<◌, ◌≤◌, List, [], ◌∷◌, Some, None, Ok, refl, sym}
+use Rattle.std.proofs.Common.{◌∙◌, subst, arith, length, slice_index_or, take}
+use Rattle.std.specs.Prelude.{sum_by}
+use Rattle.std.proofs.lemmas.List.Sums.{sum_by-cons}
+use Rattle.graph_model.specs.declared.types.Obj.{Obj}
+use Rattle.graph_model.specs.Heaps.{no_object}
+use Rattle.run_types.specs.declared.fault.Full.{Full}
+use Rattle.plain_model.specs.Limits.{words_of}
+use Rattle.directories.specs.Kept.{Kept}
 use Rattle.graph_model.specs.declared.types.Graph.{Graph}
 use Rattle.line_image.specs.Told.{Told}
 use Rattle.line_image.specs.Trace.{Outcome}
@@ -8,7 +16,7 @@ use Rattle.image_meaning.specs.Meaning.{empty_graph}
 use Rattle.run_types.specs.declared.limits.Limits.{Limits}
 use Rattle.run_history.specs.Recorded.{Recorded}
 use Rattle.plain_model.specs.Ends.{Ending, EndsAs, Fault, Uncaught, Finished}
-use Rattle.plain_model.specs.First.{first_known, first_objects}
+use Rattle.plain_model.specs.First.{first_heap, first_known, first_objects}
 use Rattle.class_set.specs.Linked.{Linked}
 use Rattle.class_set.specs.Facts.{facts_of}
 use Rattle.stop_theorem.specs.Stops.{IsAllowedImage}
@@ -33,73 +41,167 @@ use Rattle.program_launch.specs.declared.refusals.NoLaunch.TheVariants as no_lau
 use Rattle.one_space.specs.First.{LacksWords}
 use Rattle.set_opening.specs.declared.unopened.Unopened.{Unopened}
 use Rattle.set_opening.specs.Attached.{IsSettled}
-use Rattle.set_opening.specs.Opened.{IsOpenedFor}
-use Rattle.set_opening.specs.Unopened.{IsLeft, IsUnopened}
+use Rattle.set_opening.specs.declared.unopened.Unopened.TheVariants as unopened
+use Rattle.set_opening.specs.Opened.{IsFoundFor, IsOpenedFor}
+use Rattle.set_opening.specs.Unopened.{IsAttachFault, IsLeft, IsLeftAsFound, IsRecoveryFault, IsUnappended, IsUnopened}
+use Rattle.set_opening.proofs.Opened.{found_left}
 use Rattle.statuses.specs.declared.status.Status.{Status}
 use Rattle.statuses.specs.declared.status.Status.TheVariants as status
-use Rattle.autopersist.specs.Began.{RanBy, status_of_turned, status_of_unlaunched}
-use Rattle.autopersist.specs.Sets.{AsksMore, Ends, HasEndedSo, HasNoMain, IsOpenedSo, LacksFirstWords, SetRunsOver}
-use Rattle.autopersist.specs.Sets.{StandsAtStops, status_of_unopened}
+use Rattle.autopersist.specs.Began.{FindsRoom, RanBy, status_of_turned, status_of_unlaunched}
+use Rattle.autopersist.specs.Sets.{AsksMore, Ends, HasEndedSo, HasItsDirectory, HasNoMain, IsOfSet, IsOpenedSo, LacksFirstWords}
+use Rattle.autopersist.specs.Sets.{SetRunsOver, StandsAtStops, status_of_unopened}
+use Rattle.autopersist.proofs.Unappended.{its_directory}
 use Rattle.autopersist.proofs.SetStops.{stops_opened, stops_run, stops_unattached, stops_without}
 
--- ---- an image that couldn't be opened
+-- ---- an image that is given back
 
-module _ (set numbered : Linked) (start after : Told) (why : Unopened) where
+module _ (set : Linked) (start after : Told) where
   left_stops : (before m : Memory) (added : _) → IsLeft start after before m added → (opening : Graph) → IsSettled start
       → StandsAtStops set start opening [] after
   left_stops before m added left opening settled =
       subst (λ (t : Told). StandsAtStops set start opening [] t) (sym left.told)
       (stops_without start settled before left.attached set opening m added (left.stops settled.0))
 
+-- a set has no part in the faults of attaching and of recovery
+attached_without : (start : Told) (why : Unopened) → IsAttachFault start why → IsOfSet why → ⊥
+attached_without start (unopened.BadImage line reason) fault of = of
+attached_without start (unopened.ShapeChanged name) fault of = fault
+attached_without start (unopened.Full full) fault of = fault
+attached_without start unopened.ImageFailed fault of = of
+attached_without start unopened.OutOfMemory fault of = of
+
+recovered_without : (before m : Memory) (why : Unopened) → IsRecoveryFault before m why → IsOfSet why → ⊥
+recovered_without before m (unopened.BadImage line reason) fault of = of
+recovered_without before m (unopened.ShapeChanged name) fault of = fault
+recovered_without before m (unopened.Full full) fault of = fault
+recovered_without before m unopened.ImageFailed fault of = of
+recovered_without before m unopened.OutOfMemory fault of = of
+
+module _ (set numbered : Linked) (start after : Told) (why : Unopened) where
   unopened_size : IsUnopened start after set numbered why → after.size ≡ start.size
   unopened_size (inl (unattached, same)) = unattached.size
   unopened_size (inr (inl (unrecovered, same))) = unrecovered.left.size
-  unopened_size (inr (inr (inl unprepared))) = unprepared.left.size
-  unopened_size (inr (inr (inr unappended))) = unappended.left.size
+  unopened_size (inr (inr unprepared)) = unprepared.left.left.size
 
   unopened_stops : IsUnopened start after set numbered why → (opening : Graph) → IsSettled start
       → StandsAtStops set start opening [] after
   unopened_stops (inl (unattached, same)) opening settled =
       stops_unattached set start opening after settled.1 unattached.trace unattached.moments
-  unopened_stops (inr (inl (u, same))) opening settled = left_stops u.before u.memory [] u.left opening settled
-  unopened_stops (inr (inr (inl u))) opening settled = left_stops u.before u.memory [] u.left opening settled
-  unopened_stops (inr (inr (inr u))) opening settled = left_stops u.before u.memory u.added u.left opening settled
+  unopened_stops (inr (inl (u, same))) opening settled = left_stops set start after u.before u.memory [] u.left opening settled
+  unopened_stops (inr (inr u)) opening settled =
+      left_stops set start after u.left.before u.left.memory [] u.left.left opening settled
+
+  unopened_had : IsUnopened start after set numbered why → IsOfSet why → IsSettled start → HasItsDirectory start after
+  unopened_had (inl (unattached, same)) of settled = absurd (attached_without start why unattached.cause of)
+  unopened_had (inr (inl (u, same))) of settled = absurd (recovered_without u.before u.memory why u.cause of)
+  unopened_had (inr (inr u)) of settled = its_directory start settled after u.directory u.graph u.left
 
   pub unopened_ran : (name : List ℕ) (limits : Limits) → IsUnopened start after set numbered why
       → SetRunsOver set name limits start empty_graph [] after (status_of_unopened why)
-  unopened_ran name limits unopened = record {
-    size = unopened_size unopened;
-    ends = inl (refl, inl (record { numbered = numbered; why = why; unopened = unopened; is = refl }));
+  unopened_ran name limits is = record {
+    size = unopened_size is;
+    ends = inl (refl, inl (record { numbered = numbered; why = why; unopened = is; is = refl; unappended = unopened_had is }));
     unbegun = λ none. refl;
-    stops = unopened_stops unopened empty_graph;
+    stops = unopened_stops is empty_graph;
   }
 
 -- ---- a run that didn't begin
 
-module _ (set numbered : Linked) (start : Told) (m : Memory) (directory : _) (lines : List ℕ) (graph : Graph) (free : ℕ)
+module _ (set numbered : Linked) (start : Told) (m : Memory) (directory : Kept) (lines : List ℕ) (graph : Graph) (free : ℕ)
+    (is : IsFoundFor start set numbered m directory lines graph free) where
+  pub unbegun_ran : (name : List ℕ) (limits : Limits) (after : Told) (how : Status) → after ≡ m.image → after.size ≡ m.size
+      → LacksFirstWords numbered limits how ⊎ HasNoMain numbered name limits how ⊎ (how ≡ status.OutOfMemory)
+      → SetRunsOver set name limits start empty_graph [] after how
+  unbegun_ran name limits after how same size cause =
+      let left : IsLeftAsFound start after is.found is.stood =
+      found_left start is.before m is.found is.stood lines free is.found_is after size same in record {
+        size = left.left.size;
+        ends = inl (
+          refl,
+          inr (inl (record {
+            numbered = numbered;
+            left = record {
+              found = is.found;
+              directory = directory;
+              stood = is.stood;
+              graph = graph;
+              left = left;
+              fitted = is.fitted;
+            };
+            cause = cause;
+            unappended = λ settled. its_directory start settled after is.found is.stood left;
+          })),
+        );
+        unbegun = λ none. refl;
+        stops = left_stops set start after left.before left.memory [] left.left empty_graph;
+      }
+
+  -- the first objects find no room, or there is no memory
+  pub unfitted_ran : (name : List ℕ) (limits : Limits) (after : Told) (why : NoLaunch) → after ≡ m.image → after.size ≡ m.size
+      → IfFull why (LacksWords limits.heap_words (first_objects (facts_of numbered) empty_graph))
+      → SetRunsOver set name limits start empty_graph [] after (status_of_unlaunched why)
+  unfitted_ran name limits after (no_launch.Full full) same size lacks =
+      unbegun_ran name limits after (status.Full full) same size (inl (record { full = full; is = refl; lacks = lacks }))
+  unfitted_ran name limits after no_launch.OutOfMemory same size lacks =
+      unbegun_ran name limits after status.OutOfMemory same size (inr (inr refl))
+
+-- it failed while entries were appended
+pub unappended_ran : (set numbered : Linked) (name : List ℕ) (limits : Limits) (start after : Told)
+    → IsUnappended start after set numbered
+    → SetRunsOver set name limits start empty_graph [] after status.ImageFault
+unappended_ran set numbered name limits start after u = record {
+  size = u.left.size;
+  ends = inl (refl, inr (inr (inl (record { numbered = numbered; unappended = u; is = refl }))));
+  unbegun = λ none. refl;
+  stops = left_stops set start after u.before u.memory u.added u.left empty_graph;
+}
+
+-- objects for which there is room don't lack words
+sum_up_to : (objects : List Obj) (n : ℕ) → n < length objects
+    → sum_by words_of (take n objects) + words_of (slice_index_or objects n no_object) ≤ sum_by words_of objects
+sum_up_to [] n below = absurd (omega (arith, below))
+sum_up_to (o ∷ os) zero below = let all = sum_by-cons words_of o os in omega (arith, all)
+sum_up_to (o ∷ os) (suc n) below =
+    let more = sum_up_to os n (omega (arith, below)) in
+    let all = sum_by-cons words_of o os in
+    let front = sum_by-cons words_of o (take n os) in
+    omega (arith, more, all, front)
+
+never_lacks : (words : ℕ) (objects : List Obj) (full : Full) → sum_by words_of objects ≤ words → LacksWords words objects full → ⊥
+never_lacks words objects full fits lacks =
+    let up = sum_up_to objects lacks.n lacks.there in
+    let short = lacks.short in
+    omega (arith, fits, up, short)
+
+room_summed : (set : Linked) (limits : Limits) → FindsRoom set limits
+    → sum_by words_of (first_objects (facts_of set) empty_graph) ≤ limits.heap_words
+unfolding first_heap
+room_summed set limits fits = fits empty_graph
+
+module _ (set numbered : Linked) (start : Told) (m : Memory) (directory : Kept) (lines : List ℕ) (graph : Graph) (free : ℕ)
     (opened : IsOpenedFor start set numbered m directory lines graph free) where
   abbrev pub opened_so : IsOpenedSo set start graph
   opened_so = record { numbered = numbered; memory = m; directory = directory; lines = lines; free = free; opened = opened }
 
-  pub unbegun_ran : (name : List ℕ) (limits : Limits) (after : Told) (how : Status) → after ≡ m.image → after.size ≡ m.size
-      → LacksFirstWords numbered limits how ⊎ HasNoMain numbered name limits graph how ⊎ (how ≡ status.OutOfMemory)
-      → SetRunsOver set name limits start empty_graph [] after how
-  unbegun_ran name limits after how same size cause = record {
+  -- there is no memory
+  pub unstarted_ran : (name : List ℕ) (limits : Limits) (after : Told) → after ≡ m.image → after.size ≡ m.size
+      → SetRunsOver set name limits start empty_graph [] after status.OutOfMemory
+  unstarted_ran name limits after same size = record {
     size = size ∙ opened.ready.same_size;
-    ends = inl (refl, inr (record { graph = graph; of = opened_so; cause = cause }));
+    ends = inl (refl, inr (inr (inr (record { graph = graph; of = opened_so; is = refl }))));
     unbegun = λ none. refl;
     stops = λ settled. subst (λ (t : Told). StandsAtStops set start empty_graph [] t) (sym same)
         (stops_opened start settled set numbered m directory lines graph free opened empty_graph);
   }
 
-  -- the first heap finds no room, or there is no memory
+  -- nor is there one for the first heap, whose objects find room
   pub unlaunched_ran : (name : List ℕ) (limits : Limits) (after : Told) (why : NoLaunch) → after ≡ m.image → after.size ≡ m.size
+      → FindsRoom numbered limits
       → IfFull why (LacksWords limits.heap_words (first_objects (facts_of numbered) empty_graph))
       → SetRunsOver set name limits start empty_graph [] after (status_of_unlaunched why)
-  unlaunched_ran name limits after (no_launch.Full full) same size lacks =
-      unbegun_ran name limits after (status.Full full) same size (inl (record { full = full; is = refl; lacks = lacks }))
-  unlaunched_ran name limits after no_launch.OutOfMemory same size lacks =
-      unbegun_ran name limits after status.OutOfMemory same size (inr (inr refl))
+  unlaunched_ran name limits after (no_launch.Full full) same size fits lacks =
+      absurd (never_lacks limits.heap_words (first_objects (facts_of numbered) empty_graph) full (room_summed numbered limits fits) lacks)
+  unlaunched_ran name limits after no_launch.OutOfMemory same size fits lacks = unstarted_ran name limits after same size
 
 -- ---- a run
 

@@ -61,7 +61,7 @@ with_first size graph entries c of = (take of.0 entries, of.2)
 
 module _ (start : Told) (settled : IsSettled start) (before : Memory) (attached : IsAttached start before) where
   -- what a settled image leaves is what is shown
-  as_shown : (c : Outcome) → LeavesNow start.trace c → (l w : ℕ) → l < before.size → c l w ≡ shown before l w
+  pub as_shown : (c : Outcome) → LeavesNow start.trace c → (l w : ℕ) → l < before.size → c l w ≡ shown before l w
   as_shown c left l w below =
       let size = attached.size in
       fenced_as_read start.trace settled.0 settled.1 c left l w (shown before l w)

@@ -1,10 +1,14 @@
 -- The statuses of a run that doesn't begin, and of one by its last turn; and what a run leaves.
-use Rattle.std.specs.Prelude.{◌≡◌, ◌≢◌, ℕ, List, [], Some, None}
+use Rattle.std.specs.Prelude.{◌≡◌, ◌≢◌, ◌≤◌, ℕ, List, [], Some, None}
 use Rattle.graph_model.specs.declared.types.Graph.{Graph}
 use Rattle.line_image.specs.Told.{Told}
 use Rattle.image_meaning.specs.Meaning.{empty_graph}
 use Rattle.run_history.specs.Recorded.{Recorded}
+use Rattle.run_types.specs.declared.limits.Limits.{Limits}
+use Rattle.plain_model.specs.First.{first_heap}
+use Rattle.plain_model.specs.Limits.{words_taken}
 use Rattle.class_set.specs.Linked.{Linked}
+use Rattle.class_set.specs.Facts.{facts_of}
 use Rattle.durable_launch.specs.Passed.{Opening, memory_of}
 use Rattle.durable_launch.specs.Passed.{Shared}
 use Rattle.durable_launch.specs.Passed.{fault_of_halt}
@@ -16,6 +20,10 @@ use Rattle.program_launch.specs.declared.refusals.NoLaunch.TheVariants as no_lau
 use Rattle.statuses.specs.Names.{fault_status, uncaught_in}
 use Rattle.statuses.specs.declared.status.Status.{Status}
 use Rattle.statuses.specs.declared.status.Status.TheVariants as status
+
+-- The first objects of the set find room within the limits, whichever graph the image stands for.
+abbrev pub FindsRoom : Linked → Limits → Type 0
+FindsRoom set limits = (graph : Graph) → words_taken graph (first_heap (facts_of set) graph) ≤ limits.heap_words
 
 abbrev pub status_of_unlaunched : NoLaunch → Status
 status_of_unlaunched (no_launch.Full full) = status.Full full

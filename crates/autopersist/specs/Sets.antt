@@ -8,6 +8,7 @@ use Rattle.line_image.specs.Trace.{Outcome, LeavesNow, LeftWithin}
 use Rattle.line_memory.specs.Memory.{Memory}
 use Rattle.image_meaning.specs.Appending.{with_all_too}
 use Rattle.image_meaning.specs.Checks.{Words}
+use Rattle.image_meaning.specs.Directories.{Directory}
 use Rattle.image_meaning.specs.Entries.{DirectoryEntry}
 use Rattle.image_meaning.specs.Laws.{Opens}
 use Rattle.image_meaning.specs.Meaning.{StandsFor, empty_graph}
@@ -42,7 +43,8 @@ use Rattle.set_opening.specs.declared.unopened.Unopened.{Unopened}
 use Rattle.set_opening.specs.declared.unopened.Unopened.TheVariants as unopened
 use Rattle.set_opening.specs.Attached.{AreRead, IsSettled}
 use Rattle.set_opening.specs.Opened.{IsOpenedFor}
-use Rattle.set_opening.specs.Unopened.{IsUnopened}
+use Rattle.set_opening.specs.Found.{IsDirectoryIn}
+use Rattle.set_opening.specs.Unopened.{IsUnappended, IsUnbegun, IsUnopened}
 use Rattle.statuses.specs.Names.{fault_status, main_text, shortened, uncaught_in}
 use Rattle.statuses.specs.declared.status.Status.{Status}
 use Rattle.statuses.specs.declared.status.Status.TheVariants as status
@@ -67,12 +69,35 @@ status_of_unopened (unopened.Full full) = status.Full full
 status_of_unopened unopened.ImageFailed = status.ImageFault
 status_of_unopened unopened.OutOfMemory = status.OutOfMemory
 
+-- Nothing was appended to the image. A stop within any call, or after the last one, leaves only images that stand for the
+-- very graph for which it stood; and at the end it opens with the directory that it had, a blank one with none.
+pub record HasItsDirectory (start after : Told) : Type 0 where
+  pub words : Words
+  pub read : AreRead start words
+  pub directory : Directory
+  pub had : IsDirectoryIn words directory
+  pub graph : Graph
+  pub stood : StandsFor start.size words graph
+  pub within : (n : ℕ) → 0 < n → start.calls + n ≤ after.calls → start.calls + n < 2 ^ 64 - 1
+      → (c : Outcome) → LeftWithin after.trace (start.calls + n) c → StandsFor start.size c graph
+  pub now : (c : Outcome) → LeavesNow after.trace c → StandsFor start.size c graph
+  pub opens : (c : Outcome) → LeavesNow after.trace c → Opens start.size c directory
+
+-- the causes for which an image that was found isn't made ready for the set
+abbrev pub IsOfSet : Unopened → Type 0
+IsOfSet (unopened.BadImage line reason) = ⊥
+IsOfSet (unopened.ShapeChanged name) = Unit {0}
+IsOfSet (unopened.Full full) = Unit {0}
+IsOfSet unopened.ImageFailed = ⊥
+IsOfSet unopened.OutOfMemory = ⊥
+
 -- It couldn't be opened.
 pub record CannotOpen (set : Linked) (start after : Told) (how : Status) : Type 0 where
   pub numbered : Linked
   pub why : Unopened
   pub unopened : IsUnopened start after set numbered why
   pub is : how ≡ status_of_unopened why
+  pub unappended : IsOfSet why → IsSettled start → HasItsDirectory start after
 
 -- ---- the run doesn't begin
 
@@ -88,17 +113,36 @@ kind_of Class = MissingClass
 kind_of Method = MissingMethod
 
 -- The first objects find room, and the set has no class of this name, or it finds no static `main` from it on.
-pub record HasNoMain (set : Linked) (name : List ℕ) (limits : Limits) (graph : Graph) (how : Status) : Type 0 where
-  pub fits : words_taken graph (first_heap (facts_of set) graph) ≤ limits.heap_words
+pub record HasNoMain (set : Linked) (name : List ℕ) (limits : Limits) (how : Status) : Type 0 where
+  pub fits : (graph : Graph) → words_taken graph (first_heap (facts_of set) graph) ≤ limits.heap_words
   pub none : NoMain
   pub missing : main_of set name ≡ Err none
   pub is : how ≡ status.LinkFault (kind_of none) (shortened (main_text (kind_of none) name))
 
--- Once the image was opened, the first words were looked for, and then `main`; memory may run out before the first turn.
-pub record CannotBegin (set : Linked) (name : List ℕ) (limits : Limits) (start : Told) (how : Status) : Type 0 where
+-- Once the image was found and made ready, the first words were looked for, and then `main`; memory may run out before.
+-- Nothing was appended to the image.
+pub record CannotBegin (set : Linked) (name : List ℕ) (limits : Limits) (start after : Told) (how : Status) : Type 0 where
+  pub numbered : Linked
+  pub left : IsUnbegun start after set numbered
+  pub cause : LacksFirstWords numbered limits how ⊎ HasNoMain numbered name limits how ⊎ (how ≡ status.OutOfMemory)
+  pub unappended : IsSettled start → HasItsDirectory start after
+
+-- Then the image failed, while what it lacked of the set's entries was appended.
+pub record CannotAppend (set : Linked) (start after : Told) (how : Status) : Type 0 where
+  pub numbered : Linked
+  pub unappended : IsUnappended start after set numbered
+  pub is : how ≡ status.ImageFault
+
+-- Once it was opened, memory ran out before the first turn.
+pub record LacksMemory (set : Linked) (start : Told) (how : Status) : Type 0 where
   pub graph : Graph
   pub of : IsOpenedSo set start graph
-  pub cause : LacksFirstWords of.numbered limits how ⊎ HasNoMain of.numbered name limits graph how ⊎ (how ≡ status.OutOfMemory)
+  pub is : how ≡ status.OutOfMemory
+
+-- No turn came of it.
+abbrev pub IsUnrun : Linked → (name : List ℕ) → Limits → Told → Told → Status → Type 0
+IsUnrun set name limits start after how = CannotOpen set start after how ⊎ CannotBegin set name limits start after how
+    ⊎ CannotAppend set start after how ⊎ LacksMemory set start how
 
 -- ---- how the run ends
 
@@ -145,7 +189,7 @@ pub record HasEndedSo (set : Linked) (name : List ℕ) (limits : Limits) (start 
 -- What the call came to.
 abbrev pub SetEnds : Linked → (name : List ℕ) → Limits → Told → Graph → List Recorded → Told → Status → Type 0
 SetEnds set name limits start opening acts after how =
-    ((acts ≡ []) × (CannotOpen set start after how ⊎ CannotBegin set name limits start how))
+    ((acts ≡ []) × IsUnrun set name limits start after how)
     ⊎ HasEndedSo set name limits start opening acts how
 
 -- ---- stops

@@ -1,17 +1,19 @@
 // The run of a class set over an image, from its opening on.
-ghost use Rattle.std.specs.Prelude.{◌≡◌, ℕ, []};
+ghost use Rattle.std.specs.Prelude.{◌≡◌, ℕ, [], Ok};
 ghost use Rattle.ap_base.specs.Causes.{Rose};
 ghost use Rattle.line_image.specs.Told.{Told};
 ghost use Rattle.image_meaning.specs.Meaning.{empty_graph};
 ghost use Rattle.class_set.specs.Linked.{Linked};
 ghost use Rattle.class_set.specs.Facts.{facts_of};
-ghost use Rattle.set_opening.specs.Opened.{IsOpenedFor};
+ghost use Rattle.plain_model.specs.Duties.{IsClass};
+ghost use Rattle.program_launch.specs.Mains.{main_of};
+ghost use Rattle.set_opening.specs.Opened.{IsFoundFor, IsOpenedFor};
 ghost use Rattle.durable_launch.specs.Launching.{CanLaunch};
 ghost use Rattle.durable_launch.specs.Passed.{IsReady};
 ghost use Rattle.durable_launch.specs.Passed.{Opening, memory_of};
 ghost use Rattle.program_host.specs.Hosts.{setting_in};
 ghost use Rattle.autopersist.specs.Sets.{SetRunsOver, kind_of, status_of_unopened};
-ghost use Rattle.autopersist.specs.Began.{RanBy, status_of_turned, status_of_unlaunched};
+ghost use Rattle.autopersist.specs.Began.{FindsRoom, RanBy, status_of_turned, status_of_unlaunched};
 ghost use Rattle.autopersist.specs.TopCall.{Tells};
 
 use crate::ran::{Ran, no_graph, unbegun};
@@ -22,10 +24,10 @@ use durable_launch::{
 };
 use graph_model::Graph;
 use line_image::Image;
-use program_launch::{NoLaunch, NoMain, find_main};
+use program_launch::{Main, NoLaunch, NoMain, find_main, find_room};
 use run_history::{Acts, Watcher};
 use run_types::{Limits, LinkKind};
-use set_opening::{OpenedImage, Unopened, open_for};
+use set_opening::{FoundImage, OpenedImage, Unopened, complete, find_for};
 use set_types::SetTypes;
 use statuses::{NameRoom, Status, main_status, status_of_fault, uncaught_status};
 use std::alloc::Global;
@@ -105,19 +107,127 @@ pub(crate) fn run_set<I: Image, S: Sink, G: Gate, W: Watcher>(
     ensures image_fault { result.status ≡ Status.ImageFault
         → Rose (I.faults image) (I.faults result.image) }
 {
-    match open_for(alloc, &mut set, image) {
-        Ok(opened) => run_opened(
-            alloc, &set, class, limits, room, opened, sink, gate, watcher,
-        ),
+    match find_for(alloc, &mut set, image) {
+        Ok(found) => run_found(alloc, &set, class, limits, room, found, sink, gate, watcher),
         Err((why, image)) => unbegun(alloc, of_unopened(why), image, sink, watcher),
     }
 }
 
-// Runs a set over an image that was opened for it.
+// Runs a set over an image that was found for it, where its first objects find room.
+fn run_found<I: Image, S: Sink, G: Gate, W: Watcher>(
+    alloc: Global,
+    set: &ClassSet,
+    class: &[u8],
+    limits: &Limits,
+    room: NameRoom,
+    found: FoundImage<I>,
+    sink: S,
+    gate: &G,
+    watcher: W,
+) -> Ran<I, S, W>
+    requires found { (start : Told) × (old : Linked) × IsFoundFor start old set.now
+        found.memory found.directory found.lines found.graph found.free }
+    ensures ran { (start : Told) (old : Linked) → IsFoundFor start old set.now
+        found.memory found.directory found.lines found.graph found.free
+        → SetRunsOver old class.now limits.now start result.opening result.acts.acts
+        (I.told result.image) result.status }
+    ensures told { Tells result.acts.acts (W.seen watcher) (W.seen result.watcher)
+        (S.taken sink) (S.taken result.sink) }
+    ensures sink_fault { result.status ≡ Status.SinkFault
+        → Rose (S.faults sink) (S.faults result.sink) }
+    ensures image_fault { result.status ≡ Status.ImageFault
+        → Rose found.memory.faults (I.faults result.image) }
+{
+    match find_room(alloc, set, limits.heap_words) {
+        Ok(()) => run_main(alloc, set, class, limits, room, found, sink, gate, watcher),
+        Err(why) => {
+            let image = found.memory.into_image();
+            unbegun(alloc, of_unlaunched(why), image, sink, watcher)
+        }
+    }
+}
+
+// Runs a set over an image that was found for it, where its main class has a `main`.
+fn run_main<I: Image, S: Sink, G: Gate, W: Watcher>(
+    alloc: Global,
+    set: &ClassSet,
+    class: &[u8],
+    limits: &Limits,
+    room: NameRoom,
+    found: FoundImage<I>,
+    sink: S,
+    gate: &G,
+    watcher: W,
+) -> Ran<I, S, W>
+    requires found { (start : Told) × (old : Linked) × IsFoundFor start old set.now
+        found.memory found.directory found.lines found.graph found.free }
+    requires fits { FindsRoom set.now limits.now }
+    ensures ran { (start : Told) (old : Linked) → IsFoundFor start old set.now
+        found.memory found.directory found.lines found.graph found.free
+        → SetRunsOver old class.now limits.now start result.opening result.acts.acts
+        (I.told result.image) result.status }
+    ensures told { Tells result.acts.acts (W.seen watcher) (W.seen result.watcher)
+        (S.taken sink) (S.taken result.sink) }
+    ensures sink_fault { result.status ≡ Status.SinkFault
+        → Rose (S.faults sink) (S.faults result.sink) }
+    ensures image_fault { result.status ≡ Status.ImageFault
+        → Rose found.memory.faults (I.faults result.image) }
+{
+    match find_main(set, class) {
+        Ok(main) => run_complete(
+            alloc, set, class, &main, limits, room, found, sink, gate, watcher,
+        ),
+        Err(none) => {
+            let status = main_status(kind_of(none), class, room);
+            let image = found.memory.into_image();
+            unbegun(alloc, status, image, sink, watcher)
+        }
+    }
+}
+
+// Appends what an image lacks of a set, and runs the set over it from this main method on.
+fn run_complete<I: Image, S: Sink, G: Gate, W: Watcher>(
+    alloc: Global,
+    set: &ClassSet,
+    class: &[u8],
+    main: &Main,
+    limits: &Limits,
+    room: NameRoom,
+    found: FoundImage<I>,
+    sink: S,
+    gate: &G,
+    watcher: W,
+) -> Ran<I, S, W>
+    requires found { (start : Told) × (old : Linked) × IsFoundFor start old set.now
+        found.memory found.directory found.lines found.graph found.free }
+    requires fits { FindsRoom set.now limits.now }
+    requires main { main_of set.now class.now ≡ Ok main.now }
+    requires there { IsClass (facts_of set.now) main.now.class }
+    ensures ran { (start : Told) (old : Linked) → IsFoundFor start old set.now
+        found.memory found.directory found.lines found.graph found.free
+        → SetRunsOver old class.now limits.now start result.opening result.acts.acts
+        (I.told result.image) result.status }
+    ensures told { Tells result.acts.acts (W.seen watcher) (W.seen result.watcher)
+        (S.taken sink) (S.taken result.sink) }
+    ensures sink_fault { result.status ≡ Status.SinkFault
+        → Rose (S.faults sink) (S.faults result.sink) }
+    ensures image_fault { result.status ≡ Status.ImageFault
+        → Rose found.memory.faults (I.faults result.image) }
+{
+    match complete(found) {
+        Ok(opened) => run_opened(
+            alloc, set, class, main, limits, room, opened, sink, gate, watcher,
+        ),
+        Err(image) => unbegun(alloc, Status::ImageFault, image, sink, watcher),
+    }
+}
+
+// Runs a set over an image that was opened for it, from this main method on.
 fn run_opened<I: Image, S: Sink, G: Gate, W: Watcher>(
     alloc: Global,
     set: &ClassSet,
     class: &[u8],
+    main: &Main,
     limits: &Limits,
     room: NameRoom,
     opened: OpenedImage<I>,
@@ -127,6 +237,9 @@ fn run_opened<I: Image, S: Sink, G: Gate, W: Watcher>(
 ) -> Ran<I, S, W>
     requires opened { (start : Told) × (old : Linked) × IsOpenedFor start old set.now
         opened.memory opened.directory opened.lines opened.graph opened.free }
+    requires fits { FindsRoom set.now limits.now }
+    requires main { main_of set.now class.now ≡ Ok main.now }
+    requires there { IsClass (facts_of set.now) main.now.class }
     ensures ran { (start : Told) (old : Linked) → IsOpenedFor start old set.now
         opened.memory opened.directory opened.lines opened.graph opened.free
         → SetRunsOver old class.now limits.now start result.opening result.acts.acts
@@ -139,7 +252,9 @@ fn run_opened<I: Image, S: Sink, G: Gate, W: Watcher>(
         → Rose opened.memory.faults (I.faults result.image) }
 {
     match open_heap(alloc, set, opened, limits.heap_words) {
-        Ok(heap) => run_heap(alloc, set, class, limits, room, heap, sink, gate, watcher),
+        Ok(heap) => run_heap(
+            alloc, set, class, main, limits, room, heap, sink, gate, watcher,
+        ),
         Err((why, memory)) => {
             unbegun(
                 alloc,
@@ -152,11 +267,12 @@ fn run_opened<I: Image, S: Sink, G: Gate, W: Watcher>(
     }
 }
 
-// Runs a set from the first heap over an opened image, where its main class has a `main`.
+// Runs a set from the first heap over an opened image, from this main method on.
 fn run_heap<I: Image, S: Sink, G: Gate, W: Watcher>(
     alloc: Global,
     set: &ClassSet,
     class: &[u8],
+    main: &Main,
     limits: &Limits,
     room: NameRoom,
     heap: OpenedHeap<I>,
@@ -166,6 +282,8 @@ fn run_heap<I: Image, S: Sink, G: Gate, W: Watcher>(
 ) -> Ran<I, S, W>
     requires can { (start : Told) × (old : Linked)
         × CanLaunch start old set.now limits.now.heap_words heap }
+    requires main { main_of set.now class.now ≡ Ok main.now }
+    requires there { IsClass (facts_of set.now) main.now.class }
     ensures ran { (start : Told) (old : Linked)
         → CanLaunch start old set.now limits.now.heap_words heap
         → SetRunsOver old class.now limits.now start result.opening result.acts.acts
@@ -178,15 +296,7 @@ fn run_heap<I: Image, S: Sink, G: Gate, W: Watcher>(
         → Rose heap.spaces.heap.memory.faults (I.faults result.image) }
 {
     each_stop_is_allowed();
-    let main = match find_main(set, class) {
-        Ok(main) => main,
-        Err(none) => {
-            let status = main_status(kind_of(none), class, room);
-            let image = heap.spaces.heap.memory.into_image();
-            return unbegun(alloc, status, image, sink, watcher);
-        }
-    };
-    match launch(alloc, set, &main, heap, limits) {
+    match launch(alloc, set, main, heap, limits) {
         Ok(launched) => run_launched(alloc, set, room, launched, sink, gate, watcher),
         Err(memory) => unbegun(
             alloc,

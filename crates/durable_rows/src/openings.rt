@@ -257,3 +257,34 @@ fn small_images_are_none(rt: HostRuntime) -> Result<(), Fail> {
     }
     Ok(())
 }
+
+/// A class Main that returns at once, beside a class Helper.
+const WITH_HELPER: &str =
+    ".class Helper\n.super java/lang/Object\n.class Main\n.super java/lang/Object\n\
+    .method main ([Ljava/lang/String;)V 6 4 static\nreturn\n.end\n";
+
+/// What the first run on a blank image asks for, and how it is refused.
+type Refusal = (&'static str, &'static str);
+
+/// A class that isn't there, and one without `main`.
+static REFUSALS: [Refusal; 2] = [
+    ("Mian", "autopersist: link MissingClass Mian\n"),
+    (
+        "Helper",
+        "autopersist: link MissingMethod Helper.main([Ljava/lang/String;)V\n",
+    ),
+];
+
+/// A run that is refused before it begins appends nothing to a blank image: then another set runs on it, without the
+/// class Helper.
+#[test]
+fn refused_runs_leave_blank_images_to_other_sets(rt: HostRuntime) -> Result<(), Fail> {
+    for (class, text) in &REFUSALS {
+        let refused = run_class(&rt, rt.alloc(), class, WITH_HELPER, blank(rt.alloc())?)?;
+        let is_told = has_output(rt.alloc(), &refused, text)?;
+        let other = run_class(&rt, rt.alloc(), "Main", EMPTY, refused.image)?;
+        let has_run = has_output(rt.alloc(), &other, "")?;
+        assert!(rt; is_told && has_run, "{class}");
+    }
+    Ok(())
+}

@@ -1,7 +1,7 @@
 -- Entries that are put back one after another.
-use Rattle.std.proofs.Common.{◌≡◌, ◌⊎◌, inl, inr, ⊎_elim, ◌<◌, ◌≤◌, ◌/◌, ◌%◌, ◌&&◌, ◌||◌, ◌==◌, ℕ, suc, Bool, true, false, List}
-use Rattle.std.proofs.Common.{[], ◌∷◌, ◌++◌, length, drop, nat_le, nat_lt, None, Result, Ok, Err, OnOk, ◌+◌, add-one, refl, sym}
-use Rattle.std.proofs.Common.{◌∙◌, ap, subst, arith}
+use Rattle.std.proofs.Common.{◌≡◌, ◌⊎◌, inl, inr, ⊎_elim, ◌<◌, ◌≤◌, ◌/◌, ◌%◌, ◌&&◌, ◌||◌, ◌==◌, ℕ, zero, suc, Bool, true, false}
+use Rattle.std.proofs.Common.{List, [], ◌∷◌, ◌++◌, length, drop, nat_le, nat_lt, None, Some, get_or, Result, Ok, Err, OnOk, ◌+◌}
+use Rattle.std.proofs.Common.{add-one, refl, sym, ◌∙◌, ap, subst, arith}
 use Rattle.std.proofs.lemmas.Bool.{cases_eq, and_parts, eq-eqb, eqb-true, leb-true, ltb-true, le-leb, lt-ltb, true≢false}
 use Rattle.std.proofs.lemmas.List.FromFn.{length-map-range_with_len, get_or-map-range_with_len}
 use Rattle.std.proofs.Math.ListN.{drop_of_length-le}
@@ -11,14 +11,15 @@ use Rattle.image_layout.specs.Places.{min_lines, logs, log_entries, root_slots, 
 use Rattle.image_layout.specs.Places.{log_entry_line, log_entry_word}
 use Rattle.image_meaning.specs.Checks.{Words}
 use Rattle.image_meaning.specs.Logs.{Logged, log_count, logged_at, log_of, logs_below, may_be_logged, logs_fault, is_place}
-use Rattle.image_meaning.specs.Logs.{is_log_line, put_back, put_each}
+use Rattle.image_meaning.specs.Logs.{old_word, is_log_line, put_back, put_each}
 use Rattle.image_meaning.proofs.Logs.{not_log_before, not_log_after}
+use Rattle.image_meaning.proofs.Naming.{some_log}
 use Rattle.image_meaning.proofs.Places.{log_passes, entry_passes}
 use Rattle.image_meaning.proofs.PuttingBack.{counted-put_back}
 use Rattle.image_meaning.proofs.Stopped.{logs_pass}
 use Rattle.word_changes.specs.Changes.{Tells, AllKnown, Nothing, IsGiven, ChangesTo}
 use Rattle.word_changes.proofs.Changing.{changes_nothing, changes_nowhere, changes_more, changes_weaker}
-use Rattle.image_recovery.specs.Putting.{IsPutBack, IsClearedAt, IsCleared, AllWritten, AllDurable, IsPutting}
+use Rattle.image_recovery.specs.Putting.{LogsSay, IsPutBack, IsClearedAt, IsCleared, AllWritten, AllDurable, IsPutting}
 
 -- ---- entries that pass
 
@@ -45,14 +46,51 @@ logged_line size line enough may = elim (or_parts (nat_le (slot_line 0) line && 
 pub counted_few : (size : ℕ) (c : Words) (t : ℕ) → logs_fault size c ≡ None → t < logs → log_count c t ≤ log_entries
 counted_few size c t pass there = (log_passes size c t (logs_pass size c pass t there)).0
 
+-- a place that an entry has is named
+named_at : (entries : List Logged) (none : Logged) (k line word : ℕ) → k < length entries
+    → is_place (get_or entries k none).place line word ≡ true → (o : ℕ) × (old_word entries line word ≡ Some o)
+named_at [] none k line word below is = absurd (omega (arith, below))
+named_at (e ∷ entries) none zero line word below is = (e.old, rw is refl)
+named_at (e ∷ entries) none (suc k) line word below is = elim (true_or (is_place e.place line word)) [
+  | inl here ↦ (e.old, rw here refl)
+  | inr other ↦ (
+      let rest = named_at entries none k line word (omega (arith, below)) is in
+      (rest.0, rw other rest.1))
+]
+
+-- what the logs say of a word is what it has once they are put back
+pub said : (c : Words) (l w v : ℕ) → is_log_line l ≡ false → LogsSay c l w v → v ≡ put_back c l w
+unfolding put_back
+said c l w v outside says = rw (outside, says) refl
+
+-- the logs say of the place of an entry that counts what the entry does
+entry_said : (size : ℕ) (c : Words) (t n : ℕ) → logs_fault size c ≡ None → t < logs → n < log_count c t
+    → is_log_line ((logged_at c t n).place / 8) ≡ false
+    → LogsSay c ((logged_at c t n).place / 8) ((logged_at c t n).place % 8) (logged_at c t n).old
+entry_said size c t n pass there below outside =
+    let entry = logged_at c t n in
+    let none : Logged = record { place = 0; old = 0 } in
+    let count : length (log_of c t) ≡ log_count c t = length-map-range_with_len (logged_at c t) 0 (log_count c t) in
+    let at : get_or (log_of c t) n none ≡ entry =
+    get_or-map-range_with_len (logged_at c t) 0 (log_count c t) n n none below (omega arith) in
+    let here = named_at (log_of c t) none n (entry.place / 8) (entry.place % 8) (omega (arith, below, count))
+    (subst (λ (e : Logged). is_place e.place (entry.place / 8) (entry.place % 8) ≡ true) (sym at) (own_place entry.place)) in
+    let named = some_log c (entry.place / 8) (entry.place % 8) (t, there, here) in
+    let old : named.0 ≡ entry.old =
+    said c (entry.place / 8) (entry.place % 8) named.0 outside named.1 ∙ counted-put_back.each size c t n pass there below in
+    named.1 ∙ ap (λ (k : ℕ). Some k) old
+  where
+    own_place : (p : ℕ) → is_place p (p / 8) (p % 8) ≡ true
+    own_place p = rw (eq-eqb (p / 8) (p / 8) refl, eq-eqb (p % 8) (p % 8) refl) refl
+
 -- the place of an entry that counts
 pub entry_facts : (size : ℕ) (c : Words) (t n : ℕ) → min_lines ≤ size → logs_fault size c ≡ None → t < logs → n < log_count c t
     → ((logged_at c t n).place / 8 < size) × (is_log_line ((logged_at c t n).place / 8) ≡ false)
-    × (put_back c ((logged_at c t n).place / 8) ((logged_at c t n).place % 8) ≡ (logged_at c t n).old)
+    × LogsSay c ((logged_at c t n).place / 8) ((logged_at c t n).place % 8) (logged_at c t n).old
 entry_facts size c t n enough pass there below =
     let entry = entry_passes size c t n ((log_passes size c t (logs_pass size c pass t there)).1 n below) in
     let line = logged_line size ((logged_at c t n).place / 8) enough entry.0 in
-    (line.0, line.1, counted-put_back.each size c t n pass there below)
+    (line.0, line.1, entry_said size c t n pass there below line.1)
 
 -- the entries of a log from one on
 pub log_step : (c : Words) (t n : ℕ) → n < log_count c t → drop n (log_of c t) ≡ logged_at c t n ∷ drop (suc n) (log_of c t)
@@ -101,13 +139,14 @@ nothing_put c done first a b changes so_far = record {
 }
 
 module _ (c : Words) (done : List Logged) (first a b d : Memory) (place old : ℕ) (below : place / 8 < a.size)
-    (outside : is_log_line (place / 8) ≡ false) (gives : put_back c (place / 8) (place % 8) ≡ old)
+    (outside : is_log_line (place / 8) ≡ false) (says : LogsSay c (place / 8) (place % 8) old)
     (so_far : IsPutting c done first a) (puts : ChangesTo (IsGiven (place / 8) (place % 8) old) a b) (last : ChangesTo Nothing b d) where
   back : ChangesTo (IsPutBack c) a b
   back = changes_weaker (IsGiven (place / 8) (place % 8) old) (IsPutBack c) a b
       (λ l w v given. (
         ap is_log_line given.0 ∙ outside,
-        given.2 ∙ sym gives ∙ ap (λ (k : ℕ). put_back c k (place % 8)) (sym given.0) ∙ ap (λ (k : ℕ). put_back c l k) (sym given.1),
+        ap (λ (k : ℕ). old_word (logs_below c logs) k w) given.0
+            ∙ ap (λ (k : ℕ). old_word (logs_below c logs) (place / 8) k) given.1 ∙ says ∙ ap (λ (k : ℕ). Some k) (sym given.2),
       )) puts
 
   pub put_changes : ChangesTo (IsPutBack c) first d

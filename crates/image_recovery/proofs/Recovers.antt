@@ -1,6 +1,7 @@
 -- What is found in an image that is recovered, and what stops meanwhile leave.
-use Rattle.std.proofs.Common.{◌≡◌, ◌≢◌, inl, inr, ⊎_elim, ◌<◌, ◌≤◌, ℕ, nat_le, List, None, Result, Ok, Err, IfOk, IfErr, OnOk}
-use Rattle.std.proofs.Common.{refl, sym, ◌∙◌, ap, subst, arith}
+use Rattle.std.proofs.Common.{◌≡◌, ◌≢◌, inl, inr, ⊎_elim, ◌<◌, ◌≤◌, ℕ, nat_le, List, Option, None, Result, Ok, Err, IfOk, IfErr}
+use Rattle.std.proofs.Common.{OnOk, refl, sym, ◌∙◌, ap, subst, arith}
+use Rattle.std.specs.Prelude.{is_some, is_err, IsSome, IsErr}
 use Rattle.std.proofs.lemmas.Bool.{and_parts, cases_eq, cases_lt, eq-eqb, leb-true, ne_eqb, true≢false}
 use Rattle.ap_base.specs.Causes.{Rose}
 use Rattle.graph_model.specs.declared.types.Shape.{Shape}
@@ -35,7 +36,7 @@ use Rattle.image_walk.specs.declared.fault.RecoverFault.{RecoverFault}
 use Rattle.image_walk.specs.declared.fault.RecoverFault.TheVariants as faults
 use Rattle.image_recovery.specs.Putting.{IsPutBack, IsCleared, IsRestored, AllDurable, AllWritten, PutsBack, IsRecovered}
 use Rattle.image_recovery.specs.Putting.{within, IsRecoveringIn}
-use Rattle.image_recovery.specs.Recovered.{IsUsed, FindsImage, FindsNothing, IsSameFault, IsBadFault, entries_in}
+use Rattle.image_recovery.specs.Recovered.{IsUsed, FailsFirst, FindsImage, FindsNothing, IsSameFault, IsBadFault, entries_in}
 use Rattle.image_recovery.specs.Recoveries.{FailsToRecover, Recovers, StopsKeepTheGraph, StoresItsOwn}
 use Rattle.image_recovery.proofs.PutSteps.{head_in}
 use Rattle.image_recovery.proofs.Stops.{inside, behind, putting_stop, emptying_stop}
@@ -115,6 +116,21 @@ fails_behind size words used directory (faults.Bad line reason) is entries passe
     rw (is.passes, ne_eqb (words 0 0) 0 is.begins, entries, passes, fails) refl
 fails_behind size words used directory faults.ImageFailed is entries passes fails = tt
 fails_behind size words used directory faults.OutOfMemory is entries passes fails = tt
+
+pub some_none : {A : Type 0} (o : Option A) → o ≡ None → IsSome o → ⊥
+some_none {A} o none some = true≢false (sym some ∙ ap (λ (q : Option A). is_some q) none)
+
+err_ok : {A B : Type 0} (r : Result A B) (x : A) → r ≡ Ok x → IsErr r → ⊥
+err_ok {A} {B} r x ok err = true≢false (sym err ∙ ap (λ (q : Result A B). is_err q) ok)
+
+-- none of the first checks fails
+pub never_first : (size : ℕ) (words : Words) (used : ℕ) (directory : Directory) → IsUsed size words used
+    → directory_of words ≡ Ok directory → logs_fault size words ≡ None → FailsFirst size words → ⊥
+never_first size words used directory is entries passes fails = ⊎_elim
+    (λ super. some_none (super_check (words 0) size) is.passes super)
+    (λ other. ⊎_elim (λ bad. err_ok (directory_of words) directory entries bad)
+    (λ log. some_none (logs_fault size words) passes log) other.1)
+    fails
 
 pub same_directory : (directory : Kept) (shapes : List Shape) (roots : List (List ℕ)) → shapes ≡ directory.shapes → roots ≡ directory.roots
     → directory_with shapes roots ≡ entries_in directory
@@ -345,7 +361,7 @@ unread_fails first seen fault looks fails cause = record {
   stores = record {
     blank = λ known zero. changes_nowhere (OfLayout first.size) first seen looks.changes;
     used = λ known used. changes_nowhere (IsRestored (shown first)) first seen looks.changes;
-    unlogged = λ known used fails. looks.changes;
+    refused = λ known fails. looks.changes;
   };
   stops = λ tells durable all graph stands.
       let range = sized first.size (shown first) graph stands in
@@ -359,7 +375,7 @@ unread_fails first seen fault looks fails cause = record {
 -- ---- a blank image was formatted, or not
 
 module _ (first seen new : Memory) (enough : min_lines ≤ first.size) (most : first.size ≤ max_lines) (looks : Looks first seen)
-    (zero : AllKnown first → shown first 0 0 ≡ 0)
+    (zero : AllKnown first → shown first 0 0 ≡ 0) (passes : AllKnown first → super_check (shown first 0) first.size ≡ None)
     (formats : Tells seen → IsFixed seen 0 0 0 → StopsLeave seen new (IsBlankOrFormatted seen.size))
     (lays : ChangesTo (OfLayout seen.size) seen new) (goes : GoesOn seen new) (later : seen.faults ≤ new.faults) where
   -- the layout alone is written
@@ -369,7 +385,9 @@ module _ (first seen new : Memory) (enough : min_lines ≤ first.size) (most : f
         (changes_nowhere (OfLayout first.size) first seen looks.changes)
         (subst (λ (n : ℕ). ChangesTo (OfLayout n) seen new) looks.changes.size lays);
     used = λ known used. absurd (used (zero known));
-    unlogged = λ known used fails. absurd (used (zero known));
+    refused = λ known fails. absurd (⊎_elim
+        (λ super. some_none (super_check (shown first 0) first.size) (passes known) super)
+        (λ other. other.0 (zero known)) fails);
   }
 
   blank_stops : StopsKeepTheGraph first new
@@ -435,14 +453,14 @@ module _ (first seen new : Memory) (words : ℕ) (enough : min_lines ≤ first.s
     (leaves : Tells first → AllDurable first → AllWritten first → logs_fault first.size (shown first) ≡ None
     → StopsLeave first new (IsRecoveringIn first.size (shown first)))
     (restores : AllKnown first → ChangesTo (IsRestored (shown first)) first new)
-    (unlogged : AllKnown first → logs_fault first.size (shown first) ≢ None → ChangesTo Nothing first new)
+    (refused : AllKnown first → FailsFirst first.size (shown first) → ChangesTo Nothing first new)
     (goes : GoesOn seen new) (later : seen.faults ≤ new.faults) where
   -- words are put back and counts cleared, alone
   used_stores : StoresItsOwn first new
   used_stores = record {
     blank = λ known zero. absurd ((is known).begins zero);
     used = λ known used. restores known;
-    unlogged = λ known used fails. unlogged known fails;
+    refused = refused;
   }
 
   used_stops : StopsKeepTheGraph first new

@@ -11,7 +11,7 @@ use Rattle.image_meaning.proofs.Recovering.{while_putting, while_emptying}
 use Rattle.image_meaning.proofs.Stopped.{logs_pass}
 use Rattle.word_changes.specs.Changes.{OldOrGiven}
 use Rattle.image_recovery.specs.Putting.{IsPutBack, IsCleared, AllDurable, PutsBack, within, IsRecoveringIn}
-use Rattle.image_recovery.proofs.PutSteps.{head_in, entry_in, counted_few, same_logged}
+use Rattle.image_recovery.proofs.PutSteps.{head_in, entry_in, counted_few, said, same_logged}
 
 -- a line of the image, and one behind it
 pub inside : (size : ℕ) (d e : Words) (l w : ℕ) → l < size → within size d e l w ≡ d l w
@@ -41,7 +41,7 @@ module _ (old : Memory) (enough : min_lines ≤ old.size) (pass : logs_fault old
       (λ l w outside. ⊎_elim
       (λ (below : l < size). ⊎_elim
       (λ was. inl (inside size d (put_back c) l w below ∙ durable l w below (d l w) was))
-      (λ given. inr (inside size d (put_back c) l w below ∙ given.1))
+      (λ given. inr (inside size d (put_back c) l w below ∙ said c l w (d l w) outside given.1))
       (all l w))
       (λ (past : size ≤ l). inr (behind size d (put_back c) l w past))
       (cases_lt l size))

@@ -1,17 +1,21 @@
 -- Logs that are put back into an image, and emptied. These are the undo logs of failure-atomic regions (Shull, Huang and Torrellas,
 -- "AutoPersist", PLDI 2019), of this project's own format.
-use Rattle.std.specs.Prelude.{◌≡◌, ◌⊎◌, ◌<◌, ℕ, List, false, true, nat_lt, if◌then◌else◌}
+use Rattle.std.specs.Prelude.{◌≡◌, ◌⊎◌, ◌<◌, ℕ, List, false, true, nat_lt, if◌then◌else◌, Some}
 use Rattle.line_image.specs.Trace.{Outcome}
 use Rattle.line_memory.specs.Memory.{Memory, shown, IsWritten, IsDurable}
 use Rattle.image_layout.specs.Places.{logs, log_head_line}
 use Rattle.image_meaning.specs.Checks.{Words}
-use Rattle.image_meaning.specs.Logs.{Logged, is_log_line, put_back, put_each}
+use Rattle.image_meaning.specs.Logs.{Logged, is_log_line, logs_below, old_word, put_back, put_each}
 use Rattle.image_meaning.specs.Recovering.{IsRecovering}
 use Rattle.word_changes.specs.Changes.{Tells, AllKnown, ChangesTo}
 
--- a word outside the logs is given the one that it has once the logs are put back
+-- the logs name this word, and say that it had this value
+abbrev pub LogsSay : Words → ℕ → ℕ → ℕ → Type 0
+LogsSay c l w v = old_word (logs_below c logs) l w ≡ Some v
+
+-- a word outside the logs that they name is given the value that they say
 abbrev pub IsPutBack : Words → ℕ → ℕ → ℕ → Type 0
-IsPutBack c l w v = (is_log_line l ≡ false) × (v ≡ put_back c l w)
+IsPutBack c l w v = (is_log_line l ≡ false) × LogsSay c l w v
 
 -- All words outside the logs show what they have once the logs are put back; the logs' own lines show what they did.
 pub record PutsBack (old new : Memory) : Type 0 where

@@ -1,11 +1,11 @@
 -- Images that were recovered. Of this project's own format.
-use Rattle.std.specs.Prelude.{◌≡◌, ◌≢◌, ℕ, List, [], None}
+use Rattle.std.specs.Prelude.{◌≡◌, ◌≢◌, ◌⊎◌, ℕ, List, [], None, IsSome, IsErr}
 use Rattle.graph_model.specs.declared.types.Graph.{Graph}
 use Rattle.line_memory.specs.Memory.{Memory, shown}
 use Rattle.image_layout.specs.Places.{first_object_line, super_check}
 use Rattle.image_meaning.specs.Checks.{Words}
-use Rattle.image_meaning.specs.Directories.{Directory}
-use Rattle.image_meaning.specs.Logs.{put_back}
+use Rattle.image_meaning.specs.Directories.{Directory, directory_of}
+use Rattle.image_meaning.specs.Logs.{logs_fault, put_back}
 use Rattle.image_meaning.specs.Meaning.{empty_graph, graph_found}
 use Rattle.image_meaning.specs.Opening.{Finds, free_line}
 use Rattle.directories.specs.Kept.{Kept}
@@ -26,6 +26,13 @@ pub record IsUsed (size : ℕ) (words : Words) (directory : ℕ) : Type 0 where
   pub passes : super_check (words 0) size ≡ None
   pub begins : words 0 0 ≢ 0
   pub says : directory ≡ words 0 3
+
+-- One of the checks fails that are made before anything is stored: the superblock's, with the size's; or, where the image isn't
+-- blank, the directory's or the logs'.
+abbrev pub FailsFirst : ℕ → Words → Type 0
+FailsFirst size words =
+    IsSome (super_check (words 0) size)
+    ⊎ ((words 0 0 ≢ 0) × (IsErr (directory_of words) ⊎ IsSome (logs_fault size words)))
 
 -- In an image that isn't blank this was found: the entries of its directory, of which none is planned; its graph, which begins at these lines;
 -- the first line behind all that is reached; and how many of its logs had entries, that were put back.

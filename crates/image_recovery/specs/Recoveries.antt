@@ -13,7 +13,7 @@ use Rattle.image_walk.specs.Walking.{IsFaultOf}
 use Rattle.image_walk.specs.declared.fault.RecoverFault.{RecoverFault}
 use Rattle.image_walk.specs.declared.fault.RecoverFault.TheVariants.{ImageFailed}
 use Rattle.image_recovery.specs.Putting.{IsPutBack, IsRestored, AllWritten, AllDurable, IsRecovered, IsRecoveringIn}
-use Rattle.image_recovery.specs.Recovered.{FindsImage, FindsNothing, IsBadFault}
+use Rattle.image_recovery.specs.Recovered.{FailsFirst, FindsImage, FindsNothing, IsBadFault}
 
 -- Where the image tells what was done to it, and nothing is stored that isn't durable, a stop at any moment leaves an
 -- image that stands for the graph for which it stood.
@@ -22,11 +22,11 @@ StopsKeepTheGraph old new = Tells old → AllDurable old → AllWritten old → 
     → StandsFor old.size (shown old) graph → StopsLeave old new (λ c. StandsFor old.size c graph)
 
 -- What is stored, whatever comes of it: in a blank image the words of the layout; in any other words are put back and counts of
--- logs cleared, alone, and where a log fails its checks nothing is.
+-- logs cleared, alone. Where the superblock, the directory or the logs fail their checks nothing is.
 pub record StoresItsOwn (old new : Memory) : Type 0 where
   pub blank : AllKnown old → shown old 0 0 ≡ 0 → ChangesTo (OfLayout old.size) old new
   pub used : AllKnown old → shown old 0 0 ≢ 0 → ChangesTo (IsRestored (shown old)) old new
-  pub unlogged : AllKnown old → shown old 0 0 ≢ 0 → logs_fault old.size (shown old) ≢ None → ChangesTo Nothing old new
+  pub refused : AllKnown old → FailsFirst old.size (shown old) → ChangesTo Nothing old new
 
 -- This was found in an image, and it is recovered.
 pub record Recovers (old new : Memory) (directory : Kept) (graph : Graph) (lines : List ℕ) (free undone : ℕ) : Type 0 where

@@ -4,10 +4,10 @@ ghost use Rattle.ap_base.specs.Causes.{HasCause};
 ghost use Rattle.line_memory.specs.Memory.{Memory, shown};
 ghost use Rattle.image_layout.specs.Places.{min_lines, max_lines, logs, log_entries};
 ghost use Rattle.image_meaning.specs.Checks.{Words};
-ghost use Rattle.image_meaning.specs.Logs.{Logged, log_count, logged_at, log_of, logs_below, logs_fault, is_log_line, put_back};
+ghost use Rattle.image_meaning.specs.Logs.{Logged, log_count, logged_at, log_of, logs_below, logs_fault, is_log_line};
 ghost use Rattle.word_changes.specs.Changes.{Tells, AllKnown, ChangesTo, GoesOn};
 ghost use Rattle.image_walk.specs.Walking.{Looks};
-ghost use Rattle.image_recovery.specs.Putting.{IsPutBack, AllWritten, AllDurable, PutsBack, IsPutting};
+ghost use Rattle.image_recovery.specs.Putting.{LogsSay, IsPutBack, AllWritten, AllDurable, PutsBack, IsPutting};
 
 use crate::spots::{entry_spot, head_spot};
 use ap_base::Spot;
@@ -109,10 +109,10 @@ fn put_back_word<I: Image>(
 ) -> Result<(), ImageFailed>
     requires { memory.old.size ≤ max_lines }
     ensures puts { (c : Words) (first : Memory) (done : List Logged) → place / 8 < memory.old.size
-        → is_log_line (place / 8) ≡ false → put_back c (place / 8) (place % 8) ≡ old → IsPutting c done first memory.old
+        → is_log_line (place / 8) ≡ false → LogsSay c (place / 8) (place % 8) old → IsPutting c done first memory.old
         → OnOk result (IsPutting c ((record { place = place; old = old }) ∷ done) first memory.new) }
     ensures changes { (c : Words) (first : Memory) (done : List Logged) → place / 8 < memory.old.size
-        → is_log_line (place / 8) ≡ false → put_back c (place / 8) (place % 8) ≡ old → IsPutting c done first memory.old
+        → is_log_line (place / 8) ≡ false → LogsSay c (place / 8) (place % 8) old → IsPutting c done first memory.old
         → ChangesTo (IsPutBack c) first memory.new }
     ensures goes_on { GoesOn memory.old memory.new }
     ensures cause { HasCause memory.old.faults memory.new.faults result }

@@ -1,5 +1,5 @@
 // An image that isn't blank is recovered.
-ghost use Rattle.std.specs.Prelude.{◌≡◌, ◌≢◌, ◌≤◌, None, OnOk, IfOk, IfErr, IsErrOf};
+ghost use Rattle.std.specs.Prelude.{◌≡◌, ◌≤◌, None, OnOk, IfOk, IfErr, IsErrOf};
 ghost use Rattle.ap_base.specs.Causes.{Rose};
 ghost use Rattle.line_memory.specs.Memory.{Memory, shown};
 ghost use Rattle.image_layout.specs.Places.{min_lines, max_lines, directory_words};
@@ -8,7 +8,7 @@ ghost use Rattle.image_meaning.specs.Meaning.{meaning};
 ghost use Rattle.word_changes.specs.Changes.{Nothing, Tells, AllKnown, ChangesTo, StopsLeave, GoesOn};
 ghost use Rattle.image_walk.specs.Walking.{Looks, IsFaultOf};
 ghost use Rattle.image_recovery.specs.Putting.{IsPutBack, IsRestored, AllWritten, AllDurable, IsRecovered, IsRecoveringIn};
-ghost use Rattle.image_recovery.specs.Recovered.{IsUsed, FindsImage, IsBadFault};
+ghost use Rattle.image_recovery.specs.Recovered.{IsUsed, FailsFirst, FindsImage, IsBadFault};
 
 use crate::clearing::empty_logs;
 use crate::front::read_front;
@@ -62,8 +62,8 @@ pub(crate) fn recover_used<I: Image>(
         → IfErr result (λ fault. IsBadFault fault → ChangesTo (IsPutBack (shown first)) first memory.new) }
     ensures changes { (first : Memory) → AllKnown first → Looks first memory.old
         → ChangesTo (IsRestored (shown first)) first memory.new }
-    ensures unlogged { (first : Memory) → AllKnown first → Looks first memory.old
-        → logs_fault first.size (shown first) ≢ None → ChangesTo Nothing first memory.new }
+    ensures refused { (first : Memory) → AllKnown first → Looks first memory.old
+        → IsUsed first.size (shown first) used → FailsFirst first.size (shown first) → ChangesTo Nothing first memory.new }
     ensures stops { (first : Memory) → Tells first → AllDurable first → AllWritten first → Looks first memory.old
         → logs_fault first.size (shown first) ≡ None
         → StopsLeave first memory.new (IsRecoveringIn first.size (shown first)) }

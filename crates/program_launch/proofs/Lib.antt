@@ -1,2 +1,3 @@
 pub mod MainMethods
 pub mod Progress
+pub mod Rooms

@@ -6,8 +6,10 @@ mod built_ins;
 mod mains;
 mod refusals;
 mod rest;
+mod room;
 
 pub use built_ins::program_of;
 pub use mains::{Main, NoMain, find_main};
 pub use refusals::NoLaunch;
 pub use rest::first_rest;
+pub use room::find_room;

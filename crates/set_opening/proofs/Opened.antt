@@ -31,7 +31,7 @@ use Rattle.set_opening.specs.Found.{IsFound}
 use Rattle.set_opening.specs.Opened.{IsOpenedFor, StandsWithFirst, SuitsSet}
 use Rattle.first_spaces.specs.Laws.{AppendedImagesAreOpened}
 use Rattle.first_spaces.specs.Opened.{IsOpened}
-use Rattle.set_opening.specs.Unopened.{IsLeft}
+use Rattle.set_opening.specs.Unopened.{IsLeft, IsLeftAsFound}
 use Rattle.set_opening.proofs.Arrays.{arrays_files, arrays_named}
 use Rattle.set_opening.proofs.Names.{roots_added}
 use Rattle.set_opening.proofs.Openings.{opened_names}
@@ -62,13 +62,20 @@ module _ (start : Told) (before m : Memory) (directory : Kept) (graph : Graph) (
       (is.stops tells)
       (λ c so. (0, omega arith, subst (λ (g : Graph). StandsFor before.size c g) same so))
 
-  pub found_left : (after : Told) → after.size ≡ m.size → after ≡ m.image → IsLeft start after before m []
+  pub found_left : (after : Told) → after.size ≡ m.size → after ≡ m.image → IsLeftAsFound start after directory graph
   found_left after sized told = record {
-    attached = is.attached;
-    size = sized ∙ is.goes_on.size ∙ is.attached.size;
-    told = told;
-    goes_on = is.goes_on;
-    stops = λ tells other stands. found_stops tells [] other stands;
+    before = before;
+    memory = m;
+    lines = lines;
+    free = free;
+    found = is;
+    left = record {
+      attached = is.attached;
+      size = sized ∙ is.goes_on.size ∙ is.attached.size;
+      told = told;
+      goes_on = is.goes_on;
+      stops = λ tells other stands. found_stops tells [] other stands;
+    };
   }
 
 -- ---- what was made ready, and appended

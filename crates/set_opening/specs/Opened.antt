@@ -23,14 +23,15 @@ use Rattle.class_set.specs.Linked.{Linked}
 use Rattle.class_set.specs.Facts.{facts_of}
 use Rattle.class_set.specs.Sets.{made_of}
 use Rattle.directories.specs.ClassSets.{AreEntriesOf}
-use Rattle.directories.specs.Kept.{Kept}
+use Rattle.directories.specs.Kept.{Continues, Kept}
 use Rattle.directories.specs.Planning.{lacking}
 use Rattle.set_directory.specs.Written.{is_written}
 use Rattle.image_recovery.specs.Recovered.{entries_in}
 use Rattle.first_spaces.specs.Opened.{IsOpened}
 use Rattle.set_opening.specs.Arrays.{with_arrays_of}
 use Rattle.set_opening.specs.Attached.{IsAttached}
-use Rattle.set_opening.specs.Found.{IsDirectoryIn}
+use Rattle.set_opening.specs.Fitted.{IsFitted}
+use Rattle.set_opening.specs.Found.{IsDirectoryIn, IsFound}
 
 -- the image stands for the graph with the first of these entries: the roots among these are null
 abbrev pub StandsWithFirst : ℕ → Graph → List DirectoryEntry → Outcome → Type 0
@@ -86,6 +87,18 @@ pub record SuitsSet (set : Linked) (directory : Directory) (graph : Graph) : Typ
   pub roots : map (λ (root : NamedValue). root.name) graph.roots ≡ directory.roots
   pub shapes_differ : AllPairs (λ (a b : List ℕ). a ≢ b) (shape_names directory)
   pub roots_differ : AllPairs (λ (a b : List ℕ). a ≢ b) directory.roots
+
+-- It was attached and recovered, and then made ready for the set: what its directory lacks of the set's entries is
+-- planned, and nothing of it is appended.
+pub record IsFoundFor (start : Told) (old set : Linked) (m : Memory) (directory : Kept) (lines : List ℕ)
+    (graph : Graph) (free : ℕ) : Type 0 where
+  pub before : Memory
+  pub found : Kept
+  pub stood : Graph
+  pub found_is : IsFound start before m found stood lines free
+  pub fitted : IsFitted old set found directory stood graph
+  -- what its words spell stays the front of the plan
+  pub continues : (had : List DirectoryEntry) → Continues had found → Continues had directory
 
 -- It was attached and recovered. Then the array types of the directory that was found got numbers in the
 -- set, and those of the set's entries that the directory lacked were appended: each stop since leaves an

@@ -26,7 +26,7 @@ use Rattle.set_opening.specs.declared.unopened.Unopened.{Unopened}
 use Rattle.set_opening.specs.declared.unopened.Unopened.TheVariants.{BadImage, ShapeChanged, Full, ImageFailed, OutOfMemory}
 use Rattle.set_opening.specs.Attached.{IsAttached}
 use Rattle.set_opening.specs.Found.{IsDirectoryIn, IsFound}
-use Rattle.set_opening.specs.Fitted.{HasMoreArrays, IsUnfit}
+use Rattle.set_opening.specs.Fitted.{HasMoreArrays, IsFitted, IsUnfit}
 use Rattle.set_opening.specs.Opened.{StandsWithFirst}
 
 -- ---- faults, as they are passed on
@@ -94,20 +94,42 @@ pub record IsUnrecovered (start after : Told) (why : Unopened) : Type 0 where
 abbrev pub IsUnfound : Told → Told → Unopened → Type 0
 IsUnfound start after why = IsUnattached start after why ⊎ IsUnrecovered start after why
 
--- It was recovered and couldn't be made ready for the set: nothing was done to it since.
-pub record IsUnprepared (start after : Told) (old set : Linked) (why : Unopened) : Type 0 where
+-- What is in it was found, and nothing was done to it since.
+pub record IsLeftAsFound (start after : Told) (directory : Kept) (graph : Graph) : Type 0 where
   pub before : Memory
   pub memory : Memory
-  pub directory : Kept
-  pub graph : Graph
   pub lines : List ℕ
   pub free : ℕ
   pub found : IsFound start before memory directory graph lines free
   pub left : IsLeft start after before memory []
+
+-- It was recovered and couldn't be made ready for the set: nothing was done to it since.
+pub record IsUnprepared (start after : Told) (old set : Linked) (why : Unopened) : Type 0 where
+  pub directory : Kept
+  pub graph : Graph
+  pub left : IsLeftAsFound start after directory graph
   pub cause : IsUnfit old set directory why
 
+-- ---- what isn't found, or not made ready for the set
+
+abbrev pub IsUnopened : Told → Told → Linked → Linked → Unopened → Type 0
+IsUnopened start after old set why =
+    (IsUnattached start after why × (set ≡ old)) ⊎ (IsUnrecovered start after why × (set ≡ old))
+    ⊎ IsUnprepared start after old set why
+
+-- ---- one that was made ready, and given back
+
+-- Nothing of what is planned was appended: what is in it was found, made ready for the set, and left so.
+pub record IsUnbegun (start after : Told) (old set : Linked) : Type 0 where
+  pub found : Kept
+  pub directory : Kept
+  pub stood : Graph
+  pub graph : Graph
+  pub left : IsLeftAsFound start after found stood
+  pub fitted : IsFitted old set found directory stood graph
+
 -- It failed while entries of the set were appended: those that the directory that was found lacks.
-pub record IsUnappended (start after : Told) (old set : Linked) (why : Unopened) : Type 0 where
+pub record IsUnappended (start after : Told) (old set : Linked) : Type 0 where
   pub before : Memory
   pub memory : Memory
   pub found : Directory
@@ -118,11 +140,3 @@ pub record IsUnappended (start after : Told) (old set : Linked) (why : Unopened)
   pub added_is : added ≡ lacking found entries
   pub left : IsLeft start after before memory added
   pub set_is : HasMoreArrays old set
-  pub cause : why ≡ ImageFailed
-
--- ---- all of it
-
-abbrev pub IsUnopened : Told → Told → Linked → Linked → Unopened → Type 0
-IsUnopened start after old set why =
-    (IsUnattached start after why × (set ≡ old)) ⊎ (IsUnrecovered start after why × (set ≡ old))
-    ⊎ IsUnprepared start after old set why ⊎ IsUnappended start after old set why

@@ -8,5 +8,5 @@ mod preparing;
 mod recovering;
 mod unopened;
 
-pub use opening::{OpenedImage, open_for};
+pub use opening::{FoundImage, OpenedImage, complete, find_for};
 pub use unopened::Unopened;

@@ -1,8 +1,10 @@
-// An image is opened for a class set.
+// An image is opened for a class set: what is in it is found, and then what it lacks is appended.
 ghost use Rattle.std.specs.Prelude.{◌≡◌, ◌≤◌, IfOk, IfErr};
 ghost use Rattle.ap_base.specs.Causes.{Rose};
-ghost use Rattle.set_opening.specs.Opened.{IsOpenedFor};
-ghost use Rattle.set_opening.specs.Unopened.{IsUnopened};
+ghost use Rattle.line_image.specs.Told.{Told};
+ghost use Rattle.class_set.specs.Linked.{Linked};
+ghost use Rattle.set_opening.specs.Opened.{IsFoundFor, IsOpenedFor};
+ghost use Rattle.set_opening.specs.Unopened.{IsUnappended, IsUnopened};
 
 use crate::appending::append_all;
 use crate::preparing::prepare;
@@ -17,6 +19,22 @@ use image_recovery::Recovered;
 use line_image::Image;
 use line_memory::{LineMemory, every_line_is_resident};
 use std::alloc::Global;
+
+/// An image that was found, and made ready for a class set. What its directory lacks of the set's
+/// entries is planned, and nothing of it is appended yet.
+#[derive(Drop)]
+pub struct FoundImage<I: Image> {
+    /// The memory of its lines.
+    pub memory: LineMemory<I>,
+    /// Its directory, with what is planned.
+    pub directory: Directory,
+    /// The graph for which it stands, and a null root for each root that is planned.
+    pub graph: Graph,
+    /// The first line of each node of the graph.
+    pub lines: ListOf<u32>,
+    /// The first line behind all nodes.
+    pub free: u32,
+}
 
 /// An image that was opened.
 #[derive(Drop)]
@@ -33,15 +51,15 @@ pub struct OpenedImage<I: Image> {
     pub free: u32,
 }
 
-/// Attaches an image, fences what was written to it before, recovers it, and appends to its
-/// directory what the class set has and it lacks. The array types of its directory get numbers in
-/// the set. Or tells why not, and gives the image back.
-pub fn open_for<I: Image>(
+/// Attaches an image, fences what was written to it before, recovers it, and plans what the class set has
+/// and its directory lacks: a blank image is formatted, and nothing is appended. The array types of its
+/// directory get numbers in the set. Or tells why not, and gives the image back.
+pub fn find_for<I: Image>(
     alloc: Global,
     set: &mut ClassSet,
     image: I,
-) -> Result<OpenedImage<I>, (Unopened, I)>
-    ensures opened { IfOk result (λ o. IsOpenedFor (I.told image) set.old set.new
+) -> Result<FoundImage<I>, (Unopened, I)>
+    ensures found { IfOk result (λ o. IsFoundFor (I.told image) set.old set.new
         o.memory o.directory o.lines o.graph o.free) }
     ensures later { IfOk result (λ o. I.faults image ≤ o.memory.faults) }
     ensures unopened { IfErr result (λ e.
@@ -49,10 +67,8 @@ pub fn open_for<I: Image>(
     ensures cause { IfErr result (λ e.
         e.0 ≡ Unopened.ImageFailed → Rose (I.faults image) (I.faults e.1)) }
 {
-    a_run_can_begin_over_recovered_images();
-    every_line_is_resident();
     let Recovered {
-        mut memory,
+        memory,
         version: _,
         mut directory,
         mut graph,
@@ -64,9 +80,39 @@ pub fn open_for<I: Image>(
         Err(given_back) => return Err(given_back),
     };
     match prepare(alloc, set, &mut directory, &mut graph) {
-        Ok(()) => {}
-        Err(why) => return Err((why, memory.into_image())),
+        Ok(()) => Ok(FoundImage {
+            memory,
+            directory,
+            graph,
+            lines,
+            free,
+        }),
+        Err(why) => Err((why, memory.into_image())),
     }
+}
+
+/// Appends to an image's directory what is planned. Where the image fails, it is given back.
+pub fn complete<I: Image>(found: FoundImage<I>) -> Result<OpenedImage<I>, I>
+    requires found { (start : Told) × (old : Linked) × (set : Linked) × IsFoundFor start old set
+        found.memory found.directory found.lines found.graph found.free }
+    ensures opened { (start : Told) (old set : Linked) → IsFoundFor start old set
+        found.memory found.directory found.lines found.graph found.free
+        → IfOk result (λ o. IsOpenedFor start old set o.memory o.directory o.lines o.graph o.free) }
+    ensures later { IfOk result (λ o. found.memory.faults ≤ o.memory.faults) }
+    ensures unappended { (start : Told) (old set : Linked) → IsFoundFor start old set
+        found.memory found.directory found.lines found.graph found.free
+        → IfErr result (λ image. IsUnappended start (I.told image) old set) }
+    ensures cause { IfErr result (λ image. Rose found.memory.faults (I.faults image)) }
+{
+    a_run_can_begin_over_recovered_images();
+    every_line_is_resident();
+    let FoundImage {
+        mut memory,
+        mut directory,
+        graph,
+        lines,
+        free,
+    } = found;
     match append_all(&mut memory, &mut directory) {
         Ok(()) => Ok(OpenedImage {
             memory,
@@ -75,6 +121,6 @@ pub fn open_for<I: Image>(
             lines,
             free,
         }),
-        Err(_) => Err((Unopened::ImageFailed, memory.into_image())),
+        Err(_) => Err(memory.into_image()),
     }
 }

@@ -251,6 +251,25 @@ unnamed_whole set kind class h l =
     member_whole (class_text set class) (unnamed set kind class) (class_short set class h l)
     (one_short (is_runnable set class && is_lost set kind class run) (is_lost set kind class to_string) (is_lost set kind class main))
 
+-- one of the two is told, where the class lacks one of them
+pub called_told : (set : Linked) (kind : LinkKind) (class : ℕ) → LosesCalled set kind class
+    → (unnamed set kind class ≡ run) ⊎ (unnamed set kind class ≡ to_string)
+called_told set kind class loses =
+    by_cases (is_runnable set class) (is_lost set kind class run) (is_lost set kind class to_string) loses
+  where
+    by_cases : (a b d : Bool) → ((a ≡ true) × (b ≡ true)) ⊎ (d ≡ true)
+        → ((if a && b then run else (if d then to_string
+        else (if is_lost set kind class main then main else initialiser))) ≡ run)
+        ⊎ ((if a && b then run else (if d then to_string
+        else (if is_lost set kind class main then main else initialiser))) ≡ to_string)
+    by_cases true true d either = inl refl
+    by_cases true false true either = inr refl
+    by_cases true false false (inl both) = absurd (false≢true both.1)
+    by_cases true false false (inr wrong) = absurd (false≢true wrong)
+    by_cases false b true either = inr refl
+    by_cases false b false (inl both) = absurd (false≢true both.0)
+    by_cases false b false (inr wrong) = absurd (false≢true wrong)
+
 -- a method that the class lacks is told, where it lacks one of the two
 pub lost_told : (set : Linked) (kind : LinkKind) (class : ℕ) → LosesCalled set kind class
     → is_lost set kind class (unnamed set kind class) ≡ true

@@ -1,10 +1,10 @@
 // What a NameRoom has room for.
-ghost use Rattle.std.specs.Prelude.{◌≡◌, ◌<◌, ℕ, true};
+ghost use Rattle.std.specs.Prelude.{◌≡◌, ◌⊎◌, ◌<◌, ℕ, true};
 ghost use Rattle.run_types.specs.declared.fault.LinkKind.{LinkKind};
 ghost use Rattle.class_set.specs.Linked.{Linked, class_count};
 ghost use Rattle.class_set.specs.Sets.{IsLinked};
 ghost use Rattle.statuses.specs.Names.{LosesCalled, class_text, is_lost, method_text, named_text, shortened, unnamed};
-ghost use Rattle.statuses.specs.Names.{unnamed_text};
+ghost use Rattle.statuses.specs.Names.{run, to_string, unnamed_text};
 
 /// The names that a fault of a linked set tells are told whole, but those of array types and of
 /// members that these lack.
@@ -20,9 +20,11 @@ pub fn names_are_whole()
         → shortened (unnamed_text set kind class) ≡ unnamed_text set kind class }
 {}
 
-/// Where a class's objects lack `run` or `toString`, the method that is told of the class is one that it
-/// lacks so.
+/// Where a class's objects lack `run` or `toString`, the method that is told of the class is one of these two,
+/// and one that it lacks so.
 pub fn lost_methods_are_told()
-    ensures { (set : Linked) (kind : LinkKind) (class : ℕ) → LosesCalled set kind class
+    ensures called { (set : Linked) (kind : LinkKind) (class : ℕ) → LosesCalled set kind class
+        → (unnamed set kind class ≡ run) ⊎ (unnamed set kind class ≡ to_string) }
+    ensures lost { (set : Linked) (kind : LinkKind) (class : ℕ) → LosesCalled set kind class
         → is_lost set kind class (unnamed set kind class) ≡ true }
 {}

@@ -4,9 +4,9 @@ use Rattle.autopersist.proofs.Outside.{tells_nothing, unlaunched_by_image, unlau
 use Rattle.autopersist.proofs.SetRan.{unlaunched_ran}
 use Rattle.autopersist.proofs.sets.run_opened.Goals as goal
 
-pub run_heap-requires : goal.run_heap-requires
-run_heap-requires g c =
-    let o = c.requires.opened in record { can = (o.0, o.1, c.in-Ok.ensures.can o.0 o.1 o.2) }
+pub run_heap-requires-clause-can : goal.run_heap-requires-clause-can
+run_heap-requires-clause-can g c =
+    let o = c.requires.opened in (o.0, o.1, c.in-Ok.ensures.can o.0 o.1 o.2)
 
 pub returns-in-Ok-clause-ran : goal.returns-in-Ok-clause-ran
 returns-in-Ok-clause-ran g c = λ start old opened.
@@ -19,7 +19,8 @@ returns-in-Err-clause-ran g c = λ start old opened.
     c.args.opened.graph c.args.opened.free opened c.args.class.now c.args.limits.now
     (g.I.Image.told c.into_image.result)
     c.in-Err.why (c.into_image.ensures.told ∙ ap (λ (m : Memory). m.image) c.in-Err.ensures.given_back)
-    (c.into_image.ensures.size ∙ ap (λ (m : Memory). m.size) c.in-Err.ensures.given_back) c.in-Err.ensures.full)
+    (c.into_image.ensures.size ∙ ap (λ (m : Memory). m.size) c.in-Err.ensures.given_back) c.requires.fits
+    c.in-Err.ensures.full)
 
 pub returns-in-Err-clause-told : goal.returns-in-Err-clause-told
 returns-in-Err-clause-told g c =

@@ -3,22 +3,22 @@ use Rattle.autopersist.proofs.Outside.{failed_opening, never_by_sink, rose_since
 use Rattle.autopersist.proofs.SetRan.{unopened_ran}
 use Rattle.autopersist.proofs.sets.run_set.Goals as goal
 
-pub run_opened-requires : goal.run_opened-requires
-run_opened-requires g c = record { opened = (g.I.Image.told c.args.image, c.args.set, c.in-Ok.ensures.opened) }
+pub run_found-requires : goal.run_found-requires
+run_found-requires g c = record { found = (g.I.Image.told c.args.image, c.args.set, c.in-Ok.ensures.found) }
 
 pub returns-in-Ok-clause-ran : goal.returns-in-Ok-clause-ran
 returns-in-Ok-clause-ran g c =
-    c.run_opened.ensures.ran (g.I.Image.told c.args.image) c.args.set c.in-Ok.ensures.opened
+    c.run_found.ensures.ran (g.I.Image.told c.args.image) c.args.set c.in-Ok.ensures.found
 
 pub returns-in-Ok-clause-image_fault : goal.returns-in-Ok-clause-image_fault
 returns-in-Ok-clause-image_fault g c = λ is.
-    rose_since (g.I.Image.faults c.args.image) c.in-Ok.opened.memory.faults (g.I.Image.faults c.run_opened.result.image)
-    c.in-Ok.ensures.later (c.run_opened.ensures.image_fault is)
+    rose_since (g.I.Image.faults c.args.image) c.in-Ok.found.memory.faults (g.I.Image.faults c.run_found.result.image)
+    c.in-Ok.ensures.later (c.run_found.ensures.image_fault is)
 
 pub returns-clause-ran : goal.returns-clause-ran
 returns-clause-ran g c =
     rw (c.unbegun.ensures.opening, c.unbegun.ensures.acts, c.unbegun.ensures.image, c.unbegun.ensures.status, c.of_unopened.ensures)
-    (unopened_ran c.args.set c.open_for.new.set (g.I.Image.told c.args.image) (g.I.Image.told c.in-Err.image) c.in-Err.why
+    (unopened_ran c.args.set c.find_for.new.set (g.I.Image.told c.args.image) (g.I.Image.told c.in-Err.image) c.in-Err.why
     c.args.class.now c.args.limits.now c.in-Err.ensures.unopened)
 
 pub returns-clause-told : goal.returns-clause-told

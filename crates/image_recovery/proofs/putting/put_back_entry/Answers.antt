@@ -1,8 +1,8 @@
 use Rattle.std.proofs.Common.{◌≡◌, ◌<◌, ◌≤◌, ◌+◌, ◌/◌, ◌%◌, ◌∷◌, ℕ, false, None, OnOk, sym, ◌∙◌, ap, subst, arith}
 use Rattle.line_memory.specs.Memory.{Memory, shown}
 use Rattle.image_layout.specs.Places.{min_lines, log_entry_line}
-use Rattle.image_meaning.specs.Logs.{Logged, logged_at, logs_fault, is_log_line, put_back}
-use Rattle.image_recovery.specs.Putting.{IsPutting}
+use Rattle.image_meaning.specs.Logs.{Logged, logged_at, logs_fault, is_log_line}
+use Rattle.image_recovery.specs.Putting.{LogsSay, IsPutting}
 use Rattle.image_recovery.proofs.PutSteps.{nothing_put, entry_facts, loaded, same_logged}
 use Rattle.image_recovery.proofs.putting.put_back_entry.Goals as goal
 
@@ -30,11 +30,12 @@ returns-clause-puts g c words first done pass below so_far =
     let facts = entry_facts a.size words t n enough (subst (λ (s : ℕ). logs_fault s words ≡ None) (sym size) pass) c.requires.thread below in
     let low : c.load-place.result / 8 < a.size = subst (λ (p : ℕ). p / 8 < a.size) (sym place) facts.0 in
     let outside : is_log_line (c.load-place.result / 8) ≡ false = subst (λ (p : ℕ). is_log_line (p / 8) ≡ false) (sym place) facts.1 in
-    let gives : put_back words (c.load-place.result / 8) (c.load-place.result % 8) ≡ c.load-old.result =
-    subst (λ (p : ℕ). put_back words (p / 8) (p % 8) ≡ c.load-old.result) (sym place) (facts.2 ∙ sym old) in
+    let says : LogsSay words (c.load-place.result / 8) (c.load-place.result % 8) c.load-old.result =
+    subst (λ (p : ℕ). LogsSay words (p / 8) (p % 8) c.load-old.result) (sym place)
+    (subst (λ (v : ℕ). LogsSay words (entry.place / 8) (entry.place % 8) v) (sym old) facts.2) in
     subst (λ (e : Logged). OnOk c.put_back_word.result (IsPutting words (e ∷ done) first c.put_back_word.new.memory))
     (same_logged c.load-place.result entry.place c.load-old.result entry.old place old)
-    (c.put_back_word.ensures.puts words first done low outside gives so)
+    (c.put_back_word.ensures.puts words first done low outside says so)
 
 pub returns-clause-changes : goal.returns-clause-changes
 returns-clause-changes g c words first done pass below so_far =
@@ -56,6 +57,7 @@ returns-clause-changes g c words first done pass below so_far =
     let facts = entry_facts a.size words t n enough (subst (λ (s : ℕ). logs_fault s words ≡ None) (sym size) pass) c.requires.thread below in
     let low : c.load-place.result / 8 < a.size = subst (λ (p : ℕ). p / 8 < a.size) (sym place) facts.0 in
     let outside : is_log_line (c.load-place.result / 8) ≡ false = subst (λ (p : ℕ). is_log_line (p / 8) ≡ false) (sym place) facts.1 in
-    let gives : put_back words (c.load-place.result / 8) (c.load-place.result % 8) ≡ c.load-old.result =
-    subst (λ (p : ℕ). put_back words (p / 8) (p % 8) ≡ c.load-old.result) (sym place) (facts.2 ∙ sym old) in
-    c.put_back_word.ensures.changes words first done low outside gives so
+    let says : LogsSay words (c.load-place.result / 8) (c.load-place.result % 8) c.load-old.result =
+    subst (λ (p : ℕ). LogsSay words (p / 8) (p % 8) c.load-old.result) (sym place)
+    (subst (λ (v : ℕ). LogsSay words (entry.place / 8) (entry.place % 8) v) (sym old) facts.2) in
+    c.put_back_word.ensures.changes words first done low outside says so

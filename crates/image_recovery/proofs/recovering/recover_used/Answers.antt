@@ -15,7 +15,7 @@ use Rattle.image_walk.proofs.Reading.{err_is}
 use Rattle.image_recovery.specs.Putting.{IsCleared, IsPutBack, IsRestored, AllWritten, IsRecoveringIn}
 use Rattle.image_recovery.specs.Recovered.{IsBadFault, entries_in}
 use Rattle.image_recovery.proofs.PutSteps.{nothing_written}
-use Rattle.image_recovery.proofs.Recovers.{goes_by_looks, back_shows, fails_behind, same_directory, stops_putting}
+use Rattle.image_recovery.proofs.Recovers.{goes_by_looks, back_shows, fails_behind, never_first, same_directory, stops_putting}
 use Rattle.image_recovery.proofs.recovering.recover_used.Goals as goal
 
 pub returns-clause-finds : goal.returns-clause-finds
@@ -259,20 +259,26 @@ returns-clause-changes g c first known looks =
     cleared_too first c.put_back_logs.new.memory c.find_graph.new.memory c.empty_logs.new.memory
     (c.put_back_logs.ensures.changes first known seen pass) c.find_graph.ensures.looks.changes c.empty_logs.ensures.changes
 
-pub returns-in_err-front-clause-unlogged : goal.returns-in_err-front-clause-unlogged
-returns-in_err-front-clause-unlogged g c first known looks fails =
+pub returns-in_err-front-clause-refused : goal.returns-in_err-front-clause-refused
+returns-in_err-front-clause-refused g c first known looks is fails =
     (looks_more first c.args.memory.now c.read_front.new.memory looks c.read_front.ensures.looks).changes
 
-pub returns-in_err-put_back_logs-clause-unlogged : goal.returns-in_err-put_back_logs-clause-unlogged
-returns-in_err-put_back_logs-clause-unlogged g c first known looks fails =
-    absurd (fails (c.in_ok-front.ensures.passes first known looks))
+pub returns-in_err-put_back_logs-clause-refused : goal.returns-in_err-put_back_logs-clause-refused
+returns-in_err-put_back_logs-clause-refused g c first known looks is fails =
+    absurd (never_first first.size (shown first) c.args.used (entries_in c.in_ok-front.front.directory) is
+    (c.in_ok-front.ensures.entries first known looks is) (c.in_ok-front.ensures.passes first known looks) fails)
 
-pub returns-in_err-found-clause-unlogged : goal.returns-in_err-found-clause-unlogged
-returns-in_err-found-clause-unlogged g c first known looks fails = absurd (fails (c.in_ok-front.ensures.passes first known looks))
+pub returns-in_err-found-clause-refused : goal.returns-in_err-found-clause-refused
+returns-in_err-found-clause-refused g c first known looks is fails =
+    absurd (never_first first.size (shown first) c.args.used (entries_in c.in_ok-front.front.directory) is
+    (c.in_ok-front.ensures.entries first known looks is) (c.in_ok-front.ensures.passes first known looks) fails)
 
-pub returns-in_err-empty_logs-clause-unlogged : goal.returns-in_err-empty_logs-clause-unlogged
-returns-in_err-empty_logs-clause-unlogged g c first known looks fails =
-    absurd (fails (c.in_ok-front.ensures.passes first known looks))
+pub returns-in_err-empty_logs-clause-refused : goal.returns-in_err-empty_logs-clause-refused
+returns-in_err-empty_logs-clause-refused g c first known looks is fails =
+    absurd (never_first first.size (shown first) c.args.used (entries_in c.in_ok-front.front.directory) is
+    (c.in_ok-front.ensures.entries first known looks is) (c.in_ok-front.ensures.passes first known looks) fails)
 
-pub returns-clause-unlogged : goal.returns-clause-unlogged
-returns-clause-unlogged g c first known looks fails = absurd (fails (c.in_ok-front.ensures.passes first known looks))
+pub returns-clause-refused : goal.returns-clause-refused
+returns-clause-refused g c first known looks is fails =
+    absurd (never_first first.size (shown first) c.args.used (entries_in c.in_ok-front.front.directory) is
+    (c.in_ok-front.ensures.entries first known looks is) (c.in_ok-front.ensures.passes first known looks) fails)

@@ -44,7 +44,7 @@ returns-in-Blank-clause-recovers g c =
     let ok = c.in_ok-read_super in
     when_ok r (Recovered first new) (λ found is.
     blank_recovers first seen new ok.ensures.enough ok.ensures.most c.read_super.ensures.looks
-    (λ known. says_blank (shown first 0) ok.field-0 (ok.ensures.says known) c.in-Blank.is)
+    (λ known. says_blank (shown first 0) ok.field-0 (ok.ensures.says known) c.in-Blank.is) ok.ensures.passes
     blank.stops blank.changes blank.goes_on blank.later found.directory found.graph found.lines found.free found.undone
     (λ known. ok_at r NothingFound found is (blank.finds known))
     (λ known. on_ok_at r (IsFormatted seen.size (shown new)) found is (blank.formatted known))
@@ -72,7 +72,7 @@ returns-in-Blank-clause-fails g c =
     let ok = c.in_ok-read_super in
     when_err r (FailsToRecover first new) (λ fault is.
     blank_fails first seen new ok.ensures.enough ok.ensures.most c.read_super.ensures.looks
-    (λ known. says_blank (shown first 0) ok.field-0 (ok.ensures.says known) c.in-Blank.is)
+    (λ known. says_blank (shown first 0) ok.field-0 (ok.ensures.says known) c.in-Blank.is) ok.ensures.passes
     blank.stops blank.changes blank.goes_on blank.later fault
     (λ known. err_at r (λ (fault : RecoverFault). IsBadFault fault → ⊥) fault is (blank.never_bad known))
     (λ same. blank.cause (is ∙ ap Err same)))
@@ -92,7 +92,8 @@ returns-in-Used-clause-recovers g c =
     when_ok r (Recovered first new) (λ found is.
     used_recovers first seen new c.in-Used.directory ok.ensures.enough ok.ensures.most looks is_used
     (λ tells durable all pass. used.stops first tells durable all looks pass)
-    (λ known. used.changes first known looks) (λ known fails. used.unlogged first known looks fails) used.goes_on used.later
+    (λ known. used.changes first known looks) (λ known fails. used.refused first known looks (is_used known) fails)
+    used.goes_on used.later
     found.directory found.graph found.lines found.free found.undone
     (λ known. ok_at r (ImageFound first) found is (used.finds first known looks (is_used known)))
     (λ known. on_ok_at r (IsRecovered first new) found is (used.recovered first known looks))
@@ -116,7 +117,8 @@ returns-in-Used-clause-version g c known =
     ok_at r (λ (found : FoundImage). found.version ≡ says.version) found is used.version
     ∙ used_version first seen new says.directory ok.ensures.enough ok.ensures.most looks is_used
     (λ tells durable all pass. used.stops first tells durable all looks pass)
-    (λ known. used.changes first known looks) (λ known fails. used.unlogged first known looks fails) used.goes_on used.later found.graph says.version
+    (λ known. used.changes first known looks) (λ known fails. used.refused first known looks (is_used known) fails)
+    used.goes_on used.later found.graph says.version
     (λ known. (says_used (shown first 0) ok.field-0 says.version says.directory (ok.ensures.says known) says.is).version_is)
     (λ known. finds_stand first.size (shown first) found.directory found.graph found.lines found.free found.undone (image known))
     (λ known. on_ok_at r (IsRecovered first new) found is (used.recovered first known looks)) known)
@@ -136,7 +138,8 @@ returns-in-Used-clause-fails g c =
     when_err r (FailsToRecover first new) (λ fault is.
     used_fails first seen new c.in-Used.directory ok.ensures.enough ok.ensures.most looks is_used
     (λ tells durable all pass. used.stops first tells durable all looks pass)
-    (λ known. used.changes first known looks) (λ known fails. used.unlogged first known looks fails) used.goes_on used.later fault
+    (λ known. used.changes first known looks) (λ known fails. used.refused first known looks (is_used known) fails)
+    used.goes_on used.later fault
     (λ known. err_at r (IsFaultOf (meaning first.size (shown first))) fault is (used.bad first known looks (is_used known)))
     (λ known bad. err_at r (λ (fault : RecoverFault). IsBadFault fault → ChangesTo (IsPutBack (shown first)) first new) fault is
     (used.put_back first known looks) bad)

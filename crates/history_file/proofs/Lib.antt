@@ -1,0 +1,11 @@
+pub mod Codecs
+pub mod Joined
+pub mod Parts
+pub mod Pieces
+pub mod Operations
+pub mod Whole
+pub mod KindsRead
+pub mod Taken
+pub mod Stopped
+pub mod Texts
+pub mod RowsHold
