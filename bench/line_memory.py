@@ -89,7 +89,7 @@ IN_MEMORY = """\
 """
 
 IN_A_FILE = """\
-    let image = ImageFile::open(&rt, "@PATH@");
+    let image = FileImage::at(&rt, alloc, "@PATH@", None)?;
 """
 
 LINE_BYTES = 64
@@ -98,7 +98,7 @@ LINE_BYTES = 64
 def program(args):
     """Returns the program's text."""
     if args.image:
-        modules, image = "mod image_file;\n\nuse image_file::ImageFile;", IN_A_FILE.replace("@PATH@", str(args.image))
+        modules, image = "use host_edges::FileImage;", IN_A_FILE.replace("@PATH@", str(args.image))
     else:
         modules, image = "use line_image::{Fails, MemoryImage};", IN_MEMORY
     text = PROGRAM.replace("@MODULES@", modules).replace("@IMAGE@", image)
@@ -106,26 +106,23 @@ def program(args):
 
 
 def write_crate(crates, args):
-    """Writes the program's crate, with the repository's module of image files where it needs that."""
+    """Writes the program's crate."""
     crate = crates / NAME
     (crate / "src").mkdir(parents=True)
     (crate / "src" / "main.rt").write_text(program(args))
-    if args.image:
-        adapters = TOP / "crates" / "host_adapters"
-        (crate / "specs").mkdir()
-        for name in ("src/image_file.rt", "specs/Images.antt", "specs/Lib.antt"):
-            (crate / name).write_text((adapters / name).read_text().replace("host_adapters", NAME))
     return crate
 
 
 def measure(args):
     with tempfile.TemporaryDirectory(prefix="bench_line_memory_") as made:
         made = pathlib.Path(made)
-        for name in CRATES:
+        copied = CRATES + (("host_edges",) if args.image else ())
+        for name in copied:
             shutil.copytree(TOP / "crates" / name, made / "crates" / name, ignore=shutil.ignore_patterns("out", "must-fail"))
         (made / "crates.txt").write_text(
             "ap_base: thiserror\nline_image: ap_base thiserror\nline_memory: ap_base line_image thiserror\n"
-            f"{NAME}: ap_base line_image line_memory\n")
+            + ("host_edges: ap_base line_image\n" if args.image else "")
+            + f"{NAME}: ap_base {'host_edges ' if args.image else ''}line_image line_memory\n")
         return subprocess.run(["rt", "run" if args.proved else "try"], cwd=write_crate(made / "crates", args)).returncode
 
 

@@ -1,6 +1,1 @@
-pub mod SourceFiles
-pub mod Causes
-pub mod Outside
-pub mod SetStops
-pub mod SetRan
-pub mod Unappended
+pub mod Promises

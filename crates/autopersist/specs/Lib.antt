@@ -1,7 +1,4 @@
-pub mod Stages
-pub mod Files
-pub mod Reading
-pub mod Sets
-pub mod Began
-pub mod TopCall
-pub mod Words
+pub mod Outside
+pub mod Reports
+pub mod Runs
+pub mod Meets

@@ -1,15 +1,11 @@
-//! The top call.
+//! The top call: the commands, by the words that ask for them.
 #![tactic(auto)]
 
-mod choice;
-mod files;
-mod laws;
-mod ran;
-mod sets;
+mod idle;
 mod top_call;
-mod words;
+mod workload_run;
 
-pub use laws::statuses_stand_at_their_stages;
+pub use class_runs::Ended;
+pub use command_words::{Command, WordsFault, read_words};
 pub use statuses::{Status, status_text};
-pub use top_call::{Ended, autopersist};
-pub use words::{Command, read_words};
+pub use top_call::autopersist;

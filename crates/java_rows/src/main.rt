@@ -3,7 +3,7 @@
 
 use ap_base::{ClassSource, MemorySink, NoGate};
 use autopersist::{Ended, autopersist, status_text};
-use host_adapters::Folder;
+use host_edges::HostSource;
 use line_image::{Fails, MemoryImage};
 use run_history::NoWatch;
 use std::alloc::{AllocError, Global};
@@ -85,7 +85,8 @@ fn main(rt: HostRuntime) -> io::Result<()> {
     for line in fs::read_to_string(&rt, "programs")?.lines() {
         if let Some((folder, class)) = line.split_once(' ') {
             println!(rt; "== {folder}")?;
-            let ended = run(&rt, rt.alloc(), class, folder, Folder::open(rt, folder))?;
+            let source = HostSource::folder(rt, rt.alloc(), folder);
+            let ended = run(&rt, rt.alloc(), class, folder, source)?;
             tell(rt.alloc(), &mut out, &ended)?;
         }
     }

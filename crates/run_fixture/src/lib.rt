@@ -7,7 +7,7 @@ mod images;
 mod rings;
 mod runs;
 
-pub use autopersist::{Ended, Status, autopersist, read_words, status_text};
+pub use autopersist::{Ended, Status, autopersist, status_text};
 pub use classes::{
     EMPTY, PRINTS, STORES, class_bytes, file, listed, listed_classes, main_class, source,
 };

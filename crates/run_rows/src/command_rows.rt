@@ -4,7 +4,7 @@ use ap_base::{Bytes, ClassSource, MemorySource, NamedBytes};
 use class_rows::{CLASS_A, SEVERAL};
 use run_fixture::{
     PRINTS, RUN, STORES, Status, blank, class_bytes, file, has_output, listed_classes, main_class,
-    read_words, run_words, sink, status_text, words,
+    run_words, sink, status_text,
 };
 use std::alloc::{AllocError, Global};
 use std::sync::Wait;
@@ -590,19 +590,6 @@ fn a_sink_may_take_one_byte_or_fail(rt: HostRuntime) -> Result<(), Fail> {
         let found = on_sink(&rt, rt.alloc(), most, fails)?;
         assert!(rt; found == (status, acts), "{most} bytes, call {fails} fails");
     }
-    Ok(())
-}
-
-#[test]
-fn the_words_are_read(rt: HostRuntime) -> Result<(), Fail> {
-    let words = words(rt.alloc(), &RUN)?;
-    let is_read = match read_words(words.as_slice()) {
-        Some(command) => {
-            command.image == "work.img" && command.main == "Main" && command.folder == "classes"
-        }
-        None => false,
-    };
-    assert!(rt; is_read, "the words of a run");
     Ok(())
 }
 

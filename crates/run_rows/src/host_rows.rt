@@ -1,6 +1,6 @@
 // Runs of the top call on an image file, and what the adapters do at the edges: a second opening, odd files.
 use ap_base::{ClassSource, MemorySink, NoGate, SourceError};
-use host_adapters::{Folder, ImageFile, Trouble, class_names, hold_streams};
+use host_edges::{FileImage, HostSource, Trouble, class_names, hold_streams};
 use line_image::Image;
 use run_fixture::{PRINTS, RUN, STORES, autopersist, main_class, source, status_text, words};
 use run_history::NoWatch;
@@ -22,7 +22,7 @@ fn blank_file(rt: HostRuntime) -> Result<(), Fail> {
 }
 
 /// Whether a run of a class Main with this body on the image file ends well, and prints 7.
-fn prints_seven<R>(rt: &R, alloc: Global, body: &[&str], image: ImageFile) -> Result<bool, Fail>
+fn prints_seven<R>(rt: &R, alloc: Global, body: &[&str], image: FileImage) -> Result<bool, Fail>
 where
     R: Threads + Wait + Clone + Send + Sync + Drop,
 {
@@ -41,7 +41,7 @@ static BODIES: [&[&str]; 2] = [&[STORES, PRINTS], &[PRINTS]];
 fn two_runs_on_one_file(rt: HostRuntime) -> Result<(), Fail> {
     blank_file(rt)?;
     for (number, body) in BODIES.iter().enumerate() {
-        let image = ImageFile::open(&rt, IMAGE);
+        let image = FileImage::at(&rt, rt.alloc(), IMAGE, None)?;
         assert!(rt; prints_seven(&rt, rt.alloc(), body, image)?, "run {number}");
     }
     Ok(())
@@ -54,7 +54,7 @@ static LENGTHS: [u64; 3] = [0, 40, 64 * 32_767];
 fn short_files_are_no_images(rt: HostRuntime) -> Result<(), Fail> {
     for length in &LENGTHS {
         fs::File::create(&rt, IMAGE)?.set_len(*length)?;
-        let image = ImageFile::open(&rt, IMAGE);
+        let image = FileImage::at(&rt, rt.alloc(), IMAGE, None)?;
         let is_short = image.trouble() == Some(Trouble::TooShort(*length));
         let text = b"autopersist: image 0 Size\n".as_slice();
         assert!(rt;
@@ -66,7 +66,7 @@ fn short_files_are_no_images(rt: HostRuntime) -> Result<(), Fail> {
 }
 
 /// Whether a run on an image file prints nothing, and ends by this status line.
-fn is_told<R>(rt: &R, alloc: Global, image: ImageFile, text: &[u8]) -> Result<bool, Fail>
+fn is_told<R>(rt: &R, alloc: Global, image: FileImage, text: &[u8]) -> Result<bool, Fail>
 where
     R: Threads + Wait + Clone + Send + Sync + Drop,
 {
@@ -92,8 +92,8 @@ fn held_streams_take_nothing(rt: HostRuntime) -> Result<(), Fail> {
 #[test]
 fn an_image_is_open_once(rt: HostRuntime) -> Result<(), Fail> {
     blank_file(rt)?;
-    let mut first = ImageFile::open(&rt, IMAGE);
-    let mut second = ImageFile::open(&rt, IMAGE);
+    let mut first = FileImage::at(&rt, rt.alloc(), IMAGE, None)?;
+    let mut second = FileImage::at(&rt, rt.alloc(), IMAGE, None)?;
     let is_first_alone = first.fence().is_ok() && second.fence().is_err();
     let is_told = first.trouble() == None && second.trouble() == Some(Trouble::Locked);
     assert!(rt; is_first_alone && second.lines() == 32_768 && is_told);
@@ -107,9 +107,57 @@ static TROUBLES: [(&str, Trouble); 2] = [("absent", Trouble::Absent), ("folder",
 fn no_image_is_there(rt: HostRuntime) -> Result<(), Fail> {
     fs::create_dir(&rt, "folder")?;
     for (path, why) in &TROUBLES {
-        let told = ImageFile::open(&rt, path).trouble();
+        let told = FileImage::at(&rt, rt.alloc(), path, None)?.trouble();
         assert!(rt; told == Some(*why), "{path}");
     }
+    Ok(())
+}
+
+/// Whether there is an image of 32,768 lines, and its last line is read as zeros.
+fn is_blank(image: &mut FileImage) -> bool {
+    let mut words = [1u64; 8];
+    let is_read = image.lines() == 32_768 && image.read_line(32_767, &mut words).is_ok();
+    is_read && words == [0; 8]
+}
+
+/// A file is made where there is none, and one that is there keeps its length.
+#[test]
+fn a_new_image_is_blank(rt: HostRuntime) -> Result<(), Fail> {
+    for lines in [32_768, 40_000] {
+        let mut image = FileImage::at(&rt, rt.alloc(), "new.img", Some(lines))?;
+        assert!(rt;
+            image.trouble() == None && is_blank(&mut image),
+            "{lines} lines"
+        );
+    }
+    Ok(())
+}
+
+/// What can't be made isn't left behind: no file is that long.
+#[test]
+fn no_half_made_image_stays(rt: HostRuntime) -> Result<(), Fail> {
+    let made = FileImage::at(&rt, rt.alloc(), "long.img", Some(1 << 60))?.trouble();
+    let left = FileImage::at(&rt, rt.alloc(), "long.img", None)?.trouble();
+    assert!(rt; made == Some(Trouble::Other) && left == Some(Trouble::Absent));
+    Ok(())
+}
+
+/// Whether a source gives one file of this name and these bytes, and no other.
+fn gives<C: ClassSource>(alloc: Global, mut source: C, name: &[u8], bytes: &[u8]) -> bool {
+    let Ok(Some(file)) = source.next(alloc) else {
+        return false;
+    };
+    let is_file = file.name.as_slice() == name && file.bytes.as_slice() == bytes;
+    is_file && matches!(source.next(alloc), Ok(None))
+}
+
+#[test]
+fn one_file_is_read(rt: HostRuntime) -> Result<(), Fail> {
+    fs::write(&rt, "a.lst", "class A")?;
+    let source = HostSource::file(rt, rt.alloc(), "a.lst");
+    assert!(rt; gives(rt.alloc(), source, b"a.lst", b"class A"));
+    let mut absent = HostSource::file(rt, rt.alloc(), "b.lst");
+    assert!(rt; matches!(absent.next(rt.alloc()), Err(SourceError::Failed)));
     Ok(())
 }
 
@@ -118,7 +166,7 @@ type FileRead = Result<Option<(usize, u64)>, SourceError>;
 
 fn only_file<R: Files + AllocGlobal + Drop>(rt: R, folder: &str) -> FileRead {
     let alloc = rt.alloc();
-    let mut folder = Folder::open(rt, folder);
+    let mut folder = HostSource::folder(rt, alloc, folder);
     match folder.next(alloc)? {
         Some(file) => Ok(Some((file.bytes.as_slice().len(), file.size))),
         None => Ok(None),

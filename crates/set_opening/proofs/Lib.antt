@@ -1,8 +1,6 @@
 pub mod Agreeing
 pub mod Arrays
-pub mod Attaching
 pub mod Classes
-pub mod Finding
 pub mod Literals
 pub mod Names
 pub mod Opened

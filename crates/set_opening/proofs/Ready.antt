@@ -40,7 +40,7 @@ use Rattle.set_opening.specs.Found.{IsFound}
 use Rattle.set_opening.specs.Opened.{IsReadyImage, StandsWithFirst, shape_names}
 use Rattle.first_spaces.specs.Opened.{IsOpened}
 use Rattle.set_opening.specs.Opened.{IsDurableImage}
-use Rattle.set_opening.proofs.Finding.{same_free}
+use Rattle.image_opening.proofs.Finding.{same_free}
 use Rattle.set_opening.proofs.Names.{Differ, are_shapes, roots_differ, shapes_differ, shapes_with}
 
 -- ---- entries behind others

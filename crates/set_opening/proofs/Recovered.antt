@@ -1,134 +1,128 @@
--- What was found once an image was attached and recovered.
-use Rattle.std.proofs.Common.{◌≡◌, ◌≢◌, ℕ, List, [], sym, ◌∙◌, subst, arith, ⊎_elim}
+-- A run can begin over an image that was opened; and one that couldn't be opened.
+use Rattle.std.proofs.Common.{◌≡◌, ◌≢◌, ⊎_elim, inl, inr, ℕ, List, [], sym, refl, ◌∙◌, subst, arith}
 use Rattle.std.proofs.lemmas.Bool.{cases_eq}
 use Rattle.graph_model.specs.declared.types.Graph.{Graph}
 use Rattle.line_image.specs.Told.{Told}
 use Rattle.line_memory.specs.Memory.{Memory, shown}
+use Rattle.image_layout.specs.declared.superblock.BadReason.TheVariants.{Size}
 use Rattle.image_meaning.specs.Directories.{Directory}
-use Rattle.image_meaning.specs.Logs.{NoneLogged}
-use Rattle.image_meaning.specs.Meaning.{StandsFor, IsWellFormed, empty_graph, meaning}
-use Rattle.word_changes.specs.Changes.{AllKnown, ChangesTo, GoesOn, StopsLeave, Tells}
+use Rattle.image_meaning.specs.Meaning.{StandsFor, empty_graph}
 use Rattle.word_changes.proofs.Changing.{stops_weaker}
-use Rattle.directories.specs.Formatting.{IsFormatted}
 use Rattle.directories.specs.Kept.{Kept}
-use Rattle.image_recovery.specs.Putting.{AllDurable, AllWritten, IsPutBack, IsRecovered}
-use Rattle.image_recovery.specs.Recovered.{FindsImage, FindsNothing, IsBadFault, entries_in}
-use Rattle.set_opening.specs.Attached.{IsAttached}
-use Rattle.image_walk.specs.declared.fault.RecoverFault.{RecoverFault}
-use Rattle.image_walk.specs.declared.fault.RecoverFault.TheVariants as recovery
-use Rattle.image_walk.specs.Walking.{IsFaultOf}
-use Rattle.set_opening.specs.declared.unopened.Unopened.{Unopened}
-use Rattle.set_opening.specs.Found.{IsDirectoryIn, IsFound, IsRecoveredAs}
-use Rattle.set_opening.specs.Opened.{StandsWithFirst}
-use Rattle.set_opening.specs.Unopened.{IsLeft, IsOfRecovery, IsRecoveryFault}
+use Rattle.image_recovery.specs.Recovered.{entries_in}
+use Rattle.image_opening.specs.declared.not_opened.NotOpened.{NotOpened}
+use Rattle.image_opening.specs.declared.not_opened.NotOpened.TheVariants as opening
+use Rattle.image_opening.specs.Opened.{IsOpenImage}
+use Rattle.image_opening.specs.Unopened as of_opening
 use Rattle.first_spaces.specs.Opened.{IsOpened}
 use Rattle.first_spaces.specs.Laws.{EmptyImagesAreOpened, FoundImagesAreOpened}
-use Rattle.set_opening.proofs.Attaching.{attached_durable, attached_written, silent_durable, tells_or_not}
-use Rattle.set_opening.proofs.Finding.{IsFoundNow, blank_found, none_found, used_found}
+use Rattle.set_opening.specs.declared.unopened.Unopened.{Unopened}
+use Rattle.set_opening.specs.declared.unopened.Unopened.TheVariants.{BadImage, ImageFailed, OutOfMemory}
+use Rattle.set_opening.specs.Found.{IsFound}
+use Rattle.set_opening.specs.Opened.{StandsWithFirst}
+use Rattle.set_opening.specs.Unopened.{IsAttachFault, IsOfOpening, IsRecoveryFault, IsUnattached, IsUnfound}
+use Rattle.set_opening.specs.Unopened.{IsUnrecovered}
 
-module _ (start : Told) (before m : Memory) (directory : Kept) (graph : Graph) (lines : List ℕ)
-    (free undone : ℕ)
-    (at : IsAttached start before) (goes : GoesOn before m) where
-  pub now_found : FoundImagesAreOpened → EmptyImagesAreOpened
-      → (shown before 0 0 ≡ 0 → FindsNothing directory graph lines free undone)
-      → (shown before 0 0 ≡ 0 → IsFormatted before.size (shown m))
-      → (shown before 0 0 ≢ 0 → FindsImage before.size (shown before) directory graph lines free undone)
-      → (shown before 0 0 ≢ 0 → IsRecovered before m) → IsFoundNow m directory graph lines free
-  now_found found empty blank formatted used recovered = ⊎_elim
-      (λ (zero : shown before 0 0 ≡ 0).
-      let nothing = blank zero in
-      let laid = formatted zero in
-      let size = goes.size in let most = at.most in
-      blank_found before m at.enough at.most goes.size directory graph lines free undone nothing laid
-      (subst (λ (g : Graph). IsOpened m (entries_in directory) lines g) (sym nothing.graph_is)
-      (subst (λ (ls : List ℕ). IsOpened m (entries_in directory) ls empty_graph) (sym nothing.lines_are)
-      (subst (λ (d : Directory). IsOpened m d [] empty_graph)
-      (sym (none_found before m at.enough at.most goes.size directory graph lines free undone nothing laid))
-      (empty m (omega (arith, size, most)) laid.slots)))))
-      (λ (not_zero : shown before 0 0 ≢ 0).
-      let image = used not_zero in
-      let done = recovered not_zero in
-      used_found before m at.enough at.most goes.size directory graph lines free undone image done
-      (found before m (entries_in directory) lines graph (record {
-        enough = at.enough;
-        most = at.most;
-        size = goes.size;
+module _ (start : Told) (before m : Memory) (version : ℕ) (directory : Kept) (graph : Graph) (lines : List ℕ)
+    (free undone : ℕ) (is : IsOpenImage start before m version directory graph lines free undone)
+    (found : FoundImagesAreOpened) (empty : EmptyImagesAreOpened) where
+  opened_used : shown before 0 0 ≢ 0 → IsOpened m (entries_in directory) lines graph
+  opened_used not_zero =
+      let image = is.found.used not_zero in
+      found before m (entries_in directory) lines graph (record {
+        enough = is.attached.enough;
+        most = is.attached.most;
+        size = is.goes_on.size;
         finds = image.finds;
         graph_is = image.graph_is;
-        words = done.words;
-      })))
-      (cases_eq (shown before 0 0) 0)
+        words = (is.recovered.used not_zero).words;
+      })
 
-  -- the directory that the words spell was found
-  pub directory_found : (shown before 0 0 ≡ 0 → FindsNothing directory graph lines free undone)
-      → (shown before 0 0 ≢ 0 → FindsImage before.size (shown before) directory graph lines free undone)
-      → IsRecoveredAs before m → IsDirectoryIn (shown before) (entries_in directory)
-  directory_found blank used done = (
-    λ zero. none_found before m at.enough at.most goes.size directory graph lines free undone (blank zero)
-        (done.blank zero),
-    λ not_zero. (used not_zero).finds.opens.entries,
-  )
+  opened_blank : shown before 0 0 ≡ 0 → IsOpened m (entries_in directory) lines graph
+  opened_blank zero =
+      let nothing = is.found.blank zero in
+      let size = is.goes_on.size in
+      let most = is.attached.most in
+      subst (λ (g : Graph). IsOpened m (entries_in directory) lines g) (sym nothing.graph_is)
+      (subst (λ (ls : List ℕ). IsOpened m (entries_in directory) ls empty_graph) (sym nothing.lines_are)
+      (subst (λ (d : Directory). IsOpened m d [] empty_graph) (sym (is.found.directory_is.0 zero))
+      (empty m (omega (arith, size, most)) (is.recovered.blank zero).slots)))
 
-  durable_now : (Tells before → AllWritten before → AllDurable before → AllDurable m) → AllDurable m
-  durable_now durable = ⊎_elim
-      (λ tells. durable tells (attached_written start before at) (attached_durable start before at))
-      (λ silent. silent_durable m (λ tells. silent (goes.silent tells)))
-      (tells_or_not before.image.trace)
-
-  pub is_found : IsDirectoryIn (shown before) (entries_in directory) → IsRecoveredAs before m → AllKnown m
-      → StandsFor before.size (shown before) graph → StandsFor m.size (shown m) graph
-      → IsWellFormed m.size (shown m) → NoneLogged (shown m) → IsFoundNow m directory graph lines free
-      → (Tells before → AllWritten before → AllDurable before → AllDurable m)
-      → (Tells before → AllDurable before → AllWritten before → (g : Graph)
-      → StandsFor before.size (shown before) g
-      → StopsLeave before m (λ c. StandsFor before.size c g))
-      → IsFound start before m directory graph lines free
-  is_found found_is done known stands stands_now well unlogged now durable stops = record {
-    attached = at;
-    stands = stands;
-    goes_on = goes;
-    stops = λ tells. stops (at.telling tells) (attached_durable start before at)
-        (attached_written start before at) graph stands;
-    found_is = found_is;
-    recovered = done;
-    known = known;
-    stands_now = stands_now;
-    well_formed = well;
-    opens = now.opens;
-    unlogged = unlogged;
-    unplanned = now.unplanned;
-    begins = now.begins;
-    used = now.used;
-    opened = now.opened;
-    free_is = now.free_is;
-    durable = durable_now durable;
+  pub is_found : IsFound start before m directory graph lines free
+  is_found = record {
+    attached = is.attached;
+    stands = is.stands;
+    goes_on = is.goes_on;
+    stops = is.stops;
+    found_is = is.found.directory_is;
+    recovered = is.recovered;
+    known = is.known;
+    stands_now = is.stands_now;
+    well_formed = is.well_formed;
+    opens = is.opens;
+    unlogged = is.unlogged;
+    unplanned = is.found.unplanned;
+    begins = is.found.begins;
+    used = is.found.in_use;
+    opened = ⊎_elim opened_blank opened_used (cases_eq (shown before 0 0) 0);
+    free_is = is.found.free_is;
+    durable = is.durable;
   }
 
--- ---- an image that couldn't be recovered
+-- ---- an image that couldn't be opened
 
-pub recovery_cause : (before m : Memory) (fault : RecoverFault) (why : Unopened) → IsOfRecovery fault why
-    → IsFaultOf (meaning before.size (shown before)) fault → (IsBadFault fault
-    → ChangesTo (IsPutBack (shown before)) before m)
-    → IsRecoveryFault before m why
-recovery_cause before m (recovery.Bad line reason) why is fails back =
-    subst (IsRecoveryFault before m) (sym is) (fails, back tt)
-recovery_cause before m recovery.ImageFailed why is fails back = subst (IsRecoveryFault before m) (sym is) tt
-recovery_cause before m recovery.OutOfMemory why is fails back = subst (IsRecoveryFault before m) (sym is) tt
+attach_fault : (start : Told) (why : NotOpened) (fault : Unopened) → IsOfOpening why fault
+    → of_opening.IsAttachFault start why → IsAttachFault start fault
+attach_fault start (opening.BadImage line reason) fault of cause = subst (IsAttachFault start) (sym of) cause
+attach_fault start opening.ImageFailed fault of cause = subst (IsAttachFault start) (sym of) tt
+attach_fault start opening.OutOfMemory fault of cause = subst (IsAttachFault start) (sym of) tt
 
-pub unfound_left : (start after : Told) (before m : Memory) → IsAttached start before → after.size ≡ m.size
-    → after ≡ m.image
-    → GoesOn before m
-    → (Tells before → AllDurable before → AllWritten before → (g : Graph)
-    → StandsFor before.size (shown before) g
-    → StopsLeave before m (λ c. StandsFor before.size c g)) → IsLeft start after before m []
-unfound_left start after before m at sized told goes stops = record {
-  attached = at;
-  size = sized ∙ goes.size ∙ at.size;
-  told = told;
-  goes_on = goes;
-  stops = λ tells graph stands.
-      stops_weaker before m (λ c. StandsFor before.size c graph) (StandsWithFirst before.size graph [])
-      (stops (at.telling tells) (attached_durable start before at) (attached_written start before at)
-      graph stands)
-      (λ c so. (0, omega arith, so));
+sized_so : (why : NotOpened) (fault : Unopened) → IsOfOpening why fault → why ≡ opening.BadImage 0 Size
+    → fault ≡ BadImage 0 Size
+sized_so why fault of is = subst (λ (w : NotOpened). IsOfOpening w fault) is of
+
+recovery_fault : (before m : Memory) (why : NotOpened) (fault : Unopened) → IsOfOpening why fault
+    → of_opening.IsRecoveryFault before m why → IsRecoveryFault before m fault
+recovery_fault before m (opening.BadImage line reason) fault of cause =
+    subst (IsRecoveryFault before m) (sym of) cause
+recovery_fault before m opening.ImageFailed fault of cause = subst (IsRecoveryFault before m) (sym of) tt
+recovery_fault before m opening.OutOfMemory fault of cause = subst (IsRecoveryFault before m) (sym of) tt
+
+unattached : (start after : Told) (why : NotOpened) (fault : Unopened) → IsOfOpening why fault
+    → of_opening.IsUnattached start after why → IsUnattached start after fault
+unattached start after why fault of is = record {
+  size = is.size;
+  trace = is.trace;
+  moments = is.moments;
+  cause = attach_fault start why fault of is.cause;
+  sized = λ wrong. sized_so why fault of (is.sized wrong);
 }
+
+unrecovered : (start after : Told) (why : NotOpened) (fault : Unopened) → IsOfOpening why fault
+    → of_opening.IsUnrecovered start after why → IsUnrecovered start after fault
+unrecovered start after why fault of is = record {
+  before = is.before;
+  memory = is.memory;
+  left = record {
+    attached = is.attached;
+    size = is.size;
+    told = is.told;
+    goes_on = is.goes_on;
+    stops = λ tells graph stands.
+        stops_weaker is.before is.memory (λ c. StandsFor is.before.size c graph)
+        (StandsWithFirst is.before.size graph []) (is.stops tells graph stands) (λ c so. (0, omega arith, so));
+  };
+  cause = recovery_fault is.before is.memory why fault of is.cause;
+}
+
+pub unfound : (start after : Told) (why : NotOpened) (fault : Unopened) → IsOfOpening why fault
+    → of_opening.IsUnopened start after why → IsUnfound start after fault
+unfound start after why fault of (inl is) = inl (unattached start after why fault of is)
+unfound start after why fault of (inr is) = inr (unrecovered start after why fault of is)
+
+-- the image failed, and nothing else
+pub failed_so : (why : NotOpened) (fault : Unopened) → IsOfOpening why fault → fault ≡ ImageFailed
+    → why ≡ opening.ImageFailed
+failed_so (opening.BadImage line reason) fault of is = let wrong : BadImage line reason ≡ ImageFailed = sym of ∙ is in cc
+failed_so opening.ImageFailed fault of is = refl
+failed_so opening.OutOfMemory fault of is = let wrong : OutOfMemory ≡ ImageFailed = sym of ∙ is in cc

@@ -1,21 +1,19 @@
 -- Images that couldn't be opened for a class set.
-use Rattle.std.specs.Prelude.{◌≡◌, ◌⊎◌, ◌<◌, ℕ, List, [], Err}
+pub use Rattle.image_opening.specs.Unopened.{IsOfWrongSize}
+use Rattle.std.specs.Prelude.{◌≡◌, ◌⊎◌, ℕ, List, [], Err}
 use Rattle.graph_model.specs.declared.types.Graph.{Graph}
 use Rattle.line_image.specs.Told.{Told}
 use Rattle.line_image.specs.Trace.{LeavesNow}
 use Rattle.line_memory.specs.Memory.{Memory, IsTelling, shown}
 use Rattle.line_memory.specs.Moments.{Goes}
-use Rattle.line_memory.specs.declared.attach.AttachFault.{AttachFault}
-use Rattle.line_memory.specs.declared.attach.AttachFault.TheVariants as attach
 use Rattle.image_layout.specs.declared.superblock.BadReason.TheVariants.{Size}
-use Rattle.image_layout.specs.Places.{min_lines, max_lines}
 use Rattle.image_meaning.specs.Directories.{Directory}
 use Rattle.image_meaning.specs.Entries.{DirectoryEntry}
 use Rattle.image_meaning.specs.Meaning.{meaning, StandsFor}
 use Rattle.word_changes.specs.Changes.{ChangesTo, GoesOn, StopsLeave}
-use Rattle.image_walk.specs.declared.fault.RecoverFault.{RecoverFault}
-use Rattle.image_walk.specs.declared.fault.RecoverFault.TheVariants as recovery
 use Rattle.image_recovery.specs.Putting.{IsPutBack}
+use Rattle.image_opening.specs.declared.not_opened.NotOpened.{NotOpened}
+use Rattle.image_opening.specs.declared.not_opened.NotOpened.TheVariants as opening
 use Rattle.class_set.specs.Facts.{facts_of}
 use Rattle.class_set.specs.Linked.{Linked}
 use Rattle.class_set.specs.Sets.{made_of}
@@ -31,21 +29,12 @@ use Rattle.set_opening.specs.Opened.{StandsWithFirst}
 
 -- ---- faults, as they are passed on
 
-abbrev pub IsOfAttach : AttachFault → Unopened → Type 0
-IsOfAttach attach.Size why = why ≡ BadImage 0 Size
-IsOfAttach attach.ImageFailed why = why ≡ ImageFailed
-IsOfAttach attach.OutOfMemory why = why ≡ OutOfMemory
-
-abbrev pub IsOfRecovery : RecoverFault → Unopened → Type 0
-IsOfRecovery (recovery.Bad line reason) why = why ≡ BadImage line reason
-IsOfRecovery recovery.ImageFailed why = why ≡ ImageFailed
-IsOfRecovery recovery.OutOfMemory why = why ≡ OutOfMemory
+abbrev pub IsOfOpening : NotOpened → Unopened → Type 0
+IsOfOpening (opening.BadImage line reason) why = why ≡ BadImage line reason
+IsOfOpening opening.ImageFailed why = why ≡ ImageFailed
+IsOfOpening opening.OutOfMemory why = why ≡ OutOfMemory
 
 -- ---- an image that wasn't attached
-
--- it has too few lines or too many
-abbrev pub IsOfWrongSize : Told → Type 0
-IsOfWrongSize start = (start.size < min_lines) ⊎ (max_lines < start.size)
 
 abbrev pub IsAttachFault : Told → Unopened → Type 0
 IsAttachFault start (BadImage line reason) = (line ≡ 0) × (reason ≡ Size) × IsOfWrongSize start

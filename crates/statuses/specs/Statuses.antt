@@ -19,10 +19,12 @@ use Rattle.class_links.specs.declared.refusal.LinkRefusal.{LinkRefusal}
 use Rattle.class_links.specs.declared.refusal.LinkRefusal.TheVariants as link
 use Rattle.image_layout.specs.declared.superblock.BadReason.{BadReason}
 use Rattle.image_layout.specs.declared.superblock.BadReason.TheVariants as reason
+use Rattle.listing_lines.specs.declared.refusal.ListingFault.{ListingFault}
+use Rattle.listing_lines.specs.declared.refusal.ListingFault.TheVariants as listing
 use Rattle.plain_model.specs.declared.throws.Throws.{Throws}
 use Rattle.plain_model.specs.declared.throws.Throws.TheVariants as thrown
 use Rattle.statuses.specs.declared.status.Status.{Status}
-use Rattle.statuses.specs.declared.status.Status.TheVariants.{Ok, Uncaught, Usage, BadClass, BadImage, LinkRefused}
+use Rattle.statuses.specs.declared.status.Status.TheVariants.{Ok, Uncaught, Usage, BadClass, BadListing, BadImage, LinkRefused}
 use Rattle.statuses.specs.declared.status.Status.TheVariants.{ShapeChanged, BadCode, RegionRace, Full as FullOf, SourceFault}
 use Rattle.statuses.specs.declared.status.Status.TheVariants.{ImageFault, SinkFault, OutOfMemory, Stuck, LinkFault, NotBuilt}
 
@@ -43,6 +45,7 @@ number_of SinkFault = 12
 number_of OutOfMemory = 13
 number_of (Stuck waits) = 14
 number_of (LinkFault kind name) = 15
+number_of (BadListing line kind) = 16
 number_of NotBuilt = 17
 
 -- ---- words with spaces between them
@@ -125,6 +128,18 @@ reason_text reason.Length = codes "Length"
 reason_text reason.Overlap = codes "Overlap"
 reason_text reason.Value = codes "Value"
 
+abbrev pub listing_text : ListingFault → List ℕ
+listing_text listing.Syntax = codes "Syntax"
+listing_text listing.UnknownWord = codes "UnknownWord"
+listing_text listing.BadNumber = codes "BadNumber"
+listing_text listing.UnknownLabel = codes "UnknownLabel"
+listing_text listing.DoubledLabel = codes "DoubledLabel"
+listing_text listing.FarJump = codes "FarJump"
+listing_text listing.BadDescriptor = codes "BadDescriptor"
+listing_text listing.BadText = codes "BadText"
+listing_text listing.TooLarge = codes "TooLarge"
+listing_text listing.NoClass = codes "NoClass"
+
 -- the classes of the throwables that requests throw, in internal form (JVMS 4.2.1)
 abbrev pub class_name : Throws → List ℕ
 class_name thrown.NegativeArraySize = codes "java/lang/NegativeArraySizeException"
@@ -174,6 +189,8 @@ what_of Ok = []
 what_of (Uncaught thread class) = codes "uncaught" ++ spaced thread ++ codes " " ++ class
 what_of Usage = codes "usage"
 what_of (BadClass file refusal) = codes "class " ++ file ++ codes " " ++ class_text refusal
+what_of (BadListing line kind) =
+    with_numbers (codes "listing") (line ∷ []) ++ codes " " ++ listing_text kind
 what_of (BadImage line reason) =
     with_numbers (codes "image") (line ∷ []) ++ codes " " ++ reason_text reason
 what_of (LinkRefused refusal) = codes "refused " ++ link_text refusal

@@ -6,6 +6,7 @@ use ap_base::{Bytes, Place, ThreadNo};
 use class_file::ClassRefusal;
 use class_links::LinkRefusal;
 use image_layout::BadReason;
+use listing_lines::ListingFault;
 use run_types::{Full, LinkKind, Waits};
 
 /// How the top call ended.
@@ -24,6 +25,12 @@ pub enum Status {
     BadClass {
         file: Bytes,
         refusal: ClassRefusal,
+    },
+    /// The text is no listing: the first line that is bad, counted from 1, and why. Or it has no class of the name that is
+    /// asked for, at line 0.
+    BadListing {
+        line: u32,
+        kind: ListingFault,
     },
     /// The image is neither blank nor well formed: the first check that fails, at this line.
     BadImage {
@@ -92,6 +99,7 @@ impl Status {
             Status::OutOfMemory => 13,
             Status::Stuck(_) => 14,
             Status::LinkFault { .. } => 15,
+            Status::BadListing { .. } => 16,
             Status::NotBuilt => 17,
         }
     }

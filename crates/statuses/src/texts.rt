@@ -3,7 +3,7 @@ ghost use Rattle.std.specs.Prelude.{◌≡◌, ◌<◌, ◌≤◌, ◌∷◌, []
 ghost use Rattle.std.specs.List.{flat_map};
 ghost use Rattle.statuses.specs.Statuses.{spaced, with_numbers, pool_text, code_text, class_text, with_names, link_text};
 ghost use Rattle.statuses.specs.Statuses.{class_name, which_text, place_text, on_text, wait_text, waits_text, kind_text};
-ghost use Rattle.statuses.specs.Statuses.{reason_text, what_of, text_of};
+ghost use Rattle.statuses.specs.Statuses.{listing_text, reason_text, what_of, text_of};
 
 use crate::Status;
 use ap_base::{Bytes, Place, ThreadNo};
@@ -12,25 +12,18 @@ use class_links::LinkRefusal;
 use code_form::CodeRefusal;
 use const_pool::PoolRefusal;
 use image_layout::BadReason;
-use itoa::Buffer;
+use listing_lines::ListingFault;
 use plain_model::Throws;
+use put_bytes::{put_decimal, put_text as put};
 use run_types::{LinkKind, On, Waits, Which};
 use std::alloc::{AllocError, Global};
-
-fn put(out: &mut Vec<u8>, text: &[u8]) -> Result<(), AllocError>
-    ensures { OnOk result (out.new.items ≡ out.old.items ++ text.now) }
-{
-    out.extend_from_slice(text)
-}
 
 // A space and a number.
 fn put_number(out: &mut Vec<u8>, number: u64) -> Result<(), AllocError>
     ensures { OnOk result (out.new.items ≡ out.old.items ++ spaced number) }
 {
-    let mut buffer = Buffer::new();
-    let digits = buffer.format(number);
     out.push(b' ')?;
-    out.extend_from_slice(digits.as_bytes())
+    put_decimal(out, number)
 }
 
 // A name and a number.
@@ -307,6 +300,23 @@ fn reason_name(reason: BadReason) -> &'static [u8]
     }
 }
 
+fn listing_name(kind: ListingFault) -> &'static [u8]
+    ensures { result.now ≡ listing_text kind }
+{
+    match kind {
+        ListingFault::Syntax => b"Syntax",
+        ListingFault::UnknownWord => b"UnknownWord",
+        ListingFault::BadNumber => b"BadNumber",
+        ListingFault::UnknownLabel => b"UnknownLabel",
+        ListingFault::DoubledLabel => b"DoubledLabel",
+        ListingFault::FarJump => b"FarJump",
+        ListingFault::BadDescriptor => b"BadDescriptor",
+        ListingFault::BadText => b"BadText",
+        ListingFault::TooLarge => b"TooLarge",
+        ListingFault::NoClass => b"NoClass",
+    }
+}
+
 fn put_uncaught(out: &mut Vec<u8>, thread: ThreadNo, class: &Bytes) -> Result<(), AllocError>
     ensures { OnOk result (out.new.items ≡ out.old.items
         ++ (codes "uncaught" ++ spaced thread ++ codes " " ++ class.now)) }
@@ -329,6 +339,11 @@ fn put_what(out: &mut Vec<u8>, status: &Status) -> Result<(), AllocError>
             put(out, file.as_slice())?;
             put(out, b" ")?;
             put_class(out, *refusal)
+        }
+        Status::BadListing { line, kind } => {
+            put_with(out, b"listing", u64::from(*line))?;
+            put(out, b" ")?;
+            put(out, listing_name(*kind))
         }
         Status::BadImage { line, reason } => {
             put_with(out, b"image", u64::from(*line))?;

@@ -1,0 +1,6 @@
+//! Class files from a listing of a source.
+#![tactic(auto)]
+
+mod assembling;
+
+pub use assembling::put_class_of;

@@ -1,0 +1,77 @@
+// The workload is run on the image.
+ghost use Rattle.std.specs.Prelude.{◌≡◌, ◌≤◌, ◌⊎◌, []};
+ghost use Rattle.ap_base.specs.Causes.{Rose};
+ghost use Rattle.image_meaning.specs.Meaning.{empty_graph};
+ghost use Rattle.class_runs.specs.Reading.{IsOfClasses};
+ghost use Rattle.class_runs.specs.Runs.{IsOfRun, Tells};
+ghost use Rattle.autopersist.specs.Outside.{outside};
+ghost use Rattle.autopersist.specs.Runs.{RunsWorkload};
+
+use crate::idle::idle;
+use ap_base::{ClassSource, Gate, Sink};
+use class_runs::{Ended, run_classes};
+use command_words::Make;
+use line_image::Image;
+use run_history::Watcher;
+use run_types::Limits;
+use statuses::Status;
+use std::alloc::Global;
+use workload::make_classes;
+
+// The limits of the workload: those of a run for which the words ask no others.
+const DEFAULT_LIMITS: Limits = Limits {
+    heap_words: 8_388_608,
+    acts: 1_048_576,
+};
+
+/// Runs the workload with as many nodes a thread as the words say. The source isn't asked.
+pub(crate) fn run_workload<C: ClassSource, I: Image, S: Sink, G: Gate, W: Watcher>(
+    alloc: Global,
+    make: &Make,
+    source: C,
+    image: I,
+    sink: S,
+    gate: &G,
+    watcher: W,
+) -> Ended<C, I, S, W>
+    requires range { (1 ≤ make.now.count) × (make.now.count ≤ 5000) }
+    ensures runs { RunsWorkload make.now
+        (outside (C.left source) (C.faults source) (I.told image) (I.faults image) (S.taken sink) (S.faults sink) (W.seen watcher))
+        (outside (C.left result.source) (C.faults result.source) (I.told result.image) (I.faults result.image)
+        (S.taken result.sink) (S.faults result.sink) (W.seen result.watcher))
+        (result.source ≡ source) (result.image ≡ image) result.status result.opening result.acts.acts
+        ⊎ ((result.status ≡ Status.OutOfMemory) × (result.source ≡ source) × (result.image ≡ image)
+        × (result.acts.acts ≡ []) × (result.sink ≡ sink)) }
+    ensures unasked { result.source ≡ source }
+    ensures of { IsOfClasses result.status ⊎ IsOfRun result.status }
+    ensures sink_fault { result.status ≡ Status.SinkFault → Rose (S.faults sink) (S.faults result.sink) }
+    ensures image_fault { result.status ≡ Status.ImageFault → Rose (I.faults image) (I.faults result.image) }
+    ensures no_memory { result.status ≡ Status.OutOfMemory → result.acts.acts ≡ [] }
+    ensures opening { result.acts.acts ≡ [] → result.opening ≡ empty_graph }
+    ensures size { (I.told result.image).size ≡ (I.told image).size }
+    ensures told { Tells result.acts.acts (W.seen watcher) (W.seen result.watcher)
+        (S.taken sink) (S.taken result.sink) }
+{
+    let Ok(classes) = make_classes(alloc, make.count) else {
+        return idle(alloc, Status::OutOfMemory, source, image, sink, watcher);
+    };
+    let ran = run_classes(
+        alloc,
+        b"Work",
+        &DEFAULT_LIMITS,
+        classes,
+        image,
+        sink,
+        gate,
+        watcher,
+    );
+    Ended {
+        status: ran.status,
+        opening: ran.opening,
+        acts: ran.acts,
+        source,
+        image: ran.image,
+        sink: ran.sink,
+        watcher: ran.watcher,
+    }
+}

@@ -1,0 +1,6 @@
+pub mod SourceFiles
+pub mod Causes
+pub mod Outside
+pub mod SetStops
+pub mod SetRan
+pub mod Unappended

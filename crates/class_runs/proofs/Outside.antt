@@ -1,0 +1,102 @@
+-- What the outside is told of a call, and the faults by which it ends.
+use Rattle.std.proofs.Common.{◌≡◌, ◌≤◌, ℕ, List, [], ◌++◌, Option, Some, None, refl, ap, sym, ◌∙◌, subst, arith}
+use Rattle.std.proofs.lemmas.List.{append-nil}
+use Rattle.ap_base.specs.Causes.{Rose}
+use Rattle.ap_base.specs.Sinks.{with_bytes}
+use Rattle.run_types.specs.declared.fault.StepFault.TheVariants as met
+use Rattle.run_history.specs.Recorded.{Recorded}
+use Rattle.class_set.specs.Linked.{Linked}
+use Rattle.durable_launch.specs.Passed.{HasTold, IsCaused, with_all}
+use Rattle.durable_launch.specs.Passed.{fault_in}
+use Rattle.durable_launch.specs.Passed.{Met, Stuck}
+use Rattle.durable_launch.specs.Passed.{Turned}
+use Rattle.durable_launch.specs.Passed.{Acted, Ended, Over, Unbuilt}
+use Rattle.program_launch.specs.declared.refusals.NoLaunch.{NoLaunch}
+use Rattle.program_launch.specs.declared.refusals.NoLaunch.TheVariants as no_launch
+use Rattle.set_opening.specs.declared.unopened.Unopened.{Unopened}
+use Rattle.set_opening.specs.declared.unopened.Unopened.TheVariants as unopened
+use Rattle.statuses.specs.declared.status.Status.TheVariants as status
+use Rattle.class_runs.specs.Began.{status_of_turned, status_of_unlaunched}
+use Rattle.class_runs.specs.Sets.{status_of_unopened}
+use Rattle.class_runs.specs.Runs.{Tells}
+
+-- ---- what is told
+
+none_seen : (sees : Option (List Recorded)) → sees ≡ with_all sees []
+none_seen None = refl
+none_seen (Some seen) = ap (λ (told : List Recorded). Some told) (sym (append-nil seen))
+
+none_taken : (takes : Option (List ℕ)) → takes ≡ with_bytes takes []
+none_taken None = refl
+none_taken (Some taken) = ap (λ (bytes : List ℕ). Some bytes) (sym (append-nil taken))
+
+pub tells_nothing : (sees : Option (List Recorded)) (takes : Option (List ℕ)) → Tells [] sees sees takes takes
+tells_nothing sees takes = record { watched = none_seen sees; printed = none_taken takes }
+
+-- from no act on, all acts were told
+pub tells_all : (old new : List Recorded) (sees sees' : Option (List Recorded)) (takes takes' : Option (List ℕ))
+    → old ≡ [] → HasTold old new sees sees' takes takes' → Tells new sees sees' takes takes'
+tells_all old new sees sees' takes takes' empty told =
+    let all : new ≡ told.further = told.acts ∙ ap (λ (first : List Recorded). first ++ told.further) empty in
+    subst (λ (acts : List Recorded). Tells acts sees sees' takes takes') (sym all)
+    (record { watched = told.watched; printed = told.printed })
+
+-- ---- faults
+
+module _ (set : Linked) (sink sink' image image' : ℕ) where
+  pub sink_caused : (turned : Turned) → IsCaused (fault_in turned) sink sink' image image'
+      → status_of_turned set turned ≡ status.SinkFault → Rose sink sink'
+  sink_caused Acted caused is = absurd (cc)
+  sink_caused (Ended None) caused is = absurd (cc)
+  sink_caused (Ended (Some class)) caused is = absurd (cc)
+  sink_caused Unbuilt caused is = absurd (cc)
+  sink_caused (Over (Met met.SinkFault)) caused is = caused.0
+  sink_caused (Over (Met met.ImageFault)) caused is = absurd (cc)
+  sink_caused (Over (Met (met.BadCode at))) caused is = absurd (cc)
+  sink_caused (Over (Met (met.RegionRace thread other place))) caused is = absurd (cc)
+  sink_caused (Over (Met (met.Full full))) caused is = absurd (cc)
+  sink_caused (Over (Stuck on)) caused is = absurd (cc)
+  sink_caused (Over (Met (met.LinkFault kind class index))) caused is = absurd (cc)
+
+  pub image_caused : (turned : Turned) → IsCaused (fault_in turned) sink sink' image image'
+      → status_of_turned set turned ≡ status.ImageFault → Rose image image'
+  image_caused Acted caused is = absurd (cc)
+  image_caused (Ended None) caused is = absurd (cc)
+  image_caused (Ended (Some class)) caused is = absurd (cc)
+  image_caused Unbuilt caused is = absurd (cc)
+  image_caused (Over (Met met.SinkFault)) caused is = absurd (cc)
+  image_caused (Over (Met met.ImageFault)) caused is = caused.1
+  image_caused (Over (Met (met.BadCode at))) caused is = absurd (cc)
+  image_caused (Over (Met (met.RegionRace thread other place))) caused is = absurd (cc)
+  image_caused (Over (Met (met.Full full))) caused is = absurd (cc)
+  image_caused (Over (Stuck on)) caused is = absurd (cc)
+  image_caused (Over (Met (met.LinkFault kind class index))) caused is = absurd (cc)
+
+-- the sink fails in a run alone
+pub never_by_sink : (why : Unopened) → status_of_unopened why ≡ status.SinkFault → ⊥
+never_by_sink (unopened.BadImage line reason) is = cc
+never_by_sink (unopened.ShapeChanged name) is = cc
+never_by_sink (unopened.Full full) is = cc
+never_by_sink unopened.ImageFailed is = cc
+never_by_sink unopened.OutOfMemory is = cc
+
+-- an opening that ends by a fault of the image failed for it
+pub failed_opening : (why : Unopened) → status_of_unopened why ≡ status.ImageFault → why ≡ unopened.ImageFailed
+failed_opening (unopened.BadImage line reason) is = absurd (cc)
+failed_opening (unopened.ShapeChanged name) is = absurd (cc)
+failed_opening (unopened.Full full) is = absurd (cc)
+failed_opening unopened.ImageFailed is = refl
+failed_opening unopened.OutOfMemory is = absurd (cc)
+
+-- a launch fails by neither
+pub unlaunched_by_sink : (why : NoLaunch) → status_of_unlaunched why ≡ status.SinkFault → ⊥
+unlaunched_by_sink (no_launch.Full full) is = cc
+unlaunched_by_sink no_launch.OutOfMemory is = cc
+
+pub unlaunched_by_image : (why : NoLaunch) → status_of_unlaunched why ≡ status.ImageFault → ⊥
+unlaunched_by_image (no_launch.Full full) is = cc
+unlaunched_by_image no_launch.OutOfMemory is = cc
+
+-- a count that rose since a later moment rose since an earlier one
+pub rose_since : (first later now : ℕ) → first ≤ later → Rose later now → Rose first now
+rose_since first later now le rose = omega (arith, le, rose)

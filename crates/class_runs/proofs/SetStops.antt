@@ -1,0 +1,211 @@
+-- What a stop leaves of an image that is attached, opened for a class set, and then run on.
+use Rattle.std.proofs.Math.Path.{fun_ext}
+use Rattle.std.proofs.Common.{◌≡◌, inl, inr, ⊎_elim, ℕ, ◌<◌, ◌≤◌, ◌+◌, ◌-◌, ◌^◌, List, [], ◌∷◌, Option, Some, None, Ok, Result}
+use Rattle.std.proofs.Common.{refl, sym, ◌∙◌, subst, arith}
+use Rattle.std.specs.Prelude.{◌≢◌, All, take}
+use Rattle.std.proofs.lemmas.Bool.{cases_lt, le-ltb}
+use Rattle.std.proofs.lemmas.List.Elements.{All-head, All-tail}
+use Rattle.graph_model.specs.declared.types.Graph.{Graph}
+use Rattle.line_image.specs.Trace.{Trace, Outcome, IsAllFenced, LeavesNow, LeftWithin, read_word}
+use Rattle.line_image.specs.Told.{Told}
+use Rattle.line_memory.specs.Memory.{Memory, ReadsWord, IsTelling, CanLeaveAll, shown}
+use Rattle.line_memory.specs.Moments.{Goes, CountsFrom}
+use Rattle.line_memory.proofs.Chain.{goes_on}
+use Rattle.image_meaning.specs.Appending.{with_all_too}
+use Rattle.image_meaning.specs.Checks.{Words, Bad}
+use Rattle.image_meaning.specs.Entries.{DirectoryEntry}
+use Rattle.image_meaning.specs.Laws.{Opens}
+use Rattle.image_meaning.specs.Meaning.{StandsFor, meaning}
+use Rattle.image_meaning.proofs.Standings.{stands-within}
+use Rattle.image_recovery.specs.Recovered.{entries_in}
+use Rattle.word_changes.specs.Changes.{StopsLeave}
+use Rattle.directories.specs.Planning.{lacking}
+use Rattle.run_history.specs.Recorded.{Recorded}
+use Rattle.run_history.specs.Kept.{acts_before}
+use Rattle.plain_model.specs.First.{first_known}
+use Rattle.class_set.specs.Linked.{Linked}
+use Rattle.class_set.specs.Facts.{facts_of}
+use Rattle.stop_theorem.specs.Stops.{IsAllowedImage}
+use Rattle.stop_theorem.specs.Laws.{IsSafeRun}
+use Rattle.set_opening.specs.Attached.{AreRead, IsAttached, IsSettled}
+use Rattle.set_opening.specs.Opened.{IsOpenedFor, StandsWithFirst}
+use Rattle.class_runs.specs.Sets.{IsOpenedSo, StandsAllowed, StandsAsBefore, StandsAtStops, StandsRightly}
+
+pub none_before : (n : ℕ) (acts : List Recorded) → All (λ (a : Recorded). n ≤ a.act.at) acts → acts_before n acts ≡ []
+none_before n [] late = refl
+none_before n (a ∷ acts) late =
+    let here = All-head (λ (b : Recorded). n ≤ b.act.at) a acts late in
+    rw (le-ltb a.act.at n here) (none_before n acts (All-tail (λ (b : Recorded). n ≤ b.act.at) a acts late))
+
+abbrev ok : Graph → Result Graph Bad
+ok graph = Ok graph
+
+same_graph : (r : Result Graph Bad) (a b : Graph) → r ≡ Ok a → r ≡ Ok b → a ≡ b
+same_graph r a b one other = let same : ok a ≡ ok b = sym one ∙ other in cc
+
+-- ---- images that were attached
+
+-- what a stop leaves of an image with nothing unfenced is what reads give
+fenced_as_read : (o : Option Trace) → IsTelling o → IsAllFenced o → (c : Outcome) → LeavesNow o c
+    → (l w v : ℕ) → ReadsWord o l w v → c l w ≡ v
+fenced_as_read None telling settled c left l w v reads = absurd telling
+fenced_as_read (Some h) telling settled c left l w v reads = settled l w (c l w) (left l w) ∙ sym reads
+
+-- the words stand for the graph with some further roots, which are null
+abbrev WithSome : ℕ → Graph → Outcome → Type 0
+WithSome size graph c = (entries : List DirectoryEntry) × StandsFor size c (with_all_too graph entries)
+
+with_first : (size : ℕ) (graph : Graph) (entries : List DirectoryEntry) (c : Outcome) → StandsWithFirst size graph entries c
+    → WithSome size graph c
+with_first size graph entries c of = (take of.0 entries, of.2)
+
+module _ (start : Told) (settled : IsSettled start) (before : Memory) (attached : IsAttached start before) where
+  -- what a settled image leaves is what is shown
+  pub as_shown : (c : Outcome) → LeavesNow start.trace c → (l w : ℕ) → l < before.size → c l w ≡ shown before l w
+  as_shown c left l w below =
+      let size = attached.size in
+      fenced_as_read start.trace settled.0 settled.1 c left l w (shown before l w)
+      (attached.shows l w (omega (arith, below, size)))
+
+  still : (graph : Graph) → StandsFor before.size (shown before) graph → (c : Outcome) → LeavesNow start.trace c
+      → WithSome before.size graph c
+  still graph stands c left =
+      ([], stands-within before.size (shown before) c graph attached.enough attached.most stands (as_shown c left))
+
+  -- each stop since the start left the graph for which the image stood, with some null roots
+  pub goes_since : (m : Memory) (added : List DirectoryEntry) (graph : Graph) → StandsFor before.size (shown before) graph
+      → StopsLeave before m (StandsWithFirst before.size graph added) → Goes start m.image (WithSome before.size graph)
+  goes_since m added graph stands stops =
+      goes_on start before.image m.image (LeavesNow start.trace) (StandsWithFirst before.size graph added)
+      (WithSome before.size graph) attached.moments stops.within (still graph stands) (with_first before.size graph added)
+
+  sized : (graph : Graph) (c : Outcome) → WithSome before.size graph c → WithSome start.size graph c
+  sized graph c some = subst (λ (n : ℕ). WithSome n graph c) attached.size some
+
+  stood : (graph : Graph) → StandsFor start.size (shown before) graph → StandsFor before.size (shown before) graph
+  stood graph stands = subst (λ (n : ℕ). StandsFor n (shown before) graph) (sym attached.size) stands
+
+  -- what each stop leaves, for whatever graph the image stood
+  abbrev AllStop : Memory → List DirectoryEntry → Type 0
+  AllStop m added = (graph : Graph) → StandsFor before.size (shown before) graph
+      → StopsLeave before m (StandsWithFirst before.size graph added)
+
+  pub as_before_within : (m : Memory) (added : List DirectoryEntry) → AllStop m added → (n : ℕ) → 0 < n → start.calls + n ≤ m.image.calls
+      → start.calls + n < 2 ^ 64 - 1 → (c : Outcome) → LeftWithin m.image.trace (start.calls + n) c
+      → StandsAsBefore start.size (shown before) c
+  as_before_within m added stops n some le lt c left graph stands =
+      let there = stood graph stands in
+      sized graph c ((goes_since m added graph there (stops graph there)).during (start.calls + n) (omega (arith, some)) le lt c left)
+
+  pub as_before_now : (m : Memory) (added : List DirectoryEntry) → AllStop m added → (c : Outcome) → LeavesNow m.image.trace c
+      → StandsAsBefore start.size (shown before) c
+  as_before_now m added stops c left graph stands =
+      let there = stood graph stands in
+      sized graph c (with_first before.size graph added c ((stops graph there).after c (λ l w. inr (left l w))))
+
+  -- there was no first turn
+  pub stops_without : (set : Linked) (opening : Graph) (m : Memory) (added : List DirectoryEntry) → AllStop m added
+      → StandsAtStops set start opening [] m.image
+  stops_without set opening m added stops = record {
+    words = shown before;
+    read = attached.shows;
+    within = λ n some le lt c left. inr (refl, as_before_within m added stops n some le lt c left);
+    now = λ c left. inr (refl, as_before_now m added stops c left);
+  }
+
+-- ---- images that were opened
+
+module _ (start : Told) (settled : IsSettled start) (set numbered : Linked) (m : Memory) (directory : _) (lines : List ℕ) (graph : Graph)
+    (free : ℕ) (opened : IsOpenedFor start set numbered m directory lines graph free) where
+  abbrev pub added : List DirectoryEntry
+  added = lacking opened.found opened.entries
+
+  pub all_stop : (other : Graph) → StandsFor opened.before.size (shown opened.before) other
+      → StopsLeave opened.before m (StandsWithFirst opened.before.size other added)
+  all_stop other stands =
+      subst (λ (g : Graph). StopsLeave opened.before m (StandsWithFirst opened.before.size g added))
+      (same_graph (meaning opened.before.size (shown opened.before)) opened.stood other opened.stands stands) (opened.stops settled.0)
+
+  pub stops_opened : (opening : Graph) → StandsAtStops set start opening [] m.image
+  stops_opened opening = stops_without start settled opened.before opened.attached set opening m added all_stop
+
+  -- ---- and on which a run went on
+
+  module _ (opening : Graph) (acts : List Recorded) (end : Memory)
+      (safe : IsSafeRun (first_known (facts_of numbered) graph) m.size (entries_in directory) start.calls m acts end)
+      (counts : CountsFrom start.calls m)
+      (now : (c : Outcome) → CanLeaveAll end c
+      → IsAllowedImage (first_known (facts_of numbered) graph) m.size (entries_in directory) acts c)
+      (from : acts ≢ [] → opening ≡ graph) (size : m.size ≡ start.size) where
+    abbrev of : IsOpenedSo set start graph
+    of = record { numbered = numbered; memory = m; directory = directory; lines = lines; free = free; opened = opened }
+
+    allowed : (some : List Recorded) (c : Outcome)
+        → IsAllowedImage (first_known (facts_of numbered) graph) m.size (entries_in directory) some c
+        → StandsAllowed set start opening acts some c
+    allowed some c is = record {
+      graph = graph;
+      of = of;
+      from = from;
+      opens = subst (λ (n : ℕ). Opens n c (entries_in directory)) size is.opens;
+      allowed = subst (λ (n : ℕ). IsAllowedImage (first_known (facts_of numbered) graph) n (entries_in directory) some c)
+          size is;
+    }
+
+    all_late : (n : ℕ) → n ≤ m.calls → All (λ (a : Recorded). n ≤ a.act.at) acts
+    all_late n le k d below = omega (arith, le, safe.late k d below)
+
+    early : (n : ℕ) → 0 < n → start.calls + n < 2 ^ 64 - 1 → n ≤ m.calls → (c : Outcome)
+        → LeftWithin end.image.trace (start.calls + n) c
+        → StandsRightly set start opening acts (acts_before n acts) (shown opened.before) c
+    early n some lt le c left =
+        let within : start.calls + n ≤ m.image.calls = omega (arith, counts, le, lt) in
+        let there : LeftWithin m.image.trace (start.calls + n) c =
+        subst (λ (o : Option Trace). LeavesNow o c) (safe.before (start.calls + n) within lt) left in
+        inr (
+          none_before n acts (all_late n le),
+          as_before_within start settled opened.before opened.attached m added all_stop n some within lt c there,
+        )
+
+    pub stops_run : StandsAtStops set start opening acts end.image
+    stops_run = record {
+      words = shown opened.before;
+      read = opened.attached.shows;
+      within = λ n some le lt c left. ⊎_elim
+          (λ (after : m.calls < n). inl (allowed (acts_before n acts) c
+          (safe.within n some (omega (arith, safe.counts, le, lt)) lt c left after)))
+          (λ (first : n ≤ m.calls). early n some lt first c left)
+          (cases_lt m.calls n);
+      now = λ c left. inl (allowed acts c (now c (λ l w. inr (left l w))));
+    }
+
+-- ---- an image that couldn't be attached
+
+-- the words that reads give, where the image tells them
+abbrev words_read : Option Trace → Words
+words_read None = λ l w. 0
+words_read (Some h) = λ l w. read_word h l w
+
+are_read : (start : Told) → AreRead start (words_read start.trace)
+are_read start l w below = by_history start.trace l w
+  where
+    by_history : (o : Option Trace) (l w : ℕ) → ReadsWord o l w (words_read o l w)
+    by_history None l w = tt
+    by_history (Some h) l w = refl
+
+is_read : (o : Option Trace) → IsAllFenced o → (c : Outcome) → LeavesNow o c → c ≡ words_read o
+is_read None settled c left = absurd (left 0 0)
+is_read (Some h) settled c left = fun_ext (λ l. fun_ext (λ w. settled l w (c l w) (left l w)))
+
+pub stops_unattached : (set : Linked) (start : Told) (opening : Graph) (after : Told) → IsAllFenced start.trace
+    → after.trace ≡ start.trace → Goes start after (LeavesNow start.trace) → StandsAtStops set start opening [] after
+stops_unattached set start opening after settled same goes =
+    let quiet : (c : Outcome) → LeavesNow start.trace c → StandsAsBefore start.size (words_read start.trace) c =
+    λ c left graph stands.
+    ([], subst (λ (words : Words). StandsFor start.size words graph) (sym (is_read start.trace settled c left)) stands) in
+    record {
+      words = words_read start.trace;
+      read = are_read start;
+      within = λ n some le lt c left. inr (refl, quiet c (goes.during (start.calls + n) (omega (arith, some)) le lt c left));
+      now = λ c left. inr (refl, quiet c (subst (λ (o : Option Trace). LeavesNow o c) same left));
+    }

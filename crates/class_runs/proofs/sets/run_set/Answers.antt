@@ -1,0 +1,36 @@
+use Rattle.std.proofs.Common.{sym, ◌∙◌}
+use Rattle.class_runs.proofs.Outside.{failed_opening, never_by_sink, rose_since, tells_nothing}
+use Rattle.class_runs.proofs.SetRan.{unopened_ran}
+use Rattle.class_runs.proofs.sets.run_set.Goals as goal
+
+pub run_found-requires : goal.run_found-requires
+run_found-requires g c = record { found = (g.I.Image.told c.args.image, c.args.set, c.in-Ok.ensures.found) }
+
+pub returns-in-Ok-clause-ran : goal.returns-in-Ok-clause-ran
+returns-in-Ok-clause-ran g c =
+    c.run_found.ensures.ran (g.I.Image.told c.args.image) c.args.set c.in-Ok.ensures.found
+
+pub returns-in-Ok-clause-image_fault : goal.returns-in-Ok-clause-image_fault
+returns-in-Ok-clause-image_fault g c = λ is.
+    rose_since (g.I.Image.faults c.args.image) c.in-Ok.found.memory.faults (g.I.Image.faults c.run_found.result.image)
+    c.in-Ok.ensures.later (c.run_found.ensures.image_fault is)
+
+pub returns-clause-ran : goal.returns-clause-ran
+returns-clause-ran g c =
+    rw (c.unbegun.ensures.opening, c.unbegun.ensures.acts, c.unbegun.ensures.image, c.unbegun.ensures.status, c.of_unopened.ensures)
+    (unopened_ran c.args.set c.find_for.new.set (g.I.Image.told c.args.image) (g.I.Image.told c.in-Err.image) c.in-Err.why
+    c.args.class.now c.args.limits.now c.in-Err.ensures.unopened)
+
+pub returns-clause-told : goal.returns-clause-told
+returns-clause-told g c =
+    rw (c.unbegun.ensures.acts, c.unbegun.ensures.watcher, c.unbegun.ensures.sink)
+    (tells_nothing (g.W.Watcher.seen c.args.watcher) (g.S.Sink.taken c.args.sink))
+
+pub returns-clause-sink_fault : goal.returns-clause-sink_fault
+returns-clause-sink_fault g c = λ is.
+    absurd (never_by_sink c.in-Err.why (sym (c.unbegun.ensures.status ∙ c.of_unopened.ensures) ∙ is))
+
+pub returns-clause-image_fault : goal.returns-clause-image_fault
+returns-clause-image_fault g c = λ is.
+    rw c.unbegun.ensures.image
+    (c.in-Err.ensures.cause (failed_opening c.in-Err.why (sym (c.unbegun.ensures.status ∙ c.of_unopened.ensures) ∙ is)))

@@ -1,0 +1,364 @@
+// The run of a class set over an image, from its opening on.
+ghost use Rattle.std.specs.Prelude.{◌≡◌, ℕ, [], Ok};
+ghost use Rattle.ap_base.specs.Causes.{Rose};
+ghost use Rattle.line_image.specs.Told.{Told};
+ghost use Rattle.image_meaning.specs.Meaning.{empty_graph};
+ghost use Rattle.class_set.specs.Linked.{Linked};
+ghost use Rattle.class_set.specs.Facts.{facts_of};
+ghost use Rattle.plain_model.specs.Duties.{IsClass};
+ghost use Rattle.program_launch.specs.Mains.{main_of};
+ghost use Rattle.set_opening.specs.Opened.{IsFoundFor, IsOpenedFor};
+ghost use Rattle.durable_launch.specs.Launching.{CanLaunch};
+ghost use Rattle.durable_launch.specs.Passed.{IsReady};
+ghost use Rattle.durable_launch.specs.Passed.{Opening, memory_of};
+ghost use Rattle.program_host.specs.Hosts.{setting_in};
+ghost use Rattle.class_runs.specs.Sets.{SetRunsOver, kind_of, status_of_unopened};
+ghost use Rattle.class_runs.specs.Began.{FindsRoom, RanBy, status_of_turned, status_of_unlaunched};
+ghost use Rattle.class_runs.specs.Runs.{Tells};
+
+use crate::ran::{Ran, no_graph, unbegun};
+use ap_base::{Gate, Sink, ThreadNo};
+use class_set::ClassSet;
+use durable_launch::{
+    Launched, OpenedHeap, Run, Turned, each_stop_is_allowed, launch, open_heap, run_thread,
+};
+use graph_model::Graph;
+use line_image::Image;
+use program_launch::{Main, NoLaunch, NoMain, find_main, find_room};
+use run_history::{Acts, Watcher};
+use run_types::{Limits, LinkKind};
+use set_opening::{FoundImage, OpenedImage, Unopened, complete, find_for};
+use set_types::SetTypes;
+use statuses::{NameRoom, Status, main_status, status_of_fault, uncaught_status};
+use std::alloc::Global;
+
+fn kind_of(none: NoMain) -> LinkKind
+    ensures { result ≡ kind_of none }
+{
+    match none {
+        NoMain::Class => LinkKind::MissingClass,
+        NoMain::Method => LinkKind::MissingMethod,
+    }
+}
+
+fn of_unopened(why: Unopened) -> Status
+    ensures { result ≡ status_of_unopened why }
+{
+    match why {
+        Unopened::BadImage { line, reason } => Status::BadImage { line, reason },
+        Unopened::ShapeChanged { name } => Status::ShapeChanged { shape: name },
+        Unopened::Full(full) => Status::Full(full),
+        Unopened::ImageFailed => Status::ImageFault,
+        Unopened::OutOfMemory => Status::OutOfMemory,
+    }
+}
+
+fn of_unlaunched(why: NoLaunch) -> Status
+    ensures { result ≡ status_of_unlaunched why }
+{
+    match why {
+        NoLaunch::Full(full) => Status::Full(full),
+        NoLaunch::OutOfMemory => Status::OutOfMemory,
+    }
+}
+
+// How a run has ended, by its last turn.
+fn of_turned(set: &ClassSet, turned: Turned, room: NameRoom) -> Status
+    ensures { result ≡ status_of_turned set.now turned }
+{
+    match turned {
+        Turned::Ended(None) => Status::Ok,
+        Turned::Ended(Some(class)) => uncaught_status(set, ThreadNo::main(), class, room),
+        Turned::Over(halt) => status_of_fault(set, &halt.of_run(), room),
+        Turned::Unbuilt | Turned::Acted => Status::NotBuilt,
+    }
+}
+
+// The graph from which a run began; the one without roots and nodes where there is no act.
+fn opening_of(alloc: Global, acts: &Acts, graph: Graph) -> Graph
+    ensures none { acts.now.acts ≡ [] → result ≡ empty_graph }
+    ensures some { (acts.now.acts ≡ [] → ⊥) → result ≡ graph }
+{
+    if acts.len() == 0 {
+        no_graph(alloc)
+    } else {
+        graph
+    }
+}
+
+/// Opens an image for a class set and runs the set, from its class of this name on, within these limits.
+pub(crate) fn run_set<I: Image, S: Sink, G: Gate, W: Watcher>(
+    alloc: Global,
+    mut set: ClassSet,
+    class: &[u8],
+    limits: &Limits,
+    room: NameRoom,
+    image: I,
+    sink: S,
+    gate: &G,
+    watcher: W,
+) -> Ran<I, S, W>
+    ensures ran { SetRunsOver set class.now limits.now (I.told image) result.opening result.acts.acts
+        (I.told result.image) result.status }
+    ensures told { Tells result.acts.acts (W.seen watcher) (W.seen result.watcher)
+        (S.taken sink) (S.taken result.sink) }
+    ensures sink_fault { result.status ≡ Status.SinkFault
+        → Rose (S.faults sink) (S.faults result.sink) }
+    ensures image_fault { result.status ≡ Status.ImageFault
+        → Rose (I.faults image) (I.faults result.image) }
+{
+    match find_for(alloc, &mut set, image) {
+        Ok(found) => run_found(alloc, &set, class, limits, room, found, sink, gate, watcher),
+        Err((why, image)) => unbegun(alloc, of_unopened(why), image, sink, watcher),
+    }
+}
+
+// Runs a set over an image that was found for it, where its first objects find room.
+fn run_found<I: Image, S: Sink, G: Gate, W: Watcher>(
+    alloc: Global,
+    set: &ClassSet,
+    class: &[u8],
+    limits: &Limits,
+    room: NameRoom,
+    found: FoundImage<I>,
+    sink: S,
+    gate: &G,
+    watcher: W,
+) -> Ran<I, S, W>
+    requires found { (start : Told) × (old : Linked) × IsFoundFor start old set.now
+        found.memory found.directory found.lines found.graph found.free }
+    ensures ran { (start : Told) (old : Linked) → IsFoundFor start old set.now
+        found.memory found.directory found.lines found.graph found.free
+        → SetRunsOver old class.now limits.now start result.opening result.acts.acts
+        (I.told result.image) result.status }
+    ensures told { Tells result.acts.acts (W.seen watcher) (W.seen result.watcher)
+        (S.taken sink) (S.taken result.sink) }
+    ensures sink_fault { result.status ≡ Status.SinkFault
+        → Rose (S.faults sink) (S.faults result.sink) }
+    ensures image_fault { result.status ≡ Status.ImageFault
+        → Rose found.memory.faults (I.faults result.image) }
+{
+    match find_room(alloc, set, limits.heap_words) {
+        Ok(()) => run_main(alloc, set, class, limits, room, found, sink, gate, watcher),
+        Err(why) => {
+            let image = found.memory.into_image();
+            unbegun(alloc, of_unlaunched(why), image, sink, watcher)
+        }
+    }
+}
+
+// Runs a set over an image that was found for it, where its main class has a `main`.
+fn run_main<I: Image, S: Sink, G: Gate, W: Watcher>(
+    alloc: Global,
+    set: &ClassSet,
+    class: &[u8],
+    limits: &Limits,
+    room: NameRoom,
+    found: FoundImage<I>,
+    sink: S,
+    gate: &G,
+    watcher: W,
+) -> Ran<I, S, W>
+    requires found { (start : Told) × (old : Linked) × IsFoundFor start old set.now
+        found.memory found.directory found.lines found.graph found.free }
+    requires fits { FindsRoom set.now limits.now }
+    ensures ran { (start : Told) (old : Linked) → IsFoundFor start old set.now
+        found.memory found.directory found.lines found.graph found.free
+        → SetRunsOver old class.now limits.now start result.opening result.acts.acts
+        (I.told result.image) result.status }
+    ensures told { Tells result.acts.acts (W.seen watcher) (W.seen result.watcher)
+        (S.taken sink) (S.taken result.sink) }
+    ensures sink_fault { result.status ≡ Status.SinkFault
+        → Rose (S.faults sink) (S.faults result.sink) }
+    ensures image_fault { result.status ≡ Status.ImageFault
+        → Rose found.memory.faults (I.faults result.image) }
+{
+    match find_main(set, class) {
+        Ok(main) => run_complete(
+            alloc, set, class, &main, limits, room, found, sink, gate, watcher,
+        ),
+        Err(none) => {
+            let status = main_status(kind_of(none), class, room);
+            let image = found.memory.into_image();
+            unbegun(alloc, status, image, sink, watcher)
+        }
+    }
+}
+
+// Appends what an image lacks of a set, and runs the set over it from this main method on.
+fn run_complete<I: Image, S: Sink, G: Gate, W: Watcher>(
+    alloc: Global,
+    set: &ClassSet,
+    class: &[u8],
+    main: &Main,
+    limits: &Limits,
+    room: NameRoom,
+    found: FoundImage<I>,
+    sink: S,
+    gate: &G,
+    watcher: W,
+) -> Ran<I, S, W>
+    requires found { (start : Told) × (old : Linked) × IsFoundFor start old set.now
+        found.memory found.directory found.lines found.graph found.free }
+    requires fits { FindsRoom set.now limits.now }
+    requires main { main_of set.now class.now ≡ Ok main.now }
+    requires there { IsClass (facts_of set.now) main.now.class }
+    ensures ran { (start : Told) (old : Linked) → IsFoundFor start old set.now
+        found.memory found.directory found.lines found.graph found.free
+        → SetRunsOver old class.now limits.now start result.opening result.acts.acts
+        (I.told result.image) result.status }
+    ensures told { Tells result.acts.acts (W.seen watcher) (W.seen result.watcher)
+        (S.taken sink) (S.taken result.sink) }
+    ensures sink_fault { result.status ≡ Status.SinkFault
+        → Rose (S.faults sink) (S.faults result.sink) }
+    ensures image_fault { result.status ≡ Status.ImageFault
+        → Rose found.memory.faults (I.faults result.image) }
+{
+    match complete(found) {
+        Ok(opened) => run_opened(
+            alloc, set, class, main, limits, room, opened, sink, gate, watcher,
+        ),
+        Err(image) => unbegun(alloc, Status::ImageFault, image, sink, watcher),
+    }
+}
+
+// Runs a set over an image that was opened for it, from this main method on.
+fn run_opened<I: Image, S: Sink, G: Gate, W: Watcher>(
+    alloc: Global,
+    set: &ClassSet,
+    class: &[u8],
+    main: &Main,
+    limits: &Limits,
+    room: NameRoom,
+    opened: OpenedImage<I>,
+    sink: S,
+    gate: &G,
+    watcher: W,
+) -> Ran<I, S, W>
+    requires opened { (start : Told) × (old : Linked) × IsOpenedFor start old set.now
+        opened.memory opened.directory opened.lines opened.graph opened.free }
+    requires fits { FindsRoom set.now limits.now }
+    requires main { main_of set.now class.now ≡ Ok main.now }
+    requires there { IsClass (facts_of set.now) main.now.class }
+    ensures ran { (start : Told) (old : Linked) → IsOpenedFor start old set.now
+        opened.memory opened.directory opened.lines opened.graph opened.free
+        → SetRunsOver old class.now limits.now start result.opening result.acts.acts
+        (I.told result.image) result.status }
+    ensures told { Tells result.acts.acts (W.seen watcher) (W.seen result.watcher)
+        (S.taken sink) (S.taken result.sink) }
+    ensures sink_fault { result.status ≡ Status.SinkFault
+        → Rose (S.faults sink) (S.faults result.sink) }
+    ensures image_fault { result.status ≡ Status.ImageFault
+        → Rose opened.memory.faults (I.faults result.image) }
+{
+    match open_heap(alloc, set, opened, limits.heap_words) {
+        Ok(heap) => run_heap(
+            alloc, set, class, main, limits, room, heap, sink, gate, watcher,
+        ),
+        Err((why, memory)) => {
+            unbegun(
+                alloc,
+                of_unlaunched(why),
+                memory.into_image(),
+                sink,
+                watcher,
+            )
+        }
+    }
+}
+
+// Runs a set from the first heap over an opened image, from this main method on.
+fn run_heap<I: Image, S: Sink, G: Gate, W: Watcher>(
+    alloc: Global,
+    set: &ClassSet,
+    class: &[u8],
+    main: &Main,
+    limits: &Limits,
+    room: NameRoom,
+    heap: OpenedHeap<I>,
+    sink: S,
+    gate: &G,
+    watcher: W,
+) -> Ran<I, S, W>
+    requires can { (start : Told) × (old : Linked)
+        × CanLaunch start old set.now limits.now.heap_words heap }
+    requires main { main_of set.now class.now ≡ Ok main.now }
+    requires there { IsClass (facts_of set.now) main.now.class }
+    ensures ran { (start : Told) (old : Linked)
+        → CanLaunch start old set.now limits.now.heap_words heap
+        → SetRunsOver old class.now limits.now start result.opening result.acts.acts
+        (I.told result.image) result.status }
+    ensures told { Tells result.acts.acts (W.seen watcher) (W.seen result.watcher)
+        (S.taken sink) (S.taken result.sink) }
+    ensures sink_fault { result.status ≡ Status.SinkFault
+        → Rose (S.faults sink) (S.faults result.sink) }
+    ensures image_fault { result.status ≡ Status.ImageFault
+        → Rose heap.spaces.heap.memory.faults (I.faults result.image) }
+{
+    each_stop_is_allowed();
+    match launch(alloc, set, main, heap, limits) {
+        Ok(launched) => run_launched(alloc, set, room, launched, sink, gate, watcher),
+        Err(memory) => unbegun(
+            alloc,
+            Status::OutOfMemory,
+            memory.into_image(),
+            sink,
+            watcher,
+        ),
+    }
+}
+
+// Runs a set from its first turn on.
+fn run_launched<I: Image, S: Sink, G: Gate, W: Watcher>(
+    alloc: Global,
+    set: &ClassSet,
+    room: NameRoom,
+    launched: Launched<I>,
+    sink: S,
+    gate: &G,
+    watcher: W,
+) -> Ran<I, S, W>
+    requires ready { (o : Opening) × (first : ℕ) × IsReady o first (facts_of set.now)
+        (setting_in launched.host) launched.heap launched.frames }
+    requires empty { launched.heap.history.acts ≡ [] }
+    ensures ran { (o : Opening) (first : ℕ) → IsReady o first (facts_of set.now)
+        (setting_in launched.host) launched.heap launched.frames
+        → RanBy o first set.now launched.graph result.opening result.acts.acts
+        (I.told result.image) result.status }
+    ensures told { Tells result.acts.acts (W.seen watcher) (W.seen result.watcher)
+        (S.taken sink) (S.taken result.sink) }
+    ensures sink_fault { result.status ≡ Status.SinkFault
+        → Rose (S.faults sink) (S.faults result.sink) }
+    ensures image_fault { result.status ≡ Status.ImageFault
+        → Rose (memory_of launched.heap.machine).faults (I.faults result.image) }
+{
+    let Launched {
+        host,
+        heap,
+        frames,
+        graph,
+    } = launched;
+    let mut run = Run {
+        frames,
+        heap,
+        sink,
+        watcher,
+        turns: 0,
+    };
+    let turned = run_thread(&mut run, &SetTypes::of(set), &host, gate);
+    let Run {
+        heap,
+        sink,
+        watcher,
+        ..
+    } = run;
+    let (acts, memory) = heap.finish();
+    Ran {
+        status: of_turned(set, turned, room),
+        opening: opening_of(alloc, &acts, graph),
+        acts,
+        image: memory.into_image(),
+        sink,
+        watcher,
+    }
+}

@@ -1,0 +1,5 @@
+pub mod Asked
+pub mod Digits
+pub mod Ranges
+pub mod ReadRows
+pub mod RefusedRows

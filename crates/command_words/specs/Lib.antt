@@ -1,0 +1,5 @@
+pub mod Asked
+pub mod Clap
+pub mod Commands
+pub mod Numbers
+pub mod Rows

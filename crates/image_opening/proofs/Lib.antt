@@ -1,0 +1,4 @@
+pub mod Fenced
+pub mod Finding
+pub mod Opened
+pub mod Stops

@@ -1,0 +1,4 @@
+pub mod Attached
+pub mod Opened
+pub mod Stops
+pub mod Unopened

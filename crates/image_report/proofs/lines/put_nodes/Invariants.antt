@@ -1,0 +1,7 @@
+-- The lines so far are put, and the others are left.
+use Rattle.std.proofs.Common.{◌≡◌, ◌+◌, ◌++◌, drop, length}
+use Rattle.image_report.specs.Texts.{each, root_line, slot_line, node_lines}
+use Rattle.image_report.proofs.lines.put_nodes.Given as goal
+
+abbrev pub invariant-loop-k : goal.invariant-loop-k
+invariant-loop-k l = l.out.items ++ each node_lines l.k (drop l.k l.nodes) ≡ l.fn.out.items ++ each node_lines 0 l.nodes

@@ -1,0 +1,3 @@
+pub mod Reports
+pub mod Rows
+pub mod Texts

@@ -1,0 +1,8 @@
+//! Bytes that are put: names and numbers into a text, and a text into a sink.
+#![tactic(auto)]
+
+mod sinks;
+mod texts;
+
+pub use sinks::put_all;
+pub use texts::{decimal_length, put_decimal, put_signed, put_text, signed_length};

@@ -1,0 +1,142 @@
+#!/bin/sh
+# The commands on real files: a listing is assembled by `asm`, its class files are run, and `check` and `dump` tell what is in the
+# image; then words that are no command, listings and images that are refused, and that nothing is printed behind a refusal.
+#
+# usage: examples/commands.sh [PROGRAM]
+top=$(dirname "$0")/..
+program=$(readlink -f "${1:-$top/autopersist}")
+work=$(mktemp -d)
+trap 'rm -rf "$work"' EXIT
+cd "$work" || exit 1
+failed=0
+
+# The status, and what is printed on both streams, that are wanted of a command.
+gives() {
+    wanted=$1
+    shift
+    told=$(timeout 60 "$program" "$@" 2>&1)
+    told="$? $told"
+    [ "$told" = "$wanted" ] || { echo "$*: wanted $wanted, not $told"; failed=1; }
+}
+
+# A ring of three nodes is made where the root is null, and walked where it isn't.
+cat >ring.lst <<'END'
+.class Node
+.super java/lang/Object
+.field v I
+.field next LNode;
+.method <init> (ILNode;)V 2 3
+aload_0
+invokespecial java/lang/Object <init> ()V
+aload_0
+iload_1
+putfield Node v I
+aload_0
+aload_2
+putfield Node next LNode;
+return
+.end
+.class Main
+.super java/lang/Object
+.field head LNode; static root
+.method main ([Ljava/lang/String;)V 5 4 static
+getstatic Main head LNode;
+ifnonnull WALK
+new Node
+dup
+iconst_1
+aconst_null
+invokespecial Node <init> (ILNode;)V
+astore_1
+new Node
+dup
+iconst_2
+aconst_null
+invokespecial Node <init> (ILNode;)V
+astore_2
+new Node
+dup
+iconst_3
+aconst_null
+invokespecial Node <init> (ILNode;)V
+astore_3
+aload_1
+aload_2
+putfield Node next LNode;
+aload_2
+aload_3
+putfield Node next LNode;
+aload_3
+aload_1
+putfield Node next LNode;
+aload_1
+putstatic Main head LNode;
+return
+WALK:
+getstatic Main head LNode;
+astore_1
+iconst_3
+istore_2
+STEP:
+getstatic java/lang/System out Ljava/io/PrintStream;
+aload_1
+getfield Node v I
+invokevirtual java/io/PrintStream println (I)V
+aload_1
+getfield Node next LNode;
+astore_1
+iinc 2 -1
+iload_2
+ifgt STEP
+return
+.end
+END
+mkdir classes
+for class in Node Main; do
+    "$program" asm --class "$class" ring.lst >"classes/$class.class" || { echo "asm of $class failed"; failed=1; }
+done
+printf '.class A\n.super java/lang/Object\n' >a.lst
+"$program" asm a.lst --class=A | od -An -v -tx1 | tr -d ' \n' >a.hex
+wanted=cafebabe000000340005010001410700010100106a6176612f6c616e672f4f626a6563740700030021000200040000000000000000
+[ "$(cat a.hex)" = "$wanted" ] || { echo "asm of A: $(cat a.hex)"; failed=1; }
+gives "16 autopersist: listing 0 NoClass" asm --class B a.lst
+printf '.class A\n.super java/lang/Object\nfrob\n' >bad.lst
+gives "16 autopersist: listing 3 UnknownWord" asm --class A bad.lst
+gives "10 autopersist: source fault" asm --class A missing.lst
+
+# A blank image, made by the run, and what is in it after each run.
+gives "0 " run --main Main classes --image=ring.img --size 32768 --heap 4096 --acts 4096
+[ "$(stat -c %s ring.img)" = 2097152 ] || { echo "ring.img: $(stat -c %s ring.img) bytes"; failed=1; }
+ring="roots 1 nodes 3
+root 0 Main.head #0
+node #0 Node 2
+v = 1
+next = #1
+node #1 Node 2
+v = 2
+next = #2
+node #2 Node 2
+v = 3
+next = #0"
+gives "0 version 1 lines 32768 free 20580 roots 1 nodes 3 undone 0" check ring.img
+gives "0 $ring" dump ring.img
+gives "0 1
+2
+3" run --image ring.img --main Main classes
+gives "0 $ring" dump ring.img
+gives "9 autopersist: full Acts 1 0" run --image ring.img --main Main --acts 3 classes
+
+# Refusals, behind which nothing is printed.
+printf '\001' | dd of=ring.img bs=1 conv=notrunc 2>/dev/null
+gives "4 autopersist: image 0 Magic" dump ring.img
+gives "4 autopersist: image 0 Magic" check ring.img
+for words in "run --image F classes" "run --image F --image F --main C classes" "make --image F 5001" "make --image F 0" \
+    "dump F --size 40000" "run --image F --main C --workers 65 classes" "run --image F --main C --heap 1023 classes" "frob"; do
+    told=$(timeout 60 "$program" $words 2>&1)
+    told="$? $(printf '%s\n' "$told" | head -n 1)"
+    [ "$told" = "2 autopersist: usage" ] || { echo "$words: $told"; failed=1; }
+done
+"$program" --help 2>&1 | grep -q 'Usage: ' || { echo "no help behind the status"; failed=1; }
+[ ! -e F ] || { echo "F was made"; failed=1; }
+[ $failed = 0 ] && echo "commands: ok"
+exit $failed
