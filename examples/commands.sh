@@ -1,6 +1,6 @@
 #!/bin/sh
-# The commands on real files: a listing is assembled by `asm`, its class files are run, and `check` and `dump` tell what is in the
-# image; then words that are no command, listings and images that are refused, and that nothing is printed behind a refusal.
+# The commands on real files: a listing is assembled by `asm`, its class files are run, `check` and `dump` tell what is in the
+# image, `compact` writes it anew, and a run is saved; then words that are no command, listings and images that are refused, and that nothing is printed behind a refusal.
 #
 # usage: examples/commands.sh [PROGRAM]
 top=$(dirname "$0")/..
@@ -125,6 +125,75 @@ gives "0 1
 3" run --image ring.img --main Main classes
 gives "0 $ring" dump ring.img
 gives "9 autopersist: full Acts 1 0" run --image ring.img --main Main --acts 3 classes
+
+# The graph is written to a new image, which is made with so many lines, and the program goes on there.
+gives "0 nodes 3 lines 3" compact ring.img dense.img --size 40000
+[ "$(stat -c %s dense.img)" = 2560000 ] || { echo "dense.img: $(stat -c %s dense.img) bytes"; failed=1; }
+gives "0 version 1 lines 40000 free 20580 roots 1 nodes 3 undone 0" check dense.img
+gives "0 $ring" dump dense.img
+gives "0 $ring" dump ring.img
+gives "0 1
+2
+3" run --image dense.img --main Main classes
+gives "18 autopersist: new NotBlank" compact ring.img dense.img
+gives "0 $ring" dump dense.img
+truncate -s 64 small.img
+told=$(timeout 60 "$program" compact ring.img small.img 2>&1)
+[ "$? $(printf '%s\n' "$told" | head -n 1)" = "18 autopersist: new Size" ] || { echo "compact to small.img: $told"; failed=1; }
+timeout 60 "$program" compact missing.img made.img 2>/dev/null
+[ $? = 11 ] && [ ! -e made.img ] || { echo "compact of missing.img"; failed=1; }
+timeout 60 "$program" compact ring.img ring.img 2>/dev/null
+[ $? = 11 ] || { echo "compact of ring.img to itself"; failed=1; }
+gives "0 $ring" dump ring.img
+
+# A queue of one element whose image fills up, since lines aren't given back; written anew, it goes on.
+cat >queue.lst <<'END'
+.class Queue
+.super java/lang/Object
+.field head [I static root
+.method main ([Ljava/lang/String;)V 3 2 static
+bipush 90
+istore_1
+STEP:
+sipush 799
+newarray int
+putstatic Queue head [I
+iinc 1 -1
+iload_1
+ifgt STEP
+return
+.end
+END
+mkdir queue
+"$program" asm --class Queue queue.lst >queue/Queue.class || { echo "asm of Queue failed"; failed=1; }
+gives "0 " run --main Queue queue --image=queue.img --size 32768
+gives "9 autopersist: full ImageLines 100 91" run --main Queue queue --image=queue.img
+gives "0 nodes 1 lines 100" compact queue.img queue2.img --size 32768
+gives "0 " run --main Queue queue --image=queue2.img
+gives "0 version 1 lines 32768 free 29677 roots 1 nodes 1 undone 0" check queue2.img
+
+# An image on two files, of which either is enough, with a file of zeros in place of the other.
+for half in lost.a lost.b; do
+    rm -f lost.a lost.b
+    gives "0 " run --main Main classes --image=lost.a --mirror lost.b --size 32768
+    gives "0 $ring" dump lost.a --mirror lost.b
+    [ "$(stat -c %s lost.a lost.b | tr '\n' ' ')" = "2097216 2097216 " ] || { echo "halves: $(stat -c %s lost.a lost.b)"; failed=1; }
+    rm $half && truncate -s 2097216 $half
+    gives "0 $ring" dump lost.a --mirror lost.b
+    cmp lost.a lost.b || { echo "the halves differ"; failed=1; }
+done
+truncate -s 2097152 lost.b
+told=$(timeout 60 "$program" dump lost.a --mirror lost.b 2>&1)
+[ "$? $(printf '%s\n' "$told" | tail -n 1)" = "11 autopersist: mirror: the halves differ in size, or are too small" ] || { echo "halves of two sizes: $told"; failed=1; }
+
+# A run is saved, to a file that is empty, or isn't there.
+"$program" run --image ring.img --main Main --history ring.history classes >ring.out || { echo "no run was saved"; failed=1; }
+[ "$(head -c 8 ring.history)" = APHISTOR ] || { echo "ring.history is none"; failed=1; }
+for history in ring.img ring.history; do
+    told=$(timeout 60 "$program" run --image ring.img --main Main --history $history classes 2>&1)
+    case "$? $told" in "12 autopersist: sink fault"*"autopersist: history $history: "*) ;; *) echo "history over $history: $told"; failed=1 ;; esac
+done
+gives "0 $ring" dump ring.img
 
 # Refusals, behind which nothing is printed.
 printf '\001' | dd of=ring.img bs=1 conv=notrunc 2>/dev/null

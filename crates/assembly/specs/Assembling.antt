@@ -8,8 +8,8 @@ use Rattle.ap_base.specs.declared.source.NamedBytes.{NamedBytes}
 use Rattle.class_file.specs.Classes.{class_bytes}
 use Rattle.class_file.specs.declared.class.ClassFile.{ClassFile}
 use Rattle.class_links.specs.Names.{name_of}
-use Rattle.class_runs.specs.Files.{most_bytes}
-use Rattle.class_runs.specs.Names.{slashed}
+use Rattle.source_classes.specs.Files.{most_bytes}
+use Rattle.source_classes.specs.Names.{slashed}
 use Rattle.listing.specs.Classes.{assembled}
 use Rattle.listing.specs.declared.error.ListingError.{ListingError}
 use Rattle.listing.specs.declared.error.ListingError.TheVariants as listing

@@ -3,18 +3,18 @@ ghost use Rattle.std.specs.Prelude.{◌≡◌, All, Some, IfErr};
 ghost use Rattle.std.specs.Option.{option_map};
 ghost use Rattle.ap_base.specs.Causes.{Rose};
 ghost use Rattle.class_file.specs.Classes.{CanBeRead};
-ghost use Rattle.class_runs.specs.Names.{slashed};
+ghost use Rattle.source_classes.specs.Names.{slashed};
 ghost use Rattle.parsing.specs.Results.{Gives};
 ghost use Rattle.assembly.specs.Assembling.{Assembles, IsOfAssembly, IsOfListing, bytes_of, class_in, class_of, named_class, status_of};
 
 use ap_base::{ClassSource, MOST_BYTES, NamedBytes, Sink, SourceError};
 use class_file::{ClassFile, write_class};
 use class_links::name_of;
-use class_runs::internal_name;
 use listing::{ListingError, assemble};
 use listing_lines::ListingFault;
 use put_bytes::put_all;
 use run_types::{Full, Which};
+use source_classes::internal_name;
 use statuses::Status;
 use std::alloc::Global;
 

@@ -11,23 +11,24 @@ use Rattle.image_meaning.specs.Meaning.{empty_graph}
 use Rattle.image_opening.specs.Attached.{IsSettled}
 use Rattle.image_opening.specs.Stops.{KeepsItsGraph}
 use Rattle.image_opening.specs.declared.not_opened.NotOpened.TheVariants as unopened
-use Rattle.image_report.specs.Reports.{HasPrinted, IsUnreported}
+use Rattle.image_report.specs.Reports.{HasPrinted, HasPut, IsLeftOpen, IsUnreported}
 use Rattle.image_report.specs.declared.not_reported.NotReported.{NotReported}
 use Rattle.image_report.specs.declared.not_reported.NotReported.TheVariants.{Unopened, SinkFailed, OutOfMemory}
 use Rattle.line_image.specs.Told.{Told}
 use Rattle.run_history.specs.Recorded.{Recorded}
-use Rattle.durable_launch.specs.Passed.{with_all}
+use Rattle.class_runs.specs.Passed.{with_all}
 use Rattle.command_words.specs.Commands.{command_of}
 use Rattle.command_words.specs.declared.command.Command.{Command}
 use Rattle.command_words.specs.declared.command.Command.TheVariants.{Run}
 use Rattle.command_words.specs.declared.command.Run.{Run as RunWords}
 use Rattle.statuses.specs.declared.status.Status.{Status}
 use Rattle.statuses.specs.declared.status.Status.TheVariants as status
-use Rattle.class_runs.specs.Reading.{IsLeft}
+use Rattle.source_classes.specs.Reading.{IsLeft}
 use Rattle.class_runs.specs.Runs.{AnswersFor, ComesTo, IsCauseOf, IsOfRun, OfChoice, RunsAs, Tells, over}
+use Rattle.autopersist.specs.Asked.{of_top}
 use Rattle.autopersist.specs.Meets.{Does, Meets}
 use Rattle.autopersist.specs.Outside.{Outside}
-use Rattle.autopersist.specs.Reports.{IsReport, Reports, status_of_report}
+use Rattle.autopersist.specs.Reports.{IsOfPut, IsReport, Reports, status_of_report}
 use Rattle.autopersist.specs.Runs.{RunsClass}
 
 -- ---- what was told
@@ -76,6 +77,9 @@ module _ (Says : ℕ → Words → List ℕ → Type 0) (start left : Told) (tak
   report_none (status.Stuck waits) report is = absurd cc
   report_none (status.LinkFault kind name) report is = absurd cc
   report_none status.NotBuilt report is = absurd cc
+  report_none (status.NewImage reason) report is = absurd cc
+  report_none (status.BadHistory word) report is = absurd cc
+  report_none status.Refuted report is = absurd cc
   report_none (status.BadImage line reason) report is = absurd cc
   report_none (status.ShapeChanged shape) report is = absurd cc
 
@@ -95,6 +99,14 @@ report_source (Err (Unopened unopened.ImageFailed)) is = cc
 report_source (Err (Unopened unopened.OutOfMemory)) is = cc
 report_source (Err SinkFailed) is = cc
 report_source (Err OutOfMemory) is = cc
+
+put_so : (how : Result (Unit {0}) NotReported) → IsOfPut (status_of_report how) → HasPut how
+put_so (Ok done) put = tt
+put_so (Err SinkFailed) put = tt
+put_so (Err (Unopened (unopened.BadImage line reason))) put = put
+put_so (Err (Unopened unopened.ImageFailed)) put = put
+put_so (Err (Unopened unopened.OutOfMemory)) put = put
+put_so (Err OutOfMemory) put = put
 
 pub report_image : (how : Result (Unit {0}) NotReported) (before after : ℕ)
     → IfErr how (λ why. why ≡ Unopened unopened.ImageFailed → Rose before after) → status_of_report how ≡ status.ImageFault → Rose before after
@@ -119,10 +131,10 @@ report_sink (Err OutOfMemory) before after cause is = absurd cc
 module _ (words : List (List ℕ)) (before after : Outside) (SameSource SameImage : Type 0) where
   -- it did what the command asks
   does_so : (how : Status) (opening : Graph) (acts : List Recorded) (command : Command) → command_of words ≡ Some command
-      → Does (Some command) before after SameSource SameImage how opening acts
-      → Does (command_of words) before after SameSource SameImage how opening acts
+      → Does (of_top (Some command)) before after SameSource SameImage how opening acts
+      → Does (of_top (command_of words)) before after SameSource SameImage how opening acts
   does_so how opening acts command asked done =
-      subst (λ (o : Option Command). Does o before after SameSource SameImage how opening acts) (sym asked) done
+      subst (λ (o : Option Command). Does (of_top o) before after SameSource SameImage how opening acts) (sym asked) done
 
   -- a class was run, whose name is this text
   module _ (how : Status) (opening : Graph) (acts : List Recorded) (run : RunWords) (text : List ℕ) (same : text ≡ run.main)
@@ -176,20 +188,21 @@ module _ (words : List (List ℕ)) (before after : Outside) (SameSource SameImag
   pub reports_meet : (Says : ℕ → Words → List ℕ → Type 0) (how : Result (Unit {0}) NotReported) (command : Command)
       → command_of words ≡ Some command
       → (Reports Says before after SameSource (status_of_report how) []
-      → Does (Some command) before after SameSource SameImage (status_of_report how) empty_graph [])
+      → Does (of_top (Some command)) before after SameSource SameImage (status_of_report how) empty_graph [])
       → SameSource → OnOk how (HasPrinted Says before.image before.taken after.taken)
       → IfErr how (IsUnreported Says before.image after.image before.taken after.taken)
+      → (HasPut how → IsLeftOpen before.image after.image)
       → (IsSettled before.image → KeepsItsGraph before.image after.image)
       → IfErr how (λ why. why ≡ Unopened unopened.ImageFailed → Rose before.image_faults after.image_faults)
       → IfErr how (λ why. why ≡ SinkFailed → Rose before.sink_faults after.sink_faults)
       → after.seen ≡ before.seen → after.image.size ≡ before.image.size
       → Meets words before after SameSource SameImage (status_of_report how) empty_graph []
-  reports_meet Says how command asked so source printed unreported stops image sink seen size =
+  reports_meet Says how command asked so source printed unreported left stops image sink seen size =
       let report = report_so Says before.image after.image before.taken after.taken how printed unreported in
       record {
         usage = λ is. absurd (report_usage how is);
         does = inl (does_so (status_of_report how) empty_graph [] command asked
-            (so (record { unasked = source; unrun = refl; report = report; stops = stops })));
+            (so (record { unasked = source; unrun = refl; report = report; left = λ put. left (put_so how put); stops = stops })));
         source_fault = λ is. absurd (report_source how is);
         image_fault = report_image how before.image_faults after.image_faults image;
         sink_fault = report_sink how before.sink_faults after.sink_faults sink;

@@ -1,3 +1,4 @@
+pub mod Asked
 pub mod Outside
 pub mod Reports
 pub mod Runs

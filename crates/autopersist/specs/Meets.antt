@@ -4,14 +4,15 @@ use Rattle.ap_base.specs.Causes.{Rose}
 use Rattle.graph_model.specs.declared.types.Graph.{Graph}
 use Rattle.image_meaning.specs.Meaning.{empty_graph}
 use Rattle.run_history.specs.Recorded.{Recorded}
-use Rattle.durable_launch.specs.Passed.{with_all}
+use Rattle.class_runs.specs.Passed.{with_all}
 use Rattle.assembly.specs.Assembling.{Assembles}
 use Rattle.command_words.specs.Commands.{command_of}
 use Rattle.command_words.specs.declared.command.Command.{Command}
-use Rattle.command_words.specs.declared.command.Command.TheVariants.{Run, Make, Check, Dump, Asm}
+use Rattle.command_words.specs.declared.command.Command.TheVariants.{Run, Make, Check, Dump, Asm, Compact, Audit}
 use Rattle.statuses.specs.declared.status.Status.{Status}
 use Rattle.statuses.specs.declared.status.Status.TheVariants as status
 use Rattle.image_report.specs.Reports.{IsChecked, IsDumped}
+use Rattle.autopersist.specs.Asked.{of_top}
 use Rattle.autopersist.specs.Outside.{Outside}
 use Rattle.autopersist.specs.Reports.{Reports}
 use Rattle.autopersist.specs.Runs.{RunsClass, RunsWorkload}
@@ -29,7 +30,7 @@ pub record AssemblesOne (class : List ℕ) (before after : Outside) (SameImage :
   pub unrun : acts ≡ []
   pub assembles : Assembles class before.left after.left how before.taken after.taken
 
--- What is done where this is asked for: without a command, nothing.
+-- What is done where this is asked of the call: without a command, nothing. Two commands are never asked of it.
 abbrev pub Does : Option Command → (before after : Outside) → (SameSource SameImage : Type 0) → Status → Graph → List Recorded → Type 0
 Does None before after SameSource SameImage how opening acts =
     (how ≡ status.Usage) × IsIdle before after SameSource SameImage acts
@@ -39,15 +40,17 @@ Does (Some (Make make)) before after SameSource SameImage how opening acts =
 Does (Some (Check check)) before after SameSource SameImage how opening acts = Reports IsChecked before after SameSource how acts
 Does (Some (Dump dump)) before after SameSource SameImage how opening acts = Reports IsDumped before after SameSource how acts
 Does (Some (Asm asm)) before after SameSource SameImage how opening acts = AssemblesOne asm.class before after SameImage how acts
+Does (Some (Compact words)) before after SameSource SameImage how opening acts = ⊥
+Does (Some (Audit words)) before after SameSource SameImage how opening acts = ⊥
 
 -- What a call with these words comes to: how it ended, from which graph which acts ran, and what the outside told before and tells after.
 -- That the source, or the image, is the one that was given stands for itself.
 pub record Meets (words : List (List ℕ)) (before after : Outside) (SameSource SameImage : Type 0) (how : Status) (opening : Graph)
     (acts : List Recorded) : Type 0 where
-  -- `Usage` exactly where the words are no command, but that memory may run out before.
-  pub usage : how ≡ status.Usage → command_of words ≡ None
+  -- `Usage` exactly where the words are no command of this call, but that memory may run out before.
+  pub usage : how ≡ status.Usage → of_top (command_of words) ≡ None
   -- What the command does. Memory may run out before any of it.
-  pub does : Does (command_of words) before after SameSource SameImage how opening acts
+  pub does : Does (of_top (command_of words)) before after SameSource SameImage how opening acts
       ⊎ ((how ≡ status.OutOfMemory) × IsIdle before after SameSource SameImage acts)
   -- A fault of the outside comes only where it failed.
   pub source_fault : how ≡ status.SourceFault → Rose before.source_faults after.source_faults

@@ -5,7 +5,7 @@ use Rattle.image_meaning.specs.Checks.{Words}
 use Rattle.image_opening.specs.Attached.{IsSettled}
 use Rattle.image_opening.specs.Stops.{KeepsItsGraph}
 use Rattle.image_opening.specs.declared.not_opened.NotOpened.TheVariants as unopened
-use Rattle.image_report.specs.Reports.{HasNotOpened, HasPrinted, HasPrintedFront}
+use Rattle.image_report.specs.Reports.{HasNotOpened, HasPrinted, HasPrintedFront, IsLeftOpen}
 use Rattle.image_report.specs.declared.not_reported.NotReported.{NotReported}
 use Rattle.image_report.specs.declared.not_reported.NotReported.TheVariants.{Unopened, SinkFailed, OutOfMemory}
 use Rattle.run_history.specs.Recorded.{Recorded}
@@ -31,11 +31,19 @@ IsReport Says start left takes takes' status.ImageFault = HasNotOpened start lef
 IsReport Says start left takes takes' status.OutOfMemory = takes' ≡ takes
 IsReport Says start left takes takes' other = ⊥
 
+-- something was put, or all of it
+abbrev pub IsOfPut : Status → Type 0
+IsOfPut status.Ok = Unit {0}
+IsOfPut status.SinkFault = Unit {0}
+IsOfPut other = ⊥
+
 -- The image was opened, and this printed of it. The source wasn't asked.
 pub record Reports (Says : ℕ → Words → List ℕ → Type 0) (before after : Outside) (SameSource : Type 0) (how : Status) (acts : List Recorded)
     : Type 0 where
   pub unasked : SameSource
   pub unrun : acts ≡ []
   pub report : IsReport Says before.image after.image before.taken after.taken how
+  -- where anything was printed, the image is left as opening it left it: recovered, and formatted where it was blank
+  pub left : IsOfPut how → IsLeftOpen before.image after.image
   -- At any stop the image stands for the graph for which it stood, whatever is answered.
   pub stops : IsSettled before.image → KeepsItsGraph before.image after.image

@@ -14,8 +14,8 @@ use Rattle.command_words.specs.Numbers.{acts_range, heap_range}
 use Rattle.command_words.specs.declared.command.Make.{Make}
 use Rattle.command_words.specs.declared.command.Run.{Run}
 use Rattle.statuses.specs.declared.status.Status.{Status}
-use Rattle.class_runs.specs.Files.{Choice, ClassesGive}
-use Rattle.class_runs.specs.Reading.{IsLeft}
+use Rattle.class_runs.specs.Chosen.{Choice, ClassesGive}
+use Rattle.source_classes.specs.Reading.{IsLeft}
 use Rattle.class_runs.specs.Runs.{Answers, AnswersFor, ComesTo, IsCauseOf, IsOfRun, OfChoice, RunsAs, over}
 use Rattle.autopersist.specs.Outside.{Outside}
 

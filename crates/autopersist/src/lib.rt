@@ -2,10 +2,12 @@
 #![tactic(auto)]
 
 mod idle;
+mod saving;
 mod top_call;
 mod workload_run;
 
 pub use class_runs::Ended;
 pub use command_words::{Command, WordsFault, read_words};
+pub use saving::{SaveFault, Saved, run_and_save};
 pub use statuses::{Status, status_text};
 pub use top_call::autopersist;

@@ -13,13 +13,15 @@ use command_words::{Command, numbers_are_in_range, read_words};
 use image_report::{check_image, dump_image};
 use line_image::Image;
 use run_history::Watcher;
+use statuses::Status;
 use std::alloc::Global;
 use std::sync::Wait;
 use std::thread::Threads;
 
 /// Does what the words ask for, which begin with the program's name: `run` runs a class of the source's files on the image, `make` the
 /// workload; `check` and `dump` open the image and put a line about it, or its graph; `asm` assembles the listing that the source gives
-/// and puts a class of it. What the durable roots of a run reach is kept in the image.
+/// and puts a class of it. What the durable roots of a run reach is kept in the image. `compact` and `audit` have calls of their own, and
+/// are no command of this one.
 ///
 /// The gate is called in each turn before its first event, and the watcher is told each act.
 pub fn autopersist<R, C, I, S, G, W>(
@@ -86,6 +88,10 @@ where
         Ok(Command::Asm(asm)) => {
             let status = put_class_of(alloc, asm.class.as_slice(), &mut source, &mut sink);
             idle(alloc, status, source, image, sink, watcher)
+        }
+        // they have calls of their own
+        Ok(Command::Compact(_) | Command::Audit(_)) => {
+            idle(alloc, Status::Usage, source, image, sink, watcher)
         }
         Err(fault) => idle(alloc, of_words(fault), source, image, sink, watcher),
     }

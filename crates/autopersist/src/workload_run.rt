@@ -2,7 +2,7 @@
 ghost use Rattle.std.specs.Prelude.{◌≡◌, ◌≤◌, ◌⊎◌, []};
 ghost use Rattle.ap_base.specs.Causes.{Rose};
 ghost use Rattle.image_meaning.specs.Meaning.{empty_graph};
-ghost use Rattle.class_runs.specs.Reading.{IsOfClasses};
+ghost use Rattle.source_classes.specs.Reading.{IsOfClasses};
 ghost use Rattle.class_runs.specs.Runs.{IsOfRun, Tells};
 ghost use Rattle.autopersist.specs.Outside.{outside};
 ghost use Rattle.autopersist.specs.Runs.{RunsWorkload};

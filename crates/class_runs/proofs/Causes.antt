@@ -22,16 +22,17 @@ use Rattle.set_opening.specs.declared.unopened.Unopened.TheVariants as unopened
 use Rattle.statuses.specs.Names.{fault_status}
 use Rattle.statuses.specs.declared.status.Status.{Status}
 use Rattle.statuses.specs.declared.status.Status.TheVariants as status
-use Rattle.class_runs.specs.Files.{Builds, Choice, classes_among, ClassesGive, GivenBy, FilesGive}
-use Rattle.class_runs.specs.Names.{slashed}
-use Rattle.class_runs.specs.Reading as reading
-use Rattle.class_runs.specs.Reading.{HasNoCause, IsOfFiles, IsOfClasses, IsLeft, LeavesAt}
+use Rattle.class_runs.specs.Chosen.{Builds, Choice, ClassesGive, GivenBy, FilesGive}
+use Rattle.source_classes.specs.Files.{classes_among}
+use Rattle.source_classes.specs.Names.{slashed}
+use Rattle.source_classes.specs.Reading as reading
+use Rattle.source_classes.specs.Reading.{HasNoCause, IsOfFiles, IsOfClasses, IsLeft, LeavesAt}
 use Rattle.class_runs.specs.Runs.{Answers, AnswersFor, ComesTo, OfChoice, IsCauseOf, IsCauseAt, Over, EndsOver, IsOfRun, IsEarly}
 use Rattle.class_runs.specs.Sets.{CannotBegin, HasEndedSo, SetEnds, status_of_ending, status_of_unopened}
-use Rattle.class_runs.specs.Stages.{Stage, OfWords, OfSource, OfMemory, OfFile, OfListing, OfLinking, OfForm, OfOpening, OfRoom, OfNames}
-use Rattle.class_runs.specs.Stages.{OfImage, OfTurns, stage_of, IsFreeStage, IsFilesStage, IsClassesStage, IsEarlyStage}
-use Rattle.class_runs.specs.Stages.{IsRunStage}
-use Rattle.class_runs.proofs.SourceFiles.{all_read}
+use Rattle.statuses.specs.Stages.{Stage, OfWords, OfSource, OfMemory, OfFile, OfListing, OfLinking, OfForm, OfOpening, OfRoom, OfNames}
+use Rattle.statuses.specs.Stages.{OfImage, OfTurns, OfOthers, stage_of, IsFreeStage, IsFilesStage, IsClassesStage, IsEarlyStage}
+use Rattle.statuses.specs.Stages.{IsRunStage}
+use Rattle.source_classes.proofs.SourceFiles.{all_read}
 
 abbrev err : Status → Result Choice Status
 err s = Err s
@@ -96,6 +97,7 @@ module _ (gives : Result Choice Status → Type 0) (limits : Limits) (over : Ove
   nothing_at OfNames of comes = absurd of
   nothing_at OfImage of comes = absurd of
   nothing_at OfTurns of comes = absurd of
+  nothing_at OfOthers of comes = absurd of
 
   file_at : (stage : Stage) → IsFilesStage stage → IsFreeStage stage ⊎ gives (Err s) → IsCauseAt stage gives limits over s
   file_at OfSource of cause = tt
@@ -112,6 +114,7 @@ module _ (gives : Result Choice Status → Type 0) (limits : Limits) (over : Ove
   file_at OfNames of cause = absurd of
   file_at OfImage of cause = absurd of
   file_at OfTurns of cause = absurd of
+  file_at OfOthers of cause = absurd of
 
 memory_apart : (s : Status) → s ≡ status.OutOfMemory → stage_of s ≢ OfMemory → ⊥
 memory_apart s is apart = apart (ap stage_of is)
@@ -135,6 +138,7 @@ early_classes OfRoom of = absurd of
 early_classes OfNames of = absurd of
 early_classes OfImage of = absurd of
 early_classes OfTurns of = absurd of
+early_classes OfOthers of = absurd of
 
 pub classes_early : (s : Status) → IsOfClasses s → IsEarly s
 classes_early s of = early_classes (stage_of s) of
@@ -153,6 +157,7 @@ left_classes OfRoom files left s of unrefused none = absurd of
 left_classes OfNames files left s of unrefused none = absurd of
 left_classes OfImage files left s of unrefused none = absurd of
 left_classes OfTurns files left s of unrefused none = absurd of
+left_classes OfOthers files left s of unrefused none = absurd of
 
 -- a file that is refused
 pub cause_of_files : (name : List ℕ) (left : Option (List NamedBytes)) (limits : Limits) (over : Over) (e : Status)
@@ -174,6 +179,7 @@ early_files OfOpening of = absurd of
 early_files OfNames of = absurd of
 early_files OfImage of = absurd of
 early_files OfTurns of = absurd of
+early_files OfOthers of = absurd of
 
 pub files_early : (e : Status) → IsOfFiles e → IsEarly e
 files_early e of = early_files (stage_of e) of
@@ -202,6 +208,7 @@ module _ (gives gives' : Result Choice Status → Type 0) (so : (answer : Result
   caused_at OfNames cause = chosen_so (EndsOver limits over s) cause
   caused_at OfImage cause = chosen_so (EndsOver limits over s) cause
   caused_at OfTurns cause = chosen_so (EndsOver limits over s) cause
+  caused_at OfOthers cause = cause
 
   pub caused_so : IsCauseOf gives limits over s → IsCauseOf gives' limits over s
   caused_so cause = caused_at (stage_of s) cause
@@ -298,6 +305,7 @@ module _ (gives : Result Choice Status → Type 0) (limits : Limits) (over : Ove
   run_at OfNames of = so
   run_at OfImage of = so
   run_at OfTurns of = so
+  run_at OfOthers of = absurd of
   run_at OfWords of = absurd of
   run_at OfListing of = absurd of
   run_at OfSource of = absurd of
@@ -321,6 +329,7 @@ not_classes OfRoom of is = of
 not_classes OfNames of is = of
 not_classes OfImage of is = of
 not_classes OfTurns of is = of
+not_classes OfOthers of is = of
 
 not_run : (stage : Stage) → IsRunStage stage → stage ≢ OfSource
 not_run OfSource of is = of
@@ -335,6 +344,7 @@ not_run OfRoom of is = cc
 not_run OfNames of is = cc
 not_run OfImage of is = cc
 not_run OfTurns of is = cc
+not_run OfOthers of is = of
 
 pub no_source_fault : (s : Status) → IsOfClasses s ⊎ IsOfRun s → s ≡ status.SourceFault → ⊥
 no_source_fault s (inl of) is = not_classes (stage_of s) of (ap stage_of is)
@@ -356,6 +366,7 @@ left_at OfRoom files s others of good all = (λ refused. absurd (unrefused_apart
 left_at OfNames files s others of good all = all
 left_at OfImage files s others of good all = all
 left_at OfTurns files s others of good all = all
+left_at OfOthers files s others of good all = absurd of
 left_at OfWords files s others of good all = absurd of
 left_at OfListing files s others of good all = absurd of
 left_at OfSource files s others of good all = absurd of
@@ -449,6 +460,7 @@ module _ (gives : Result Choice Status → Type 0) (one : (a b : Result Choice S
   refused_at OfNames e s of cause is = absurd of
   refused_at OfImage e s of cause is = absurd of
   refused_at OfTurns e s of cause is = absurd of
+  refused_at OfOthers e s of cause is = absurd of
 
   runs_at : (stage : Stage) (e : Status) (choice : Choice) → IsEarlyStage stage → IsCauseAt stage gives limits over e → gives (Ok choice)
       → IsFreeStage stage ⊎ IsRunStage stage
@@ -464,6 +476,7 @@ module _ (gives : Result Choice Status → Type 0) (one : (a b : Result Choice S
   runs_at OfNames e choice of cause is = absurd of
   runs_at OfImage e choice of cause is = absurd of
   runs_at OfTurns e choice of cause is = absurd of
+  runs_at OfOthers e choice of cause is = absurd of
 
   -- the answer before an image is opened is that of what was given
   pub answers_early : (e : Status) → IsEarly e → IsCauseOf gives limits over e → Answers gives e

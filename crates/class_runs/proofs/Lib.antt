@@ -1,4 +1,3 @@
-pub mod SourceFiles
 pub mod Causes
 pub mod Outside
 pub mod SetStops

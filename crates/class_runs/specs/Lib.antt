@@ -1,7 +1,5 @@
-pub mod Stages
-pub mod Files
-pub mod Reading
+pub mod Passed
+pub mod Chosen
 pub mod Sets
 pub mod Began
 pub mod Runs
-pub mod Names

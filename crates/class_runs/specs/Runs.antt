@@ -9,11 +9,11 @@ use Rattle.run_history.specs.Recorded.{Recorded}
 use Rattle.plain_model.specs.Runs.{output_of}
 use Rattle.durable_launch.specs.Passed.{with_all}
 use Rattle.statuses.specs.declared.status.Status.{Status}
-use Rattle.class_runs.specs.Files.{Choice, FilesGive}
-use Rattle.class_runs.specs.Reading.{HadLeft, HasNoCause}
+use Rattle.class_runs.specs.Chosen.{Choice, FilesGive}
+use Rattle.source_classes.specs.Reading.{HadLeft, HasNoCause}
 use Rattle.class_runs.specs.Sets.{SetEnds, SetRunsOver}
-use Rattle.class_runs.specs.Stages.{Stage, OfWords, OfSource, OfMemory, OfFile, OfListing, OfLinking, OfForm, OfOpening, OfRoom, OfNames}
-use Rattle.class_runs.specs.Stages.{OfImage, OfTurns, stage_of, IsRunStage, IsEarlyStage}
+use Rattle.statuses.specs.Stages.{Stage, OfWords, OfSource, OfMemory, OfFile, OfListing, OfLinking, OfForm, OfOpening, OfRoom, OfNames}
+use Rattle.statuses.specs.Stages.{OfImage, OfTurns, OfOthers, stage_of, IsRunStage, IsEarlyStage}
 
 -- The files that a source had come to this, where the main class has this name: what is to run, or why nothing is.
 pub record ComesTo (name : List ℕ) (files_told : Option (List NamedBytes)) (answer : Result Choice Status) : Type 0 where
@@ -48,7 +48,8 @@ RunsAs limits over how choice =
     SetRunsOver choice.set choice.main limits over.start over.opening over.acts over.after how
 
 -- What a status says of what was given, the image and the acts, by its stage. Want of memory says nothing, nor does
--- a fault of the source, whose count has then risen. No run ends by its words, or by a listing.
+-- a fault of the source, whose count has then risen. No run ends by its words, by a listing, or as other
+-- commands do.
 abbrev pub IsCauseAt : Stage → (gives : Result Choice Status → Type 0) → Limits → Over → Status → Type 0
 IsCauseAt OfWords gives limits over how = ⊥
 IsCauseAt OfListing gives limits over how = ⊥
@@ -62,6 +63,7 @@ IsCauseAt OfOpening gives limits over how = OfChoice gives (EndsOver limits over
 IsCauseAt OfNames gives limits over how = OfChoice gives (EndsOver limits over how)
 IsCauseAt OfImage gives limits over how = OfChoice gives (EndsOver limits over how)
 IsCauseAt OfTurns gives limits over how = OfChoice gives (EndsOver limits over how)
+IsCauseAt OfOthers gives limits over how = ⊥
 
 abbrev pub IsCauseOf : (gives : Result Choice Status → Type 0) → Limits → Over → Status → Type 0
 IsCauseOf gives limits over how = IsCauseAt (stage_of how) gives limits over how

@@ -5,12 +5,11 @@ ghost use Rattle.ap_base.specs.declared.source.NamedBytes.{NamedBytes as File};
 ghost use Rattle.class_file.specs.Classes.{CanBeRead};
 ghost use Rattle.class_links.specs.Kept.{kept_files};
 ghost use Rattle.image_meaning.specs.Meaning.{empty_graph};
-ghost use Rattle.class_runs.specs.Files.{ClassesGive};
-ghost use Rattle.class_runs.specs.Reading.{IsLeft, IsOfClasses};
+ghost use Rattle.class_runs.specs.Chosen.{ClassesGive};
+ghost use Rattle.source_classes.specs.Reading.{IsLeft, IsOfClasses};
 ghost use Rattle.class_runs.specs.Runs.{IsCauseOf, Answers, AnswersFor, ComesTo, OfChoice, RunsAs, IsOfRun, Tells, over};
 
 use crate::choice::{Found, choose};
-use crate::files::read_files;
 use crate::ran::{Ran, no_graph, unbegun};
 use crate::sets::run_set;
 use ap_base::{ClassSource, Gate, Sink};
@@ -19,6 +18,7 @@ use graph_model::Graph;
 use line_image::Image;
 use run_history::{Acts, Watcher};
 use run_types::Limits;
+use source_classes::read_files;
 use statuses::Status;
 use std::alloc::Global;
 

@@ -3,14 +3,15 @@ use Rattle.std.proofs.Common.{◌≡◌, ◌≤◌, ◌&&◌, ℕ, Bool, true, f
 use Rattle.std.proofs.Common.{subst, arith, rules, nat_le, if◌then◌else◌}
 use Rattle.std.specs.Str.{bytes_eq}
 use Rattle.clap.specs.Words.{Kinds, Row, Text, first_of, fault_of, subcommand_of}
-use Rattle.command_words.specs.Asked.{IsIn, IsInRange}
+use Rattle.command_words.specs.Asked.{IsIn, IsInRange, RunsInRange}
 use Rattle.command_words.specs.Clap.{autopersist}
-use Rattle.command_words.specs.Commands.{◌>>=◌, asked_in, asm_of, check_of, command_of, dump_of, limits_of, lines_of}
-use Rattle.command_words.specs.Commands.{make_of, run_of, unless_refused, workers_of}
+use Rattle.command_words.specs.Commands.{◌>>=◌, asked_in, asm_of, audit_of, check_of, command_of, compact_of, dump_of, limits_of, lines_of}
+use Rattle.command_words.specs.Commands.{make_of, plain_run_of, run_of, unless_refused, workers_of}
 use Rattle.command_words.specs.Numbers.{acts_range, heap_range, kept_in, lines_range, most_nodes, number_in, number_of}
 use Rattle.command_words.specs.Numbers.{number_or, workers_range}
 use Rattle.run_types.specs.declared.limits.Limits.{Limits}
 use Rattle.command_words.specs.declared.command.Command.{Command}
+use Rattle.command_words.specs.declared.command.Run.{Run as RunWords}
 use Rattle.command_words.specs.declared.numbers.Range.{Range}
 
 -- what is behind a step that gives something
@@ -55,20 +56,31 @@ limits_hold rows l e =
       subst (λ (l : Limits). IsIn acts_range l.acts) (inside acts.2) in_acts,
     )
 
-run_holds : (rows : List Row) (c : Command) → run_of rows ≡ Some c → IsInRange c
-run_holds rows c e =
-    let image = some_of (first_of (codes "image") rows) _ c e in
-    let main = some_of (first_of (codes "main") rows) _ c image.2 in
-    let folder = some_of (first_of (codes "DIR") rows) _ c main.2 in
-    let workers = some_of (workers_of rows) _ c folder.2 in
-    let lines = some_of (lines_of rows) _ c workers.2 in
-    let limits = some_of (limits_of rows) _ c lines.2 in
+plain_run_holds : (rows : List Row) (r : RunWords) → plain_run_of rows ≡ Some r → RunsInRange r
+plain_run_holds rows r e =
+    let image = some_of (first_of (codes "image") rows) _ r e in
+    let main = some_of (first_of (codes "main") rows) _ r image.2 in
+    let folder = some_of (first_of (codes "DIR") rows) _ r main.2 in
+    let workers = some_of (workers_of rows) _ r folder.2 in
+    let lines = some_of (lines_of rows) _ r workers.2 in
+    let limits = some_of (limits_of rows) _ r lines.2 in
     let within = limits_hold rows limits.0 limits.1 in
-    subst IsInRange (inside limits.2) (record {
+    subst RunsInRange (inside limits.2) (record {
       workers = workers_hold rows workers.0 workers.1;
       lines = lines_hold rows lines.0 lines.1;
       heap = within.0;
       acts = within.1;
+    })
+
+run_holds : (rows : List Row) (c : Command) → run_of rows ≡ Some c → IsInRange c
+run_holds rows c e =
+    let run = some_of (plain_run_of rows) _ c e in
+    let held = plain_run_holds rows run.0 run.1 in
+    subst IsInRange (inside run.2) (record {
+      workers = held.workers;
+      lines = held.lines;
+      heap = held.heap;
+      acts = held.acts;
     })
 
 make_holds : (rows : List Row) (c : Command) → make_of rows ≡ Some c → IsInRange c
@@ -100,21 +112,42 @@ asm_holds rows c e =
     let listing = some_of (first_of (codes "FILE") rows) _ c class.2 in
     subst IsInRange (inside listing.2) tt
 
-one_holds : (run check dump asm make : Bool) (rows : List Row) (c : Command)
+compact_holds : (rows : List Row) (c : Command) → compact_of rows ≡ Some c → IsInRange c
+compact_holds rows c e =
+    let old = some_of (first_of (codes "OLD") rows) _ c e in
+    let new = some_of (first_of (codes "NEW") rows) _ c old.2 in
+    let lines = some_of (lines_of rows) _ c new.2 in
+    subst IsInRange (inside lines.2) (lines_hold rows lines.0 lines.1)
+
+audit_holds : (rows : List Row) (c : Command) → audit_of rows ≡ Some c → IsInRange c
+audit_holds rows c e =
+    let before = some_of (first_of (codes "before") rows) _ c e in
+    let after = some_of (first_of (codes "after") rows) _ c before.2 in
+    let history = some_of (first_of (codes "history") rows) _ c after.2 in
+    let output = some_of (first_of (codes "output") rows) _ c history.2 in
+    let main = some_of (first_of (codes "main") rows) _ c output.2 in
+    let folder = some_of (first_of (codes "DIR") rows) _ c main.2 in
+    subst IsInRange (inside folder.2) tt
+
+one_holds : (run check dump asm make compact audit : Bool) (rows : List Row) (c : Command)
     → (if run then run_of rows else (if check then check_of rows else (if dump then dump_of rows
-    else (if asm then asm_of rows else (if make then make_of rows else None))))) ≡ Some c → IsInRange c
-one_holds true check dump asm make rows c e = run_holds rows c e
-one_holds false true dump asm make rows c e = check_holds rows c e
-one_holds false false true asm make rows c e = dump_holds rows c e
-one_holds false false false true make rows c e = asm_holds rows c e
-one_holds false false false false true rows c e = make_holds rows c e
-one_holds false false false false false rows c e = absurd cc
+    else (if asm then asm_of rows else (if make then make_of rows else (if compact then compact_of rows
+    else (if audit then audit_of rows else None))))))) ≡ Some c → IsInRange c
+one_holds true check dump asm make compact audit rows c e = run_holds rows c e
+one_holds false true dump asm make compact audit rows c e = check_holds rows c e
+one_holds false false true asm make compact audit rows c e = dump_holds rows c e
+one_holds false false false true make compact audit rows c e = asm_holds rows c e
+one_holds false false false false true compact audit rows c e = make_holds rows c e
+one_holds false false false false false true audit rows c e = compact_holds rows c e
+one_holds false false false false false false true rows c e = audit_holds rows c e
+one_holds false false false false false false false rows c e = absurd cc
 
 asked_holds : (met : Option (Text × List Row)) (c : Command) → asked_in met ≡ Some c → IsInRange c
 asked_holds None c e = absurd cc
 asked_holds (Some met) c e =
     one_holds (bytes_eq met.0 (codes "run")) (bytes_eq met.0 (codes "check")) (bytes_eq met.0 (codes "dump"))
-    (bytes_eq met.0 (codes "asm")) (bytes_eq met.0 (codes "make")) met.1 c e
+    (bytes_eq met.0 (codes "asm")) (bytes_eq met.0 (codes "make"))
+    (bytes_eq met.0 (codes "compact")) (bytes_eq met.0 (codes "audit")) met.1 c e
 
 taken_holds : (kinds : Kinds) (met : Option (Text × List Row)) (c : Command) → unless_refused kinds (asked_in met) ≡ Some c
     → IsInRange c

@@ -19,3 +19,7 @@ values_hold = (refl, (refl, (refl, (refl, (refl, (refl, tt))))))
 pub others_hold : rows.Each rows.AsksFor rows.of_others
 unfolding clap_on_literals digits_from rows.Each rows.between
 others_hold = (refl, (refl, (refl, (refl, (refl, (refl, (refl, tt)))))))
+
+pub files_hold : rows.Each rows.AsksFor rows.with_files
+unfolding clap_on_literals digits_from rows.Each rows.between
+files_hold = (refl, (refl, (refl, (refl, (refl, (refl, (refl, tt)))))))

@@ -32,3 +32,7 @@ commands_hold = (refl, (refl, (refl, (refl, (refl, (refl, (refl, (refl, (refl, (
 pub name_holds : command_of (codes "autopersist" ∷ []) ≡ None
 unfolding clap_on_literals digits_from
 name_holds = refl
+
+pub files_hold : rows.Each rows.AsksNothing rows.wrong_files
+unfolding clap_on_literals digits_from rows.Each rows.between
+files_hold = (refl, (refl, (refl, (refl, (refl, (refl, (refl, (refl, (refl, (refl, tt))))))))))

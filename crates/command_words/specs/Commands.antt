@@ -7,7 +7,8 @@ use Rattle.run_types.specs.declared.limits.Limits.{Limits}
 use Rattle.command_words.specs.Clap.{autopersist}
 use Rattle.command_words.specs.Numbers.{number_in, number_or, workers_range, lines_range, heap_range, acts_range, most_nodes}
 use Rattle.command_words.specs.declared.command.Command.{Command}
-use Rattle.command_words.specs.declared.command.Command.TheVariants.{Run, Make, Check, Dump, Asm}
+use Rattle.command_words.specs.declared.command.Run.{Run as RunWords}
+use Rattle.command_words.specs.declared.command.Command.TheVariants.{Run, Make, Check, Dump, Asm, Compact, Audit}
 
 -- the words' bytes
 abbrev pub texts : {A : Type 0} → List (String A) → List Text
@@ -30,15 +31,30 @@ limits_of rows = do
   acts ← number_or acts_range (first_of (codes "acts") rows)
   Some (record { heap_words = heap; acts = acts })
 
-abbrev pub run_of : List Row → Option Command
-run_of rows = do
+-- without the files that need not be given
+abbrev pub plain_run_of : List Row → Option RunWords
+plain_run_of rows = do
   image ← first_of (codes "image") rows
   main ← first_of (codes "main") rows
   folder ← first_of (codes "DIR") rows
   workers ← workers_of rows
   lines ← lines_of rows
   limits ← limits_of rows
-  Some (Run (record { image = image; main = main; folder = folder; workers = workers; lines = lines; limits = limits }))
+  Some (record {
+    image = image;
+    main = main;
+    folder = folder;
+    workers = workers;
+    lines = lines;
+    limits = limits;
+    mirror = None;
+    history = None;
+  })
+
+abbrev pub run_of : List Row → Option Command
+run_of rows = do
+  run ← plain_run_of rows
+  Some (Run (record run { mirror = first_of (codes "mirror") rows; history = first_of (codes "history") rows }))
 
 abbrev pub make_of : List Row → Option Command
 make_of rows = do
@@ -47,23 +63,46 @@ make_of rows = do
   count ← number_in 1 most_nodes text
   workers ← workers_of rows
   lines ← lines_of rows
-  Some (Make (record { image = image; count = count; workers = workers; lines = lines }))
+  Some (Make (record {
+    image = image;
+    count = count;
+    workers = workers;
+    lines = lines;
+    mirror = first_of (codes "mirror") rows;
+  }))
 
 abbrev pub check_of : List Row → Option Command
 check_of rows = do
   image ← first_of (codes "FILE") rows
-  Some (Check (record { image = image }))
+  Some (Check (record { image = image; mirror = first_of (codes "mirror") rows }))
 
 abbrev pub dump_of : List Row → Option Command
 dump_of rows = do
   image ← first_of (codes "FILE") rows
-  Some (Dump (record { image = image }))
+  Some (Dump (record { image = image; mirror = first_of (codes "mirror") rows }))
 
 abbrev pub asm_of : List Row → Option Command
 asm_of rows = do
   class ← first_of (codes "class") rows
   listing ← first_of (codes "FILE") rows
   Some (Asm (record { class = class; listing = listing }))
+
+abbrev pub compact_of : List Row → Option Command
+compact_of rows = do
+  old ← first_of (codes "OLD") rows
+  new ← first_of (codes "NEW") rows
+  lines ← lines_of rows
+  Some (Compact (record { old = old; new = new; lines = lines }))
+
+abbrev pub audit_of : List Row → Option Command
+audit_of rows = do
+  before ← first_of (codes "before") rows
+  after ← first_of (codes "after") rows
+  history ← first_of (codes "history") rows
+  output ← first_of (codes "output") rows
+  main ← first_of (codes "main") rows
+  folder ← first_of (codes "DIR") rows
+  Some (Audit (record { before = before; after = after; history = history; output = output; main = main; folder = folder }))
 
 -- what a subcommand's values ask for
 abbrev pub subcommand_asks : Text → List Row → Option Command
@@ -72,7 +111,9 @@ subcommand_asks name rows =
     else (if bytes_eq name (codes "check") then check_of rows
     else (if bytes_eq name (codes "dump") then dump_of rows
     else (if bytes_eq name (codes "asm") then asm_of rows
-    else (if bytes_eq name (codes "make") then make_of rows else None))))
+    else (if bytes_eq name (codes "make") then make_of rows
+    else (if bytes_eq name (codes "compact") then compact_of rows
+    else (if bytes_eq name (codes "audit") then audit_of rows else None))))))
 
 abbrev pub asked_in : Option (Text × List Row) → Option Command
 asked_in None = None

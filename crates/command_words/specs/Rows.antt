@@ -3,7 +3,7 @@ use Rattle.std.specs.Prelude.{◌≡◌, ◌==◌, ℕ, List, [], ◌∷◌, cod
 use Rattle.clap.specs.Words.{Text}
 use Rattle.command_words.specs.Commands.{command_of}
 use Rattle.command_words.specs.declared.command.Command.{Command}
-use Rattle.command_words.specs.declared.command.Command.TheVariants.{Run, Make, Check, Dump, Asm}
+use Rattle.command_words.specs.declared.command.Command.TheVariants.{Run, Make, Check, Dump, Asm, Compact, Audit}
 
 -- a byte before the first of some words
 abbrev pub before : ℕ → List Text → List Text
@@ -36,6 +36,8 @@ run_with image main folder = Run (record {
   image = image;
   main = main;
   folder = folder;
+  mirror = None;
+  history = None;
   workers = 4;
   lines = 262144;
   limits = record { heap_words = 8388608; acts = 1048576 };
@@ -47,6 +49,8 @@ run_at workers lines heap acts = Run (record {
   image = codes "F";
   main = codes "C";
   folder = codes "DIR";
+  mirror = None;
+  history = None;
   workers = workers;
   lines = lines;
   limits = record { heap_words = heap; acts = acts };
@@ -81,16 +85,65 @@ with_odd_values =
 
 abbrev pub of_others : List (List ℕ × Command)
 of_others =
-    (codes "check F", Check (record { image = codes "F" }))
-    ∷ (codes "dump F", Dump (record { image = codes "F" }))
-    ∷ (codes "dump -- -f", Dump (record { image = codes "-f" }))
+    (codes "check F", Check (record { image = codes "F"; mirror = None }))
+    ∷ (codes "dump F", Dump (record { image = codes "F"; mirror = None }))
+    ∷ (codes "dump -- -f", Dump (record { image = codes "-f"; mirror = None }))
     ∷ (codes "asm --class A a.lst", Asm (record { class = codes "A"; listing = codes "a.lst" }))
     ∷ (codes "asm a.lst --class=A", Asm (record { class = codes "A"; listing = codes "a.lst" }))
-    ∷ (codes "make --image F 50", Make (record { image = codes "F"; count = 50; workers = 4; lines = 262144 }))
+    ∷ (codes "make --image F 50", Make (record { image = codes "F"; count = 50; workers = 4; lines = 262144; mirror = None }))
     ∷ (
       codes "make 05000 --image F --size 4194304 --workers 1",
-      Make (record { image = codes "F"; count = 5000; workers = 1; lines = 4194304 }),
+      Make (record { image = codes "F"; count = 5000; workers = 1; lines = 4194304; mirror = None }),
     )
+    ∷ []
+
+abbrev pub with_files : List (List ℕ × Command)
+with_files = (
+  codes "run --image F --main C DIR --mirror G --history H",
+  Run (record {
+    image = codes "F";
+    main = codes "C";
+    folder = codes "DIR";
+    mirror = Some (codes "G");
+    history = Some (codes "H");
+    workers = 4;
+    lines = 262144;
+    limits = record { heap_words = 8388608; acts = 1048576 };
+  }),
+)
+    ∷ (codes "check F --mirror G", Check (record { image = codes "F"; mirror = Some (codes "G") }))
+    ∷ (codes "dump --mirror=G F", Dump (record { image = codes "F"; mirror = Some (codes "G") }))
+    ∷ (
+      codes "make --image F --mirror G 50",
+      Make (record { image = codes "F"; count = 50; workers = 4; lines = 262144; mirror = Some (codes "G") }),
+    )
+    ∷ (codes "compact F G", Compact (record { old = codes "F"; new = codes "G"; lines = 262144 }))
+    ∷ (codes "compact F --size 32768 G", Compact (record { old = codes "F"; new = codes "G"; lines = 32768 }))
+    ∷ (
+      codes "audit --before B --after F --history H --output O --main C DIR",
+      Audit (record {
+        before = codes "B";
+        after = codes "F";
+        history = codes "H";
+        output = codes "O";
+        main = codes "C";
+        folder = codes "DIR";
+      }),
+    )
+    ∷ []
+
+abbrev pub wrong_files : List (List ℕ)
+wrong_files =
+    codes "compact F"
+    ∷ codes "compact F G H"
+    ∷ codes "compact F G --size 32767"
+    ∷ codes "compact F G --mirror M"
+    ∷ codes "audit --before B --after F --history H --main C DIR"
+    ∷ codes "audit --before B --after F --history H --output O --main C"
+    ∷ codes "make --image F --history H 50"
+    ∷ codes "check F --history H"
+    ∷ codes "asm --class A a.lst --mirror M"
+    ∷ codes "run --image F --main C DIR --mirror G --mirror H"
     ∷ []
 
 abbrev pub wrong_for_run : List (List ℕ)

@@ -16,6 +16,10 @@ pub enum Command {
     Dump(Dump),
     /// A listing is assembled, and the bytes of one of its classes printed.
     Asm(Asm),
+    /// An image's graph is written to a new image.
+    Compact(Compact),
+    /// The history and the output of a run are checked against the images before and after it.
+    Audit(Audit),
 }
 
 /// The words of `run`.
@@ -31,6 +35,10 @@ pub struct Run {
     pub workers: u8,
     /// How many lines a new image file gets: 32,768 to 4,194,304.
     pub lines: u32,
+    /// The path of the image's mirror, if it has one.
+    pub mirror: Option<Text>,
+    /// The path of the file that the run's history is saved to, if it is to be.
+    pub history: Option<Text>,
     /// The limits of the run: 1,024 to 134,217,728 words of volatile memory, and 1 to 16,777,216 acts.
     pub limits: Limits,
 }
@@ -46,6 +54,8 @@ pub struct Make {
     pub workers: u8,
     /// How many lines a new image file gets: 32,768 to 4,194,304.
     pub lines: u32,
+    /// The path of the image's mirror, if it has one.
+    pub mirror: Option<Text>,
 }
 
 /// The words of `check`.
@@ -53,6 +63,8 @@ pub struct Make {
 pub struct Check {
     /// The image file's path.
     pub image: Text,
+    /// The path of the image's mirror, if it has one.
+    pub mirror: Option<Text>,
 }
 
 /// The words of `dump`.
@@ -60,6 +72,8 @@ pub struct Check {
 pub struct Dump {
     /// The image file's path.
     pub image: Text,
+    /// The path of the image's mirror, if it has one.
+    pub mirror: Option<Text>,
 }
 
 /// The words of `asm`.
@@ -69,6 +83,34 @@ pub struct Asm {
     pub class: Bytes,
     /// The listing's path.
     pub listing: Text,
+}
+
+/// The words of `compact`.
+#[derive(Drop, Debug)]
+pub struct Compact {
+    /// The path of the image whose graph is written.
+    pub old: Text,
+    /// The path of the image that it is written to.
+    pub new: Text,
+    /// How many lines a new image file gets: 32,768 to 4,194,304.
+    pub lines: u32,
+}
+
+/// The words of `audit`.
+#[derive(Drop, Debug)]
+pub struct Audit {
+    /// The path of the image before the run.
+    pub before: Text,
+    /// The path of the image after the run.
+    pub after: Text,
+    /// The path of the run's history.
+    pub history: Text,
+    /// The path of what the run printed.
+    pub output: Text,
+    /// The name of the class that was run, in which a dot counts as a slash.
+    pub main: Bytes,
+    /// The path of the class files' folder.
+    pub folder: Text,
 }
 
 /// Why words give no command.

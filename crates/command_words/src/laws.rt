@@ -17,6 +17,7 @@ pub fn words_are_read()
     ensures numbers { rows.Each rows.AsksFor rows.with_numbers }
     ensures values { rows.Each rows.AsksFor rows.with_odd_values }
     ensures others { rows.Each rows.AsksFor rows.of_others }
+    ensures files { rows.Each rows.AsksFor rows.with_files }
 {}
 
 /// Which words ask for nothing, row by row; and that the program's name alone doesn't.
@@ -27,5 +28,6 @@ pub fn words_are_refused()
     ensures numbers { rows.Each rows.AsksNothing rows.no_numbers }
     ensures values { rows.Each rows.AsksNothing rows.wrong_values }
     ensures commands { rows.Each rows.AsksNothing rows.no_commands }
+    ensures files { rows.Each rows.AsksNothing rows.wrong_files }
     ensures name { command_of (codes "autopersist" ∷ []) ≡ None }
 {}

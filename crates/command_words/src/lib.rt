@@ -10,7 +10,7 @@ mod refusing;
 mod text;
 
 pub use building::clap_command;
-pub use command::{Asm, Check, Command, Dump, Make, Run, WordsFault};
+pub use command::{Asm, Audit, Check, Command, Compact, Dump, Make, Run, WordsFault};
 pub use laws::{numbers_are_in_range, words_are_read, words_are_refused};
 pub use reading::read_words;
 pub use refusing::usage_text;

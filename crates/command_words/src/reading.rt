@@ -6,7 +6,7 @@ ghost use Rattle.command_words.specs.Commands as spec;
 
 use crate::building::clap_command;
 use crate::numbers::{Range, number_in, number_or};
-use crate::{Asm, Check, Command, Dump, Make, Run, Text, WordsFault};
+use crate::{Asm, Audit, Check, Command, Compact, Dump, Make, Run, Text, WordsFault};
 use ap_base::Bytes;
 use clap::error::ErrorKind;
 use clap::{ArgMatches, Error};
@@ -79,6 +79,22 @@ fn bytes(alloc: Global, text: &str) -> Result<Bytes, AllocError>
     Bytes::copy(alloc, text.as_bytes())
 }
 
+// The value of an option that need not be given.
+fn given(alloc: Global, matches: &ArgMatches<'_>, id: &str) -> Result<Option<Text>, AllocError>
+    ensures { IfOk result (λ text. text ≡ first_of id.now (rows_of (found_of matches.now))) }
+{
+    match value(matches, id) {
+        Some(text) => Ok(Some(Text::copy(alloc, text)?)),
+        None => Ok(None),
+    }
+}
+
+fn copies(alloc: Global, first: &str, second: &str) -> Result<(Text, Text), AllocError>
+    ensures { IfOk result (λ texts. (texts.0 ≡ first.now) × (texts.1 ≡ second.now)) }
+{
+    Ok((Text::copy(alloc, first)?, Text::copy(alloc, second)?))
+}
+
 fn check(alloc: Global, matches: &ArgMatches<'_>) -> Result<Option<Command>, AllocError>
     ensures { IfOk result (λ c. c ≡ spec.check_of (rows_of (found_of matches.now))) }
 {
@@ -87,6 +103,7 @@ fn check(alloc: Global, matches: &ArgMatches<'_>) -> Result<Option<Command>, All
     };
     Ok(Some(Command::Check(Check {
         image: Text::copy(alloc, image)?,
+        mirror: given(alloc, matches, "mirror")?,
     })))
 }
 
@@ -98,6 +115,7 @@ fn dump(alloc: Global, matches: &ArgMatches<'_>) -> Result<Option<Command>, Allo
     };
     Ok(Some(Command::Dump(Dump {
         image: Text::copy(alloc, image)?,
+        mirror: given(alloc, matches, "mirror")?,
     })))
 }
 
@@ -139,11 +157,13 @@ fn make(alloc: Global, matches: &ArgMatches<'_>) -> Result<Option<Command>, Allo
         count,
         workers,
         lines,
+        mirror: given(alloc, matches, "mirror")?,
     })))
 }
 
-fn run(alloc: Global, matches: &ArgMatches<'_>) -> Result<Option<Command>, AllocError>
-    ensures { IfOk result (λ c. c ≡ spec.run_of (rows_of (found_of matches.now))) }
+// Without the files that need not be given.
+fn plain_run(alloc: Global, matches: &ArgMatches<'_>) -> Result<Option<Run>, AllocError>
+    ensures { IfOk result (λ r. r ≡ spec.plain_run_of (rows_of (found_of matches.now))) }
 {
     let Some(image) = value(matches, "image") else {
         return Ok(None);
@@ -163,13 +183,82 @@ fn run(alloc: Global, matches: &ArgMatches<'_>) -> Result<Option<Command>, Alloc
     let Some(limits) = limits(matches) else {
         return Ok(None);
     };
-    Ok(Some(Command::Run(Run {
+    Ok(Some(Run {
         image: Text::copy(alloc, image)?,
         main: bytes(alloc, main)?,
         folder: Text::copy(alloc, folder)?,
         workers,
         lines,
+        mirror: None,
+        history: None,
         limits,
+    }))
+}
+
+fn run(alloc: Global, matches: &ArgMatches<'_>) -> Result<Option<Command>, AllocError>
+    ensures { IfOk result (λ c. c ≡ spec.run_of (rows_of (found_of matches.now))) }
+{
+    let mirror = given(alloc, matches, "mirror")?;
+    let history = given(alloc, matches, "history")?;
+    match plain_run(alloc, matches)? {
+        Some(run) => Ok(Some(Command::Run(Run {
+            mirror,
+            history,
+            ..run
+        }))),
+        None => Ok(None),
+    }
+}
+
+fn compact(alloc: Global, matches: &ArgMatches<'_>) -> Result<Option<Command>, AllocError>
+    ensures { IfOk result (λ c. c ≡ spec.compact_of (rows_of (found_of matches.now))) }
+{
+    let Some(old) = value(matches, "OLD") else {
+        return Ok(None);
+    };
+    let Some(new) = value(matches, "NEW") else {
+        return Ok(None);
+    };
+    let Some(lines) = lines(matches) else {
+        return Ok(None);
+    };
+    Ok(Some(Command::Compact(Compact {
+        old: Text::copy(alloc, old)?,
+        new: Text::copy(alloc, new)?,
+        lines,
+    })))
+}
+
+fn audit(alloc: Global, matches: &ArgMatches<'_>) -> Result<Option<Command>, AllocError>
+    ensures { IfOk result (λ c. c ≡ spec.audit_of (rows_of (found_of matches.now))) }
+{
+    let Some(before) = value(matches, "before") else {
+        return Ok(None);
+    };
+    let Some(after) = value(matches, "after") else {
+        return Ok(None);
+    };
+    let Some(history) = value(matches, "history") else {
+        return Ok(None);
+    };
+    let Some(output) = value(matches, "output") else {
+        return Ok(None);
+    };
+    let Some(main) = value(matches, "main") else {
+        return Ok(None);
+    };
+    let Some(folder) = value(matches, "DIR") else {
+        return Ok(None);
+    };
+    let (before, after) = copies(alloc, before, after)?;
+    let (history, output) = copies(alloc, history, output)?;
+    Ok(Some(Command::Audit(Audit {
+        before,
+        after,
+        history,
+        output,
+        main: bytes(alloc, main)?,
+        folder: Text::copy(alloc, folder)?,
     })))
 }
 
@@ -186,6 +275,10 @@ fn asked(alloc: Global, name: &str, matches: &ArgMatches<'_>) -> Result<Option<C
         asm(alloc, matches)
     } else if name == "make" {
         make(alloc, matches)
+    } else if name == "compact" {
+        compact(alloc, matches)
+    } else if name == "audit" {
+        audit(alloc, matches)
     } else {
         Ok(None)
     }

@@ -53,6 +53,7 @@ fn write_words(file: &File, at: u64, words: &[u64; 8]) -> io::Result<()> {
 
 impl FileImage {
     ghost use Rattle.ap_base.specs.Causes.{HasCause, next_count};
+    ghost use Rattle.host_edges.specs.Images.{file_told};
 
     /// Opens the file that a path leads to, and locks it until it is closed. Where it leads to nothing and `create` is a number
     /// of lines, a file of so many lines of zeros is made; a file that is there is neither cut nor lengthened. That a new file's
@@ -66,7 +67,9 @@ impl FileImage {
         _alloc: Global,
         path: &str,
         create: Option<u64>,
-    ) -> Result<FileImage, AllocError> {
+    ) -> Result<FileImage, AllocError>
+        ensures uncalled { IfOk result (λ image. (file_told image).calls ≡ 0) }
+    {
         match open_file(rt, path, create) {
             Ok((file, bytes)) => Ok(FileImage::opened(file, bytes)),
             Err(Unopened::Trouble(trouble)) => Ok(FileImage::closed(trouble)),
@@ -76,6 +79,7 @@ impl FileImage {
 
     fn opened(file: File, bytes: u64) -> FileImage
         requires apart { pos 2 <ℤ file_raw_fd file }
+        ensures uncalled { (file_told result).calls ≡ 0 }
     {
         FileImage {
             file: Some(file),
@@ -86,7 +90,9 @@ impl FileImage {
         }
     }
 
-    fn closed(trouble: Trouble) -> FileImage {
+    fn closed(trouble: Trouble) -> FileImage
+        ensures uncalled { (file_told result).calls ≡ 0 }
+    {
         FileImage {
             file: None,
             trouble: Some(trouble),

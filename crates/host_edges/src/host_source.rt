@@ -1,4 +1,4 @@
-// The class files of a folder, or one file.
+// The class files of a folder, one file, or the records of a run.
 ghost use Rattle.std.specs.Prelude.{◌≡◌, ◌≤◌, ◌<◌, ◌^◌, None, IfOk, OnErr, IsErrOf};
 
 use ap_base::{Bytes, ClassSource, MOST_BYTES, NamedBytes, SourceError};
@@ -13,8 +13,8 @@ const MOST_READ: u64 = MOST_BYTES as u64 + 1;
 // What of a folder's list is read at once; enough for the longest name.
 const LIST_BYTES: usize = 4_096;
 
-/// Files of the host: those of a folder whose names end in `.class`, in the order of their names' bytes, or one file. It tells
-/// nothing.
+/// Files of the host: those of a folder whose names end in `.class`, in the order of their names' bytes, or those of one or two
+/// paths. It tells nothing.
 ///
 /// A folder that couldn't be listed fails at every call, and so does a file that isn't a regular one, or whose name isn't text;
 /// where there was no memory for it, each call answers that.
@@ -25,6 +25,8 @@ pub struct HostSource<R> {
     folder: Option<String>,
     // the last one first
     names: Vec<Vec<u8>>,
+    // how many bytes of a file are read at most
+    most: u64,
     broken: Option<SourceError>,
     faults: u64,
     ghost fits: { faults < 2 ^ 64 },
@@ -66,20 +68,29 @@ fn list(rt: &impl Files, alloc: Global, folder: &str) -> io::Result<Vec<Vec<u8>>
     class_names(alloc, rt.open_dir(path.as_str())?)
 }
 
-fn only_name(alloc: Global, path: &str) -> Result<Vec<Vec<u8>>, AllocError> {
+// The last one first.
+fn paths(alloc: Global, paths: &[&str]) -> Result<Vec<Vec<u8>>, AllocError> {
     let mut names = Vec::new(alloc);
-    names.push(path.as_bytes().to_vec(alloc)?)?;
+    for path in paths.iter().rev() {
+        names.push(path.as_bytes().to_vec(alloc)?)?;
+    }
     Ok(names)
 }
 
 // What isn't a regular file isn't opened: a pipe would wait for its writer.
-fn read_file(rt: &impl Files, alloc: Global, path: &str, name: &[u8]) -> io::Result<NamedBytes> {
+fn read_file(
+    rt: &impl Files,
+    alloc: Global,
+    path: &str,
+    name: &[u8],
+    most: u64,
+) -> io::Result<NamedBytes> {
     let metadata = fs::metadata(rt, path)?;
     if !metadata.is_file() {
         return Err(io::Error::from(io::ErrorKind::InvalidInput));
     }
     let mut bytes = Vec::new(alloc);
-    fs::open(rt, path)?.take(MOST_READ).read_to_end(&mut bytes)?;
+    fs::open(rt, path)?.take(most).read_to_end(&mut bytes)?;
     let name = Bytes::copy(alloc, name)?;
     Ok(NamedBytes::read_so_far(name, Bytes::from_vec(bytes), metadata.len()))
 }
@@ -89,7 +100,7 @@ impl<R: Files + Drop> HostSource<R> {
     pub fn folder(rt: R, alloc: Global, path: &str) -> HostSource<R> {
         let listed = list(&rt, alloc, path);
         match (listed, String::from_str(alloc, path)) {
-            (Ok(names), Ok(folder)) => HostSource::with(rt, Some(folder), names),
+            (Ok(names), Ok(folder)) => HostSource::with(rt, Some(folder), names, MOST_READ),
             (Err(error), _) => HostSource::broken(rt, alloc, error_of(&error)),
             (_, Err(_)) => HostSource::broken(rt, alloc, SourceError::OutOfMemory),
         }
@@ -97,17 +108,26 @@ impl<R: Files + Drop> HostSource<R> {
 
     /// One file, which is named as its path is written. It is read as it is asked for.
     pub fn file(rt: R, alloc: Global, path: &str) -> HostSource<R> {
-        match only_name(alloc, path) {
-            Ok(names) => HostSource::with(rt, None, names),
+        match paths(alloc, &[path]) {
+            Ok(names) => HostSource::with(rt, None, names, MOST_READ),
             Err(_) => HostSource::broken(rt, alloc, SourceError::OutOfMemory),
         }
     }
 
-    fn with(rt: R, folder: Option<String>, names: Vec<Vec<u8>>) -> HostSource<R> {
+    /// The records of a run: its history and then what it printed, each read whole as it is asked for.
+    pub fn records(rt: R, alloc: Global, history: &str, output: &str) -> HostSource<R> {
+        match paths(alloc, &[history, output]) {
+            Ok(names) => HostSource::with(rt, None, names, u64::MAX),
+            Err(_) => HostSource::broken(rt, alloc, SourceError::OutOfMemory),
+        }
+    }
+
+    fn with(rt: R, folder: Option<String>, names: Vec<Vec<u8>>, most: u64) -> HostSource<R> {
         HostSource {
             rt,
             folder,
             names,
+            most,
             broken: None,
             faults: 0,
         }
@@ -119,6 +139,7 @@ impl<R: Files + Drop> HostSource<R> {
             rt,
             folder: None,
             names: Vec::new(alloc),
+            most: MOST_READ,
             broken: Some(error),
             faults: 0,
         }
@@ -140,7 +161,7 @@ impl<R: Files + Drop> HostSource<R> {
 
     fn read(&self, alloc: Global, name: &[u8]) -> io::Result<NamedBytes> {
         let path = self.path_of(alloc, name)?;
-        read_file(&self.rt, alloc, path.as_str(), name)
+        read_file(&self.rt, alloc, path.as_str(), name, self.most)
     }
 
     fn path_of(&self, alloc: Global, name: &[u8]) -> io::Result<String> {

@@ -1,7 +1,8 @@
-//! The host as source, image and sink: the class files of a folder or one file, an image file, and standard output.
+//! The host as source, image and sink: class files of a folder or one file, image files, standard output and a file to write.
 #![tactic(auto)]
 
 mod file_image;
+mod file_sink;
 mod host_source;
 mod opening;
 mod out_sink;
@@ -9,6 +10,7 @@ mod streams;
 mod trouble;
 
 pub use file_image::FileImage;
+pub use file_sink::FileSink;
 pub use host_source::{HostSource, class_names};
 pub use out_sink::OutSink;
 pub use streams::hold_streams;

@@ -92,6 +92,31 @@ fn create(rt: &impl Files<File = File>, path: &str, bytes: u64) -> Result<(File,
     }
 }
 
+// A pipe would wait for its reader.
+fn is_irregular(rt: &impl Files<File = File>, path: &str) -> bool {
+    match fs::metadata(rt, path) {
+        Ok(metadata) => !metadata.is_file(),
+        Err(_) => false,
+    }
+}
+
+/// Opens a file to write that has no bytes yet, for this process alone; it is made where there is none.
+pub(crate) fn empty_file(rt: &impl Files<File = File>, path: &str) -> Result<File, Unopened>
+    ensures apart { IfOk result (λ file. pos 2 <ℤ file_raw_fd file) }
+{
+    if is_irregular(rt, path) {
+        return Err(Unopened::Trouble(Trouble::Irregular));
+    }
+    match OpenOptions::new().write(true).create(true).open(rt, path) {
+        Ok(file) => match locked(rt, file) {
+            Ok((file, 0)) => Ok(file),
+            Ok(_) => Err(Unopened::Trouble(Trouble::Used)),
+            Err(trouble) => Err(Unopened::Trouble(trouble)),
+        },
+        Err(error) => Err(why(&error)),
+    }
+}
+
 /// Opens a file to read and write, for this process alone, and tells how many bytes it has. Where there is none, and a number
 /// of lines is given, a file of so many lines of zeros is made. One that is there is neither cut nor lengthened.
 pub(crate) fn open_file(

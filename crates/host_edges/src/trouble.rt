@@ -23,6 +23,10 @@ pub enum Trouble {
     Stream,
     /// It has this many bytes, less than any image.
     TooShort(u64),
+    /// It isn't a regular file.
+    Irregular,
+    /// It has bytes already.
+    Used,
     /// Something else went wrong.
     Other,
 }
@@ -66,6 +70,8 @@ impl Display for Trouble {
                 f,
                 "too short: {bytes} bytes, at least {LEAST_BYTES}"
             ),
+            Trouble::Irregular => write!(f, "no regular file"),
+            Trouble::Used => write!(f, "it isn't empty"),
             Trouble::Other => write!(f, "it can't be opened"),
         }
     }

@@ -15,7 +15,22 @@ use Rattle.image_opening.specs.Attached.{IsSettled}
 use Rattle.image_opening.specs.Opened.{IsOpenImage}
 use Rattle.image_opening.specs.Stops.{KeepsItsGraph}
 use Rattle.image_report.specs.Texts.{check_line, dump_lines}
-use Rattle.image_report.specs.Reports.{IsChecked, IsDumped, IsNumbered}
+use Rattle.image_report.specs.Reports.{IsChecked, IsDumped, IsLeftOpen, IsNumbered}
+
+pub left_open : (start left : Told) (before m : Memory) (version_now : ℕ) (directory : Kept) (graph : Graph) (lines : List ℕ)
+    (free undone : ℕ) → IsOpenImage start before m version_now directory graph lines free undone → left ≡ m.image → IsLeftOpen start left
+left_open start left before m version_now directory graph lines free undone opened told = record {
+  before = before;
+  memory = m;
+  version_now = version_now;
+  directory = directory;
+  graph = graph;
+  lines = lines;
+  free = free;
+  undone = undone;
+  opened = opened;
+  told = told;
+}
 
 module _ (start : Told) (before m : Memory) (version_now : ℕ) (directory : Kept) (graph : Graph) (lines : List ℕ)
     (free undone : ℕ) (is : IsOpenImage start before m version_now directory graph lines free undone) where

@@ -1,8 +1,10 @@
 -- What the commands `check` and `dump` print of an image, which told `start` when they began, and what they come to.
-use Rattle.std.specs.Prelude.{◌≡◌, ◌≢◌, ◌<◌, ℕ, List, length, take, Option}
+use Rattle.std.specs.Prelude.{◌≡◌, ◌≢◌, ◌<◌, ℕ, List, length, take, Option, Result, Ok, Err}
 use Rattle.ap_base.specs.Sinks.{with_bytes}
 use Rattle.graph_model.specs.declared.types.Graph.{Graph}
 use Rattle.line_image.specs.Told.{Told}
+use Rattle.line_memory.specs.Memory.{Memory}
+use Rattle.directories.specs.Kept.{Kept}
 use Rattle.image_layout.specs.Places.{first_object_line, version}
 use Rattle.image_meaning.specs.Checks.{Words}
 use Rattle.image_meaning.specs.Directories.{Directory}
@@ -12,6 +14,7 @@ use Rattle.image_meaning.specs.Opening.{Finds, free_line}
 use Rattle.image_recovery.specs.Checked.{undone_of}
 use Rattle.image_opening.specs.declared.not_opened.NotOpened.{NotOpened}
 use Rattle.image_opening.specs.Attached.{AreRead}
+use Rattle.image_opening.specs.Opened.{IsOpenImage}
 use Rattle.image_opening.specs.Unopened.{IsBadThere, IsUnopened}
 use Rattle.image_report.specs.declared.not_reported.NotReported.{NotReported}
 use Rattle.image_report.specs.declared.not_reported.NotReported.TheVariants.{Unopened, SinkFailed, OutOfMemory}
@@ -40,6 +43,27 @@ pub record IsChecked (size : ℕ) (words : Words) (text : List ℕ) : Type 0 whe
   pub undone : ℕ
   pub numbers : IsNumbered size words version_now free undone
   pub text_is : text ≡ check_line version_now size free (length graph.roots) (length graph.nodes) undone
+
+-- ---- what is left of the image
+
+-- It was opened, and given back as that left it: recovered, all durable, and no log counts an entry; a blank one is formatted.
+pub record IsLeftOpen (start left : Told) : Type 0 where
+  pub before : Memory
+  pub memory : Memory
+  pub version_now : ℕ
+  pub directory : Kept
+  pub graph : Graph
+  pub lines : List ℕ
+  pub free : ℕ
+  pub undone : ℕ
+  pub opened : IsOpenImage start before memory version_now directory graph lines free undone
+  pub told : left ≡ memory.image
+
+-- something was put, or all of it
+abbrev pub HasPut : Result (Unit {0}) NotReported → Type 0
+HasPut (Ok done) = Unit {0}
+HasPut (Err SinkFailed) = Unit {0}
+HasPut other = ⊥
 
 -- ---- what a sink took, that had taken so much before
 

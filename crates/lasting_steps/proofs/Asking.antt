@@ -47,13 +47,13 @@ use Rattle.plain_model.proofs.Appended.{frames_after-push}
 use Rattle.plain_model.proofs.Pending.{pending_was_asked}
 use Rattle.plain_model.proofs.Visible.{about_from_rule}
 use Rattle.lasting_steps.specs.Staying.{StoresObject}
-use Rattle.lasting_steps.specs.Asking.{AsksItsStore, AsksThere, ActsKeepAsking, AskersLive}
+use Rattle.lasting_steps.specs.Asking.{AsksItsStore, AsksThere, ActsKeepAsking, AskersLive, OtherActsKeepAsking}
 use Rattle.lasting_steps.proofs.Storing.{IsStore, NoStore, is-store, no-store, either, object, index, asked-step, unless-owed}
 use Rattle.lasting_steps.proofs.Staying.{asked_stores_stay}
 
 -- ---- a list of which another place changes, or which grows
 
-get-append : {X : Type 0} (xs ys : List X) (i : ℕ) (x : X) → slice_get xs i ≡ Some x → slice_get (xs ++ ys) i ≡ Some x
+pub get-append : {X : Type 0} (xs ys : List X) (i : ℕ) (x : X) → slice_get xs i ≡ Some x → slice_get (xs ++ ys) i ≡ Some x
 get-append [] ys i x is = absurd (let e : None ≡ Some x = is in cc)
 get-append (y ∷ xs) ys zero x is = is
 get-append (y ∷ xs) ys (suc i) x is = get-append xs ys i x is
@@ -66,7 +66,7 @@ at-other f (thread ∷ threads) zero (suc t) other = refl
 at-other f (thread ∷ threads) (suc u) zero other = refl
 at-other f (thread ∷ threads) (suc u) (suc t) other = at-other f threads u t (λ e. other (ap suc e))
 
-threads-other : (threads : List Thread) (u t : ℕ) (o : Op) (it : Thread) → u ≢ t → slice_get threads t ≡ Some it
+pub threads-other : (threads : List Thread) (u t : ℕ) (o : Op) (it : Thread) → u ≢ t → slice_get threads t ≡ Some it
     → slice_get (threads_after_op threads u o) t ≡ Some it
 threads-other threads u t (op.Start n child) it other is = get-append threads (new_thread (Some n) ∷ []) t it is
 threads-other threads u t op.Begin it other is = at-other _ threads u t other ∙ is
@@ -296,22 +296,36 @@ module _ (set : SetFacts) (main : ℕ) (opening : Graph) {Frames : Type 0} (code
       let persistent : is_persistent a.act.op ≡ true = ap is_persistent asked in
       (q, n, request-same q persistent at_t, value, asked_stores_stay set main opening code acts a t q p.place n may stores_it)
 
+  keeps-before : AsksItsStore set known (request_after set main opening code acts t) t → (p : Pending)
+      → (before : pending_of known.asked t ≡ Some p) → (a.act.thread ≡ t → IsStored a.act.op → ⊥) → Kept p
+  keeps-before old p before none = let o = old p before in kept-before p o.0 o.1 o.2 o.3 o.4 none
+
   keeps : AsksThere known a → AsksItsStore set known (request_after set main opening code acts t) t
       → (p : Pending) → pending_of next.asked t ≡ Some p → Kept p
   keeps there old p is = elim (pending_was_asked known (a ∷ []) t p is) [
-    | inl before ↦
-        (let o = old p before.0 in
-        kept-before p o.0 o.1 o.2 o.3 o.4 (All-head (λ (b : Recorded). b.act.thread ≡ t → IsStored b.act.op → ⊥) a [] before.1))
+    | inl before ↦ keeps-before old p before.0
+        (All-head (λ (b : Recorded). b.act.thread ≡ t → IsStored b.act.op → ⊥) a [] before.1)
     | inr was ↦
         (let same : a ≡ was.asked = the-one a was.front was.asked was.rest was.is_here in
         kept-asked p (request_after set main opening code acts a.act.thread) there
         (ap (λ (b : Recorded). b.act.thread) same ∙ was.by_thread) (ap (λ (b : Recorded). b.act.op) same ∙ was.is_asked) refl)
   ]
 
-  pub kept : AsksThere known a → AsksItsStore set known (request_after set main opening code acts t) t
+  -- what another thread asks isn't this one's
+  keeps-other : a.act.thread ≢ t → AsksItsStore set known (request_after set main opening code acts t) t
+      → (p : Pending) → pending_of next.asked t ≡ Some p → Kept p
+  keeps-other other old p is = elim (pending_was_asked known (a ∷ []) t p is) [
+    | inl before ↦ keeps-before old p before.0
+        (All-head (λ (b : Recorded). b.act.thread ≡ t → IsStored b.act.op → ⊥) a [] before.1)
+    | inr was ↦ absurd
+        (let same : a ≡ was.asked = the-one a was.front was.asked was.rest was.is_here in
+        other (ap (λ (b : Recorded). b.act.thread) same ∙ was.by_thread))
+  ]
+
+  pub kept : ((p : Pending) → pending_of next.asked t ≡ Some p → Kept p)
       → AsksItsStore set (known_of set main opening code (acts ++ a ∷ []))
       (request_after set main opening code (acts ++ a ∷ []) t) t
-  kept there old =
+  kept all =
       let known-is : known_of set main opening code (acts ++ a ∷ []) ≡ next =
       known_after-append (first_known set opening) acts a in
       let frames-is : frames_of set main opening code (acts ++ a ∷ []) ≡ frames' =
@@ -319,10 +333,15 @@ module _ (set : SetFacts) (main : ℕ) (opening : Graph) {Frames : Type 0} (code
       subst (λ (k : Knowledge). AsksItsStore set k
       (request_of set main opening code k.world (frames_of set main opening code (acts ++ a ∷ [])) t) t) (sym known-is)
       (subst (λ (fs : List Frames). AsksItsStore set next (request_of set main opening code next.world fs t) t) (sym frames-is)
-      (keeps there old))
+      all)
 
 pub acts_keep_asking : {Frames : Type 0} → ActsKeepAsking Frames
-acts_keep_asking set main opening code acts a t may there old = kept set main opening code acts a t may there old
+acts_keep_asking set main opening code acts a t may there old =
+    kept set main opening code acts a t may (keeps set main opening code acts a t may there old)
+
+pub other_acts_keep_asking : {Frames : Type 0} → OtherActsKeepAsking Frames
+other_acts_keep_asking set main opening code acts a t may other old =
+    kept set main opening code acts a t may (keeps-other set main opening code acts a t may other old)
 
 quiet-store : (set : SetFacts) (w : World) (t n : ℕ) (q : PlainRequest) (place : Place) → StoresObject set w t q place n
     → (at : Option PlainRequest)

@@ -1,5 +1,5 @@
 -- While a thread has asked a value, its request is the store for which it asked: it lives, and waits for nothing.
-use Rattle.std.specs.Prelude.{◌≡◌, ℕ, ◌<◌, List, [], ◌∷◌, ◌++◌, length, Option, Some, None, IsSome}
+use Rattle.std.specs.Prelude.{◌≡◌, ◌≢◌, ℕ, ◌<◌, List, [], ◌∷◌, ◌++◌, length, Option, Some, None, IsSome}
 use Rattle.ap_base.specs.declared.place.Place.{Place}
 use Rattle.graph_model.specs.declared.types.Value.TheVariants.{Obj as Object}
 use Rattle.graph_model.specs.declared.types.Graph.{Graph}
@@ -30,6 +30,18 @@ ActsKeepAsking Frames =
     → MayAct set (known_of set main opening code acts) (wants_of set main opening code acts)
     (request_after set main opening code acts a.act.thread) a
     → AsksThere (known_of set main opening code acts) a
+    → AsksItsStore set (known_of set main opening code acts) (request_after set main opening code acts t) t
+    → AsksItsStore set (known_of set main opening code (acts ++ a ∷ []))
+    (request_after set main opening code (acts ++ a ∷ []) t) t
+
+-- An act of another thread leaves it so, whatever that asks.
+abbrev pub OtherActsKeepAsking : Type 0 → Type 0
+OtherActsKeepAsking Frames =
+    (set : SetFacts) (main : ℕ) (opening : Graph) (code : Code set main opening Frames) (acts : List Recorded)
+    (a : Recorded) (t : ℕ)
+    → MayAct set (known_of set main opening code acts) (wants_of set main opening code acts)
+    (request_after set main opening code acts a.act.thread) a
+    → a.act.thread ≢ t
     → AsksItsStore set (known_of set main opening code acts) (request_after set main opening code acts t) t
     → AsksItsStore set (known_of set main opening code (acts ++ a ∷ []))
     (request_after set main opening code (acts ++ a ∷ []) t) t

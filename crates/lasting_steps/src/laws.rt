@@ -1,7 +1,7 @@
 //! Laws of what the acts of a plain run leave of classes and of stores that threads have asked. Each
 //! function states some in its contract, and does nothing but cite others.
 
-ghost use Rattle.lasting_steps.specs.Asking.{ActsKeepAsking, AskersLive};
+ghost use Rattle.lasting_steps.specs.Asking.{ActsKeepAsking, AskersLive, OtherActsKeepAsking};
 ghost use Rattle.lasting_steps.specs.Passing.{AskedPlacesArePassed, AskedPlacesStayPassed};
 ghost use Rattle.lasting_steps.specs.Passing.{AskedStoresNeverWait, StoresNeverWait};
 ghost use Rattle.lasting_steps.specs.Passing.{ClassesStayPassed, ClassesStayPassedBy};
@@ -44,5 +44,6 @@ pub fn asked_stores_stay<Frames>()
 /// world, whatever acts come, of it or of others: it lives, and waits for nothing.
 pub fn askers_ask_their_stores<Frames>()
     ensures acts { ActsKeepAsking Frames }
+    ensures others { OtherActsKeepAsking Frames }
     ensures live { AskersLive }
 {}

@@ -5,4 +5,4 @@ mod sinks;
 mod texts;
 
 pub use sinks::put_all;
-pub use texts::{decimal_length, put_decimal, put_signed, put_text, signed_length};
+pub use texts::{put_decimal, put_signed, put_text};

@@ -1,5 +1,5 @@
 // Names and numbers are put into a text.
-ghost use Rattle.std.specs.Prelude.{◌≡◌, ◌≤◌, ◌++◌, length, decimal, OnOk, OnErr};
+ghost use Rattle.std.specs.Prelude.{◌≡◌, ◌++◌, decimal, OnOk, OnErr};
 ghost use Rattle.std.specs.Fmt.{signed_decimal};
 
 use itoa::Buffer;
@@ -29,22 +29,4 @@ pub fn put_signed(out: &mut Vec<u8>, number: i64) -> Result<(), AllocError>
 {
     let mut buffer = Buffer::new();
     out.extend_from_slice(buffer.format(number).as_bytes())
-}
-
-/// How many digits a number has in decimal.
-pub fn decimal_length(number: u64) -> usize
-    ensures digits { result ≡ length (decimal number) }
-    ensures few { result ≤ 40 }
-{
-    let mut buffer = Buffer::new();
-    buffer.format(number).len()
-}
-
-/// How many bytes a number has in decimal, its minus among them.
-pub fn signed_length(number: i64) -> usize
-    ensures digits { result ≡ length (signed_decimal number) }
-    ensures few { result ≤ 40 }
-{
-    let mut buffer = Buffer::new();
-    buffer.format(number).len()
 }

@@ -1,6 +1,6 @@
 // Runs of the top call on an image file, and what the adapters do at the edges: a second opening, odd files.
-use ap_base::{ClassSource, MemorySink, NoGate, SourceError};
-use host_edges::{FileImage, HostSource, Trouble, class_names, hold_streams};
+use ap_base::{ClassSource, MemorySink, NoGate, Sink, SourceError};
+use host_edges::{FileImage, FileSink, HostSource, Trouble, class_names, hold_streams};
 use line_image::Image;
 use run_fixture::{PRINTS, RUN, STORES, autopersist, main_class, source, status_text, words};
 use run_history::NoWatch;
@@ -139,6 +139,24 @@ fn no_half_made_image_stays(rt: HostRuntime) -> Result<(), Fail> {
     let made = FileImage::at(&rt, rt.alloc(), "long.img", Some(1 << 60))?.trouble();
     let left = FileImage::at(&rt, rt.alloc(), "long.img", None)?.trouble();
     assert!(rt; made == Some(Trouble::Other) && left == Some(Trouble::Absent));
+    Ok(())
+}
+
+/// Whether two pieces are put into a file.
+fn are_put(rt: HostRuntime) -> Result<bool, Fail> {
+    let mut sink = FileSink::at(&rt, rt.alloc(), "sink")?;
+    Ok(matches!(sink.put(b"ab"), Ok(2)) && matches!(sink.put(b"cde"), Ok(3)))
+}
+
+/// What is put stands in the file, piece behind piece, and a file that has bytes isn't taken.
+#[test]
+fn a_file_takes_what_is_put(rt: HostRuntime) -> Result<(), Fail> {
+    let is_put = are_put(rt)?;
+    let written = fs::read(&rt, "sink")?;
+    assert!(rt; is_put && written.as_slice() == b"abcde".as_slice());
+    let mut second = FileSink::at(&rt, rt.alloc(), "sink")?;
+    let is_refused = second.trouble() == Some(Trouble::Used) && second.put(b"f").is_err();
+    assert!(rt; is_refused);
     Ok(())
 }
 

@@ -27,6 +27,9 @@ use Rattle.statuses.specs.declared.status.Status.{Status}
 use Rattle.statuses.specs.declared.status.Status.TheVariants.{Ok, Uncaught, Usage, BadClass, BadListing, BadImage, LinkRefused}
 use Rattle.statuses.specs.declared.status.Status.TheVariants.{ShapeChanged, BadCode, RegionRace, Full as FullOf, SourceFault}
 use Rattle.statuses.specs.declared.status.Status.TheVariants.{ImageFault, SinkFault, OutOfMemory, Stuck, LinkFault, NotBuilt}
+use Rattle.statuses.specs.declared.status.Status.TheVariants.{NewImage, BadHistory, Refuted}
+use Rattle.statuses.specs.declared.status.NewReason.{NewReason}
+use Rattle.statuses.specs.declared.status.NewReason.TheVariants as fresh
 
 abbrev pub number_of : Status → ℕ
 number_of Ok = 0
@@ -47,6 +50,9 @@ number_of (Stuck waits) = 14
 number_of (LinkFault kind name) = 15
 number_of (BadListing line kind) = 16
 number_of NotBuilt = 17
+number_of (NewImage reason) = 18
+number_of (BadHistory word) = 19
+number_of Refuted = 20
 
 -- ---- words with spaces between them
 
@@ -128,6 +134,10 @@ reason_text reason.Length = codes "Length"
 reason_text reason.Overlap = codes "Overlap"
 reason_text reason.Value = codes "Value"
 
+abbrev pub new_text : NewReason → List ℕ
+new_text fresh.Size = codes "Size"
+new_text fresh.NotBlank = codes "NotBlank"
+
 abbrev pub listing_text : ListingFault → List ℕ
 listing_text listing.Syntax = codes "Syntax"
 listing_text listing.UnknownWord = codes "UnknownWord"
@@ -206,6 +216,9 @@ what_of OutOfMemory = codes "no memory"
 what_of (Stuck waits) = codes "stuck" ++ waits_text waits
 what_of (LinkFault kind name) = with_names (codes "link " ++ kind_text kind) (name ∷ [])
 what_of NotBuilt = codes "not built"
+what_of (NewImage reason) = codes "new " ++ new_text reason
+what_of (BadHistory word) = with_numbers (codes "history") (word ∷ [])
+what_of Refuted = codes "refuted"
 
 -- a status's line: the program's name, what is wrong, and a line feed
 abbrev pub status_line : List ℕ → List ℕ

@@ -1,10 +1,11 @@
-// What a NameRoom has room for.
+// What a NameRoom has room for; and at which stage each status comes.
 ghost use Rattle.std.specs.Prelude.{◌≡◌, ◌⊎◌, ◌<◌, ℕ, true};
 ghost use Rattle.run_types.specs.declared.fault.LinkKind.{LinkKind};
 ghost use Rattle.class_set.specs.Linked.{Linked, class_count};
 ghost use Rattle.class_set.specs.Sets.{IsLinked};
 ghost use Rattle.statuses.specs.Names.{LosesCalled, class_text, is_lost, method_text, named_text, shortened, unnamed};
 ghost use Rattle.statuses.specs.Names.{run, to_string, unnamed_text};
+ghost use Rattle.statuses.specs.Stages.{StagesAre};
 
 /// The names that a fault of a linked set tells are told whole, but those of array types and of
 /// members that these lack.
@@ -27,4 +28,9 @@ pub fn lost_methods_are_told()
         → (unnamed set kind class ≡ run) ⊎ (unnamed set kind class ≡ to_string) }
     ensures lost { (set : Linked) (kind : LinkKind) (class : ℕ) → LosesCalled set kind class
         → is_lost set kind class (unnamed set kind class) ≡ true }
+{}
+
+/// Each status stands at its stage: those of words, files and linking at one of their own, so that each has its cause.
+pub fn statuses_stand_at_their_stages()
+    ensures { StagesAre }
 {}

@@ -10,7 +10,7 @@ mod status;
 mod texts;
 
 pub use faults::{main_status, status_of_fault, thrown_status, uncaught_status};
-pub use laws::{lost_methods_are_told, names_are_whole};
+pub use laws::{lost_methods_are_told, names_are_whole, statuses_stand_at_their_stages};
 pub use room::NameRoom;
-pub use status::Status;
+pub use status::{NewReason, Status};
 pub use texts::status_text;

@@ -75,6 +75,25 @@ pub enum Status {
     },
     /// The classes, or the image, are of no form that is built yet.
     NotBuilt,
+    /// The image that is to be written can't be taken.
+    NewImage {
+        reason: NewReason,
+    },
+    /// The bytes are no history file: this is the first word, counted from 0, that has no continuation.
+    BadHistory {
+        word: u64,
+    },
+    /// The audit of a run refutes it.
+    Refuted,
+}
+
+/// What is wrong with an image that is to be written.
+#[derive(Clone, Copy, Debug, PartialEq, Eq)]
+pub enum NewReason {
+    /// It has too few lines or too many.
+    Size,
+    /// It isn't blank.
+    NotBlank,
 }
 
 impl Status {
@@ -101,6 +120,9 @@ impl Status {
             Status::LinkFault { .. } => 15,
             Status::BadListing { .. } => 16,
             Status::NotBuilt => 17,
+            Status::NewImage { .. } => 18,
+            Status::BadHistory { .. } => 19,
+            Status::Refuted => 20,
         }
     }
 }

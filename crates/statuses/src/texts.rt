@@ -3,9 +3,9 @@ ghost use Rattle.std.specs.Prelude.{◌≡◌, ◌<◌, ◌≤◌, ◌∷◌, []
 ghost use Rattle.std.specs.List.{flat_map};
 ghost use Rattle.statuses.specs.Statuses.{spaced, with_numbers, pool_text, code_text, class_text, with_names, link_text};
 ghost use Rattle.statuses.specs.Statuses.{class_name, which_text, place_text, on_text, wait_text, waits_text, kind_text};
-ghost use Rattle.statuses.specs.Statuses.{listing_text, reason_text, what_of, text_of};
+ghost use Rattle.statuses.specs.Statuses.{listing_text, new_text, reason_text, what_of, text_of};
 
-use crate::Status;
+use crate::{NewReason, Status};
 use ap_base::{Bytes, Place, ThreadNo};
 use class_file::ClassRefusal;
 use class_links::LinkRefusal;
@@ -300,6 +300,15 @@ fn reason_name(reason: BadReason) -> &'static [u8]
     }
 }
 
+fn new_name(reason: NewReason) -> &'static [u8]
+    ensures { result.now ≡ new_text reason }
+{
+    match reason {
+        NewReason::Size => b"Size",
+        NewReason::NotBlank => b"NotBlank",
+    }
+}
+
 fn listing_name(kind: ListingFault) -> &'static [u8]
     ensures { result.now ≡ listing_text kind }
 {
@@ -384,6 +393,12 @@ fn put_what(out: &mut Vec<u8>, status: &Status) -> Result<(), AllocError>
             put_of_class(out, kind_name(*kind), name)
         }
         Status::NotBuilt => put(out, b"not built"),
+        Status::NewImage { reason } => {
+            put(out, b"new ")?;
+            put(out, new_name(*reason))
+        }
+        Status::BadHistory { word } => put_with(out, b"history", *word),
+        Status::Refuted => put(out, b"refuted"),
     }
 }
 

@@ -1,12 +1,14 @@
 // Words, and what they are read as.
-use command_words::{Command, WordsFault, clap_command, read_words, usage_text};
+use command_words::{
+    Audit, Command, Make, Run, Text, WordsFault, clap_command, read_words, usage_text,
+};
 use std::alloc::{AllocError, Global};
 use std::str;
 use std::test::Fail;
 
 /// Words behind the program's name, with a blank between two, and the command's name and values in the order of its fields;
 /// no values where the words are no command.
-static ROWS: [(&str, &str); 34] = [
+static ROWS: [(&str, &str); 42] = [
     (
         "run --image F --main C DIR",
         "run F C DIR 4 262144 8388608 1048576",
@@ -55,6 +57,20 @@ static ROWS: [(&str, &str); 34] = [
     ("check F", "check F"),
     ("dump F", "dump F"),
     ("asm --class A a.lst", "asm A a.lst"),
+    (
+        "run --image F --main C DIR --mirror G --history H",
+        "run F C DIR 4 262144 8388608 1048576 G H",
+    ),
+    ("make --mirror G --image F 50", "make F 50 4 262144 G"),
+    ("check F --mirror=G", "check F G"),
+    ("dump F --mirror G", "dump F G"),
+    ("compact F G --size 32768", "compact F G 32768"),
+    (
+        "audit --before B --after F --history H --output O --main C DIR",
+        "audit B F H O C DIR",
+    ),
+    ("compact F", ""),
+    ("audit --before B --after F --history H --main C DIR", ""),
     ("run --image F DIR", ""),
     ("run --image F --image G --main C DIR", ""),
     ("run --image F --main C DIR E", ""),
@@ -92,33 +108,84 @@ fn name(bytes: &[u8]) -> &str {
     }
 }
 
+/// A blank and a text, where there is one.
+fn behind(alloc: Global, text: &Option<Text>) -> Result<String, AllocError> {
+    match text {
+        Some(text) => format!(in alloc; " {}", text.as_str()),
+        None => Ok(String::new(alloc)),
+    }
+}
+
+fn shown_run(alloc: Global, run: &Run) -> Result<String, AllocError> {
+    let mirror = behind(alloc, &run.mirror)?;
+    let history = behind(alloc, &run.history)?;
+    format!(in alloc;
+        "run {} {} {} {} {} {} {}{}{}",
+        run.image.as_str(),
+        name(run.main.as_slice()),
+        run.folder.as_str(),
+        run.workers,
+        run.lines,
+        run.limits.heap_words,
+        run.limits.acts,
+        mirror.as_str(),
+        history.as_str()
+    )
+}
+
+fn shown_make(alloc: Global, make: &Make) -> Result<String, AllocError> {
+    let mirror = behind(alloc, &make.mirror)?;
+    format!(in alloc;
+        "make {} {} {} {}{}",
+        make.image.as_str(),
+        make.count,
+        make.workers,
+        make.lines,
+        mirror.as_str()
+    )
+}
+
+fn shown_image(
+    alloc: Global,
+    command: &str,
+    image: &Text,
+    mirror: &Option<Text>,
+) -> Result<String, AllocError> {
+    let mirror = behind(alloc, mirror)?;
+    format!(in alloc; "{command} {}{}", image.as_str(), mirror.as_str())
+}
+
+fn shown_audit(alloc: Global, audit: &Audit) -> Result<String, AllocError> {
+    format!(in alloc;
+        "audit {} {} {} {} {} {}",
+        audit.before.as_str(),
+        audit.after.as_str(),
+        audit.history.as_str(),
+        audit.output.as_str(),
+        name(audit.main.as_slice()),
+        audit.folder.as_str()
+    )
+}
+
 /// A command's name and values.
 fn shown(alloc: Global, command: &Command) -> Result<String, AllocError> {
     match command {
-        Command::Run(run) => format!(in alloc;
-            "run {} {} {} {} {} {} {}",
-            run.image.as_str(),
-            name(run.main.as_slice()),
-            run.folder.as_str(),
-            run.workers,
-            run.lines,
-            run.limits.heap_words,
-            run.limits.acts
-        ),
-        Command::Make(make) => format!(in alloc;
-            "make {} {} {} {}",
-            make.image.as_str(),
-            make.count,
-            make.workers,
-            make.lines
-        ),
-        Command::Check(check) => format!(in alloc; "check {}", check.image.as_str()),
-        Command::Dump(dump) => format!(in alloc; "dump {}", dump.image.as_str()),
+        Command::Run(run) => shown_run(alloc, run),
+        Command::Make(make) => shown_make(alloc, make),
+        Command::Check(check) => shown_image(alloc, "check", &check.image, &check.mirror),
+        Command::Dump(dump) => shown_image(alloc, "dump", &dump.image, &dump.mirror),
         Command::Asm(asm) => format!(in alloc;
             "asm {} {}",
             name(asm.class.as_slice()),
             asm.listing.as_str()
         ),
+        Command::Compact(compact) => format!(in alloc;
+            "compact {} {} {}",
+            compact.old.as_str(),
+            compact.new.as_str(),
+            compact.lines
+        ),
+        Command::Audit(audit) => shown_audit(alloc, audit),
     }
 }
 

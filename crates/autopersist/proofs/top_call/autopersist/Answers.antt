@@ -40,7 +40,7 @@ returns-in-Ok-Check g c =
     )
     (record {
       meets = reports_meet (texts c.args.words.now.items) _ _ _ _ IsChecked c.check_image-done.result.how
-          (Check c.in-Ok-Check.field-0-0) (read_so _ _ _ c.in-Ok-Check.ensures.command c.in-Ok-Check.field-0-is) (λ r. r) refl did.printed did.unreported did.stops
+          (Check c.in-Ok-Check.field-0-0) (read_so _ _ _ c.in-Ok-Check.ensures.command c.in-Ok-Check.field-0-is) (λ r. r) refl did.printed did.unreported did.left did.stops
           did.image_cause did.sink_cause refl did.size;
     })
 
@@ -51,6 +51,6 @@ returns-in-Ok-Dump g c =
     rw (idle.status, idle.opening, idle.acts, idle.source, idle.image, idle.sink, idle.watcher, c.of_report-in-Ok-Dump.ensures)
     (record {
       meets = reports_meet (texts c.args.words.now.items) _ _ _ _ IsDumped c.dump_image-done.result.how
-          (Dump c.in-Ok-Dump.field-0-0) (read_so _ _ _ c.in-Ok-Dump.ensures.command c.in-Ok-Dump.field-0-is) (λ r. r) refl did.printed did.unreported did.stops
+          (Dump c.in-Ok-Dump.field-0-0) (read_so _ _ _ c.in-Ok-Dump.ensures.command c.in-Ok-Dump.field-0-is) (λ r. r) refl did.printed did.unreported did.left did.stops
           did.image_cause did.sink_cause refl did.size;
     })

@@ -5,8 +5,8 @@ use Rattle.run_types.specs.declared.limits.Limits.{Limits}
 use Rattle.class_file.specs.declared.class.ClassFile.{ClassFile}
 use Rattle.class_links.specs.Kept.{kept_files}
 use Rattle.statuses.specs.declared.status.Status.{Status}
-use Rattle.class_runs.specs.Files.{Choice, ClassesGive, FilesGive}
-use Rattle.class_runs.specs.Reading.{FilesComeTo, HasNoCause, IsOfClasses, IsOfFiles, IsLeft}
+use Rattle.class_runs.specs.Chosen.{Choice, ClassesGive, FilesGive}
+use Rattle.source_classes.specs.Reading.{FilesComeTo, HasNoCause, IsOfClasses, IsOfFiles, IsLeft}
 use Rattle.class_runs.specs.Runs.{Answers, AnswersFor, ComesTo, IsCauseOf, IsOfRun, OfChoice, RunsAs, over}
 use Rattle.class_runs.specs.Runs as runs
 use Rattle.class_runs.proofs.Causes.{answers_early, answers_so, cause_of_files, caused_so, chosen_so, class_unrefused, classes_come}

@@ -8,8 +8,8 @@ use Rattle.class_links.specs.Kept.{kept_files}
 use Rattle.class_set.specs.Linked.{Linked}
 use Rattle.statuses.specs.declared.status.Status.{Status}
 use Rattle.statuses.specs.declared.status.Status.TheVariants as status
-use Rattle.class_runs.specs.Files.{Choice, ClassesGive}
-use Rattle.class_runs.specs.Reading.{IsOfClasses}
+use Rattle.class_runs.specs.Chosen.{Choice, ClassesGive}
+use Rattle.source_classes.specs.Reading.{IsOfClasses}
 use Rattle.class_runs.specs.Sets.{SetRunsOver}
 use Rattle.class_runs.specs.Runs.{Answers, IsCauseOf, IsOfRun, OfChoice, RunsAs, over}
 use Rattle.class_runs.specs.Runs as runs

@@ -10,4 +10,5 @@ returns c = record {
   values = refused.values_hold;
   commands = refused.commands_hold;
   name = refused.name_holds;
+  files = refused.files_hold;
 }

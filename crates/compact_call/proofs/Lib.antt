@@ -1,0 +1,4 @@
+pub mod NewStops
+pub mod NewImages
+pub mod OldImages
+pub mod Unhindered

@@ -1,0 +1,166 @@
+-- What comes of a new image.
+use Rattle.std.proofs.Common.{◌≡◌, ◌≢◌, ◌⊎◌, ◌↔◌, inl, inr, ⊎_elim, ℕ, ◌<◌, ◌≤◌, Some, None, Err, Ok, refl, sym, ◌∙◌, ap, subst, arith}
+use Rattle.std.specs.Prelude.{Result}
+use Rattle.ap_base.specs.Causes.{Rose}
+use Rattle.graph_model.specs.declared.types.Graph.{Graph}
+use Rattle.line_image.specs.Told.{Told}
+use Rattle.line_image.specs.Trace.{Outcome, LeavesNow}
+use Rattle.line_memory.specs.Attached.{Attaches, GivesBack}
+use Rattle.line_memory.specs.Memory.{Memory, IsTelling, shown}
+use Rattle.line_memory.specs.Moments.{Goes}
+use Rattle.line_memory.specs.declared.attach.AttachFault.{AttachFault}
+use Rattle.line_memory.specs.declared.attach.AttachFault.TheVariants as attach
+use Rattle.image_layout.specs.Places.{min_lines, max_lines}
+use Rattle.image_meaning.specs.Checks.{Words}
+use Rattle.word_changes.specs.Changes.{AllKnown, Nothing, ChangesTo, StopsLeave}
+use Rattle.image_opening.specs.Attached.{AreRead, IsSettled}
+use Rattle.image_opening.specs.Unopened.{IsOfWrongSize}
+use Rattle.dense_image.specs.Written.{no_room, IsWhole}
+use Rattle.image_compact.specs.declared.fault.WriteFault.{WriteFault}
+use Rattle.image_compact.specs.declared.fault.WriteFault.TheVariants as write
+use Rattle.image_compact.specs.Outcomes.{IsBlankOrWhole, StopsKeepBlankOrWhole, Writes, IsRefused, FailsToWrite}
+use Rattle.statuses.specs.declared.status.NewReason.TheVariants.{Size, NotBlank}
+use Rattle.compact_call.specs.declared.fault.CompactFault.{CompactFault}
+use Rattle.compact_call.specs.declared.fault.CompactFault.TheVariants.{NewImage, Full, ImageFailed, OutOfMemory}
+use Rattle.compact_call.specs.Faults.{IsOfAttach, IsOfWrite}
+use Rattle.compact_call.specs.Fresh.{StopsAre, IsInRange, IsBlank, WasBlank, WasUsed, HasWords, KeepsFresh, IsWrittenTo, IsOfFresh}
+use Rattle.compact_call.proofs.NewStops.{untouched, shown_is, telling, fixed, since, looked}
+
+-- ---- one that wasn't attached
+
+module _ (graph : Graph) (start : Told) (faults : ℕ) (fault : AttachFault) (after : Told) (faults_after : ℕ)
+    (back : GivesBack start faults fault after faults_after) where
+  blank_still : IsSettled start → (words : Words) → AreRead start words → IsBlank start words
+      → StopsAre start after (IsBlankOrWhole start.size graph)
+  blank_still settled words read blank =
+      untouched start settled words read after (IsBlankOrWhole start.size graph) back.same_trace back.any_moment
+      (λ c has. inl (has 0 0 (omega (arith, blank.0.0)) ∙ blank.1))
+
+  used_still : IsSettled start → (words : Words) → AreRead start words → StopsAre start after (HasWords start.size words)
+  used_still settled words read =
+      untouched start settled words read after (HasWords start.size words) back.same_trace back.any_moment (λ c has. has)
+
+  pub unattached_keeps : KeepsFresh graph start after
+  unattached_keeps = record {
+    size = back.same_size;
+    blank = blank_still;
+    used = λ settled words read used. used_still settled words read;
+  }
+
+  pub unattached_sized : (why : CompactFault) → IsOfAttach fault why → IsOfWrongSize start → why ≡ NewImage Size
+  unattached_sized why is wrong =
+      let at : fault ≡ attach.Size = back.size_fault.1 wrong in
+      subst (λ (f : AttachFault). IsOfAttach f why) at is
+
+wrong_size : (graph : Graph) (start after : Told) (fault : AttachFault) (why : CompactFault) → IsOfAttach fault why
+    → (fault ≡ attach.Size ↔ IsOfWrongSize start) → IsOfFresh graph start after (Err why)
+wrong_size graph start after attach.Size why is exact =
+    subst (λ (y : CompactFault). IsOfFresh graph start after (Err y)) (sym is) (exact.0 refl)
+wrong_size graph start after attach.ImageFailed why is exact =
+    subst (λ (y : CompactFault). IsOfFresh graph start after (Err y)) (sym is) tt
+wrong_size graph start after attach.OutOfMemory why is exact =
+    subst (λ (y : CompactFault). IsOfFresh graph start after (Err y)) (sym is) tt
+
+pub unattached_came : (graph : Graph) (start : Told) (faults : ℕ) (fault : AttachFault) (after : Told) (faults_after : ℕ)
+    → GivesBack start faults fault after faults_after → (why : CompactFault) → IsOfAttach fault why → IsOfFresh graph start after (Err why)
+unattached_came graph start faults fault after faults_after back why is = wrong_size graph start after fault why is back.size_fault
+
+-- only a failure is told as one
+pub told_failure : (outcome : Result (Unit {0}) CompactFault) (why : CompactFault) → outcome ≡ Err why → outcome ≡ Err ImageFailed
+    → why ≡ ImageFailed
+told_failure outcome why is failed = cc
+
+pub failed_attach : (fault : AttachFault) (why : CompactFault) → IsOfAttach fault why → why ≡ ImageFailed → fault ≡ attach.ImageFailed
+failed_attach attach.Size why is failed = cc
+failed_attach attach.ImageFailed why is failed = refl
+failed_attach attach.OutOfMemory why is failed = cc
+
+pub failed_write : (fault : WriteFault) (why : CompactFault) → IsOfWrite fault why → why ≡ ImageFailed → fault ≡ write.ImageFailed
+failed_write write.NotBlank why is failed = cc
+failed_write (write.Full full) why is failed = cc
+failed_write write.ImageFailed why is failed = refl
+failed_write write.OutOfMemory why is failed = cc
+
+-- ---- one that was
+
+module _ (graph : Graph) (start : Told) (faults : ℕ) (m n : Memory) (at : Attaches start faults m) where
+  pub right_size : IsOfWrongSize start → ⊥
+  right_size wrong =
+      let range = at.range in let same = at.size in
+      ⊎_elim (λ few. omega (arith, few, range.0, same)) (λ many. omega (arith, many, range.1, same)) wrong
+
+  in_range : IsInRange start
+  in_range = let range = at.range in let same = at.size in (omega (arith, range.0, same), omega (arith, range.1, same))
+
+  known : AllKnown m
+  known = at.known
+
+  read_now : AreRead start (shown m)
+  read_now l w below = at.shows l w (omega (arith, below, at.size))
+
+  first_there : 0 < start.size
+  first_there = let range = at.range in let same = at.size in omega (arith, range.0, same)
+
+  module _ (after : Told) (told : after ≡ n.image) (sized : after.size ≡ n.size) (grown : n.size ≡ m.size)
+      (stops : StopsKeepBlankOrWhole graph m n) (not_blank : AllKnown m → shown m 0 0 ≢ 0 → ChangesTo Nothing m n) where
+    stays_blank : IsSettled start → (words : Words) → AreRead start words → IsBlank start words
+        → StopsAre start n.image (IsBlankOrWhole start.size graph)
+    stays_blank settled words read blank =
+        since start settled words read faults m at n (IsBlankOrWhole m.size graph) (IsBlankOrWhole start.size graph)
+        (stops (telling start settled words read faults m at)
+        (λ v left. fixed start settled words read faults m at 0 0 first_there v left ∙ blank.1))
+        (λ c has. inl (has 0 0 first_there ∙ blank.1))
+        (λ c so. subst (λ (k : ℕ). IsBlankOrWhole k graph c) at.size so)
+
+    stays_used : IsSettled start → (words : Words) → AreRead start words → ¬ IsBlank start words
+        → StopsAre start n.image (HasWords start.size words)
+    stays_used settled words read used =
+        since start settled words read faults m at n (HasWords start.size words) (HasWords start.size words)
+        (looked start settled words read faults m at n
+        (not_blank known (λ zero. used (in_range, sym (shown_is start settled words read faults m at 0 0 first_there) ∙ zero))))
+        (λ c has. has) (λ c has. has)
+
+    pub attached_keeps : KeepsFresh graph start after
+    attached_keeps = record {
+      size = sized ∙ grown ∙ at.size;
+      blank = λ settled words read blank.
+          subst (λ (t : Told). StopsAre start t (IsBlankOrWhole start.size graph)) (sym told) (stays_blank settled words read blank);
+      used = λ settled words read used.
+          subst (λ (t : Told). StopsAre start t (HasWords start.size words)) (sym told) (stays_used settled words read used);
+    }
+
+  pub is_written_to : (after : Told) → after ≡ n.image → Writes graph m n → IsWrittenTo graph start after
+  is_written_to after told w = record {
+    was = record { words = shown m; read = read_now; blank = (in_range, w.was_blank known) };
+    room = subst (λ (k : ℕ). no_room k graph ≡ None) at.size w.room;
+    whole = λ tells c left.
+        subst (λ (k : ℕ). IsWhole k c graph) at.size
+        (w.kept (subst IsTelling (sym at.trace) tells) c
+        (λ l w. inr (subst (λ (t : Told). LeavesNow t.trace c) told left l w)));
+  }
+
+  refused : (after : Told) (fault : WriteFault) → FailsToWrite graph fault m n → (why : CompactFault) → IsOfWrite fault why
+      → IsOfFresh graph start after (Err why)
+  refused after write.NotBlank fails why is =
+      subst (λ (y : CompactFault). IsOfFresh graph start after (Err y)) (sym is)
+      (record { in_range = in_range; words = shown m; read = read_now; used = fails.refused.0 known })
+  refused after (write.Full full) fails why is =
+      subst (λ (y : CompactFault). IsOfFresh graph start after (Err y)) (sym is) (
+        record { words = shown m; read = read_now; blank = (in_range, fails.refused.0 known) },
+        subst (λ (k : ℕ). no_room k graph ≡ Some full) at.size fails.refused.1,
+      )
+  refused after write.ImageFailed fails why is = subst (λ (y : CompactFault). IsOfFresh graph start after (Err y)) (sym is) tt
+  refused after write.OutOfMemory fails why is = subst (λ (y : CompactFault). IsOfFresh graph start after (Err y)) (sym is) tt
+
+  pub attached_came : (after : Told) (fault : WriteFault) → FailsToWrite graph fault m n → (why : CompactFault) → IsOfWrite fault why
+      → IsOfFresh graph start after (Err why)
+  attached_came after fault fails why is = refused after fault fails why is
+
+  -- it failed only where its count rose
+  rose : (fault : WriteFault) → fault ≡ write.ImageFailed → IsRefused graph fault m n → Rose m.faults n.faults
+  rose fault is refused = subst (λ (f : WriteFault). IsRefused graph f m n) is refused
+
+  pub attached_failed : (fault : WriteFault) → FailsToWrite graph fault m n → fault ≡ write.ImageFailed → (faults_after : ℕ)
+      → faults_after ≡ n.faults → Rose faults faults_after
+  attached_failed fault fails is faults_after same =
+      let up = rose fault is fails.refused in let later = at.later in omega (arith, up, later, same)

@@ -1,0 +1,68 @@
+use Rattle.std.proofs.Common.{Err, ap, refl}
+use Rattle.compact_call.proofs.NewImages.{unattached_keeps, unattached_sized, unattached_came, failed_attach, failed_write, attached_keeps}
+use Rattle.compact_call.proofs.NewImages.{is_written_to, attached_came, attached_failed, right_size, told_failure}
+use Rattle.compact_call.proofs.fresh.write_fresh.Goals as goal
+
+pub returns-in-Err-clause-keeps : goal.returns-in-Err-clause-keeps
+returns-in-Err-clause-keeps g c =
+    unattached_keeps c.args.graph.now (g.J.Image.told c.args.image) (g.J.Image.faults c.args.image) c.in-Err.fault
+    (g.J.Image.told c.in-Err.image) (g.J.Image.faults c.in-Err.image) c.in-Err.ensures.given_back
+
+pub returns-in-Err-clause-sized : goal.returns-in-Err-clause-sized
+returns-in-Err-clause-sized g c wrong =
+    ap Err (unattached_sized c.args.graph.now (g.J.Image.told c.args.image) (g.J.Image.faults c.args.image) c.in-Err.fault
+    (g.J.Image.told c.in-Err.image) (g.J.Image.faults c.in-Err.image) c.in-Err.ensures.given_back
+    c.of_attach.result c.of_attach.ensures wrong)
+
+pub returns-in-Err-clause-outcome : goal.returns-in-Err-clause-outcome
+returns-in-Err-clause-outcome g c =
+    unattached_came c.args.graph.now (g.J.Image.told c.args.image) (g.J.Image.faults c.args.image) c.in-Err.fault
+    (g.J.Image.told c.in-Err.image) (g.J.Image.faults c.in-Err.image) c.in-Err.ensures.given_back
+    c.of_attach.result c.of_attach.ensures
+
+pub returns-in-Err-clause-cause : goal.returns-in-Err-clause-cause
+returns-in-Err-clause-cause g c failed =
+    c.in-Err.ensures.given_back.cause
+    (failed_attach c.in-Err.fault c.of_attach.result c.of_attach.ensures (told_failure (Err c.of_attach.result) c.of_attach.result refl failed))
+
+pub returns-in-Ok-write_image-clause-keeps : goal.returns-in-Ok-write_image-clause-keeps
+returns-in-Ok-write_image-clause-keeps g c =
+    let w = c.in-Ok-write_image.ensures.writes in
+    attached_keeps c.args.graph.now (g.J.Image.told c.args.image) (g.J.Image.faults c.args.image) c.in-Ok.memory c.in-Ok-write_image.memory
+    c.in-Ok.ensures.attached (g.J.Image.told c.into_image.result) c.into_image.ensures.told c.into_image.ensures.size w.goes_on.size
+    w.stops (λ known used. absurd (used (w.was_blank known)))
+
+pub returns-in-Ok-write_image-clause-sized : goal.returns-in-Ok-write_image-clause-sized
+returns-in-Ok-write_image-clause-sized g c wrong =
+    absurd (right_size c.args.graph.now (g.J.Image.told c.args.image) (g.J.Image.faults c.args.image) c.in-Ok.memory c.in-Ok-write_image.memory
+    c.in-Ok.ensures.attached wrong)
+
+pub returns-in-Ok-write_image-clause-outcome : goal.returns-in-Ok-write_image-clause-outcome
+returns-in-Ok-write_image-clause-outcome g c =
+    is_written_to c.args.graph.now (g.J.Image.told c.args.image) (g.J.Image.faults c.args.image) c.in-Ok.memory c.in-Ok-write_image.memory
+    c.in-Ok.ensures.attached (g.J.Image.told c.into_image.result) c.into_image.ensures.told c.in-Ok-write_image.ensures.writes
+
+pub returns-in-Err-write_image-clause-keeps : goal.returns-in-Err-write_image-clause-keeps
+returns-in-Err-write_image-clause-keeps g c =
+    let f = c.in-Err-write_image.ensures.fails in
+    attached_keeps c.args.graph.now (g.J.Image.told c.args.image) (g.J.Image.faults c.args.image) c.in-Ok.memory c.in-Err-write_image.memory
+    c.in-Ok.ensures.attached (g.J.Image.told c.into_image-in-Err-write_image.result) c.into_image-in-Err-write_image.ensures.told c.into_image-in-Err-write_image.ensures.size f.goes_on.size
+    f.stops f.not_blank
+
+pub returns-in-Err-write_image-clause-sized : goal.returns-in-Err-write_image-clause-sized
+returns-in-Err-write_image-clause-sized g c wrong =
+    absurd (right_size c.args.graph.now (g.J.Image.told c.args.image) (g.J.Image.faults c.args.image) c.in-Ok.memory c.in-Err-write_image.memory
+    c.in-Ok.ensures.attached wrong)
+
+pub returns-in-Err-write_image-clause-outcome : goal.returns-in-Err-write_image-clause-outcome
+returns-in-Err-write_image-clause-outcome g c =
+    attached_came c.args.graph.now (g.J.Image.told c.args.image) (g.J.Image.faults c.args.image) c.in-Ok.memory c.in-Err-write_image.memory
+    c.in-Ok.ensures.attached (g.J.Image.told c.into_image-in-Err-write_image.result) c.in-Err-write_image.fault c.in-Err-write_image.ensures.fails
+    c.of_write.result c.of_write.ensures
+
+pub returns-in-Err-write_image-clause-cause : goal.returns-in-Err-write_image-clause-cause
+returns-in-Err-write_image-clause-cause g c failed =
+    attached_failed c.args.graph.now (g.J.Image.told c.args.image) (g.J.Image.faults c.args.image) c.in-Ok.memory c.in-Err-write_image.memory
+    c.in-Ok.ensures.attached c.in-Err-write_image.fault c.in-Err-write_image.ensures.fails
+    (failed_write c.in-Err-write_image.fault c.of_write.result c.of_write.ensures (told_failure (Err c.of_write.result) c.of_write.result refl failed))
+    (g.J.Image.faults c.into_image-in-Err-write_image.result) c.into_image-in-Err-write_image.ensures.faults

@@ -1,0 +1,4 @@
+pub mod Faults
+pub mod Fresh
+pub mod Outcomes
+pub mod Laws

@@ -1,0 +1,39 @@
+use Rattle.std.proofs.lemmas.Result.{on_ok_weaker}
+use Rattle.word_changes.specs.Changes.{IsGiven, Nothing}
+use Rattle.word_changes.proofs.Changing.{changes_nowhere}
+use Rattle.word_changes.proofs.Going.{goes_by_fetch}
+use Rattle.word_changes.proofs.Writing.{line_changes, line_wrote, line_goes}
+use Rattle.image_compact.proofs.LineWords.{given_shown}
+use Rattle.image_compact.proofs.words.write_word.Goals as goal
+
+pub returns-in_err-fetch_line-clause-changes : goal.returns-in_err-fetch_line-clause-changes
+returns-in_err-fetch_line-clause-changes g c =
+    changes_nowhere (IsGiven c.args.spot.line c.args.spot.word c.args.word) c.args.memory.now c.fetch_line.new.memory c.fetch_line.ensures.changes
+
+pub returns-in_err-fetch_line-clause-goes_on : goal.returns-in_err-fetch_line-clause-goes_on
+returns-in_err-fetch_line-clause-goes_on g c =
+    goes_by_fetch Nothing c.args.memory.now c.fetch_line.new.memory c.fetch_line.ensures.changes c.fetch_line.ensures.counts c.fetch_line.ensures.calls
+
+pub returns-clause-wrote : goal.returns-clause-wrote
+returns-clause-wrote g c =
+    on_ok_weaker c.write_line.result
+    (λ written. line_wrote (IsGiven c.args.spot.line c.args.spot.word c.args.word) c.args.spot.line
+    c.args.memory.now c.fetch_line.new.memory c.put_word.new.memory c.write_line.new.memory
+    c.fetch_line.ensures.changes c.put_word.ensures.changes c.write_line.ensures.changes c.requires
+    (λ l w v given. given.0)
+    (given_shown c.args.spot.line c.args.spot.word c.args.word c.put_word.new.memory c.put_word.ensures.here)
+    written)
+    c.write_line.ensures.written
+
+pub returns-clause-changes : goal.returns-clause-changes
+returns-clause-changes g c =
+    line_changes (IsGiven c.args.spot.line c.args.spot.word c.args.word) c.args.spot.line
+    c.args.memory.now c.fetch_line.new.memory c.put_word.new.memory c.write_line.new.memory
+    c.fetch_line.ensures.changes c.put_word.ensures.changes c.write_line.ensures.changes
+
+pub returns-clause-goes_on : goal.returns-clause-goes_on
+returns-clause-goes_on g c =
+    line_goes (IsGiven c.args.spot.line c.args.spot.word c.args.word) c.args.spot.line
+    c.args.memory.now c.fetch_line.new.memory c.put_word.new.memory c.write_line.new.memory
+    c.fetch_line.ensures.changes c.put_word.ensures.changes c.write_line.ensures.changes
+    c.fetch_line.ensures.counts c.fetch_line.ensures.calls c.put_word.ensures.same c.write_line.ensures.count

@@ -1,0 +1,4 @@
+pub mod Copies
+pub mod Marks
+pub mod Seen
+pub mod Views

@@ -1,0 +1,23 @@
+//! Laws of what is seen of a run. Each function states one in its contract, and does nothing.
+#![tactic(auto)]
+
+ghost use Rattle.live_laws.specs.Laws.{ActsAreCounted, NodesAreThoseOfTheGraph, SeenHeapIsThePlainHeap};
+
+use plain_model::acts_of_a_plain_run_fit;
+
+/// After the acts of a plain run the heap that is seen is the plain world's. `Frames` is what code keeps of a thread.
+pub fn the_seen_heap_is_the_plain_heap<Frames>()
+    ensures { SeenHeapIsThePlainHeap Frames }
+{
+    acts_of_a_plain_run_fit::<Frames>();
+}
+
+/// What is seen after some acts has as many.
+pub fn acts_are_counted()
+    ensures { ActsAreCounted }
+{}
+
+/// A look counts the nodes of the graph for which the heap stands.
+pub fn nodes_are_those_of_the_graph()
+    ensures { NodesAreThoseOfTheGraph }
+{}

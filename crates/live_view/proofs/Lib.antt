@@ -1,0 +1,4 @@
+pub mod Behind
+pub mod Known
+pub mod Tied
+pub mod Watched

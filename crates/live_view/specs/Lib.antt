@@ -1,0 +1,5 @@
+pub mod Entries
+pub mod Holding
+pub mod Publishing
+pub mod Ties
+pub mod Watching

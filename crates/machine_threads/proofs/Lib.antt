@@ -1,0 +1,14 @@
+pub mod Acts
+pub mod All
+pub mod Asking
+pub mod Beginning
+pub mod Claiming
+pub mod Ends
+pub mod Moved
+pub mod Others
+pub mod Parts
+pub mod Plainly
+pub mod Stuck
+pub mod Tables
+pub mod Naming
+pub mod Numbers

@@ -1,0 +1,5 @@
+pub mod Claiming
+pub mod Keeping
+pub mod Plain
+pub mod Stuck
+pub mod Naming

@@ -1,0 +1,14 @@
+pub mod Pushed
+pub mod Reading
+pub mod Steps
+pub mod Exits
+pub mod Writes
+pub mod Moves
+pub mod Fences
+pub mod Leaving
+pub mod Within
+pub mod Stages
+pub mod Safety
+pub mod Calls
+pub mod Paired
+pub mod Halfway

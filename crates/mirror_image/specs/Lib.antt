@@ -1,0 +1,11 @@
+pub mod Joint
+pub mod Sound
+pub mod Order
+pub mod Labels
+pub mod Pairing
+pub mod Paired
+pub mod Mirror
+pub mod Leaving
+pub mod Safe
+pub mod Stops
+pub mod Halfway

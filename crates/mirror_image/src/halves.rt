@@ -1,0 +1,263 @@
+// Two halves, and which of them are used.
+ghost use Rattle.std.specs.Prelude.{◌≡◌, ◌<◌, ◌≤◌, ◌+◌, ◌-◌, ◌^◌};
+ghost use Rattle.ap_base.specs.Causes.{HasCause};
+ghost use Rattle.mirror_image.specs.Sound.{IsSound};
+ghost use Rattle.mirror_image.specs.Leaving.{UsedLeave};
+ghost use Rattle.mirror_image.specs.Joint.{told_by};
+ghost use Rattle.mirror_image.specs.Safe.{IsSafe};
+ghost use Rattle.mirror_image.specs.Stops.{PairingShows};
+
+use crate::labels::mark;
+use line_image::{Image, ImageFailed};
+
+/// Which halves are used, or were when the last of them failed.
+#[derive(Clone, Copy, Debug, PartialEq, Eq)]
+pub(crate) enum Left {
+    Both,
+    First,
+    Second,
+}
+
+/// Two halves as one image. `less` and `extra` lead from the count of the first half's calls to that of its own: `less` calls
+/// marked the first half, and `extra` were made since it was last used.
+#[derive(Drop)]
+pub(crate) struct Halves<A: Image, B: Image> {
+    pub(crate) a: A,
+    pub(crate) b: B,
+    pub(crate) left: Left,
+    pub(crate) alive: bool,
+    pub(crate) less: u64,
+    pub(crate) extra: u64,
+    pub(crate) faults: u64,
+    // what the half that is left is marked with, when the other one fails
+    pub(crate) generation: u64,
+    ghost sound: { IsSound (A.told a) (B.told b) left alive less extra },
+    ghost safe: { IsSafe ((A.told a).size - 1) generation left alive (A.told a).trace (B.told b).trace (told_by (A.told a) (B.told b) left less extra).trace },
+}
+
+impl<A: Image, B: Image> Halves<A, B> {
+    /// What a stop between two calls leaves of a half that is used, it leaves of the mirror. Does nothing.
+    pub(crate) fn law_of_stops(&self)
+        ensures paired { PairingShows ((A.told self.now.a).size - 1) self.now.generation (A.told self.now.a).trace (B.told self.now.b).trace
+            (told_by (A.told self.now.a) (B.told self.now.b) self.now.left self.now.less self.now.extra).trace }
+        ensures used { UsedLeave (A.told self.now.a) (B.told self.now.b) self.now.left self.now.alive self.now.less self.now.extra }
+    {}
+
+    /// Gives the halves back.
+    pub(crate) fn both(self) -> (A, B)
+        ensures { result ≡ (self.a, self.b) }
+    {
+        (self.a, self.b)
+    }
+}
+
+impl<A: Image, B: Image> Image for Halves<A, B> {
+    ghost use Rattle.std.specs.Prelude.{◌⊎◌, OnOk, OnErr};
+    ghost use Rattle.ap_base.specs.Causes.{HasCause, next_count};
+    ghost use Rattle.line_image.specs.Trace.{Reads, did};
+    ghost use Rattle.line_image.specs.declared.effect.Done.TheVariants.{Wrote, Fenced};
+    ghost use Rattle.mirror_image.specs.Joint.{told_by};
+    ghost use Rattle.mirror_image.specs.Order.{in_order_by};
+    ghost use Rattle.mirror_image.specs.Stops.{StopsShow};
+
+    ghost told = { λ m. told_by (A.told m.a) (B.told m.b) m.left m.less m.extra };
+
+    ghost faults = { λ m. m.faults };
+
+    fn lines(&self) -> u64 {
+        self.a.lines() - 1
+    }
+
+    fn read_line(&mut self, line: u64, into: &mut [u64; 8]) -> Result<(), ImageFailed>
+        requires { line < (told_by (A.told self.old.a) (B.told self.old.b) self.old.left self.old.less self.old.extra).size }
+        ensures size { (told_by (A.told self.new.a) (B.told self.new.b) self.new.left self.new.less self.new.extra).size ≡ (told_by (A.told self.old.a) (B.told self.old.b) self.old.left self.old.less self.old.extra).size }
+        ensures counted { (told_by (A.told self.new.a) (B.told self.new.b) self.new.left self.new.less self.new.extra).calls ≡ next_count (told_by (A.told self.old.a) (B.told self.old.b) self.old.left self.old.less self.old.extra).calls }
+        ensures same { (told_by (A.told self.new.a) (B.told self.new.b) self.new.left self.new.less self.new.extra).trace ≡ (told_by (A.told self.old.a) (B.told self.old.b) self.old.left self.old.less self.old.extra).trace }
+        ensures words { OnOk result (Reads (told_by (A.told self.old.a) (B.told self.old.b) self.old.left self.old.less self.old.extra).trace line into.new) }
+        ensures untouched { OnErr result (into.new ≡ into.old) }
+        ensures cause { HasCause self.old.faults self.new.faults result }
+        ensures stops { StopsShow ((A.told self.old.a).size - 1) self.old.generation (A.told self.old.a).trace (B.told self.old.b).trace
+            (A.told self.new.a).trace (B.told self.new.b).trace (told_by (A.told self.old.a) (B.told self.old.b) self.old.left self.old.less self.old.extra) (told_by (A.told self.new.a) (B.told self.new.b) self.new.left self.new.less self.new.extra) }
+    {
+        if !self.alive {
+            self.extra = self.extra.saturating_add(1);
+            self.faults = self.faults.saturating_add(1);
+            return Err(ImageFailed);
+        }
+        match self.left {
+            Left::Both => {
+                if self.a.read_line(line, into).is_ok() {
+                    return Ok(());
+                }
+                if mark(&mut self.b, self.a.lines() - 1, self.generation).is_err() {
+                    self.alive = false;
+                    self.faults = self.faults.saturating_add(1);
+                    return Err(ImageFailed);
+                }
+                self.left = Left::Second; // for good
+                if self.b.read_line(line, into).is_ok() {
+                    return Ok(());
+                }
+                self.alive = false;
+                self.faults = self.faults.saturating_add(1);
+                Err(ImageFailed)
+            }
+            Left::First => {
+                if self.a.read_line(line, into).is_ok() {
+                    return Ok(());
+                }
+                self.alive = false;
+                self.faults = self.faults.saturating_add(1);
+                Err(ImageFailed)
+            }
+            Left::Second => {
+                self.extra = self.extra.saturating_add(1);
+                if self.b.read_line(line, into).is_ok() {
+                    return Ok(());
+                }
+                self.alive = false;
+                self.faults = self.faults.saturating_add(1);
+                Err(ImageFailed)
+            }
+        }
+    }
+
+    fn write_line(&mut self, line: u64, words: &[u64; 8]) -> Result<(), ImageFailed>
+        requires { line < (told_by (A.told self.old.a) (B.told self.old.b) self.old.left self.old.less self.old.extra).size }
+        ensures size { (told_by (A.told self.new.a) (B.told self.new.b) self.new.left self.new.less self.new.extra).size ≡ (told_by (A.told self.old.a) (B.told self.old.b) self.old.left self.old.less self.old.extra).size }
+        ensures counted { (told_by (A.told self.new.a) (B.told self.new.b) self.new.left self.new.less self.new.extra).calls ≡ next_count (told_by (A.told self.old.a) (B.told self.old.b) self.old.left self.old.less self.old.extra).calls }
+        ensures written { OnOk result ((told_by (A.told self.new.a) (B.told self.new.b) self.new.left self.new.less self.new.extra).trace
+            ≡ did (Wrote line words.now) (told_by (A.told self.new.a) (B.told self.new.b) self.new.left self.new.less self.new.extra).calls (told_by (A.told self.old.a) (B.told self.old.b) self.old.left self.old.less self.old.extra).trace) }
+        ensures failed { OnErr result (((told_by (A.told self.new.a) (B.told self.new.b) self.new.left self.new.less self.new.extra).trace
+            ≡ did (Wrote line words.now) (told_by (A.told self.new.a) (B.told self.new.b) self.new.left self.new.less self.new.extra).calls (told_by (A.told self.old.a) (B.told self.old.b) self.old.left self.old.less self.old.extra).trace)
+            ⊎ ((told_by (A.told self.new.a) (B.told self.new.b) self.new.left self.new.less self.new.extra).trace ≡ (told_by (A.told self.old.a) (B.told self.old.b) self.old.left self.old.less self.old.extra).trace)) }
+        ensures cause { HasCause self.old.faults self.new.faults result }
+        ensures stops { StopsShow ((A.told self.old.a).size - 1) self.old.generation (A.told self.old.a).trace (B.told self.old.b).trace
+            (A.told self.new.a).trace (B.told self.new.b).trace (told_by (A.told self.old.a) (B.told self.old.b) self.old.left self.old.less self.old.extra) (told_by (A.told self.new.a) (B.told self.new.b) self.new.left self.new.less self.new.extra) }
+    {
+        if !self.alive {
+            self.extra = self.extra.saturating_add(1);
+            self.faults = self.faults.saturating_add(1);
+            return Err(ImageFailed);
+        }
+        match self.left {
+            Left::Both => {
+                if self.a.write_line(line, words).is_err() {
+                    if mark(&mut self.b, self.a.lines() - 1, self.generation).is_err() {
+                        self.alive = false;
+                        self.faults = self.faults.saturating_add(1);
+                        return Err(ImageFailed);
+                    }
+                    self.left = Left::Second;
+                    if self.b.write_line(line, words).is_ok() {
+                        return Ok(());
+                    }
+                    self.alive = false;
+                    self.faults = self.faults.saturating_add(1);
+                    return Err(ImageFailed);
+                }
+                if self.b.write_line(line, words).is_ok() {
+                    return Ok(());
+                }
+                if let Err(made) = mark(&mut self.a, self.b.lines() - 1, self.generation) { // first
+                    self.less = made;
+                    self.alive = false;
+                    self.faults = self.faults.saturating_add(1);
+                    return Err(ImageFailed);
+                }
+                self.less = 2;
+                self.left = Left::First;
+                Ok(())
+            }
+            Left::First => {
+                if self.a.write_line(line, words).is_ok() {
+                    return Ok(());
+                }
+                self.alive = false;
+                self.faults = self.faults.saturating_add(1);
+                Err(ImageFailed)
+            }
+            Left::Second => {
+                self.extra = self.extra.saturating_add(1);
+                if self.b.write_line(line, words).is_ok() {
+                    return Ok(());
+                }
+                self.alive = false;
+                self.faults = self.faults.saturating_add(1);
+                Err(ImageFailed)
+            }
+        }
+    }
+
+    fn fence(&mut self) -> Result<(), ImageFailed>
+        ensures size { (told_by (A.told self.new.a) (B.told self.new.b) self.new.left self.new.less self.new.extra).size ≡ (told_by (A.told self.old.a) (B.told self.old.b) self.old.left self.old.less self.old.extra).size }
+        ensures counted { (told_by (A.told self.new.a) (B.told self.new.b) self.new.left self.new.less self.new.extra).calls ≡ next_count (told_by (A.told self.old.a) (B.told self.old.b) self.old.left self.old.less self.old.extra).calls }
+        ensures fenced { OnOk result ((told_by (A.told self.new.a) (B.told self.new.b) self.new.left self.new.less self.new.extra).trace
+            ≡ did Fenced (told_by (A.told self.new.a) (B.told self.new.b) self.new.left self.new.less self.new.extra).calls (told_by (A.told self.old.a) (B.told self.old.b) self.old.left self.old.less self.old.extra).trace) }
+        ensures failed { OnErr result ((told_by (A.told self.new.a) (B.told self.new.b) self.new.left self.new.less self.new.extra).trace ≡ (told_by (A.told self.old.a) (B.told self.old.b) self.old.left self.old.less self.old.extra).trace) }
+        ensures cause { HasCause self.old.faults self.new.faults result }
+        ensures stops { StopsShow ((A.told self.old.a).size - 1) self.old.generation (A.told self.old.a).trace (B.told self.old.b).trace
+            (A.told self.new.a).trace (B.told self.new.b).trace (told_by (A.told self.old.a) (B.told self.old.b) self.old.left self.old.less self.old.extra) (told_by (A.told self.new.a) (B.told self.new.b) self.new.left self.new.less self.new.extra) }
+    {
+        if !self.alive {
+            self.extra = self.extra.saturating_add(1);
+            self.faults = self.faults.saturating_add(1);
+            return Err(ImageFailed);
+        }
+        match self.left {
+            Left::Both => {
+                if self.b.fence().is_err() {
+                    if let Err(made) = mark(&mut self.a, self.b.lines() - 1, self.generation) {
+                        self.less = made;
+                        self.extra = 1;
+                        self.alive = false;
+                        self.faults = self.faults.saturating_add(1);
+                        return Err(ImageFailed);
+                    }
+                    self.less = 2;
+                    self.left = Left::First;
+                    if self.a.fence().is_ok() {
+                        return Ok(());
+                    }
+                    self.alive = false;
+                    self.faults = self.faults.saturating_add(1);
+                    return Err(ImageFailed);
+                }
+                if self.a.fence().is_ok() {
+                    return Ok(());
+                }
+                if mark(&mut self.b, self.a.lines() - 1, self.generation).is_err() {
+                    self.alive = false;
+                    self.faults = self.faults.saturating_add(1);
+                    return Err(ImageFailed);
+                }
+                self.left = Left::Second;
+                if self.b.fence().is_ok() {
+                    return Ok(());
+                }
+                self.alive = false;
+                self.faults = self.faults.saturating_add(1);
+                Err(ImageFailed)
+            }
+            Left::First => {
+                if self.a.fence().is_ok() {
+                    return Ok(());
+                }
+                self.alive = false;
+                self.faults = self.faults.saturating_add(1);
+                Err(ImageFailed)
+            }
+            Left::Second => {
+                self.extra = self.extra.saturating_add(1);
+                if self.b.fence().is_ok() {
+                    return Ok(());
+                }
+                self.alive = false;
+                self.faults = self.faults.saturating_add(1);
+                Err(ImageFailed)
+            }
+        }
+    }
+
+    ghost in_order = { λ m. in_order_by (A.told m.a) (B.told m.b) m.left m.less m.extra (A.in_order m.a) m.sound.so_far };
+}

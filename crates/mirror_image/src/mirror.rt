@@ -1,0 +1,208 @@
+// One image over two halves.
+ghost use Rattle.std.specs.Prelude.{◌≡◌, ◌≢◌, ◌<◌, ◌≤◌, ◌+◌, ◌-◌, ◌^◌, ◌↔◌, ℕ, IfOk, IfErr};
+ghost use Rattle.line_image.specs.Trace.{Trace, Outcome, IsAllFenced};
+ghost use Rattle.mirror_image.specs.Joint.{told_by};
+ghost use Rattle.mirror_image.specs.Pairing.{OneRose};
+ghost use Rattle.mirror_image.specs.Paired.{LeaderFits, LeaderTooHigh, ShowsLeader};
+ghost use Rattle.mirror_image.specs.Leaving.{OfPaired, UsedLeave};
+ghost use Rattle.mirror_image.specs.Stops.{PairingShows, KeepsLeader, Holds, led};
+ghost use Rattle.mirror_image.specs.Labels.{leader};
+ghost use Rattle.mirror_image.specs.Mirror.{told_of, faults_of, halves_of, HalvesDiffer, is_closed, IsPairedAs};
+ghost use Rattle.mirror_image.specs.declared.pairing.MirrorFault.TheVariants.{Size as Sizes, ImageFailed as Failed, Generation as TooHigh};
+
+use crate::halves::{Halves, Left};
+use crate::pairing::{MirrorFault, pair_halves};
+use crate::state::State;
+use line_image::{Image, ImageFailed};
+
+/// One image over two halves, each of which has one line more than the mirror shows: the label, at its end.
+///
+/// A read asks the first half, or the one that is left. A write or a fence goes to both. Where one half fails, the other is
+/// marked as left alone before the call goes on with it, and the one that failed is used no more.
+#[derive(Drop)]
+pub struct Mirror<A: Image, B: Image> {
+    state: State<Halves<A, B>, (A, B)>,
+    failures: u64,
+    ghost fits: { failures < 2 ^ 64 },
+}
+
+impl<A: Image, B: Image> Mirror<A, B> {
+    /// Makes two halves one image. The half of greater generation leads, the first at a tie: the other becomes what it is.
+    ///
+    /// A half that can't be read is replaced by an image of zeros first. Where it fails, the halves are given back, and can be
+    /// paired again.
+    pub fn pair(mut a: A, mut b: B) -> Result<Mirror<A, B>, (MirrorFault, A, B)>
+        requires few { (B.told b).calls ≤ 2 ^ 62 }
+        ensures size { IfOk result (λ m. (⟦<Mirror<A, B> as Image>⟧.told m).size + 1 ≡ (A.told a).size) }
+        ensures shows { IfOk result (λ m. ShowsLeader ((A.told a).size - 1) (A.told a).trace (B.told b).trace
+            (⟦<Mirror<A, B> as Image>⟧.told m).trace) }
+        ensures fenced { IfOk result (λ m. IsAllFenced (⟦<Mirror<A, B> as Image>⟧.told m).trace) }
+        ensures faultless { IfOk result (λ m. ⟦<Mirror<A, B> as Image>⟧.faults m ≡ 0) }
+        ensures fits { IfOk result (λ _. LeaderFits ((A.told a).size - 1) (A.told a).trace (B.told b).trace) }
+        ensures alike { IfOk result (λ _. ((A.told a).size ≡ (B.told b).size) × (2 ≤ (A.told a).size)) }
+        ensures differ { IfErr result (λ e. (e.0 ≡ Sizes) ↔ HalvesDiffer (A.told a).size (B.told b).size) }
+        ensures too_high { IfErr result (λ e. e.0 ≡ TooHigh
+            → LeaderTooHigh ((A.told a).size - 1) (A.told a).trace (B.told b).trace) }
+        ensures cause { IfErr result (λ e. e.0 ≡ Failed → OneRose (A.faults a) (A.faults e.1) (B.faults b) (B.faults e.2)) }
+        ensures same { IfErr result (λ e. e.0 ≢ Failed → ((A.told e.1).trace ≡ (A.told a).trace) × ((B.told e.2).trace ≡ (B.told b).trace)) }
+        // A stop at any moment.
+        ensures stops { IfOk result (λ m. IsPairedAs (λ h. KeepsLeader ((A.told a).size - 1) (A.told a).trace (B.told b).trace
+            (A.told h.a).trace (B.told h.b).trace) m.state) }
+        ensures stops_failed { IfErr result (λ e. KeepsLeader ((A.told a).size - 1) (A.told a).trace (B.told b).trace
+            (A.told e.1).trace (B.told e.2).trace) }
+    {
+        let lines = a.lines();
+        if lines != b.lines() || lines < 2 {
+            return Err((MirrorFault::Size, a, b));
+        }
+        match pair_halves(&mut a, &mut b, lines - 1) {
+            Ok(generation) => Ok(Mirror {
+                state: State::Paired(Halves {
+                    a,
+                    b,
+                    left: Left::Both,
+                    alive: true,
+                    less: 0,
+                    extra: 0,
+                    faults: 0,
+                    generation: generation + 1,
+                }),
+                failures: 0,
+            }),
+            Err(fault) => Err((fault, a, b)),
+        }
+    }
+
+    /// A mirror over halves that can't be paired: it shows 32,768 lines, and each call fails.
+    pub fn closed(a: A, b: B) -> Mirror<A, B>
+        ensures size { (⟦<Mirror<A, B> as Image>⟧.told result).size ≡ 32768 }
+        ensures faultless { ⟦<Mirror<A, B> as Image>⟧.faults result ≡ 0 }
+        ensures halves { halves_of (λ h. (h.a, h.b)) result.state ≡ (a, b) }
+        ensures closed { is_closed result.state }
+    {
+        Mirror {
+            state: State::Closed((a, b)),
+            failures: 0,
+        }
+    }
+
+    /// What a stop between two calls leaves of the halves, paired again, shows what it leaves of the mirror. Does nothing: its
+    /// contract says so.
+    pub fn law_of_stops(&self)
+        ensures paired { OfPaired (λ h. PairingShows ((A.told h.a).size - 1) h.generation (A.told h.a).trace (B.told h.b).trace
+            (told_by (A.told h.a) (B.told h.b) h.left h.less h.extra).trace) self.now.state }
+        // Of a half that is used, nothing is left that isn't left of the mirror.
+        ensures used { OfPaired (λ h. UsedLeave (A.told h.a) (B.told h.b) h.left h.alive h.less h.extra) self.now.state }
+    {
+        match &self.state {
+            State::Paired(halves) => halves.law_of_stops(),
+            State::Closed(_) => {}
+        }
+    }
+
+    /// Gives the halves back.
+    pub fn halves(self) -> (A, B)
+        ensures { result ≡ halves_of (λ h. (h.a, h.b)) self.state }
+    {
+        let state = self.state;
+        match state {
+            State::Paired(halves) => halves.both(),
+            State::Closed(halves) => halves,
+        }
+    }
+}
+
+/// Of halves that are opened again with these words, the one that leads has the words that pairing shows. Does nothing: its
+/// contract says so.
+pub fn law_of_leading()
+    ensures { (z : ℕ) (h k : Trace) (c d : Outcome) → Holds h c → Holds k d → Holds (leader z h k) (led z c d) }
+{}
+
+impl<A: Image, B: Image> Image for Mirror<A, B> {
+    ghost use Rattle.std.specs.Prelude.{◌⊎◌, OnOk, OnErr};
+    ghost use Rattle.ap_base.specs.Causes.{HasCause, next_count};
+    ghost use Rattle.line_image.specs.Trace.{Reads, did};
+    ghost use Rattle.line_image.specs.declared.effect.Done.TheVariants.{Wrote, Fenced};
+    ghost use Rattle.mirror_image.specs.Leaving.{OfPaired, UsedLeave};
+    ghost use Rattle.mirror_image.specs.Stops.{PairingShows, StopsShow};
+    ghost use Rattle.mirror_image.specs.Mirror.{in_order_of, OfCall};
+    ghost use Rattle.mirror_image.specs.Order.{in_order_by};
+
+    ghost told = { λ m. told_of (λ h. told_by (A.told h.a) (B.told h.b) h.left h.less h.extra) m.failures m.state };
+
+    ghost faults = { λ m. faults_of (λ h. h.faults) m.failures m.state };
+
+    fn lines(&self) -> u64 {
+        match &self.state {
+            State::Paired(halves) => halves.lines(),
+            State::Closed(_) => 32_768,
+        }
+    }
+
+    fn read_line(&mut self, line: u64, into: &mut [u64; 8]) -> Result<(), ImageFailed>
+        requires { line < (told_of (λ h. told_by (A.told h.a) (B.told h.b) h.left h.less h.extra) self.old.failures self.old.state).size }
+        ensures size { (told_of (λ h. told_by (A.told h.a) (B.told h.b) h.left h.less h.extra) self.new.failures self.new.state).size ≡ (told_of (λ h. told_by (A.told h.a) (B.told h.b) h.left h.less h.extra) self.old.failures self.old.state).size }
+        ensures counted { (told_of (λ h. told_by (A.told h.a) (B.told h.b) h.left h.less h.extra) self.new.failures self.new.state).calls ≡ next_count (told_of (λ h. told_by (A.told h.a) (B.told h.b) h.left h.less h.extra) self.old.failures self.old.state).calls }
+        ensures same { (told_of (λ h. told_by (A.told h.a) (B.told h.b) h.left h.less h.extra) self.new.failures self.new.state).trace ≡ (told_of (λ h. told_by (A.told h.a) (B.told h.b) h.left h.less h.extra) self.old.failures self.old.state).trace }
+        ensures words { OnOk result (Reads (told_of (λ h. told_by (A.told h.a) (B.told h.b) h.left h.less h.extra) self.old.failures self.old.state).trace line into.new) }
+        ensures untouched { OnErr result (into.new ≡ into.old) }
+        ensures cause { HasCause (faults_of (λ h. h.faults) self.old.failures self.old.state) (faults_of (λ h. h.faults) self.new.failures self.new.state) result }
+        ensures stops { OfCall (λ h k. StopsShow ((A.told h.a).size - 1) h.generation (A.told h.a).trace (B.told h.b).trace
+            (A.told k.a).trace (B.told k.b).trace (told_by (A.told h.a) (B.told h.b) h.left h.less h.extra)
+            (told_by (A.told k.a) (B.told k.b) k.left k.less k.extra)) self.old.state self.new.state }
+    {
+        match &mut self.state {
+            State::Paired(halves) => halves.read_line(line, into),
+            State::Closed(_) => {
+                self.failures = self.failures.saturating_add(1);
+                Err(ImageFailed)
+            }
+        }
+    }
+
+    fn write_line(&mut self, line: u64, words: &[u64; 8]) -> Result<(), ImageFailed>
+        requires { line < (told_of (λ h. told_by (A.told h.a) (B.told h.b) h.left h.less h.extra) self.old.failures self.old.state).size }
+        ensures size { (told_of (λ h. told_by (A.told h.a) (B.told h.b) h.left h.less h.extra) self.new.failures self.new.state).size ≡ (told_of (λ h. told_by (A.told h.a) (B.told h.b) h.left h.less h.extra) self.old.failures self.old.state).size }
+        ensures counted { (told_of (λ h. told_by (A.told h.a) (B.told h.b) h.left h.less h.extra) self.new.failures self.new.state).calls ≡ next_count (told_of (λ h. told_by (A.told h.a) (B.told h.b) h.left h.less h.extra) self.old.failures self.old.state).calls }
+        ensures written { OnOk result ((told_of (λ h. told_by (A.told h.a) (B.told h.b) h.left h.less h.extra) self.new.failures self.new.state).trace
+            ≡ did (Wrote line words.now) (told_of (λ h. told_by (A.told h.a) (B.told h.b) h.left h.less h.extra) self.new.failures self.new.state).calls (told_of (λ h. told_by (A.told h.a) (B.told h.b) h.left h.less h.extra) self.old.failures self.old.state).trace) }
+        ensures failed { OnErr result (((told_of (λ h. told_by (A.told h.a) (B.told h.b) h.left h.less h.extra) self.new.failures self.new.state).trace
+            ≡ did (Wrote line words.now) (told_of (λ h. told_by (A.told h.a) (B.told h.b) h.left h.less h.extra) self.new.failures self.new.state).calls (told_of (λ h. told_by (A.told h.a) (B.told h.b) h.left h.less h.extra) self.old.failures self.old.state).trace)
+            ⊎ ((told_of (λ h. told_by (A.told h.a) (B.told h.b) h.left h.less h.extra) self.new.failures self.new.state).trace ≡ (told_of (λ h. told_by (A.told h.a) (B.told h.b) h.left h.less h.extra) self.old.failures self.old.state).trace)) }
+        ensures cause { HasCause (faults_of (λ h. h.faults) self.old.failures self.old.state) (faults_of (λ h. h.faults) self.new.failures self.new.state) result }
+        ensures stops { OfCall (λ h k. StopsShow ((A.told h.a).size - 1) h.generation (A.told h.a).trace (B.told h.b).trace
+            (A.told k.a).trace (B.told k.b).trace (told_by (A.told h.a) (B.told h.b) h.left h.less h.extra)
+            (told_by (A.told k.a) (B.told k.b) k.left k.less k.extra)) self.old.state self.new.state }
+    {
+        match &mut self.state {
+            State::Paired(halves) => halves.write_line(line, words),
+            State::Closed(_) => {
+                self.failures = self.failures.saturating_add(1);
+                Err(ImageFailed)
+            }
+        }
+    }
+
+    fn fence(&mut self) -> Result<(), ImageFailed>
+        ensures size { (told_of (λ h. told_by (A.told h.a) (B.told h.b) h.left h.less h.extra) self.new.failures self.new.state).size ≡ (told_of (λ h. told_by (A.told h.a) (B.told h.b) h.left h.less h.extra) self.old.failures self.old.state).size }
+        ensures counted { (told_of (λ h. told_by (A.told h.a) (B.told h.b) h.left h.less h.extra) self.new.failures self.new.state).calls ≡ next_count (told_of (λ h. told_by (A.told h.a) (B.told h.b) h.left h.less h.extra) self.old.failures self.old.state).calls }
+        ensures fenced { OnOk result ((told_of (λ h. told_by (A.told h.a) (B.told h.b) h.left h.less h.extra) self.new.failures self.new.state).trace
+            ≡ did Fenced (told_of (λ h. told_by (A.told h.a) (B.told h.b) h.left h.less h.extra) self.new.failures self.new.state).calls (told_of (λ h. told_by (A.told h.a) (B.told h.b) h.left h.less h.extra) self.old.failures self.old.state).trace) }
+        ensures failed { OnErr result ((told_of (λ h. told_by (A.told h.a) (B.told h.b) h.left h.less h.extra) self.new.failures self.new.state).trace ≡ (told_of (λ h. told_by (A.told h.a) (B.told h.b) h.left h.less h.extra) self.old.failures self.old.state).trace) }
+        ensures cause { HasCause (faults_of (λ h. h.faults) self.old.failures self.old.state) (faults_of (λ h. h.faults) self.new.failures self.new.state) result }
+        ensures stops { OfCall (λ h k. StopsShow ((A.told h.a).size - 1) h.generation (A.told h.a).trace (B.told h.b).trace
+            (A.told k.a).trace (B.told k.b).trace (told_by (A.told h.a) (B.told h.b) h.left h.less h.extra)
+            (told_by (A.told k.a) (B.told k.b) k.left k.less k.extra)) self.old.state self.new.state }
+    {
+        match &mut self.state {
+            State::Paired(halves) => halves.fence(),
+            State::Closed(_) => {
+                self.failures = self.failures.saturating_add(1);
+                Err(ImageFailed)
+            }
+        }
+    }
+
+    ghost in_order = { λ m. in_order_of (λ h. told_by (A.told h.a) (B.told h.b) h.left h.less h.extra)
+        (λ h. in_order_by (A.told h.a) (B.told h.b) h.left h.less h.extra (A.in_order h.a) h.sound.so_far) m.failures m.fits m.state };
+}
