@@ -1,4 +1,4 @@
-//! Rows of images that are written anew, densely: words before and after, what comes of bad ones, and stops in the last calls.
+//! Rows of images that are written anew, densely: words before and after, what comes of bad ones, and stops in each call.
 #![tactic(auto)]
 
 #[cfg(test)]

@@ -1,6 +1,7 @@
-// What stops leave of a new image, in the last calls.
-use crate::images::{DENSE, LINES, SPARSE, differing, fails, image, sink};
+// What stops leave of both images, in each call.
+use crate::images::{DENSE, LINES, LOGGED, SPARSE, differing, fails, image, sink};
 use compact_call::{CompactFault, compact_images};
+use image_report::dump_image;
 use line_image::{Image, MemoryImage};
 use std::alloc::{AllocError, Global};
 use std::test::Fail;
@@ -44,6 +45,18 @@ fn left(alloc: Global, image: &MemoryImage, pick: u64) -> Result<(bool, bool), A
     Ok((differing(&left, &DENSE) == 0, is_blank(&left)))
 }
 
+#[test]
+fn a_new_image_is_blank_before_the_last_two_calls(rt: HostRuntime) -> Result<(), Fail> {
+    let alloc = rt.alloc();
+    let mut old = image(alloc, LINES, &SPARSE, &[], u64::MAX)?;
+    for calls in 0..CALLS - 2 {
+        let done = written_until(alloc, old, calls)?;
+        assert!(rt; done.is_as_told && is_blank(&done.fresh), "{calls}");
+        old = done.old;
+    }
+    Ok(())
+}
+
 /// Before the last fence, pick 0 leaves what was fenced before, and 1 what was written last; behind it all is left.
 #[test]
 fn a_new_image_is_blank_or_whole_in_the_last_calls(rt: HostRuntime) -> Result<(), Fail> {
@@ -61,5 +74,30 @@ fn a_new_image_is_blank_or_whole_in_the_last_calls(rt: HostRuntime) -> Result<()
     assert!(rt; after.is_as_told);
     assert_eq!(rt; left(alloc, &after.fresh, 0)?, (true, false));
     assert_eq!(rt; left(alloc, &after.fresh, 1)?, (true, false));
+    Ok(())
+}
+
+const DUMPED: &str = "roots 1 nodes 3\nroot 0 Main.head #0\n\
+    node #0 Node 2\nv = 1\nnext = #1\nnode #1 Node 2\nv = 2\nnext = #2\nnode #2 Node 2\nv = 3\nnext = #0\n";
+
+/// The old image fails from a call on, while what its log has is put back: its graph stays the same.
+#[test]
+fn an_old_image_keeps_its_graph_at_each_stop(rt: HostRuntime) -> Result<(), Fail> {
+    let alloc = rt.alloc();
+    for calls in 0..8_u64 {
+        let since = LINES.saturating_add(calls).saturating_add(1);
+        let old = image(alloc, LINES, &SPARSE, &LOGGED, since)?;
+        let fresh = image(alloc, LINES, &[], &[], u64::MAX)?;
+        let done = compact_images(alloc, old, fresh, sink(alloc, 100)?);
+        assert!(rt; done.outcome.is_ok() || done.outcome == Err(CompactFault::ImageFailed));
+        for pick in 0..4 {
+            let left = done.old.crash(alloc, pick, fails(alloc, u64::MAX))?;
+            let dumped = dump_image(alloc, left, sink(alloc, 1_000)?);
+            assert!(rt;
+                dumped.sink.as_slice() == DUMPED.as_bytes(),
+                "{calls} {pick}"
+            );
+        }
+    }
     Ok(())
 }
