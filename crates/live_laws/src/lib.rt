@@ -2,6 +2,7 @@
 #![tactic(auto)]
 
 ghost use Rattle.live_laws.specs.Laws.{ActsAreCounted, NodesAreThoseOfTheGraph, SeenHeapIsThePlainHeap};
+ghost use Rattle.live_laws.specs.Strays.{StraysChangeNothing};
 
 use plain_model::acts_of_a_plain_run_fit;
 
@@ -11,6 +12,11 @@ pub fn the_seen_heap_is_the_plain_heap<Frames>()
 {
     acts_of_a_plain_run_fit::<Frames>();
 }
+
+/// After any acts, one that no plain run makes is counted and changes nothing else; any other is done.
+pub fn strays_change_nothing()
+    ensures { StraysChangeNothing }
+{}
 
 /// What is seen after some acts has as many.
 pub fn acts_are_counted()

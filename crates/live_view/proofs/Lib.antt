@@ -1,4 +1,5 @@
 pub mod Behind
+pub mod Calls
 pub mod Known
 pub mod Tied
 pub mod Watched
