@@ -1,6 +1,6 @@
 -- What is seen follows the plain world, act by act.
-use Rattle.std.proofs.Common.{◌≡◌, ℕ, suc, ◌+◌, ◌<◌, ◌≤◌, ◌^◌, true, false, List, [], ◌∷◌, ◌++◌, fold, refl, ap, sym, ◌∙◌, length}
-use Rattle.std.proofs.Common.{append_assoc, append-nil, arith, length-append, length-set, if◌then◌else◌}
+use Rattle.std.proofs.Common.{◌≡◌, ℕ, ◌+◌, ◌<◌, ◌≤◌, ◌^◌, true, false, List, [], ◌∷◌, ◌++◌, refl, ap, sym, ◌∙◌, length}
+use Rattle.std.proofs.Common.{append_assoc, append-nil, arith, length-append, length-set}
 use Rattle.std.proofs.lemmas.Grind.{fold-append}
 use Rattle.ap_base.specs.declared.place.Place.TheVariants.{Static, Slot}
 use Rattle.graph_model.specs.declared.types.Heap.{Heap}

@@ -1,5 +1,5 @@
 -- Writers show what they saw.
-use Rattle.std.proofs.Common.{◌≡◌, ◌⊎◌, inl, inr, Bool, true, false, List, [], ◌∷◌, ◌++◌, refl, ap, sym, subst, ◌∙◌, append_assoc, append-nil}
+use Rattle.std.proofs.Common.{◌≡◌, inl, inr, true, false, List, [], ◌∷◌, ◌++◌, refl, ap, sym, subst, ◌∙◌, append_assoc, append-nil}
 use Rattle.std.proofs.Common.{if◌then◌else◌}
 use Rattle.std.proofs.lemmas.Bool.{true≢false}
 use mathlib.Core.List.{IsPrefix}
@@ -8,7 +8,7 @@ use Rattle.run_history.specs.Recorded.{Recorded}
 use Rattle.act_book.proofs.Fronts.{prefix_self, prefix_trans}
 use Rattle.live_heap.specs.Seen.{Seen}
 use Rattle.live_view.specs.Publishing.{is_published}
-use Rattle.live_view.specs.Watching.{IsAppendedOrNot, IsRefused, Watching, started, with_act}
+use Rattle.live_view.specs.Watching.{IsRefused, Watching, started, with_act}
 use Rattle.live_view.specs.Calls.{AfterCall, AfterCalls, AfterSaw, AfterTell, Call, Saw, ShowsWhatItSaw, Told, acts_seen, publishes}
 
 further : (acts : List Recorded) (a : Recorded) → IsPrefix acts (acts ++ a ∷ [])
