@@ -37,7 +37,7 @@ stay_next known a = rw (world_of_next known a) (
     elim (is_persistent a.act.op) as (λ b. length known.world.heap.objects ≤ length (world_next known.world a b).heap.objects)
     [ true ↦ omega arith | false ↦ stay known.world.heap a.act.op ])
 
-stay_after : (known : Knowledge) (acts : List Recorded) → length known.world.heap.objects ≤ length (known_after known acts).world.heap.objects
+pub stay_after : (known : Knowledge) (acts : List Recorded) → length known.world.heap.objects ≤ length (known_after known acts).world.heap.objects
 stay_after known [] = omega arith
 stay_after known (a ∷ acts) = omega (arith, stay_next known a, stay_after (next_known known a) acts)
 

@@ -1,2 +1,4 @@
+mod Durables
+mod Flags
 pub mod Following
 mod Strays

@@ -49,7 +49,7 @@ shape_count set heap same = ap length same ∙ length-map (classes_of set) (λ (
 
 -- ---- tests and what they test
 
-below_by_test : (n : ℕ) (value : Value) → is_below n value ≡ true → IsBelow n value
+pub below_by_test : (n : ℕ) (value : Value) → is_below n value ≡ true → IsBelow n value
 below_by_test n (Int i) e = tt
 below_by_test n (Long i) e = tt
 below_by_test n Null e = tt
@@ -199,7 +199,7 @@ misfit_counted seen a misfit =
     ∙ ap (λ (b : Bool). record { heap = seen.heap; durable = seen.durable; acts = suc seen.acts; stores = stores b })
     (store_misfit seen.heap seen.durable o misfit)
 
-fit_done : (seen : Seen) (a : Recorded) → fits seen.heap a.act.op ≡ true → (seen_after seen a).heap ≡ heap_after_op seen.heap a.act.op
+pub fit_done : (seen : Seen) (a : Recorded) → fits seen.heap a.act.op ≡ true → (seen_after seen a).heap ≡ heap_after_op seen.heap a.act.op
 unfolding seen_after
 fit_done seen a fit = ap (λ b. if b then heap_after_op seen.heap a.act.op else seen.heap) fit
 

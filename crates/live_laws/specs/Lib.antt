@@ -1,3 +1,4 @@
+pub mod Durables
 pub mod Firsts
 pub mod Laws
 pub mod Strays

@@ -2,6 +2,7 @@
 #![tactic(auto)]
 
 ghost use Rattle.live_laws.specs.Laws.{ActsAreCounted, NodesAreThoseOfTheGraph, SeenHeapIsThePlainHeap};
+ghost use Rattle.live_laws.specs.Durables.{SeenIsWhatIsKnown};
 ghost use Rattle.live_laws.specs.Strays.{StraysChangeNothing};
 
 use plain_model::acts_of_a_plain_run_fit;
@@ -12,6 +13,11 @@ pub fn the_seen_heap_is_the_plain_heap<Frames>()
 {
     acts_of_a_plain_run_fit::<Frames>();
 }
+
+/// So are the objects that are flagged and the stores that are counted those that are durable there.
+pub fn what_is_seen_is_what_is_known<Frames>()
+    ensures { SeenIsWhatIsKnown Frames }
+{}
 
 /// After any acts, one that no plain run makes is counted and changes nothing else; any other is done.
 pub fn strays_change_nothing()
