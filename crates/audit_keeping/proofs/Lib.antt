@@ -1,0 +1,10 @@
+pub mod Begun
+pub mod Kept
+pub mod Marking
+pub mod Next
+pub mod Reached
+pub mod Spreading
+pub mod Standing
+pub mod Steps
+pub mod Walks
+pub mod Wanting
