@@ -196,7 +196,7 @@ module _ (alike : ThreadsAskAlike) (launch : Launch) (acts : List Recorded) (set
       })
 
   -- the plain step of what is asked, as the acts have it
-  given : (taken : ℕ) → op_given launch.set (known_at launch acts).world t taken
+  pub given : (taken : ℕ) → op_given launch.set (known_at launch acts).world t taken
       (request_after launch.set launch.main launch.opening (plain_code launch) acts t)
       ≡ op_of (step_in set_now h.stands.roots shown rest t taken q)
   given taken =

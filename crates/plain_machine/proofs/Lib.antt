@@ -12,3 +12,4 @@ mod Lives
 mod Starting
 mod Following
 mod Begun
+mod Telling

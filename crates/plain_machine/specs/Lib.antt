@@ -7,3 +7,4 @@ pub mod Turns
 pub mod Starts
 pub mod Standing
 pub mod Beginnings
+pub mod Telling

@@ -22,7 +22,7 @@ use shared_objects::{Rest, Threads};
 use step_forms::numbered;
 
 /// A class that nobody has begun is begun.
-fn begun(classes: &[Progress], class: u32) -> Option<Op>
+pub(crate) fn begun(classes: &[Progress], class: u32) -> Option<Op>
     requires there { class < length classes.now }
     ensures { result ≡ op_begun class (slice_get classes.now class) }
 {
@@ -97,7 +97,7 @@ fn started(heap: &PlainHeap, threads: &Threads, thread: Ref) -> Option<Op>
 }
 
 /// A level of the thread's region is left.
-fn raised(threads: &Threads, t: ThreadNo) -> Option<Op>
+pub(crate) fn raised(threads: &Threads, t: ThreadNo) -> Option<Op>
     requires there { t < length threads.now }
     ensures { result ≡ op_raised (depth_at threads.now t) }
 {

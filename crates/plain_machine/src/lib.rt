@@ -1,6 +1,7 @@
 //! The plain run in code: acts are followed, each that of the plain step for its thread.
 #![tactic(auto)]
 
+mod awaiting;
 mod beginning;
 mod foreseeing;
 mod kinds;

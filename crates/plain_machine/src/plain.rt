@@ -27,7 +27,7 @@ pub struct Plain {
 }
 
 /// Whether a thread was started and hasn't ended.
-fn is_live(threads: &Threads, t: ThreadNo) -> bool
+pub(crate) fn is_live(threads: &Threads, t: ThreadNo) -> bool
     ensures { result ≡ is_live threads.now t }
 {
     match threads.get(t) {
