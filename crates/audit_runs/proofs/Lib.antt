@@ -1,0 +1,4 @@
+pub mod FoundMain
+pub mod Starting
+pub mod Ending
+pub mod Judging

@@ -1,0 +1,11 @@
+//! The audit of a history: whether its acts are a plain run of a class set from an opening graph, whether they print these
+//! bytes, and whether the graph is the one after the kept list that a word picks.
+#![tactic(auto)]
+
+mod audits;
+mod beginning;
+mod endings;
+mod mains;
+
+pub use audit_verdicts::Verdict;
+pub use audits::audit_run;
