@@ -40,7 +40,7 @@ pub record Lives (states : List ThreadState) (u : ℕ) : Type 0 where
   pub there : slice_get states u ≡ Some state
   pub lives : state.ended ≡ false
 
-plain-get : (states : List ThreadState) (u : ℕ) (state : ThreadState) → slice_get states u ≡ Some state
+pub plain-get : (states : List ThreadState) (u : ℕ) (state : ThreadState) → slice_get states u ≡ Some state
     → slice_get (map plain_thread states) u ≡ Some (plain_thread state)
 plain-get [] u state is = absurd (let no : ◌≡◌ {A = Option ThreadState} None (Some state) = is in cc)
 plain-get (s ∷ states) zero state is =
@@ -48,7 +48,7 @@ plain-get (s ∷ states) zero state is =
     ap (λ (x : ThreadState). Some (plain_thread x)) same
 plain-get (s ∷ states) (suc u) state is = plain-get states u state is
 
-plain-lives : (states : List ThreadState) (u : ℕ) (thread : Thread) → thread.ended ≡ false
+pub plain-lives : (states : List ThreadState) (u : ℕ) (thread : Thread) → thread.ended ≡ false
     → slice_get (map plain_thread states) u ≡ Some thread → Lives states u
 plain-lives [] u thread lives is = absurd (let no : ◌≡◌ {A = Option Thread} None (Some thread) = is in cc)
 plain-lives (s ∷ states) zero thread lives is =

@@ -19,14 +19,14 @@ use Rattle.convert_waits.proofs.Stuck.{stuck_runs_wait_plainly}
 use Rattle.machine_threads.specs.Plain.{asks_some, EndsStuck, FullRowsEndRuns, FullRowsTellWaits, StuckRunsEnd}
 use Rattle.machine_threads.specs.Plain.{StuckRunsTellWaits}
 
-zero-plus : (u : ℕ) → 0 + u ≡ u
+pub zero-plus : (u : ℕ) → 0 + u ≡ u
 zero-plus u = omega arith
 
-length-waits : (waits : ℕ → Option On) (first count : ℕ) → length (waits_from waits first count) ≡ count
+pub length-waits : (waits : ℕ → Option On) (first count : ℕ) → length (waits_from waits first count) ≡ count
 length-waits waits first zero = refl
 length-waits waits first (suc n) = ap suc (length-waits waits (suc first) n)
 
-waits-get : (waits : ℕ → Option On) (first count t : ℕ) → t < count
+pub waits-get : (waits : ℕ → Option On) (first count t : ℕ) → t < count
     → slice_get (waits_from waits first count) t ≡ Some (waits (first + t))
 waits-get waits first zero t below = absurd (omega (arith, below))
 waits-get waits first (suc n) zero below = let same : first ≡ first + 0 = omega arith in ap (λ k. Some (waits k)) same

@@ -10,5 +10,6 @@ pub mod Parts
 pub mod Plainly
 pub mod Stuck
 pub mod Tables
+pub mod Testing
 pub mod Naming
 pub mod Numbers

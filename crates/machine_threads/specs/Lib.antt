@@ -3,3 +3,4 @@ pub mod Keeping
 pub mod Plain
 pub mod Stuck
 pub mod Naming
+pub mod Testing

@@ -12,6 +12,7 @@ ghost use Rattle.machine_threads.specs.Plain.{StuckRunsTellWaits};
 ghost use Rattle.machine_threads.specs.Stuck.{ClaimersLive, FencesDontWait, FullRowsEndMachines};
 ghost use Rattle.machine_threads.specs.Stuck.{MachinesBeginRows, ReadyThreadsWaitAlike, RecordsAreRight};
 ghost use Rattle.machine_threads.specs.Stuck.{StuckMachinesEnd, StuckRecordsEndMachines};
+ghost use Rattle.machine_threads.specs.Testing.{LiveThreadsAsk, TestedWaitsAreStuck, TestedWaitsEnd};
 
 /// An event of one thread leaves each other what the machine keeps of it: it asks its store still,
 /// what it is about and its log are as they were, what it has claimed is as far, it lives, and its own
@@ -68,6 +69,16 @@ pub fn machines_end_stuck()
     ensures begin { MachinesBeginRows }
     ensures rows { FullRowsEndMachines }
 {}
+
+/// Where the last event of each live thread waited in the plain world, and its step would wait for the same now, the run is stuck,
+/// and nowhere else; the waits as they are noted are the fault's. No wait for a conversion is tested.
+pub fn tested_waits_are_stuck()
+    ensures live { LiveThreadsAsk }
+    ensures stuck { TestedWaitsAreStuck }
+    ensures end { TestedWaitsEnd }
+{
+    machine_laws::machines_ask_as_plain_runs();
+}
 
 /// What the threads of a group have queued, named in the order of the threads and of their queues, is
 /// what they have claimed, each object once: what the act of the group's seal is to name. There is

@@ -6,5 +6,5 @@ mod laws;
 
 pub use laws::{
     claimers_convert, full_rows_end_runs, groups_name_theirs, machines_end_stuck,
-    others_keep_theirs, stuck_runs_end, threads_wait_as_they_ask,
+    others_keep_theirs, stuck_runs_end, tested_waits_are_stuck, threads_wait_as_they_ask,
 };
