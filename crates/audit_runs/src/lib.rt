@@ -6,6 +6,8 @@ mod audits;
 mod beginning;
 mod endings;
 mod mains;
+mod picks;
 
 pub use audit_verdicts::Verdict;
 pub use audits::audit_run;
+pub use picks::words_pick_by_threads;
