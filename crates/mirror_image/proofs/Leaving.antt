@@ -9,7 +9,7 @@ use Rattle.line_image.specs.declared.effect.Done.{Done}
 use Rattle.line_image.specs.declared.effect.Done.TheVariants.{Wrote, Fenced}
 use Rattle.mirror_image.specs.declared.halves.Left.{Left}
 use Rattle.mirror_image.specs.declared.halves.Left.TheVariants.{Both, First, Second}
-use Rattle.mirror_image.specs.Joint.{is_label, top_is_label, fences_label, above, below, shown, numbered, joint, ahead}
+use Rattle.mirror_image.specs.Joint.{is_label, top_is_label, fences_label, above, below, shown, numbered, joint, ahead_by}
 use Rattle.mirror_image.specs.Sound.{LeavesAlike, IsSound, BothLive, SecondLives, both_used, second_used}
 use Rattle.mirror_image.specs.Leaving.{uses_first, uses_second, BothTell, UsedLeave}
 use Rattle.mirror_image.proofs.Within.{leaves_within}
@@ -65,8 +65,8 @@ numbered_same k l first [] = refl
 numbered_same k l first (e ∷ done) = ap (versions_after e.done l) (numbered_same k l first done)
 
 -- With both halves: what a stop leaves of the first one's shown lines, it may leave of the mirror.
-pub first_leaves : (z n l w v : ℕ) (h k : Trace) → l < z → MayLeave (Some h) l w v → MayLeave (joint z Both n (Some h) (Some k)) l w v
-first_leaves z n l w v h k lt left =
+pub first_leaves : (ahead : ℕ) (z n l w v : ℕ) (h k : Trace) → l < z → MayLeave (Some h) l w v → MayLeave (joint ahead z Both n (Some h) (Some k)) l w v
+first_leaves ahead z n l w v h k lt left =
     let line = get_or-take z h.first l [] lt in
     subst (λ (vs : List (List ℕ)). OneHas vs w v)
     (sym (numbered_same ahead l (get_or (take z h.first) l []) (shown z h.done) ∙ ap (λ (first : List ℕ). versions_from first (shown z h.done) l) line))
@@ -107,8 +107,8 @@ within_above z k l first (e ∷ done) rest lt same = by_test (fences_label z e.d
     by_test false is same before = within_after e.done l _ _ (before same)
 
 -- With the first half alone: what a stop leaves of its shown lines, it may leave of the mirror.
-pub alone_leaves : (z n l w v : ℕ) (h k : Trace) → l < z → MayLeave (Some h) l w v → MayLeave (joint z First n (Some h) (Some k)) l w v
-alone_leaves z n l w v h k lt left =
+pub alone_leaves : (ahead : ℕ) (z n l w v : ℕ) (h k : Trace) → l < z → MayLeave (Some h) l w v → MayLeave (joint ahead z First n (Some h) (Some k)) l w v
+alone_leaves ahead z n l w v h k lt left =
     let line = get_or-take z h.first l [] lt in
     let rest = numbered ahead (shown z (below z h.done)) in
     let same : Within (versions_from (get_or h.first l []) (below z h.done) l) (versions_from (get_or h.first l []) rest l) =
@@ -117,26 +117,26 @@ alone_leaves z n l w v h k lt left =
     subst (λ (first : List ℕ). OneHas (versions_from first (numbered (ahead - 2) (above z h.done) ++ rest) l) w v) (sym line)
     ((within_above z (ahead - 2) l (get_or h.first l []) h.done rest lt same).0 w v left)
 
-first_any : (z n l w v : ℕ) (left : Left) (alive : Bool) (o p : Option Trace) → uses_first left alive ≡ true → BothTell o p → l < z
-    → MayLeave o l w v → MayLeave (joint z left n o p) l w v
-first_any z n l w v left alive None p used tell lt has = absurd has
-first_any z n l w v left alive (Some h) None used tell lt has = absurd tell
-first_any z n l w v Both alive (Some h) (Some k) used tell lt has = first_leaves z n l w v h k lt has
-first_any z n l w v First alive (Some h) (Some k) used tell lt has = alone_leaves z n l w v h k lt has
-first_any z n l w v Second alive (Some h) (Some k) used tell lt has = cc
+first_any : (ahead : ℕ) (z n l w v : ℕ) (left : Left) (alive : Bool) (o p : Option Trace) → uses_first left alive ≡ true → BothTell o p → l < z
+    → MayLeave o l w v → MayLeave (joint ahead z left n o p) l w v
+first_any ahead z n l w v left alive None p used tell lt has = absurd has
+first_any ahead z n l w v left alive (Some h) None used tell lt has = absurd tell
+first_any ahead z n l w v Both alive (Some h) (Some k) used tell lt has = first_leaves ahead z n l w v h k lt has
+first_any ahead z n l w v First alive (Some h) (Some k) used tell lt has = alone_leaves ahead z n l w v h k lt has
+first_any ahead z n l w v Second alive (Some h) (Some k) used tell lt has = cc
 
-second_any : (z n l w v : ℕ) (left : Left) (o p : Option Trace) → BothTell o p → LeavesAlike z p (joint z left n o p) → l < z
-    → MayLeave p l w v → MayLeave (joint z left n o p) l w v
-second_any z n l w v left None p tell alike lt has = absurd tell
-second_any z n l w v left (Some h) None tell alike lt has = absurd has
-second_any z n l w v left (Some h) (Some k) tell alike lt has = leaves_some (joint z left n (Some h) (Some k)) refl alike
+second_any : (ahead : ℕ) (z n l w v : ℕ) (left : Left) (o p : Option Trace) → BothTell o p → LeavesAlike z p (joint ahead z left n o p) → l < z
+    → MayLeave p l w v → MayLeave (joint ahead z left n o p) l w v
+second_any ahead z n l w v left None p tell alike lt has = absurd tell
+second_any ahead z n l w v left (Some h) None tell alike lt has = absurd has
+second_any ahead z n l w v left (Some h) (Some k) tell alike lt has = leaves_some (joint ahead z left n (Some h) (Some k)) refl alike
   where
-    none : (left : Left) {A : Type 0} → joint z left n (Some h) (Some k) ≡ None → A
+    none : (left : Left) {A : Type 0} → joint ahead z left n (Some h) (Some k) ≡ None → A
     none Both is = cc
     none First is = cc
     none Second is = cc
 
-    leaves_some : (t : Option Trace) → joint z left n (Some h) (Some k) ≡ t → LeavesAlike z (Some k) t → MayLeave t l w v
+    leaves_some : (t : Option Trace) → joint ahead z left n (Some h) (Some k) ≡ t → LeavesAlike z (Some k) t → MayLeave t l w v
     leaves_some None is alike = none left is
     leaves_some (Some t) is alike = second_leaves z l w v k t alike lt has
 
@@ -144,12 +144,12 @@ second_any z n l w v left (Some h) (Some k) tell alike lt has = leaves_some (joi
 pub used_leave : (a b : Told) (left : Left) (alive : Bool) (less extra : ℕ) → IsSound a b left alive less extra
     → UsedLeave a b left alive less extra
 used_leave a b left alive less extra sound = record {
-  first = λ used tell l w v lt has. first_any (a.size - 1) a.calls l w v left alive a.trace b.trace used tell lt has;
-  second = λ used tell l w v lt has. second_any (a.size - 1) a.calls l w v left a.trace b.trace tell (alike left alive used sound.both sound.second) lt has;
+  first = λ used tell l w v lt has. first_any (ahead_by (a.size - 1) left b.trace) (a.size - 1) a.calls l w v left alive a.trace b.trace used tell lt has;
+  second = λ used tell l w v lt has. second_any (ahead_by (a.size - 1) left b.trace) (a.size - 1) a.calls l w v left a.trace b.trace tell (alike left alive used sound.both sound.second) lt has;
 }
   where
-    alike : (x : Left) (y : Bool) → uses_second x y ≡ true → (both_used x y ≡ true → BothLive a b less extra) → (second_used x y ≡ true → SecondLives a b less extra)
-        → LeavesAlike (a.size - 1) b.trace (joint (a.size - 1) x a.calls a.trace b.trace)
+    alike : (x : Left) (y : Bool) → uses_second x y ≡ true → (both_used x y ≡ true → BothLive (ahead_by (a.size - 1) left b.trace) a b less extra) → (second_used x y ≡ true → SecondLives (ahead_by (a.size - 1) left b.trace) a b less extra)
+        → LeavesAlike (a.size - 1) b.trace (joint (ahead_by (a.size - 1) left b.trace) (a.size - 1) x a.calls a.trace b.trace)
     alike Both y used both second = (both used).reads
     alike First y used both second = cc
     alike Second y used both second = (second used).reads

@@ -5,9 +5,10 @@ use Rattle.line_image.specs.Trace.{Trace, did}
 use Rattle.line_image.specs.declared.effect.Effect.{Effect}
 use Rattle.line_image.specs.declared.effect.Done.{Done}
 use Rattle.line_image.specs.declared.effect.Done.TheVariants.{Wrote, Fenced}
+use Rattle.mirror_image.specs.declared.halves.Left.{Left}
 use Rattle.mirror_image.specs.declared.halves.Left.TheVariants.{Both, First, Second}
-use Rattle.mirror_image.specs.Joint.{is_label, top_is_label, fences_label, shown, above, below, label_at, most, ahead, numbered, joint}
-use Rattle.mirror_image.specs.Sound.{done_in, SameMade, Settled}
+use Rattle.mirror_image.specs.Joint.{is_label, top_is_label, fences_label, shown, above, below, label_at, most, numbered, joint, ahead_by}
+use Rattle.mirror_image.specs.Sound.{done_in, Tells, SameMade, Settled}
 
 pub effect_of : ℕ → Done → Effect
 effect_of at deed = record { at = at; done = deed }
@@ -57,66 +58,116 @@ below_marked z at fence words done = rw (own_label z words) refl
 pub label_at_marked : (z at fence : ℕ) (words : List ℕ) (done : List Effect) → label_at z (marked_on z words at fence done) ≡ at
 label_at_marked z at fence words done = rw (own_label z words) refl
 
+-- What is done to the second half leaves the number of its pairing, but for a mark, behind which it is the same.
+pub ahead_did : (z at : ℕ) (left : Left) (d : Done) (p : Option Trace) → top_is_label z (done_in p) ≡ false → ahead_by z left (did d at p) ≡ ahead_by z left p
+unfolding ahead_by
+ahead_did z at left d None top = refl
+ahead_did z at Both d (Some k) top = rw (no_label_fence z d k.done top) refl
+ahead_did z at First d (Some k) top = rw (no_label_fence z d k.done top) refl
+ahead_did z at Second d (Some k) top = rw (no_label_fence z d k.done top) refl
+
+pub ahead_wrote : (z at line : ℕ) (words : List ℕ) (left : Left) (p : Option Trace) → ahead_by z left (did (Wrote line words) at p) ≡ ahead_by z left p
+unfolding ahead_by
+ahead_wrote z at line words left None = refl
+ahead_wrote z at line words Both (Some k) = refl
+ahead_wrote z at line words First (Some k) = refl
+ahead_wrote z at line words Second (Some k) = refl
+
+pub ahead_marked : (z at fence : ℕ) (words : List ℕ) (p : Option Trace) → ahead_by z Second (did Fenced fence (did (Wrote z words) at p)) ≡ ahead_by z Both p
+unfolding ahead_by
+ahead_marked z at fence words None = refl
+ahead_marked z at fence words (Some k) = rw (own_label z words) refl
+
+pub ahead_first : (z : ℕ) (p : Option Trace) → ahead_by z First p ≡ ahead_by z Both p
+unfolding ahead_by
+ahead_first z None = refl
+ahead_first z (Some k) = refl
+
+pub four_ahead : (z : ℕ) (left : Left) (p : Option Trace) → 4 ≤ ahead_by z left p
+unfolding ahead_by
+four_ahead z left p = omega arith
+
+pub tells_did : (at : ℕ) (d : Done) (p : Option Trace) → Tells (did d at p) → Tells p
+tells_did at d None tells = tells
+tells_did at d (Some k) tells = tt
+
+pub told_did : (at : ℕ) (d : Done) (p : Option Trace) (h : Trace) → did d at p ≡ Some h → Tells p
+told_did at d None h is = cc
+told_did at d (Some k) h is = tt
+
+pub told_marked : (at fence z : ℕ) (words : List ℕ) (p : Option Trace) (h : Trace) → did Fenced fence (did (Wrote z words) at p) ≡ Some h → Tells p
+told_marked at fence z words p h is = tells_did at (Wrote z words) p (told_did fence Fenced (did (Wrote z words) at p) h is)
+
+-- the number of what isn't told doesn't matter
+pub did_at : (d : Done) (n m : ℕ) (o : Option Trace) → (Tells o → n ≡ m) → did d n o ≡ did d m o
+did_at d n m None is = refl
+did_at d n m (Some h) is = ap (λ (n : ℕ). did d n (Some h)) (is tt)
+
+pub joint_tells : (ahead : ℕ) (z n : ℕ) (left : Left) (o p : Option Trace) → Tells (joint ahead z left n o p) → Tells p
+joint_tells ahead z n left None p tells = absurd tells
+joint_tells ahead z n left (Some h) None tells = tells
+joint_tells ahead z n left (Some h) (Some k) tells = tt
+
 -- the first half goes on, beside the other
-pub both_pushed : (z n m at : ℕ) (d : Done) (o p : Option Trace) → is_label z d ≡ false → top_is_label z (done_in o) ≡ false
-    → joint z Both n (did d at o) p ≡ did d (min (at + ahead) most) (joint z Both m o p)
-both_pushed z n m at d None p apart top = refl
-both_pushed z n m at d (Some h) None apart top = refl
-both_pushed z n m at d (Some h) (Some k) apart top =
+pub both_pushed : (ahead : ℕ) (z n m at : ℕ) (d : Done) (o p : Option Trace) → is_label z d ≡ false → top_is_label z (done_in o) ≡ false
+    → joint ahead z Both n (did d at o) p ≡ did d (min (at + ahead) most) (joint ahead z Both m o p)
+both_pushed ahead z n m at d None p apart top = refl
+both_pushed ahead z n m at d (Some h) None apart top = refl
+both_pushed ahead z n m at d (Some h) (Some k) apart top =
     ap (λ (done : List Effect). Some (record { first = take z h.first; done = numbered ahead done }))
     (shown_pushed z (record { at = at; done = d }) h.done apart top)
 
 -- what the other does isn't seen
-pub both_other : (z n m at : ℕ) (d : Done) (o p : Option Trace) → joint z Both n o (did d at p) ≡ joint z Both m o p
-both_other z n m at d None p = refl
-both_other z n m at d (Some h) None = refl
-both_other z n m at d (Some h) (Some k) = refl
+pub both_other : (ahead : ℕ) (z n m at : ℕ) (d : Done) (o p : Option Trace) → joint ahead z Both n o (did d at p) ≡ joint ahead z Both m o p
+both_other ahead z n m at d None p = refl
+both_other ahead z n m at d (Some h) None = refl
+both_other ahead z n m at d (Some h) (Some k) = refl
 
-pub both_same : (z n m : ℕ) (o p : Option Trace) → joint z Both n o p ≡ joint z Both m o p
-both_same z n m None p = refl
-both_same z n m (Some h) None = refl
-both_same z n m (Some h) (Some k) = refl
+pub both_same : (ahead : ℕ) (z n m : ℕ) (o p : Option Trace) → joint ahead z Both n o p ≡ joint ahead z Both m o p
+both_same ahead z n m None p = refl
+both_same ahead z n m (Some h) None = refl
+both_same ahead z n m (Some h) (Some k) = refl
 
-pub first_same : (z n m : ℕ) (o p : Option Trace) → joint z First n o p ≡ joint z First m o p
-first_same z n m None p = refl
-first_same z n m (Some h) None = refl
-first_same z n m (Some h) (Some k) = refl
+pub first_same : (ahead : ℕ) (z n m : ℕ) (o p : Option Trace) → joint ahead z First n o p ≡ joint ahead z First m o p
+first_same ahead z n m None p = refl
+first_same ahead z n m (Some h) None = refl
+first_same ahead z n m (Some h) (Some k) = refl
 
 -- a label that was written to the first half, and isn't fenced
-pub both_labelled : (z n m at : ℕ) (words : List ℕ) (o p : Option Trace) → joint z Both n (did (Wrote z words) at o) p ≡ joint z Both m o p
-both_labelled z n m at words None p = refl
-both_labelled z n m at words (Some h) None = refl
-both_labelled z n m at words (Some h) (Some k) =
+pub both_labelled : (ahead : ℕ) (z n m at : ℕ) (words : List ℕ) (o p : Option Trace) → joint ahead z Both n (did (Wrote z words) at o) p ≡ joint ahead z Both m o p
+both_labelled ahead z n m at words None p = refl
+both_labelled ahead z n m at words (Some h) None = refl
+both_labelled ahead z n m at words (Some h) (Some k) =
     ap (λ (done : List Effect). Some (record { first = take z h.first; done = numbered ahead done })) (shown_label z at words h.done)
 
 -- the first half is marked
-pub first_marked : (z n m at fence : ℕ) (words : List ℕ) (o p : Option Trace)
-    → joint z First n (did Fenced fence (did (Wrote z words) at o)) p ≡ joint z Both m o p
-first_marked z n m at fence words None p = refl
-first_marked z n m at fence words (Some h) None = refl
-first_marked z n m at fence words (Some h) (Some k) = rw (own_label z words) refl
+pub first_marked : (ahead : ℕ) (z n m at fence : ℕ) (words : List ℕ) (o p : Option Trace)
+    → joint ahead z First n (did Fenced fence (did (Wrote z words) at o)) p ≡ joint ahead z Both m o p
+first_marked ahead z n m at fence words None p = refl
+first_marked ahead z n m at fence words (Some h) None = refl
+first_marked ahead z n m at fence words (Some h) (Some k) = rw (own_label z words) refl
 
-pub first_pushed : (z n m at : ℕ) (d : Done) (o p : Option Trace) → top_is_label z (done_in o) ≡ false
-    → joint z First n (did d at o) p ≡ did d (min (at + (ahead - 2)) most) (joint z First m o p)
-first_pushed z n m at d None p top = refl
-first_pushed z n m at d (Some h) None top = refl
-first_pushed z n m at d (Some h) (Some k) top =
+pub first_pushed : (ahead : ℕ) (z n m at : ℕ) (d : Done) (o p : Option Trace) → top_is_label z (done_in o) ≡ false
+    → joint ahead z First n (did d at o) p ≡ did d (min (at + (ahead - 2)) most) (joint ahead z First m o p)
+first_pushed ahead z n m at d None p top = refl
+first_pushed ahead z n m at d (Some h) None top = refl
+first_pushed ahead z n m at d (Some h) (Some k) top =
     rw (above_pushed z (record { at = at; done = d }) h.done top, below_pushed z (record { at = at; done = d }) h.done top) refl
 
 -- The second half is marked: what it has made since is nothing.
-pub second_marked : (z n m at fence : ℕ) (words : List ℕ) (o p : Option Trace)
-    → joint z Second n o (did Fenced fence (did (Wrote z words) at p)) ≡ joint z Both m o p
-second_marked z n m at fence words None p = refl
-second_marked z n m at fence words (Some h) None = refl
-second_marked z n m at fence words (Some h) (Some k) =
+pub second_marked : (ahead : ℕ) (z n m at fence : ℕ) (words : List ℕ) (o p : Option Trace)
+    → joint ahead z Second n o (did Fenced fence (did (Wrote z words) at p)) ≡ joint ahead z Both m o p
+second_marked ahead z n m at fence words None p = refl
+second_marked ahead z n m at fence words (Some h) None = refl
+second_marked ahead z n m at fence words (Some h) (Some k) =
     let none : min 0 (length (above z h.done) - length (above z k.done)) ≡ 0 = omega arith in
     rw (own_label z words) (ap (λ (i : ℕ). Some (record { first = take z h.first; done = numbered ahead (drop i (shown z h.done)) })) none)
 
 -- the second half goes on
-pub second_pushed : (z n at : ℕ) (d : Done) (o : Option Trace) (k : Trace) → is_label z d ≡ false → top_is_label z k.done ≡ false → Settled z o (Some k)
-    → joint z Second n o (did d at (Some k)) ≡ did d (min (at + (n + ahead - 2 - label_at z k.done)) most) (joint z Second n o (Some k))
-second_pushed z n at d None k apart top settled = refl
-second_pushed z n at d (Some h) k apart top settled =
+pub second_pushed : (ahead : ℕ) (z n at : ℕ) (d : Done) (o : Option Trace) (k : Trace) → is_label z d ≡ false → top_is_label z k.done ≡ false → Settled z o (Some k)
+    → joint ahead z Second n o (did d at (Some k)) ≡ did d (min (at + (n + ahead - 2 - label_at z k.done)) most) (joint ahead z Second n o (Some k))
+second_pushed ahead z n at d None k apart top settled = refl
+second_pushed ahead z n at d (Some h) k apart top settled =
     ap (λ (x : List Effect × (List Effect × ℕ)). Some (record {
       first = take z h.first;
       done = numbered (n + ahead - 2 - x.1.1) x.0 ++ numbered ahead (drop (min (length x.0) (length (above z h.done) - length (above z x.1.0))) (shown z h.done));
@@ -136,12 +187,12 @@ second_pushed z n at d (Some h) k apart top settled =
     more l x le = omega (arith, le)
 
 -- The first half has made it and failed; the second one was marked, and makes it again.
-pub second_remade : (z n m at fence made again : ℕ) (words : List ℕ) (d : Done) (o p : Option Trace)
+pub second_remade : (ahead : ℕ) (z n m at fence made again : ℕ) (words : List ℕ) (d : Done) (o p : Option Trace)
     → is_label z d ≡ false → top_is_label z (done_in o) ≡ false → SameMade z o p
-    → joint z Second n (did d made o) (did d again (did Fenced fence (did (Wrote z words) at p))) ≡ did d (min (again + (n + ahead - 2 - at)) most) (joint z Both m o p)
-second_remade z n m at fence made again words d None p apart top same = refl
-second_remade z n m at fence made again words d (Some h) None apart top same = refl
-second_remade z n m at fence made again words d (Some h) (Some k) apart top same =
+    → joint ahead z Second n (did d made o) (did d again (did Fenced fence (did (Wrote z words) at p))) ≡ did d (min (again + (n + ahead - 2 - at)) most) (joint ahead z Both m o p)
+second_remade ahead z n m at fence made again words d None p apart top same = refl
+second_remade ahead z n m at fence made again words d (Some h) None apart top same = refl
+second_remade ahead z n m at fence made again words d (Some h) (Some k) apart top same =
     let e : Effect = record { at = again; done = d } in
     let f : Effect = record { at = made; done = d } in
     let marked : List Effect = marked_on z words at fence k.done in
@@ -162,7 +213,7 @@ second_remade z n m at fence made again words d (Some h) (Some k) apart top same
         → above z (record { at = again; done = d } ∷ marked_on z words at fence k.done) ≡ xs → below z (record { at = again; done = d } ∷ marked_on z words at fence k.done) ≡ us
         → label_at z (record { at = again; done = d } ∷ marked_on z words at fence k.done) ≡ l
         → shown z (record { at = made; done = d } ∷ h.done) ≡ ss → above z (record { at = made; done = d } ∷ h.done) ≡ ws
-        → joint z Second n (Some (record { first = h.first; done = record { at = made; done = d } ∷ h.done }))
+        → joint ahead z Second n (Some (record { first = h.first; done = record { at = made; done = d } ∷ h.done }))
         (Some (record { first = k.first; done = record { at = again; done = d } ∷ marked_on z words at fence k.done }))
         ≡ Some (record {
           first = take z h.first;

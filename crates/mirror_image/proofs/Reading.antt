@@ -7,7 +7,7 @@ use Rattle.line_image.specs.declared.effect.Effect.{Effect}
 use Rattle.line_image.specs.declared.effect.Done.{Done}
 use Rattle.line_image.specs.declared.effect.Done.TheVariants.{Wrote, Fenced}
 use Rattle.mirror_image.specs.declared.halves.Left.TheVariants.{Both, First}
-use Rattle.mirror_image.specs.Joint.{is_label, is_fence, top_is_label, fences_label, shown, above, below, ahead, numbered, joint}
+use Rattle.mirror_image.specs.Joint.{is_label, is_fence, top_is_label, fences_label, shown, above, below, numbered, joint}
 
 -- what a read gives of line l after this, where it gave these words before
 pub latest : Done → ℕ → List ℕ → List ℕ
@@ -87,19 +87,19 @@ read_above z k l first (e ∷ done) rest lt same = by_test (fences_label z e.don
         ∙ ap (latest e.done l) (before same)
         ∙ sym (read_next l first e done)
 
-pub read_both : (z n l : ℕ) (words : List ℕ) (o p : Option Trace) → l < z → Reads o l words → Reads (joint z Both n o p) l words
-read_both z n l words None p lt reads = tt
-read_both z n l words (Some h) None lt reads = tt
-read_both z n l words (Some h) (Some k) lt reads =
+pub read_both : (ahead : ℕ) (z n l : ℕ) (words : List ℕ) (o p : Option Trace) → l < z → Reads o l words → Reads (joint ahead z Both n o p) l words
+read_both ahead z n l words None p lt reads = tt
+read_both ahead z n l words (Some h) None lt reads = tt
+read_both ahead z n l words (Some h) (Some k) lt reads =
     let line = get_or-take z h.first l [] lt in
     reads ∙ sym (read_numbered ahead l (get_or (take z h.first) l []) (shown z h.done)
     ∙ read_shown z l (get_or (take z h.first) l []) h.done lt
     ∙ ap (λ (first : List ℕ). read_from first h.done l) line)
 
-pub read_first : (z n l : ℕ) (words : List ℕ) (o p : Option Trace) → l < z → Reads o l words → Reads (joint z First n o p) l words
-read_first z n l words None p lt reads = tt
-read_first z n l words (Some h) None lt reads = tt
-read_first z n l words (Some h) (Some k) lt reads =
+pub read_first : (ahead : ℕ) (z n l : ℕ) (words : List ℕ) (o p : Option Trace) → l < z → Reads o l words → Reads (joint ahead z First n o p) l words
+read_first ahead z n l words None p lt reads = tt
+read_first ahead z n l words (Some h) None lt reads = tt
+read_first ahead z n l words (Some h) (Some k) lt reads =
     let line = get_or-take z h.first l [] lt in
     let first = get_or (take z h.first) l [] in
     let rest = numbered ahead (shown z (below z h.done)) in

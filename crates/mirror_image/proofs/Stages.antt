@@ -1,12 +1,12 @@
 -- What a stop leaves of halves within a call.
 use Rattle.std.proofs.Common.{◌≡◌, inl, inr, ◌⊎◌, ◌<◌, ◌≤◌, ◌+◌, ◌-◌, ◌^◌, ℕ, zero, suc, List, [], ◌∷◌, Bool, true, false, nat_eq, nat_le, Option, Some, None, refl, ap, sym, subst, ◌∙◌, arith, length, drop, get_or, slice_index, if◌then◌else◌, ◌==◌, ◌||◌}
 use Rattle.std.proofs.lemmas.Bool.Decides.{nat_tests}
-use Rattle.line_image.specs.Trace.{Trace, did, newest, versions, versions_from, versions_after, OneHas, MayLeave, LeavesNow, Outcome}
+use Rattle.line_image.specs.Trace.{Trace, did, newest, versions, versions_from, versions_after, OneHas, MayLeave, LeavesNow, Outcome, read_word}
 use Rattle.line_image.specs.declared.effect.Effect.{Effect}
 use Rattle.line_image.specs.declared.effect.Done.{Done}
 use Rattle.line_image.specs.declared.effect.Done.TheVariants.{Wrote, Fenced}
 use Rattle.mirror_image.specs.Joint.{is_label}
-use Rattle.mirror_image.specs.Sound.{label_words, one_has, done_in}
+use Rattle.mirror_image.specs.Sound.{label_words, Tells, one_has, done_in}
 use Rattle.mirror_image.specs.Leaving.{BothTell}
 use Rattle.mirror_image.specs.Safe.{HasLabel, Includes}
 use Rattle.mirror_image.specs.Stops.{Made, without, led, generation_left, IsAlone, AreLeft, PairingShows}
@@ -174,10 +174,6 @@ labelled_may z g at d o p apart (inl is) label = subst (StagesLabelled z g o) (s
         each (suc (suc i)) made = absurd (omega (arith, made))
 
 -- it tells
-abbrev pub Tells : Option Trace → Type 0
-Tells None = ⊥
-Tells (Some t) = Unit {0}
-
 pub leaves_in : (z l w v : ℕ) (h : Trace) (t : Option Trace) → Tells t → Includes z (Some h) t → l < z → OneHas (versions h l) w v → MayLeave t l w v
 leaves_in z l w v h None tells incl lt has = absurd tells
 leaves_in z l w v h (Some t) tells incl lt has = one_has_is (versions t l) w v (incl h t refl refl l w v lt (has_one (versions h l) w v has))
@@ -188,20 +184,28 @@ greater m n is = grind (arith, nat_tests)
 at_most : (m n : ℕ) → nat_le m n ≡ true → m ≤ n
 at_most m n is = grind (arith, nat_tests)
 
+-- what reads give may be left
+newest_left : (vs : List (List ℕ)) (w : ℕ) → 0 < length vs → OneHas vs w (slice_index (newest vs) w)
+newest_left [] w some = absurd (omega (arith, some))
+newest_left (words ∷ vs) w some = inl refl
+
+readable : (h : Trace) → LeavesNow (Some h) (read_word h)
+readable h l w = newest_left (versions h l) w (from_some (get_or h.first l []) h.done l)
+
 -- neither half shows what the mirror doesn't
-pub both_show : (z next : ℕ) (o p t : Option Trace) → (BothTell o p → Tells t) → Includes z o t → Includes z p t → PairingShows z next o p t
-both_show z next None p t tells in_o in_p tell c d left l w lt = absurd tell
-both_show z next (Some h) None t tells in_o in_p tell c d left l w lt = absurd tell
-both_show z next (Some h) (Some k) t tells in_o in_p tell c d left l w lt =
+pub both_show : (z : ℕ) (o p t : Option Trace) → (BothTell o p → Tells t) → Includes z o t → Includes z p t → PairingShows z o p t
+both_show z None p t tells in_o in_p tell c d left l w lt = absurd tell
+both_show z (Some h) None t tells in_o in_p tell c d left l w lt = absurd tell
+both_show z (Some h) (Some k) t tells in_o in_p tell c d left l w lt =
     by_test (nat_le (generation_left z d) (generation_left z c)) refl
   where
     first : nat_le (generation_left z d) (generation_left z c) ≡ true
-        → LeavesNow (Some h) c ⊎ (IsAlone z next (Some k) × (generation_left z c < generation_left z d)) → MayLeave t l w (c l w)
+        → LeavesNow (Some h) c ⊎ (IsAlone z (Some k) (Some h) × (generation_left z c < generation_left z d)) → MayLeave t l w (c l w)
     first is (inl leaves) = leaves_in z l w (c l w) h t (tells tell) in_o lt (leaves l w)
     first is (inr lost) = absurd (omega (arith, at_most _ _ is, lost.1))
 
     second : nat_le (generation_left z d) (generation_left z c) ≡ false
-        → LeavesNow (Some k) d ⊎ (IsAlone z next (Some h) × (generation_left z d < generation_left z c)) → MayLeave t l w (d l w)
+        → LeavesNow (Some k) d ⊎ (IsAlone z (Some h) (Some k) × (generation_left z d < generation_left z c)) → MayLeave t l w (d l w)
     second is (inl leaves) = leaves_in z l w (d l w) k t (tells tell) in_p lt (leaves l w)
     second is (inr lost) = absurd (omega (arith, greater _ _ is, lost.1))
 
@@ -224,23 +228,23 @@ label_left z g h c label leaves =
 
 -- the first half alone
 pub first_show : (z next g : ℕ) (o p t : Option Trace) → (BothTell o p → Tells t) → g < next → HasLabel z next o → HasLabel z g p → Includes z o t
-    → PairingShows z next o p t
+    → PairingShows z o p t
 first_show z next g None p t tells less label_o label_p in_o tell c d left l w lt = absurd tell
 first_show z next g (Some h) None t tells less label_o label_p in_o tell c d left l w lt = absurd tell
 first_show z next g (Some h) (Some k) t tells less label_o label_p in_o tell c d left l w lt =
     by_test (nat_le (generation_left z d) (generation_left z c)) refl
   where
     first : nat_le (generation_left z d) (generation_left z c) ≡ true
-        → LeavesNow (Some h) c ⊎ (IsAlone z next (Some k) × (generation_left z c < generation_left z d)) → MayLeave t l w (c l w)
+        → LeavesNow (Some h) c ⊎ (IsAlone z (Some k) (Some h) × (generation_left z c < generation_left z d)) → MayLeave t l w (c l w)
     first is (inl leaves) = leaves_in z l w (c l w) h t (tells tell) in_o lt (leaves l w)
     first is (inr lost) = absurd (omega (arith, at_most _ _ is, lost.1))
 
     never : {X : Type 0} → nat_le (generation_left z d) (generation_left z c) ≡ false
-        → LeavesNow (Some h) c ⊎ (IsAlone z next (Some k) × (generation_left z c < generation_left z d))
-        → LeavesNow (Some k) d ⊎ (IsAlone z next (Some h) × (generation_left z d < generation_left z c)) → X
+        → LeavesNow (Some h) c ⊎ (IsAlone z (Some k) (Some h) × (generation_left z c < generation_left z d))
+        → LeavesNow (Some k) d ⊎ (IsAlone z (Some h) (Some k) × (generation_left z d < generation_left z c)) → X
     never is (inl one) (inl two) = absurd (omega (arith, greater _ _ is, less, label_left z next h c (label_o h refl) one, label_left z g k d (label_p k refl) two))
     never is one (inr lost) = absurd (omega (arith, greater _ _ is, lost.1))
-    never is (inr lost) (inl two) = absurd (omega (arith, less, lost.0 d two, label_left z g k d (label_p k refl) two))
+    never is (inr lost) (inl two) = absurd (omega (arith, less, lost.0 d (read_word h) two (readable h), label_left z next h (read_word h) (label_o h refl) (readable h), label_left z g k d (label_p k refl) two))
 
     by_test : (b : Bool) → nat_le (generation_left z d) (generation_left z c) ≡ b → MayLeave t l w ((if b then c else d) l w)
     by_test true is = first is left.first
@@ -248,23 +252,23 @@ first_show z next g (Some h) (Some k) t tells less label_o label_p in_o tell c d
 
 -- the second half alone
 pub second_show : (z next g : ℕ) (o p t : Option Trace) → (BothTell o p → Tells t) → g < next → HasLabel z g o → HasLabel z next p → Includes z p t
-    → PairingShows z next o p t
+    → PairingShows z o p t
 second_show z next g None p t tells less label_o label_p in_p tell c d left l w lt = absurd tell
 second_show z next g (Some h) None t tells less label_o label_p in_p tell c d left l w lt = absurd tell
 second_show z next g (Some h) (Some k) t tells less label_o label_p in_p tell c d left l w lt =
     by_test (nat_le (generation_left z d) (generation_left z c)) refl
   where
     second : nat_le (generation_left z d) (generation_left z c) ≡ false
-        → LeavesNow (Some k) d ⊎ (IsAlone z next (Some h) × (generation_left z d < generation_left z c)) → MayLeave t l w (d l w)
+        → LeavesNow (Some k) d ⊎ (IsAlone z (Some h) (Some k) × (generation_left z d < generation_left z c)) → MayLeave t l w (d l w)
     second is (inl leaves) = leaves_in z l w (d l w) k t (tells tell) in_p lt (leaves l w)
     second is (inr lost) = absurd (omega (arith, greater _ _ is, lost.1))
 
     never : {X : Type 0} → nat_le (generation_left z d) (generation_left z c) ≡ true
-        → LeavesNow (Some h) c ⊎ (IsAlone z next (Some k) × (generation_left z c < generation_left z d))
-        → LeavesNow (Some k) d ⊎ (IsAlone z next (Some h) × (generation_left z d < generation_left z c)) → X
+        → LeavesNow (Some h) c ⊎ (IsAlone z (Some k) (Some h) × (generation_left z c < generation_left z d))
+        → LeavesNow (Some k) d ⊎ (IsAlone z (Some h) (Some k) × (generation_left z d < generation_left z c)) → X
     never is (inl one) (inl two) = absurd (omega (arith, at_most _ _ is, less, label_left z g h c (label_o h refl) one, label_left z next k d (label_p k refl) two))
     never is (inr lost) two = absurd (omega (arith, at_most _ _ is, lost.1))
-    never is (inl one) (inr lost) = absurd (omega (arith, less, lost.0 c one, label_left z g h c (label_o h refl) one))
+    never is (inl one) (inr lost) = absurd (omega (arith, less, lost.0 c (read_word k) one (readable k), label_left z next k (read_word k) (label_p k refl) (readable k), label_left z g h c (label_o h refl) one))
 
     by_test : (b : Bool) → nat_le (generation_left z d) (generation_left z c) ≡ b → MayLeave t l w ((if b then c else d) l w)
     by_test true is = never is left.first left.second

@@ -1,13 +1,13 @@
 -- What holds of a mirror after a call, from what the calls on its halves did.
-use Rattle.std.proofs.Common.{◌≡◌, ◌⊎◌, inl, inr, ◌≤◌, ℕ, zero, suc, Bool, true, false, Option, Some, None, All, sym, subst, ◌∙◌, arith}
+use Rattle.std.proofs.Common.{◌≡◌, ◌⊎◌, inl, inr, ◌≤◌, ◌-◌, ℕ, zero, suc, Bool, true, false, Option, Some, None, All, sym, subst, ◌∙◌, arith}
 use Rattle.line_image.specs.Trace.{Trace, did}
 use Rattle.line_image.specs.Told.{Told}
 use Rattle.line_image.specs.declared.effect.Effect.{Effect}
 use Rattle.line_image.specs.declared.effect.Done.{Done}
 use Rattle.mirror_image.specs.declared.halves.Left.{Left}
 use Rattle.mirror_image.specs.declared.halves.Left.TheVariants.{Both, First, Second}
-use Rattle.mirror_image.specs.Joint.{calls_by, told_by}
-use Rattle.mirror_image.specs.Sound.{IsSound, BothLive, FirstLives, SecondLives, done_in, both_used, first_used, second_used}
+use Rattle.mirror_image.specs.Joint.{calls_by, told_from, ahead_by}
+use Rattle.mirror_image.specs.Sound.{IsSoundBy, BothLive, FirstLives, SecondLives, done_in, both_used, first_used, second_used}
 
 abbrev pub SoFar : ℕ → Option Trace → Type 0
 SoFar n o = All (λ (effect : Effect). effect.at ≤ n) (done_in o)
@@ -44,12 +44,13 @@ never_second First e = cc
 never_second Second e = cc
 
 -- both halves have failed
-pub sound_dead : (a b a' b' : Told) (left left' : Left) (alive : Bool) (less extra less' extra' : ℕ)
-    → IsSound a b left alive less extra → a'.size ≡ a.size → b'.size ≡ b.size → less' ≤ 2
-    → calls_by a.calls less extra ≤ calls_by a'.calls less' extra'
-    → Adds (calls_by a'.calls less' extra') (told_by a b left less extra).trace (told_by a' b' left' less' extra').trace
-    → IsSound a' b' left' false less' extra'
-sound_dead a b a' b' left left' alive less extra less' extra' sound size_a size_b few later adds = record {
+pub sound_dead : (ahead : ℕ) (a b a' b' : Told) (left left' : Left) (alive : Bool) (less extra less' extra' : ℕ)
+    → IsSoundBy ahead a b left alive less extra → ahead ≡ ahead_by (a'.size - 1) left' b'.trace → a'.size ≡ a.size → b'.size ≡ b.size → less' ≤ 2
+    → calls_by ahead a.calls less extra ≤ calls_by ahead a'.calls less' extra'
+    → Adds (calls_by ahead a'.calls less' extra') (told_from ahead a b left less extra).trace (told_from ahead a' b' left' less' extra').trace
+    → IsSoundBy ahead a' b' left' false less' extra'
+sound_dead ahead a b a' b' left left' alive less extra less' extra' sound number size_a size_b few later adds = record {
+  number = number;
   some = omega (arith, size_a, sound.some);
   sizes = size_b ∙ sound.sizes ∙ sym size_a;
   few = few;
@@ -59,13 +60,14 @@ sound_dead a b a' b' left left' alive less extra less' extra' sound size_a size_
   second = never_second left';
 }
 
-pub sound_both : (a b a' b' : Told) (less extra : ℕ)
-    → IsSound a b Both true less extra → a'.size ≡ a.size → b'.size ≡ b.size
-    → calls_by a.calls less extra ≤ calls_by a'.calls less extra
-    → Adds (calls_by a'.calls less extra) (told_by a b Both less extra).trace (told_by a' b' Both less extra).trace
-    → BothLive a' b' less extra
-    → IsSound a' b' Both true less extra
-sound_both a b a' b' less extra sound size_a size_b later adds lives = record {
+pub sound_both : (ahead : ℕ) (a b a' b' : Told) (less extra : ℕ)
+    → IsSoundBy ahead a b Both true less extra → ahead ≡ ahead_by (a'.size - 1) Both b'.trace → a'.size ≡ a.size → b'.size ≡ b.size
+    → calls_by ahead a.calls less extra ≤ calls_by ahead a'.calls less extra
+    → Adds (calls_by ahead a'.calls less extra) (told_from ahead a b Both less extra).trace (told_from ahead a' b' Both less extra).trace
+    → BothLive ahead a' b' less extra
+    → IsSoundBy ahead a' b' Both true less extra
+sound_both ahead a b a' b' less extra sound number size_a size_b later adds lives = record {
+  number = number;
   some = omega (arith, size_a, sound.some);
   sizes = size_b ∙ sound.sizes ∙ sym size_a;
   few = sound.few;
@@ -75,13 +77,14 @@ sound_both a b a' b' less extra sound size_a size_b later adds lives = record {
   second = λ e. cc;
 }
 
-pub sound_first : (a b a' b' : Told) (left : Left) (less extra less' extra' : ℕ)
-    → IsSound a b left true less extra → a'.size ≡ a.size → b'.size ≡ b.size
-    → calls_by a.calls less extra ≤ calls_by a'.calls less' extra'
-    → Adds (calls_by a'.calls less' extra') (told_by a b left less extra).trace (told_by a' b' First less' extra').trace
+pub sound_first : (ahead : ℕ) (a b a' b' : Told) (left : Left) (less extra less' extra' : ℕ)
+    → IsSoundBy ahead a b left true less extra → ahead ≡ ahead_by (a'.size - 1) First b'.trace → a'.size ≡ a.size → b'.size ≡ b.size
+    → calls_by ahead a.calls less extra ≤ calls_by ahead a'.calls less' extra'
+    → Adds (calls_by ahead a'.calls less' extra') (told_from ahead a b left less extra).trace (told_from ahead a' b' First less' extra').trace
     → FirstLives a' less' extra'
-    → IsSound a' b' First true less' extra'
-sound_first a b a' b' left less extra less' extra' sound size_a size_b later adds lives = record {
+    → IsSoundBy ahead a' b' First true less' extra'
+sound_first ahead a b a' b' left less extra less' extra' sound number size_a size_b later adds lives = record {
+  number = number;
   some = omega (arith, size_a, sound.some);
   sizes = size_b ∙ sound.sizes ∙ sym size_a;
   few = omega (arith, lives.two_less);
@@ -91,13 +94,14 @@ sound_first a b a' b' left less extra less' extra' sound size_a size_b later add
   second = λ e. cc;
 }
 
-pub sound_second : (a b a' b' : Told) (left : Left) (less extra less' extra' : ℕ)
-    → IsSound a b left true less extra → a'.size ≡ a.size → b'.size ≡ b.size
-    → calls_by a.calls less extra ≤ calls_by a'.calls less' extra'
-    → Adds (calls_by a'.calls less' extra') (told_by a b left less extra).trace (told_by a' b' Second less' extra').trace
-    → SecondLives a' b' less' extra'
-    → IsSound a' b' Second true less' extra'
-sound_second a b a' b' left less extra less' extra' sound size_a size_b later adds lives = record {
+pub sound_second : (ahead : ℕ) (a b a' b' : Told) (left : Left) (less extra less' extra' : ℕ)
+    → IsSoundBy ahead a b left true less extra → ahead ≡ ahead_by (a'.size - 1) Second b'.trace → a'.size ≡ a.size → b'.size ≡ b.size
+    → calls_by ahead a.calls less extra ≤ calls_by ahead a'.calls less' extra'
+    → Adds (calls_by ahead a'.calls less' extra') (told_from ahead a b left less extra).trace (told_from ahead a' b' Second less' extra').trace
+    → SecondLives ahead a' b' less' extra'
+    → IsSoundBy ahead a' b' Second true less' extra'
+sound_second ahead a b a' b' left less extra less' extra' sound number size_a size_b later adds lives = record {
+  number = number;
   some = omega (arith, size_a, sound.some);
   sizes = size_b ∙ sound.sizes ∙ sym size_a;
   few = omega (arith, lives.none_less);

@@ -50,11 +50,10 @@ IsNotCleared z (Some g) old new = ⊥
 IsNotCleared z None old new =
     (new.trace ≡ did (Wrote z zero_words) (next_count old.calls) old.trace) ⊎ (new.trace ≡ old.trace)
 
--- the last that was done to it is this label and its fence
-pub record IsLabelled (z g : ℕ) (o : Option Trace) : Type 0 where
+-- the last that was done to it is this label and its fence, call number `fence`
+pub record IsLabelled (z g fence : ℕ) (o : Option Trace) : Type 0 where
   pub before : Option Trace
   pub at : ℕ
-  pub fence : ℕ
   pub is : o ≡ did Fenced fence (did (Wrote z (label_words g)) at before)
 
 -- where the one tells, the other does, and reads of the lines below z give the same

@@ -8,4 +8,5 @@ pub mod Mirror
 pub mod Leaving
 pub mod Safe
 pub mod Stops
+pub mod Calls
 pub mod Halfway

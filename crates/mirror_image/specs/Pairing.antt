@@ -17,20 +17,22 @@ OneRose a a' b b' = Rose a a' ⊎ Rose b b'
 -- The leader was marked, and the other half, which reads as the leader, too.
 pub record IsLed (z generation : ℕ) (l o l' o' : Told) : Type 0 where
   pub leader : l'.trace ≡ did Fenced (next_count (next_count l.calls)) (did (Wrote z (label_words generation)) (next_count l.calls) l.trace)
-  pub labelled : IsLabelled z generation o'.trace
+  pub labelled : IsLabelled z generation o'.calls o'.trace
   pub alike : ReadsAlike z o'.trace l'.trace
   pub leader_calls : l'.calls ≡ min (l.calls + z + 2) most
   pub other_calls : o'.calls ≡ min (o.calls + z + 5) most
 
--- Both were marked, and read alike, as the one that leads did.
+-- Both were marked, and read alike, as the one that leads did; `mark_a` and `mark_b` are the numbers of the fences.
 pub record ArePaired (z generation : ℕ) (first_leads : Bool) (a b a' b' : Told) : Type 0 where
-  pub labelled_a : IsLabelled z generation a'.trace
-  pub labelled_b : IsLabelled z generation b'.trace
+  pub mark_a : ℕ
+  pub labelled_a : IsLabelled z generation mark_a a'.trace
+  pub mark_b : ℕ
+  pub labelled_b : IsLabelled z generation mark_b b'.trace
   pub alike : ReadsAlike z b'.trace a'.trace
   pub leads_first : first_leads ≡ true → a'.trace ≡ did Fenced (next_count (next_count a.calls)) (did (Wrote z (label_words generation)) (next_count a.calls) a.trace)
   pub leads_second : first_leads ≡ false → b'.trace ≡ did Fenced (next_count (next_count b.calls)) (did (Wrote z (label_words generation)) (next_count b.calls) b.trace)
-  pub low : min (a.calls + z + 2) most ≤ a'.calls
-  pub high : b'.calls ≤ b.calls + z + 5
+  pub low : min (z + 2) most ≤ a'.calls
+  pub high : b'.calls ≤ mark_b + z
 
 -- the last that was done to it is a fence
 pub record IsJustFenced (o : Option Trace) : Type 0 where

@@ -7,7 +7,7 @@ use Rattle.line_image.specs.declared.effect.Effect.{Effect}
 use Rattle.line_image.specs.declared.effect.Done.TheVariants.{Wrote, Fenced}
 use Rattle.mirror_image.specs.declared.halves.Left.{Left}
 use Rattle.mirror_image.specs.declared.halves.Left.TheVariants.{Both, First, Second}
-use Rattle.mirror_image.specs.Joint.{top_is_label, above, below, label_at, most, ahead, calls_by, told_by}
+use Rattle.mirror_image.specs.Joint.{top_is_label, above, below, label_at, most, ahead_by, calls_by, told_from}
 
 -- the words of a label of this generation; word 0 is the bytes APMIRROR
 abbrev pub label_words : ℕ → List ℕ
@@ -62,15 +62,19 @@ second_used Both alive = false
 second_used First alive = false
 second_used Second alive = alive
 
+abbrev pub Tells : Option Trace → Type 0
+Tells None = ⊥
+Tells (Some h) = Unit {0}
+
 -- both halves are used
-pub record BothLive (a b : Told) (less extra : ℕ) : Type 0 where
+pub record BothLive (ahead : ℕ) (a b : Told) (less extra : ℕ) : Type 0 where
   pub none_less : less ≡ 0
   pub none_extra : extra ≡ 0
-  pub lag : b.calls + 4 ≤ a.calls + ahead
+  pub lag : Tells b.trace → b.calls + 4 ≤ a.calls + ahead
   pub top_a : top_is_label (a.size - 1) (done_in a.trace) ≡ false
   pub top_b : top_is_label (a.size - 1) (done_in b.trace) ≡ false
   pub same : SameMade (a.size - 1) a.trace b.trace
-  pub reads : LeavesAlike (a.size - 1) b.trace (told_by a b Both less extra).trace
+  pub reads : LeavesAlike (a.size - 1) b.trace (told_from ahead a b Both less extra).trace
 
 -- the first half alone
 pub record FirstLives (a : Told) (less extra : ℕ) : Type 0 where
@@ -79,22 +83,26 @@ pub record FirstLives (a : Told) (less extra : ℕ) : Type 0 where
   pub top : top_is_label (a.size - 1) (done_in a.trace) ≡ false
 
 -- the second half alone; its next call's number, as the mirror counts it, is the mirror's next one
-pub record SecondLives (a b : Told) (less extra : ℕ) : Type 0 where
+pub record SecondLives (ahead : ℕ) (a b : Told) (less extra : ℕ) : Type 0 where
   pub none_less : less ≡ 0
   pub top : top_is_label (a.size - 1) (done_in b.trace) ≡ false
   pub settled : Settled (a.size - 1) a.trace b.trace
-  pub reads : LeavesAlike (a.size - 1) b.trace (told_by a b Second less extra).trace
+  pub reads : LeavesAlike (a.size - 1) b.trace (told_from ahead a b Second less extra).trace
   pub step : (h : Trace) → b.trace ≡ Some h
-      → min (b.calls + (a.calls + ahead - 2 - label_at (a.size - 1) h.done)) most ≡ calls_by a.calls less extra
+      → min (b.calls + (a.calls + ahead - 2 - label_at (a.size - 1) h.done)) most ≡ calls_by ahead a.calls less extra
 
-pub record IsSound (a b : Told) (left : Left) (alive : Bool) (less extra : ℕ) : Type 0 where
+pub record IsSoundBy (ahead : ℕ) (a b : Told) (left : Left) (alive : Bool) (less extra : ℕ) : Type 0 where
+  pub number : ahead ≡ ahead_by (a.size - 1) left b.trace
   pub some : 0 < a.size
   pub sizes : b.size ≡ a.size
   pub few : less ≤ 2
-  pub so_far : All (λ (effect : Effect). effect.at ≤ calls_by a.calls less extra) (done_in (told_by a b left less extra).trace)
-  pub both : both_used left alive ≡ true → BothLive a b less extra
+  pub so_far : All (λ (effect : Effect). effect.at ≤ calls_by ahead a.calls less extra) (done_in (told_from ahead a b left less extra).trace)
+  pub both : both_used left alive ≡ true → BothLive ahead a b less extra
   pub first : first_used left alive ≡ true → FirstLives a less extra
-  pub second : second_used left alive ≡ true → SecondLives a b less extra
+  pub second : second_used left alive ≡ true → SecondLives ahead a b less extra
+
+abbrev pub IsSound : Told → Told → Left → Bool → ℕ → ℕ → Type 0
+IsSound a b left alive less extra = IsSoundBy (ahead_by (a.size - 1) left b.trace) a b left alive less extra
 
 -- it has been marked: the label was written and fenced
 pub record IsMarked (z generation : ℕ) (old new : Told) : Type 0 where

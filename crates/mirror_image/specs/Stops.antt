@@ -14,19 +14,20 @@ generation_left z c = generation (label_of (c z 0) (c z 1))
 abbrev pub led : ℕ → Outcome → Outcome → Outcome
 led z c d = if nat_le (generation_left z d) (generation_left z c) then c else d
 
--- it is marked as left alone: whatever a stop now leaves of it is of this generation
-abbrev pub IsAlone : ℕ → ℕ → Option Trace → Type 0
-IsAlone z next o = (c : Outcome) → LeavesNow o c → generation_left z c ≡ next
+-- The half that tells o is marked as left alone: whatever a stop now leaves of it is of greater generation than what it
+-- leaves of the other, which tells p.
+abbrev pub IsAlone : ℕ → Option Trace → Option Trace → Type 0
+IsAlone z o p = (c d : Outcome) → LeavesNow o c → LeavesNow p d → generation_left z d < generation_left z c
 
 -- A stop leaves these words of the two halves: of each what it told may be left; or anything of lesser generation, once
 -- the other one is marked as left alone.
-pub record AreLeft (z next : ℕ) (o p : Option Trace) (c d : Outcome) : Type 0 where
-  pub first : LeavesNow o c ⊎ (IsAlone z next p × (generation_left z c < generation_left z d))
-  pub second : LeavesNow p d ⊎ (IsAlone z next o × (generation_left z d < generation_left z c))
+pub record AreLeft (z : ℕ) (o p : Option Trace) (c d : Outcome) : Type 0 where
+  pub first : LeavesNow o c ⊎ (IsAlone z p o × (generation_left z c < generation_left z d))
+  pub second : LeavesNow p d ⊎ (IsAlone z o p × (generation_left z d < generation_left z c))
 
 -- Where both halves tell, pairing what a stop now leaves of them shows of each shown line what a stop may leave of the mirror.
-abbrev pub PairingShows : ℕ → ℕ → Option Trace → Option Trace → Option Trace → Type 0
-PairingShows z next o p t = BothTell o p → (c d : Outcome) → AreLeft z next o p c d
+abbrev pub PairingShows : ℕ → Option Trace → Option Trace → Option Trace → Type 0
+PairingShows z o p t = BothTell o p → (c d : Outcome) → AreLeft z o p c d
     → (l w : ℕ) → l < z → MayLeave t l w (led z c d l w)
 
 -- the same without the newest n writes and fences
@@ -40,9 +41,9 @@ Made n o p = n + length (done_in o) ≤ length (done_in p)
 
 -- The same for a stop within a call that makes o' and p' of the halves: each has made some of it by then. Of what is told
 -- after the call, what was done within it counts, as long as the count of the calls isn't full.
-abbrev pub StopsShow : ℕ → ℕ → Option Trace → Option Trace → Option Trace → Option Trace → Told → Told → Type 0
-StopsShow z next o p o' p' told told' = told.calls < 2 ^ 64 - 1 → (i j : ℕ) → Made i o o' → Made j p p'
-    → PairingShows z next (without i o') (without j p') (trace_within told'.calls told'.trace)
+abbrev pub StopsShow : ℕ → Option Trace → Option Trace → Option Trace → Option Trace → Told → Told → Type 0
+StopsShow z o p o' p' told told' = told.calls < 2 ^ 64 - 1 → (i j : ℕ) → Made i o o' → Made j p p'
+    → PairingShows z (without i o') (without j p') (trace_within told'.calls told'.trace)
 
 -- A stop within pairing, which makes o' and p' of halves that were all fenced: pairing what is left of both shows what the
 -- leader's reads gave.

@@ -1,11 +1,15 @@
 // Two halves, and which of them are used.
-ghost use Rattle.std.specs.Prelude.{◌≡◌, ◌<◌, ◌≤◌, ◌+◌, ◌-◌, ◌^◌};
+ghost use Rattle.std.specs.Prelude.{◌≡◌, ◌<◌, ◌-◌, true, OnOk, OnErr};
 ghost use Rattle.ap_base.specs.Causes.{HasCause};
+ghost use Rattle.line_image.specs.Trace.{Reads};
+ghost use Rattle.line_image.specs.declared.effect.Done.TheVariants.{Wrote, Fenced};
+ghost use Rattle.mirror_image.specs.Calls.{Called, IsSame, Did, MayHave};
 ghost use Rattle.mirror_image.specs.Sound.{IsSound};
 ghost use Rattle.mirror_image.specs.Leaving.{UsedLeave};
 ghost use Rattle.mirror_image.specs.Joint.{told_by};
 ghost use Rattle.mirror_image.specs.Safe.{IsSafe};
 ghost use Rattle.mirror_image.specs.Stops.{PairingShows};
+ghost use Rattle.mirror_image.specs.declared.halves.Left.TheVariants.{Both as Two};
 
 use crate::labels::mark;
 use line_image::{Image, ImageFailed};
@@ -38,7 +42,7 @@ pub(crate) struct Halves<A: Image, B: Image> {
 impl<A: Image, B: Image> Halves<A, B> {
     /// What a stop between two calls leaves of a half that is used, it leaves of the mirror. Does nothing.
     pub(crate) fn law_of_stops(&self)
-        ensures paired { PairingShows ((A.told self.now.a).size - 1) self.now.generation (A.told self.now.a).trace (B.told self.now.b).trace
+        ensures paired { PairingShows ((A.told self.now.a).size - 1) (A.told self.now.a).trace (B.told self.now.b).trace
             (told_by (A.told self.now.a) (B.told self.now.b) self.now.left self.now.less self.now.extra).trace }
         ensures used { UsedLeave (A.told self.now.a) (B.told self.now.b) self.now.left self.now.alive self.now.less self.now.extra }
     {}
@@ -49,35 +53,22 @@ impl<A: Image, B: Image> Halves<A, B> {
     {
         (self.a, self.b)
     }
-}
 
-impl<A: Image, B: Image> Image for Halves<A, B> {
-    ghost use Rattle.std.specs.Prelude.{◌⊎◌, OnOk, OnErr};
-    ghost use Rattle.ap_base.specs.Causes.{HasCause, next_count};
-    ghost use Rattle.line_image.specs.Trace.{Reads, did};
-    ghost use Rattle.line_image.specs.declared.effect.Done.TheVariants.{Wrote, Fenced};
-    ghost use Rattle.mirror_image.specs.Joint.{told_by};
-    ghost use Rattle.mirror_image.specs.Order.{in_order_by};
-    ghost use Rattle.mirror_image.specs.Stops.{StopsShow};
-
-    ghost told = { λ m. told_by (A.told m.a) (B.told m.b) m.left m.less m.extra };
-
-    ghost faults = { λ m. m.faults };
-
-    fn lines(&self) -> u64 {
+    /// How many lines are shown.
+    pub(crate) fn lines(&self) -> u64
+        ensures { result ≡ (A.told self.now.a).size - 1 }
+    {
         self.a.lines() - 1
     }
 
-    fn read_line(&mut self, line: u64, into: &mut [u64; 8]) -> Result<(), ImageFailed>
-        requires { line < (told_by (A.told self.old.a) (B.told self.old.b) self.old.left self.old.less self.old.extra).size }
-        ensures size { (told_by (A.told self.new.a) (B.told self.new.b) self.new.left self.new.less self.new.extra).size ≡ (told_by (A.told self.old.a) (B.told self.old.b) self.old.left self.old.less self.old.extra).size }
-        ensures counted { (told_by (A.told self.new.a) (B.told self.new.b) self.new.left self.new.less self.new.extra).calls ≡ next_count (told_by (A.told self.old.a) (B.told self.old.b) self.old.left self.old.less self.old.extra).calls }
-        ensures same { (told_by (A.told self.new.a) (B.told self.new.b) self.new.left self.new.less self.new.extra).trace ≡ (told_by (A.told self.old.a) (B.told self.old.b) self.old.left self.old.less self.old.extra).trace }
+    /// Reads a line of the first half, or of the one that is left.
+    pub(crate) fn read_line(&mut self, line: u64, into: &mut [u64; 8]) -> Result<(), ImageFailed>
+        requires { line < (A.told self.old.a).size - 1 }
+        ensures call { Called IsSame (A.told self.old.a) (B.told self.old.b) self.old.left self.old.less self.old.extra
+            (A.told self.new.a) (B.told self.new.b) self.new.left self.new.less self.new.extra }
         ensures words { OnOk result (Reads (told_by (A.told self.old.a) (B.told self.old.b) self.old.left self.old.less self.old.extra).trace line into.new) }
         ensures untouched { OnErr result (into.new ≡ into.old) }
         ensures cause { HasCause self.old.faults self.new.faults result }
-        ensures stops { StopsShow ((A.told self.old.a).size - 1) self.old.generation (A.told self.old.a).trace (B.told self.old.b).trace
-            (A.told self.new.a).trace (B.told self.new.b).trace (told_by (A.told self.old.a) (B.told self.old.b) self.old.left self.old.less self.old.extra) (told_by (A.told self.new.a) (B.told self.new.b) self.new.left self.new.less self.new.extra) }
     {
         if !self.alive {
             self.extra = self.extra.saturating_add(1);
@@ -85,23 +76,7 @@ impl<A: Image, B: Image> Image for Halves<A, B> {
             return Err(ImageFailed);
         }
         match self.left {
-            Left::Both => {
-                if self.a.read_line(line, into).is_ok() {
-                    return Ok(());
-                }
-                if mark(&mut self.b, self.a.lines() - 1, self.generation).is_err() {
-                    self.alive = false;
-                    self.faults = self.faults.saturating_add(1);
-                    return Err(ImageFailed);
-                }
-                self.left = Left::Second; // for good
-                if self.b.read_line(line, into).is_ok() {
-                    return Ok(());
-                }
-                self.alive = false;
-                self.faults = self.faults.saturating_add(1);
-                Err(ImageFailed)
-            }
+            Left::Both => self.read_both(line, into),
             Left::First => {
                 if self.a.read_line(line, into).is_ok() {
                     return Ok(());
@@ -122,18 +97,14 @@ impl<A: Image, B: Image> Image for Halves<A, B> {
         }
     }
 
-    fn write_line(&mut self, line: u64, words: &[u64; 8]) -> Result<(), ImageFailed>
-        requires { line < (told_by (A.told self.old.a) (B.told self.old.b) self.old.left self.old.less self.old.extra).size }
-        ensures size { (told_by (A.told self.new.a) (B.told self.new.b) self.new.left self.new.less self.new.extra).size ≡ (told_by (A.told self.old.a) (B.told self.old.b) self.old.left self.old.less self.old.extra).size }
-        ensures counted { (told_by (A.told self.new.a) (B.told self.new.b) self.new.left self.new.less self.new.extra).calls ≡ next_count (told_by (A.told self.old.a) (B.told self.old.b) self.old.left self.old.less self.old.extra).calls }
-        ensures written { OnOk result ((told_by (A.told self.new.a) (B.told self.new.b) self.new.left self.new.less self.new.extra).trace
-            ≡ did (Wrote line words.now) (told_by (A.told self.new.a) (B.told self.new.b) self.new.left self.new.less self.new.extra).calls (told_by (A.told self.old.a) (B.told self.old.b) self.old.left self.old.less self.old.extra).trace) }
-        ensures failed { OnErr result (((told_by (A.told self.new.a) (B.told self.new.b) self.new.left self.new.less self.new.extra).trace
-            ≡ did (Wrote line words.now) (told_by (A.told self.new.a) (B.told self.new.b) self.new.left self.new.less self.new.extra).calls (told_by (A.told self.old.a) (B.told self.old.b) self.old.left self.old.less self.old.extra).trace)
-            ⊎ ((told_by (A.told self.new.a) (B.told self.new.b) self.new.left self.new.less self.new.extra).trace ≡ (told_by (A.told self.old.a) (B.told self.old.b) self.old.left self.old.less self.old.extra).trace)) }
+    /// Writes a line of both halves, or of the one that is left.
+    pub(crate) fn write_line(&mut self, line: u64, words: &[u64; 8]) -> Result<(), ImageFailed>
+        requires { line < (A.told self.old.a).size - 1 }
+        ensures wrote { OnOk result (Called (Did (Wrote line words.now)) (A.told self.old.a) (B.told self.old.b) self.old.left self.old.less self.old.extra
+            (A.told self.new.a) (B.told self.new.b) self.new.left self.new.less self.new.extra) }
+        ensures failed { OnErr result (Called (MayHave (Wrote line words.now)) (A.told self.old.a) (B.told self.old.b) self.old.left self.old.less self.old.extra
+            (A.told self.new.a) (B.told self.new.b) self.new.left self.new.less self.new.extra) }
         ensures cause { HasCause self.old.faults self.new.faults result }
-        ensures stops { StopsShow ((A.told self.old.a).size - 1) self.old.generation (A.told self.old.a).trace (B.told self.old.b).trace
-            (A.told self.new.a).trace (B.told self.new.b).trace (told_by (A.told self.old.a) (B.told self.old.b) self.old.left self.old.less self.old.extra) (told_by (A.told self.new.a) (B.told self.new.b) self.new.left self.new.less self.new.extra) }
     {
         if !self.alive {
             self.extra = self.extra.saturating_add(1);
@@ -141,34 +112,7 @@ impl<A: Image, B: Image> Image for Halves<A, B> {
             return Err(ImageFailed);
         }
         match self.left {
-            Left::Both => {
-                if self.a.write_line(line, words).is_err() {
-                    if mark(&mut self.b, self.a.lines() - 1, self.generation).is_err() {
-                        self.alive = false;
-                        self.faults = self.faults.saturating_add(1);
-                        return Err(ImageFailed);
-                    }
-                    self.left = Left::Second;
-                    if self.b.write_line(line, words).is_ok() {
-                        return Ok(());
-                    }
-                    self.alive = false;
-                    self.faults = self.faults.saturating_add(1);
-                    return Err(ImageFailed);
-                }
-                if self.b.write_line(line, words).is_ok() {
-                    return Ok(());
-                }
-                if let Err(made) = mark(&mut self.a, self.b.lines() - 1, self.generation) { // first
-                    self.less = made;
-                    self.alive = false;
-                    self.faults = self.faults.saturating_add(1);
-                    return Err(ImageFailed);
-                }
-                self.less = 2;
-                self.left = Left::First;
-                Ok(())
-            }
+            Left::Both => self.write_both(line, words),
             Left::First => {
                 if self.a.write_line(line, words).is_ok() {
                     return Ok(());
@@ -189,15 +133,13 @@ impl<A: Image, B: Image> Image for Halves<A, B> {
         }
     }
 
-    fn fence(&mut self) -> Result<(), ImageFailed>
-        ensures size { (told_by (A.told self.new.a) (B.told self.new.b) self.new.left self.new.less self.new.extra).size ≡ (told_by (A.told self.old.a) (B.told self.old.b) self.old.left self.old.less self.old.extra).size }
-        ensures counted { (told_by (A.told self.new.a) (B.told self.new.b) self.new.left self.new.less self.new.extra).calls ≡ next_count (told_by (A.told self.old.a) (B.told self.old.b) self.old.left self.old.less self.old.extra).calls }
-        ensures fenced { OnOk result ((told_by (A.told self.new.a) (B.told self.new.b) self.new.left self.new.less self.new.extra).trace
-            ≡ did Fenced (told_by (A.told self.new.a) (B.told self.new.b) self.new.left self.new.less self.new.extra).calls (told_by (A.told self.old.a) (B.told self.old.b) self.old.left self.old.less self.old.extra).trace) }
-        ensures failed { OnErr result ((told_by (A.told self.new.a) (B.told self.new.b) self.new.left self.new.less self.new.extra).trace ≡ (told_by (A.told self.old.a) (B.told self.old.b) self.old.left self.old.less self.old.extra).trace) }
+    /// Fences both halves, or the one that is left.
+    pub(crate) fn fence(&mut self) -> Result<(), ImageFailed>
+        ensures fenced { OnOk result (Called (Did Fenced) (A.told self.old.a) (B.told self.old.b) self.old.left self.old.less self.old.extra
+            (A.told self.new.a) (B.told self.new.b) self.new.left self.new.less self.new.extra) }
+        ensures failed { OnErr result (Called IsSame (A.told self.old.a) (B.told self.old.b) self.old.left self.old.less self.old.extra
+            (A.told self.new.a) (B.told self.new.b) self.new.left self.new.less self.new.extra) }
         ensures cause { HasCause self.old.faults self.new.faults result }
-        ensures stops { StopsShow ((A.told self.old.a).size - 1) self.old.generation (A.told self.old.a).trace (B.told self.old.b).trace
-            (A.told self.new.a).trace (B.told self.new.b).trace (told_by (A.told self.old.a) (B.told self.old.b) self.old.left self.old.less self.old.extra) (told_by (A.told self.new.a) (B.told self.new.b) self.new.left self.new.less self.new.extra) }
     {
         if !self.alive {
             self.extra = self.extra.saturating_add(1);
@@ -205,40 +147,7 @@ impl<A: Image, B: Image> Image for Halves<A, B> {
             return Err(ImageFailed);
         }
         match self.left {
-            Left::Both => {
-                if self.b.fence().is_err() {
-                    if let Err(made) = mark(&mut self.a, self.b.lines() - 1, self.generation) {
-                        self.less = made;
-                        self.extra = 1;
-                        self.alive = false;
-                        self.faults = self.faults.saturating_add(1);
-                        return Err(ImageFailed);
-                    }
-                    self.less = 2;
-                    self.left = Left::First;
-                    if self.a.fence().is_ok() {
-                        return Ok(());
-                    }
-                    self.alive = false;
-                    self.faults = self.faults.saturating_add(1);
-                    return Err(ImageFailed);
-                }
-                if self.a.fence().is_ok() {
-                    return Ok(());
-                }
-                if mark(&mut self.b, self.a.lines() - 1, self.generation).is_err() {
-                    self.alive = false;
-                    self.faults = self.faults.saturating_add(1);
-                    return Err(ImageFailed);
-                }
-                self.left = Left::Second;
-                if self.b.fence().is_ok() {
-                    return Ok(());
-                }
-                self.alive = false;
-                self.faults = self.faults.saturating_add(1);
-                Err(ImageFailed)
-            }
+            Left::Both => self.fence_both(),
             Left::First => {
                 if self.a.fence().is_ok() {
                     return Ok(());
@@ -259,5 +168,114 @@ impl<A: Image, B: Image> Image for Halves<A, B> {
         }
     }
 
-    ghost in_order = { λ m. in_order_by (A.told m.a) (B.told m.b) m.left m.less m.extra (A.in_order m.a) m.sound.so_far };
+    // Where the first half fails, the other is marked as left alone before it is asked.
+    fn read_both(&mut self, line: u64, into: &mut [u64; 8]) -> Result<(), ImageFailed>
+        requires line { line < (A.told self.old.a).size - 1 }
+        requires both { self.old.left ≡ Two }
+        requires alive { self.old.alive ≡ true }
+        ensures call { Called IsSame (A.told self.old.a) (B.told self.old.b) self.old.left self.old.less self.old.extra
+            (A.told self.new.a) (B.told self.new.b) self.new.left self.new.less self.new.extra }
+        ensures words { OnOk result (Reads (told_by (A.told self.old.a) (B.told self.old.b) self.old.left self.old.less self.old.extra).trace line into.new) }
+        ensures untouched { OnErr result (into.new ≡ into.old) }
+        ensures cause { HasCause self.old.faults self.new.faults result }
+    {
+        if self.a.read_line(line, into).is_ok() {
+            return Ok(());
+        }
+        if mark(&mut self.b, self.a.lines() - 1, self.generation).is_err() {
+            self.alive = false;
+            self.faults = self.faults.saturating_add(1);
+            return Err(ImageFailed);
+        }
+        self.left = Left::Second; // for good
+        if self.b.read_line(line, into).is_ok() {
+            return Ok(());
+        }
+        self.alive = false;
+        self.faults = self.faults.saturating_add(1);
+        Err(ImageFailed)
+    }
+
+    // The first half goes first. Where it fails, the other is marked and makes the write again.
+    fn write_both(&mut self, line: u64, words: &[u64; 8]) -> Result<(), ImageFailed>
+        requires line { line < (A.told self.old.a).size - 1 }
+        requires both { self.old.left ≡ Two }
+        requires alive { self.old.alive ≡ true }
+        ensures wrote { OnOk result (Called (Did (Wrote line words.now)) (A.told self.old.a) (B.told self.old.b) self.old.left self.old.less self.old.extra
+            (A.told self.new.a) (B.told self.new.b) self.new.left self.new.less self.new.extra) }
+        ensures failed { OnErr result (Called (MayHave (Wrote line words.now)) (A.told self.old.a) (B.told self.old.b) self.old.left self.old.less self.old.extra
+            (A.told self.new.a) (B.told self.new.b) self.new.left self.new.less self.new.extra) }
+        ensures cause { HasCause self.old.faults self.new.faults result }
+    {
+        if self.a.write_line(line, words).is_err() {
+            if mark(&mut self.b, self.a.lines() - 1, self.generation).is_err() {
+                self.alive = false;
+                self.faults = self.faults.saturating_add(1);
+                return Err(ImageFailed);
+            }
+            self.left = Left::Second;
+            if self.b.write_line(line, words).is_ok() {
+                return Ok(());
+            }
+            self.alive = false;
+            self.faults = self.faults.saturating_add(1);
+            return Err(ImageFailed);
+        }
+        if self.b.write_line(line, words).is_ok() {
+            return Ok(());
+        }
+        if let Err(made) = mark(&mut self.a, self.b.lines() - 1, self.generation) {
+            self.less = made;
+            self.alive = false;
+            self.faults = self.faults.saturating_add(1);
+            return Err(ImageFailed);
+        }
+        self.less = 2;
+        self.left = Left::First;
+        Ok(())
+    }
+
+    // The second half goes first: where the first then fails, nothing is told that a failed call made.
+    fn fence_both(&mut self) -> Result<(), ImageFailed>
+        requires both { self.old.left ≡ Two }
+        requires alive { self.old.alive ≡ true }
+        ensures fenced { OnOk result (Called (Did Fenced) (A.told self.old.a) (B.told self.old.b) self.old.left self.old.less self.old.extra
+            (A.told self.new.a) (B.told self.new.b) self.new.left self.new.less self.new.extra) }
+        ensures failed { OnErr result (Called IsSame (A.told self.old.a) (B.told self.old.b) self.old.left self.old.less self.old.extra
+            (A.told self.new.a) (B.told self.new.b) self.new.left self.new.less self.new.extra) }
+        ensures cause { HasCause self.old.faults self.new.faults result }
+    {
+        if self.b.fence().is_err() {
+            if let Err(made) = mark(&mut self.a, self.b.lines() - 1, self.generation) {
+                self.less = made;
+                self.extra = 1;
+                self.alive = false;
+                self.faults = self.faults.saturating_add(1);
+                return Err(ImageFailed);
+            }
+            self.less = 2;
+            self.left = Left::First;
+            if self.a.fence().is_ok() {
+                return Ok(());
+            }
+            self.alive = false;
+            self.faults = self.faults.saturating_add(1);
+            return Err(ImageFailed);
+        }
+        if self.a.fence().is_ok() {
+            return Ok(());
+        }
+        if mark(&mut self.b, self.a.lines() - 1, self.generation).is_err() {
+            self.alive = false;
+            self.faults = self.faults.saturating_add(1);
+            return Err(ImageFailed);
+        }
+        self.left = Left::Second;
+        if self.b.fence().is_ok() {
+            return Ok(());
+        }
+        self.alive = false;
+        self.faults = self.faults.saturating_add(1);
+        Err(ImageFailed)
+    }
 }

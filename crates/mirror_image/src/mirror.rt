@@ -32,7 +32,6 @@ impl<A: Image, B: Image> Mirror<A, B> {
     /// A half that can't be read is replaced by an image of zeros first. Where it fails, the halves are given back, and can be
     /// paired again.
     pub fn pair(mut a: A, mut b: B) -> Result<Mirror<A, B>, (MirrorFault, A, B)>
-        requires few { (B.told b).calls ≤ 2 ^ 62 }
         ensures size { IfOk result (λ m. (⟦<Mirror<A, B> as Image>⟧.told m).size + 1 ≡ (A.told a).size) }
         ensures shows { IfOk result (λ m. ShowsLeader ((A.told a).size - 1) (A.told a).trace (B.told b).trace
             (⟦<Mirror<A, B> as Image>⟧.told m).trace) }
@@ -89,7 +88,7 @@ impl<A: Image, B: Image> Mirror<A, B> {
     /// What a stop between two calls leaves of the halves, paired again, shows what it leaves of the mirror. Does nothing: its
     /// contract says so.
     pub fn law_of_stops(&self)
-        ensures paired { OfPaired (λ h. PairingShows ((A.told h.a).size - 1) h.generation (A.told h.a).trace (B.told h.b).trace
+        ensures paired { OfPaired (λ h. PairingShows ((A.told h.a).size - 1) (A.told h.a).trace (B.told h.b).trace
             (told_by (A.told h.a) (B.told h.b) h.left h.less h.extra).trace) self.now.state }
         // Of a half that is used, nothing is left that isn't left of the mirror.
         ensures used { OfPaired (λ h. UsedLeave (A.told h.a) (B.told h.b) h.left h.alive h.less h.extra) self.now.state }
@@ -147,7 +146,7 @@ impl<A: Image, B: Image> Image for Mirror<A, B> {
         ensures words { OnOk result (Reads (told_of (λ h. told_by (A.told h.a) (B.told h.b) h.left h.less h.extra) self.old.failures self.old.state).trace line into.new) }
         ensures untouched { OnErr result (into.new ≡ into.old) }
         ensures cause { HasCause (faults_of (λ h. h.faults) self.old.failures self.old.state) (faults_of (λ h. h.faults) self.new.failures self.new.state) result }
-        ensures stops { OfCall (λ h k. StopsShow ((A.told h.a).size - 1) h.generation (A.told h.a).trace (B.told h.b).trace
+        ensures stops { OfCall (λ h k. StopsShow ((A.told h.a).size - 1) (A.told h.a).trace (B.told h.b).trace
             (A.told k.a).trace (B.told k.b).trace (told_by (A.told h.a) (B.told h.b) h.left h.less h.extra)
             (told_by (A.told k.a) (B.told k.b) k.left k.less k.extra)) self.old.state self.new.state }
     {
@@ -170,7 +169,7 @@ impl<A: Image, B: Image> Image for Mirror<A, B> {
             ≡ did (Wrote line words.now) (told_of (λ h. told_by (A.told h.a) (B.told h.b) h.left h.less h.extra) self.new.failures self.new.state).calls (told_of (λ h. told_by (A.told h.a) (B.told h.b) h.left h.less h.extra) self.old.failures self.old.state).trace)
             ⊎ ((told_of (λ h. told_by (A.told h.a) (B.told h.b) h.left h.less h.extra) self.new.failures self.new.state).trace ≡ (told_of (λ h. told_by (A.told h.a) (B.told h.b) h.left h.less h.extra) self.old.failures self.old.state).trace)) }
         ensures cause { HasCause (faults_of (λ h. h.faults) self.old.failures self.old.state) (faults_of (λ h. h.faults) self.new.failures self.new.state) result }
-        ensures stops { OfCall (λ h k. StopsShow ((A.told h.a).size - 1) h.generation (A.told h.a).trace (B.told h.b).trace
+        ensures stops { OfCall (λ h k. StopsShow ((A.told h.a).size - 1) (A.told h.a).trace (B.told h.b).trace
             (A.told k.a).trace (B.told k.b).trace (told_by (A.told h.a) (B.told h.b) h.left h.less h.extra)
             (told_by (A.told k.a) (B.told k.b) k.left k.less k.extra)) self.old.state self.new.state }
     {
@@ -190,7 +189,7 @@ impl<A: Image, B: Image> Image for Mirror<A, B> {
             ≡ did Fenced (told_of (λ h. told_by (A.told h.a) (B.told h.b) h.left h.less h.extra) self.new.failures self.new.state).calls (told_of (λ h. told_by (A.told h.a) (B.told h.b) h.left h.less h.extra) self.old.failures self.old.state).trace) }
         ensures failed { OnErr result ((told_of (λ h. told_by (A.told h.a) (B.told h.b) h.left h.less h.extra) self.new.failures self.new.state).trace ≡ (told_of (λ h. told_by (A.told h.a) (B.told h.b) h.left h.less h.extra) self.old.failures self.old.state).trace) }
         ensures cause { HasCause (faults_of (λ h. h.faults) self.old.failures self.old.state) (faults_of (λ h. h.faults) self.new.failures self.new.state) result }
-        ensures stops { OfCall (λ h k. StopsShow ((A.told h.a).size - 1) h.generation (A.told h.a).trace (B.told h.b).trace
+        ensures stops { OfCall (λ h k. StopsShow ((A.told h.a).size - 1) (A.told h.a).trace (B.told h.b).trace
             (A.told k.a).trace (B.told k.b).trace (told_by (A.told h.a) (B.told h.b) h.left h.less h.extra)
             (told_by (A.told k.a) (B.told k.b) k.left k.less k.extra)) self.old.state self.new.state }
     {

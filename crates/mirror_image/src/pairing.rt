@@ -102,7 +102,7 @@ fn follow<L: Image, O: Image>(
     ensures other_size { (O.told other.new).size ≡ (O.told other.old).size }
     ensures same { (L.told leader.new).trace ≡ (L.told leader.old).trace }
     ensures alike { OnOk result (ReadsAlike line (O.told other.new).trace (L.told leader.old).trace) }
-    ensures labelled { OnOk result (IsLabelled line generation (O.told other.new).trace) }
+    ensures labelled { OnOk result (IsLabelled line generation (O.told other.new).calls (O.told other.new).trace) }
     ensures yields { KeepsYield line (L.told leader.old).trace (O.told other.old).trace (O.told other.new).trace }
     ensures leader_calls { OnOk result ((L.told leader.new).calls ≡ min ((L.told leader.old).calls + line) most) }
     ensures other_calls { OnOk result ((O.told other.new).calls ≡ min ((O.told other.old).calls + line + 3) most) }
@@ -212,7 +212,6 @@ fn pair_labelled<A: Image, B: Image>(
 ) -> Result<(), ImageFailed>
     requires a { line + 1 ≡ (A.told a.old).size }
     requires b { line + 1 ≡ (B.told b.old).size }
-    requires few { (B.told b.old).calls ≤ 2 ^ 62 + 1 }
     ensures a_size { (A.told a.new).size ≡ (A.told a.old).size }
     ensures b_size { (B.told b.new).size ≡ (B.told b.old).size }
     ensures first { leads labels.first labels.second ≡ true → KeepsBoth line generation (generation_in labels.first) labels.second
@@ -239,7 +238,6 @@ fn read_labels<A: Image, B: Image>(a: &mut A, b: &mut B, line: u64) -> Result<La
     ensures b_size { (B.told b.new).size ≡ (B.told b.old).size }
     ensures a_same { (A.told a.new).trace ≡ (A.told a.old).trace }
     ensures b_same { (B.told b.new).trace ≡ (B.told b.old).trace }
-    ensures few { (B.told b.new).calls ≤ (B.told b.old).calls + 1 }
     ensures first { IfOk result (λ labels. IsLabel line labels.first (A.told a.old).trace) }
     ensures second { IfOk result (λ labels. IsLabel line labels.second (B.told b.old).trace) }
     ensures a_later { A.faults a.old ≤ A.faults a.new }
@@ -259,7 +257,6 @@ pub(crate) fn pair_halves<A: Image, B: Image>(
 ) -> Result<u64, MirrorFault>
     requires a { line + 1 ≡ (A.told a.old).size }
     requires b { line + 1 ≡ (B.told b.old).size }
-    requires few { (B.told b.old).calls ≤ 2 ^ 62 }
     ensures a_size { (A.told a.new).size ≡ (A.told a.old).size }
     ensures b_size { (B.told b.new).size ≡ (B.told b.old).size }
     ensures paired { IfOk result (λ g. IsPairing line (A.told a.old) (B.told b.old) (A.told a.new) (B.told b.new) g) }

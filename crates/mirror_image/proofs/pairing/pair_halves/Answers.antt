@@ -1,7 +1,7 @@
 use Rattle.std.proofs.Common.{◌≡◌, ◌≤◌, ◌+◌, ◌-◌, ◌^◌, ℕ, Option, max, arith, subst}
 use Rattle.line_image.specs.Trace.{Trace}
 use Rattle.mirror_image.specs.declared.halves.Left.TheVariants.{Both}
-use Rattle.mirror_image.specs.Joint.{joint}
+use Rattle.mirror_image.specs.Joint.{ahead_by, joint}
 use Rattle.mirror_image.specs.Labels.{KeepsReads, generation}
 use Rattle.mirror_image.specs.Paired.{ShowsLeader}
 use Rattle.mirror_image.proofs.Paired.{leader_fits, shows_leader}
@@ -21,8 +21,9 @@ returns-clause-paired g c =
     let at_most : max (generation first) (generation second) ≤ 2 ^ 64 - 4 =
     omega (arith, c.if-greatest-gt-MAX_GENERATION.false, c.max-greatest.ensures, c.generation_of.ensures, c.generation_of-2.ensures) in
     let z_is : z ≡ a'.size - 1 = omega (arith, c.requires.a, c.read_labels.ensures.a_size, c.pair_labelled.ensures.a_size) in
-    let shows : ShowsLeader z a.trace b.trace (joint z Both a'.calls a'.trace b'.trace) =
-    shows_leader z a'.calls first second a.trace b.trace a'.trace b'.trace c.in_ok-labels.ensures.first c.in_ok-labels.ensures.second
+    let ahead = ahead_by (a'.size - 1) Both b'.trace in
+    let shows : ShowsLeader z a.trace b.trace (joint ahead z Both a'.calls a'.trace b'.trace) =
+    shows_leader ahead z a'.calls first second a.trace b.trace a'.trace b'.trace c.in_ok-labels.ensures.first c.in_ok-labels.ensures.second
     (λ e. subst (λ (o : Option Trace). KeepsReads z o a'.trace) c.read_labels.ensures.a_same (paired.leads_first e))
     (λ e. subst (λ (o : Option Trace). KeepsReads z o b'.trace) c.read_labels.ensures.b_same (paired.leads_second e))
     paired.alike in
@@ -30,7 +31,7 @@ returns-clause-paired g c =
       sound = paired.sound;
       safe = paired.safe;
       fits = leader_fits z first second a.trace b.trace c.in_ok-labels.ensures.first c.in_ok-labels.ensures.second at_most;
-      shows = subst (λ (m : ℕ). ShowsLeader z a.trace b.trace (joint m Both a'.calls a'.trace b'.trace)) z_is shows;
+      shows = subst (λ (m : ℕ). ShowsLeader z a.trace b.trace (joint ahead m Both a'.calls a'.trace b'.trace)) z_is shows;
       fenced_a = paired.fenced_a;
       fenced_b = paired.fenced_b;
       fenced = paired.fenced;

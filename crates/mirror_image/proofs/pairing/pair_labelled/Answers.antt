@@ -23,8 +23,8 @@ returns-clause-paired g c =
     over c.settle.result
     (λ calls_a calls_b fenced_a fenced_b. paired_from c.args.line c.args.generation (leads c.args.labels.first c.args.labels.second)
     c.args.labels.first c.args.labels.second a b a1 b1 a2 b2 (g.A.Image.told c.settle.new.a) (g.B.Image.told c.settle.new.b)
-    c.requires.a c.requires.b c.requires.few
-    (g.met.A.Image.in_order c.args.a.now) (g.met.A.Image.in_order c.lead_either.new.a) (g.met.B.Image.in_order c.lead_either.new.b)
+    c.requires.a c.requires.b
+    (g.met.A.Image.in_order c.lead_either.new.a) (g.met.B.Image.in_order c.lead_either.new.b)
     c.in_ok-clear_foreign.ensures.cleared c.in_ok-clear_foreign-2.ensures.cleared paired
     c.clear_foreign.ensures.size c.clear_foreign-2.ensures.size c.lead_either.ensures.a_size c.lead_either.ensures.b_size
     c.settle.ensures.a_size c.settle.ensures.b_size calls_a calls_b fenced_a fenced_b)

@@ -1,0 +1,52 @@
+use Rattle.std.proofs.Common.{ℕ, false, ◌-◌, refl, sym, ◌∙◌, ap, inl, inr}
+use Rattle.line_image.specs.declared.effect.Done.TheVariants.{Fenced}
+use Rattle.mirror_image.proofs.Exits.{on_ok, on_err}
+use Rattle.mirror_image.proofs.Safety.{dead_exit, exact}
+use Rattle.mirror_image.proofs.Calls.{first_fence_exit, first_same_exit, second_fence_exit, second_same_exit}
+use Rattle.mirror_image.proofs.halves.Halves.fence.Goals as goal
+
+pub invariant_of-self : goal.invariant_of-self
+invariant_of-self g c =
+    let e = exact (dead_exit _ c.args.self.now.generation (g.A.Image.told c.args.self.now.a) (g.B.Image.told c.args.self.now.b) _ _ _ _ _ c.if-not-self.true c.args.self.now.sound c.args.self.now.safe c.saturating_add-self.ensures) in
+    record { sound = e.sound; safe = e.safe }
+
+pub returns-then-not-self-clause-failed : goal.returns-then-not-self-clause-failed
+returns-then-not-self-clause-failed g c = (exact (dead_exit _ c.args.self.now.generation (g.A.Image.told c.args.self.now.a) (g.B.Image.told c.args.self.now.b) _ _ _ _ _ c.if-not-self.true c.args.self.now.sound c.args.self.now.safe c.saturating_add-self.ensures)).call
+
+pub invariant_of-self-then-is_ok : goal.invariant_of-self-then-is_ok
+invariant_of-self-then-is_ok g c =
+    let e = exact (first_fence_exit _ c.args.self.now.generation (g.A.Image.told c.args.self.now.a) (g.B.Image.told c.args.self.now.b) (g.A.Image.told c.fence.new.self) _ _ c.args.self.now.alive _ _ c.in-First.is c.if-not-self.false c.args.self.now.sound c.args.self.now.safe (g.met.A.Image.in_order c.args.self.now.a) c.fence.ensures.size c.fence.ensures.counted (on_ok c.fence.result (sym c.is_ok.ensures.value ∙ c.if-is_ok.true) c.fence.ensures.fenced)) in
+    record { sound = e.sound; safe = e.safe }
+
+pub returns-then-is_ok-clause-fenced : goal.returns-then-is_ok-clause-fenced
+returns-then-is_ok-clause-fenced g c = (exact (first_fence_exit _ c.args.self.now.generation (g.A.Image.told c.args.self.now.a) (g.B.Image.told c.args.self.now.b) (g.A.Image.told c.fence.new.self) _ _ c.args.self.now.alive _ _ c.in-First.is c.if-not-self.false c.args.self.now.sound c.args.self.now.safe (g.met.A.Image.in_order c.args.self.now.a) c.fence.ensures.size c.fence.ensures.counted (on_ok c.fence.result (sym c.is_ok.ensures.value ∙ c.if-is_ok.true) c.fence.ensures.fenced))).call
+
+pub invariant_of-self-in-First : goal.invariant_of-self-in-First
+invariant_of-self-in-First g c =
+    let e = exact (first_same_exit _ c.args.self.now.generation (g.A.Image.told c.args.self.now.a) (g.B.Image.told c.args.self.now.b) (g.A.Image.told c.fence.new.self) _ _ false _ _ c.in-First.is c.if-not-self.false c.args.self.now.sound c.args.self.now.safe (g.met.A.Image.in_order c.args.self.now.a) c.fence.ensures.size c.fence.ensures.counted (on_err c.fence.result (sym c.is_ok.ensures.value ∙ c.if-is_ok.false) c.fence.ensures.failed)) in
+    record { sound = e.sound; safe = e.safe }
+
+pub returns-else-is_ok-clause-failed : goal.returns-else-is_ok-clause-failed
+returns-else-is_ok-clause-failed g c = (exact (first_same_exit _ c.args.self.now.generation (g.A.Image.told c.args.self.now.a) (g.B.Image.told c.args.self.now.b) (g.A.Image.told c.fence.new.self) _ _ false _ _ c.in-First.is c.if-not-self.false c.args.self.now.sound c.args.self.now.safe (g.met.A.Image.in_order c.args.self.now.a) c.fence.ensures.size c.fence.ensures.counted (on_err c.fence.result (sym c.is_ok.ensures.value ∙ c.if-is_ok.false) c.fence.ensures.failed))).call
+
+pub invariant_of-self-then-is_ok-2 : goal.invariant_of-self-then-is_ok-2
+invariant_of-self-then-is_ok-2 g c =
+    let e = exact (second_fence_exit _ c.args.self.now.generation (g.A.Image.told c.args.self.now.a) (g.B.Image.told c.args.self.now.b) (g.B.Image.told c.fence-in-Second.new.self) _ _ _ _ _ c.in-Second.is c.if-not-self.false c.args.self.now.sound c.args.self.now.safe (g.met.B.Image.in_order c.args.self.now.b) c.saturating_add-self-in-Second.ensures c.fence-in-Second.ensures.size c.fence-in-Second.ensures.counted (on_ok c.fence-in-Second.result (sym c.is_ok-in-Second.ensures.value ∙ c.if-is_ok-2.true) c.fence-in-Second.ensures.fenced)) in
+    record { sound = e.sound; safe = e.safe }
+
+pub returns-then-is_ok-2-clause-fenced : goal.returns-then-is_ok-2-clause-fenced
+returns-then-is_ok-2-clause-fenced g c = (exact (second_fence_exit _ c.args.self.now.generation (g.A.Image.told c.args.self.now.a) (g.B.Image.told c.args.self.now.b) (g.B.Image.told c.fence-in-Second.new.self) _ _ _ _ _ c.in-Second.is c.if-not-self.false c.args.self.now.sound c.args.self.now.safe (g.met.B.Image.in_order c.args.self.now.b) c.saturating_add-self-in-Second.ensures c.fence-in-Second.ensures.size c.fence-in-Second.ensures.counted (on_ok c.fence-in-Second.result (sym c.is_ok-in-Second.ensures.value ∙ c.if-is_ok-2.true) c.fence-in-Second.ensures.fenced))).call
+
+pub invariant_of-self-in-Second : goal.invariant_of-self-in-Second
+invariant_of-self-in-Second g c =
+    let e = exact (second_same_exit _ c.args.self.now.generation (g.A.Image.told c.args.self.now.a) (g.B.Image.told c.args.self.now.b) (g.B.Image.told c.fence-in-Second.new.self) _ _ _ _ _ c.in-Second.is c.if-not-self.false c.args.self.now.sound c.args.self.now.safe (g.met.B.Image.in_order c.args.self.now.b) c.saturating_add-self-in-Second.ensures c.fence-in-Second.ensures.size c.fence-in-Second.ensures.counted false (on_err c.fence-in-Second.result (sym c.is_ok-in-Second.ensures.value ∙ c.if-is_ok-2.false) c.fence-in-Second.ensures.failed)) in
+    record { sound = e.sound; safe = e.safe }
+
+pub returns-else-is_ok-2-clause-failed : goal.returns-else-is_ok-2-clause-failed
+returns-else-is_ok-2-clause-failed g c = (exact (second_same_exit _ c.args.self.now.generation (g.A.Image.told c.args.self.now.a) (g.B.Image.told c.args.self.now.b) (g.B.Image.told c.fence-in-Second.new.self) _ _ _ _ _ c.in-Second.is c.if-not-self.false c.args.self.now.sound c.args.self.now.safe (g.met.B.Image.in_order c.args.self.now.b) c.saturating_add-self-in-Second.ensures c.fence-in-Second.ensures.size c.fence-in-Second.ensures.counted false (on_err c.fence-in-Second.result (sym c.is_ok-in-Second.ensures.value ∙ c.if-is_ok-2.false) c.fence-in-Second.ensures.failed))).call
+
+pub returns-in-Both-clause-fenced : goal.returns-in-Both-clause-fenced
+returns-in-Both-clause-fenced g c = c.fence_both.ensures.fenced
+
+pub returns-in-Both-clause-failed : goal.returns-in-Both-clause-failed
+returns-in-Both-clause-failed g c = c.fence_both.ensures.failed
