@@ -16,19 +16,26 @@ def has_java():
 
 
 class Runtime:
-    """The built program, with an image file that is blank for each run."""
+    """The built program, with an image file that is blank for each run, or two as a mirror, which have a line more."""
 
-    def __init__(self, program, parent=None):
+    def __init__(self, program, parent=None, is_mirrored=False):
         self.program = program
+        self.is_mirrored = is_mirrored
         self.folder = tempfile.TemporaryDirectory(prefix="bench_java_", dir=parent)
         self.empty = 0.0
 
+    def blank(self, name):
+        """A file of zeros of this name, in place of what an earlier run left."""
+        file = pathlib.Path(self.folder.name) / name
+        file.write_bytes(b"")
+        os.truncate(file, IMAGE_BYTES + 64 * self.is_mirrored)
+        return file
+
     def once(self, name):
         """The seconds of a run, and what it printed. A run that doesn't end well ends the benchmark."""
-        image = pathlib.Path(self.folder.name) / "image"
-        image.write_bytes(b"")
-        os.truncate(image, IMAGE_BYTES)
-        words = [self.program, "run", "--image", image, "--main", name, CLASSES / name]
+        words = [self.program, "run", "--image", self.blank("image"), "--main", name, CLASSES / name]
+        if self.is_mirrored:
+            words[2:2] = ["--mirror", self.blank("mirror")]
         begun = time.perf_counter()
         ran = subprocess.run(words, capture_output=True)
         seconds = time.perf_counter() - begun

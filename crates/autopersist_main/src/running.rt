@@ -1,6 +1,5 @@
 // The commands of the top call.
 ghost use Rattle.std.specs.Prelude.{◌≡◌, ◌≢◌, Err, IsOk};
-ghost use Rattle.host_edges.specs.Images.{file_told};
 
 use ap_base::NoGate;
 use autopersist::{Command, Ended, SaveFault, Saved, Status, autopersist, run_and_save};
@@ -213,7 +212,6 @@ where
 
 // The files are one image; or one that fails at every call, and why.
 fn paired(a: FileImage, b: FileImage) -> (Mirror<FileImage, FileImage>, Option<MirrorFault>)
-    requires uncalled { (file_told b).calls ≡ 0 }
 {
     match Mirror::pair(a, b) {
         Ok(mirror) => (mirror, None),

@@ -1,7 +1,4 @@
 // Halves of four lines, of which three are shown, and what is done to a mirror of them.
-ghost use Rattle.std.specs.Prelude.{◌≡◌, IfOk};
-ghost use Rattle.line_image.specs.Memory.{calls_of};
-
 use line_image::{Fails, Image, MemoryImage};
 use mirror_image::Mirror;
 use std::alloc::{AllocError, Global};
@@ -25,9 +22,7 @@ pub(crate) fn half(
     lines: u64,
     call: u64,
     since: u64,
-) -> Result<MemoryImage, AllocError>
-    ensures { IfOk result (λ image. calls_of image ≡ 0) }
-{
+) -> Result<MemoryImage, AllocError> {
     let fails = Fails {
         calls: [call].to_vec(alloc)?,
         since,
@@ -40,9 +35,7 @@ pub(crate) fn half(
 pub(crate) const WHOLE: u64 = 32_769;
 
 /// A half of zeros of the whole size that fails at each call from `since` on.
-pub(crate) fn whole(alloc: Global, since: u64) -> Result<MemoryImage, AllocError>
-    ensures { IfOk result (λ image. calls_of image ≡ 0) }
-{
+pub(crate) fn whole(alloc: Global, since: u64) -> Result<MemoryImage, AllocError> {
     let fails = Fails {
         calls: Vec::new(alloc),
         since,
@@ -52,9 +45,7 @@ pub(crate) fn whole(alloc: Global, since: u64) -> Result<MemoryImage, AllocError
 }
 
 /// What a stop leaves of a half of the whole size; none of its calls fail.
-pub(crate) fn whole_left(alloc: Global, half: &MemoryImage) -> Result<MemoryImage, AllocError>
-    ensures { IfOk result (λ image. calls_of image ≡ 0) }
-{
+pub(crate) fn whole_left(alloc: Global, half: &MemoryImage) -> Result<MemoryImage, AllocError> {
     let fails = Fails {
         calls: Vec::new(alloc),
         since: NONE,
@@ -64,9 +55,11 @@ pub(crate) fn whole_left(alloc: Global, half: &MemoryImage) -> Result<MemoryImag
 }
 
 /// What a stop leaves of a half; none of its calls fail.
-pub(crate) fn left(alloc: Global, half: &MemoryImage, pick: u64) -> Result<MemoryImage, AllocError>
-    ensures { IfOk result (λ image. calls_of image ≡ 0) }
-{
+pub(crate) fn left(
+    alloc: Global,
+    half: &MemoryImage,
+    pick: u64,
+) -> Result<MemoryImage, AllocError> {
     let fails = Fails {
         calls: Vec::new(alloc),
         since: NONE,
@@ -76,9 +69,7 @@ pub(crate) fn left(alloc: Global, half: &MemoryImage, pick: u64) -> Result<Memor
 }
 
 /// Pairs halves that don't fail.
-pub(crate) fn paired(a: MemoryImage, b: MemoryImage) -> Result<Pair, Fail>
-    requires { calls_of b ≡ 0 }
-{
+pub(crate) fn paired(a: MemoryImage, b: MemoryImage) -> Result<Pair, Fail> {
     match Mirror::pair(a, b) {
         Ok(mirror) => Ok(mirror),
         Err(_) => Err(Fail::from("two halves that are paired")),
