@@ -9,4 +9,5 @@ pub mod Leaving
 pub mod Safe
 pub mod Stops
 pub mod Calls
+pub mod Seen
 pub mod Halfway

@@ -7,5 +7,6 @@ mod mirror;
 mod pairing;
 mod state;
 
-pub use mirror::{Mirror, law_of_leading};
+pub use mirror::law_of_leading;
 pub use pairing::MirrorFault;
+pub use state::Mirror;

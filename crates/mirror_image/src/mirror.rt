@@ -1,30 +1,18 @@
 // One image over two halves.
 ghost use Rattle.std.specs.Prelude.{◌≡◌, ◌≢◌, ◌<◌, ◌≤◌, ◌+◌, ◌-◌, ◌^◌, ◌↔◌, ℕ, IfOk, IfErr};
 ghost use Rattle.line_image.specs.Trace.{Trace, Outcome, IsAllFenced};
-ghost use Rattle.mirror_image.specs.Joint.{told_by};
 ghost use Rattle.mirror_image.specs.Pairing.{OneRose};
 ghost use Rattle.mirror_image.specs.Paired.{LeaderFits, LeaderTooHigh, ShowsLeader};
-ghost use Rattle.mirror_image.specs.Leaving.{OfPaired, UsedLeave};
-ghost use Rattle.mirror_image.specs.Stops.{PairingShows, KeepsLeader, Holds, led};
+ghost use Rattle.mirror_image.specs.Stops.{KeepsLeader, Holds, led};
 ghost use Rattle.mirror_image.specs.Labels.{leader};
-ghost use Rattle.mirror_image.specs.Mirror.{told_of, faults_of, halves_of, HalvesDiffer, is_closed, IsPairedAs};
+ghost use Rattle.mirror_image.specs.Mirror.{HalvesDiffer};
+ghost use Rattle.mirror_image.specs.Seen.{mirror_halves, IsClosed, KeepsWhatLed, MirrorShows, UsedHalvesShow};
 ghost use Rattle.mirror_image.specs.declared.pairing.MirrorFault.TheVariants.{Size as Sizes, ImageFailed as Failed, Generation as TooHigh};
 
 use crate::halves::{Halves, Left};
 use crate::pairing::{MirrorFault, pair_halves};
-use crate::state::State;
+use crate::state::{Mirror, State};
 use line_image::{Image, ImageFailed};
-
-/// One image over two halves, each of which has one line more than the mirror shows: the label, at its end.
-///
-/// A read asks the first half, or the one that is left. A write or a fence goes to both. Where one half fails, the other is
-/// marked as left alone before the call goes on with it, and the one that failed is used no more.
-#[derive(Drop)]
-pub struct Mirror<A: Image, B: Image> {
-    state: State<Halves<A, B>, (A, B)>,
-    failures: u64,
-    ghost fits: { failures < 2 ^ 64 },
-}
 
 impl<A: Image, B: Image> Mirror<A, B> {
     /// Makes two halves one image. The half of greater generation leads, the first at a tie: the other becomes what it is.
@@ -45,8 +33,7 @@ impl<A: Image, B: Image> Mirror<A, B> {
         ensures cause { IfErr result (λ e. e.0 ≡ Failed → OneRose (A.faults a) (A.faults e.1) (B.faults b) (B.faults e.2)) }
         ensures same { IfErr result (λ e. e.0 ≢ Failed → ((A.told e.1).trace ≡ (A.told a).trace) × ((B.told e.2).trace ≡ (B.told b).trace)) }
         // A stop at any moment.
-        ensures stops { IfOk result (λ m. IsPairedAs (λ h. KeepsLeader ((A.told a).size - 1) (A.told a).trace (B.told b).trace
-            (A.told h.a).trace (B.told h.b).trace) m.state) }
+        ensures stops { IfOk result (λ m. KeepsWhatLed a b m) }
         ensures stops_failed { IfErr result (λ e. KeepsLeader ((A.told a).size - 1) (A.told a).trace (B.told b).trace
             (A.told e.1).trace (B.told e.2).trace) }
     {
@@ -76,8 +63,8 @@ impl<A: Image, B: Image> Mirror<A, B> {
     pub fn closed(a: A, b: B) -> Mirror<A, B>
         ensures size { (⟦<Mirror<A, B> as Image>⟧.told result).size ≡ 32768 }
         ensures faultless { ⟦<Mirror<A, B> as Image>⟧.faults result ≡ 0 }
-        ensures halves { halves_of (λ h. (h.a, h.b)) result.state ≡ (a, b) }
-        ensures closed { is_closed result.state }
+        ensures halves { mirror_halves result ≡ (a, b) }
+        ensures closed { IsClosed result }
     {
         Mirror {
             state: State::Closed((a, b)),
@@ -88,10 +75,9 @@ impl<A: Image, B: Image> Mirror<A, B> {
     /// What a stop between two calls leaves of the halves, paired again, shows what it leaves of the mirror. Does nothing: its
     /// contract says so.
     pub fn law_of_stops(&self)
-        ensures paired { OfPaired (λ h. PairingShows ((A.told h.a).size - 1) (A.told h.a).trace (B.told h.b).trace
-            (told_by (A.told h.a) (B.told h.b) h.left h.less h.extra).trace) self.now.state }
+        ensures paired { MirrorShows self.now }
         // Of a half that is used, nothing is left that isn't left of the mirror.
-        ensures used { OfPaired (λ h. UsedLeave (A.told h.a) (B.told h.b) h.left h.alive h.less h.extra) self.now.state }
+        ensures used { UsedHalvesShow self.now }
     {
         match &self.state {
             State::Paired(halves) => halves.law_of_stops(),
@@ -101,7 +87,7 @@ impl<A: Image, B: Image> Mirror<A, B> {
 
     /// Gives the halves back.
     pub fn halves(self) -> (A, B)
-        ensures { result ≡ halves_of (λ h. (h.a, h.b)) self.state }
+        ensures { result ≡ mirror_halves self }
     {
         let state = self.state;
         match state {
@@ -122,14 +108,14 @@ impl<A: Image, B: Image> Image for Mirror<A, B> {
     ghost use Rattle.ap_base.specs.Causes.{HasCause, next_count};
     ghost use Rattle.line_image.specs.Trace.{Reads, did};
     ghost use Rattle.line_image.specs.declared.effect.Done.TheVariants.{Wrote, Fenced};
-    ghost use Rattle.mirror_image.specs.Leaving.{OfPaired, UsedLeave};
-    ghost use Rattle.mirror_image.specs.Stops.{PairingShows, StopsShow};
-    ghost use Rattle.mirror_image.specs.Mirror.{in_order_of, OfCall};
+    ghost use Rattle.mirror_image.specs.Joint.{told_by};
+    ghost use Rattle.mirror_image.specs.Mirror.{in_order_of};
+    ghost use Rattle.mirror_image.specs.Seen.{mirror_told, mirror_faults, MirrorStops};
     ghost use Rattle.mirror_image.specs.Order.{in_order_by};
 
-    ghost told = { λ m. told_of (λ h. told_by (A.told h.a) (B.told h.b) h.left h.less h.extra) m.failures m.state };
+    ghost told = { λ m. mirror_told m };
 
-    ghost faults = { λ m. faults_of (λ h. h.faults) m.failures m.state };
+    ghost faults = { λ m. mirror_faults m };
 
     fn lines(&self) -> u64 {
         match &self.state {
@@ -139,16 +125,14 @@ impl<A: Image, B: Image> Image for Mirror<A, B> {
     }
 
     fn read_line(&mut self, line: u64, into: &mut [u64; 8]) -> Result<(), ImageFailed>
-        requires { line < (told_of (λ h. told_by (A.told h.a) (B.told h.b) h.left h.less h.extra) self.old.failures self.old.state).size }
-        ensures size { (told_of (λ h. told_by (A.told h.a) (B.told h.b) h.left h.less h.extra) self.new.failures self.new.state).size ≡ (told_of (λ h. told_by (A.told h.a) (B.told h.b) h.left h.less h.extra) self.old.failures self.old.state).size }
-        ensures counted { (told_of (λ h. told_by (A.told h.a) (B.told h.b) h.left h.less h.extra) self.new.failures self.new.state).calls ≡ next_count (told_of (λ h. told_by (A.told h.a) (B.told h.b) h.left h.less h.extra) self.old.failures self.old.state).calls }
-        ensures same { (told_of (λ h. told_by (A.told h.a) (B.told h.b) h.left h.less h.extra) self.new.failures self.new.state).trace ≡ (told_of (λ h. told_by (A.told h.a) (B.told h.b) h.left h.less h.extra) self.old.failures self.old.state).trace }
-        ensures words { OnOk result (Reads (told_of (λ h. told_by (A.told h.a) (B.told h.b) h.left h.less h.extra) self.old.failures self.old.state).trace line into.new) }
+        requires { line < (mirror_told self.old).size }
+        ensures size { (mirror_told self.new).size ≡ (mirror_told self.old).size }
+        ensures counted { (mirror_told self.new).calls ≡ next_count (mirror_told self.old).calls }
+        ensures same { (mirror_told self.new).trace ≡ (mirror_told self.old).trace }
+        ensures words { OnOk result (Reads (mirror_told self.old).trace line into.new) }
         ensures untouched { OnErr result (into.new ≡ into.old) }
-        ensures cause { HasCause (faults_of (λ h. h.faults) self.old.failures self.old.state) (faults_of (λ h. h.faults) self.new.failures self.new.state) result }
-        ensures stops { OfCall (λ h k. StopsShow ((A.told h.a).size - 1) (A.told h.a).trace (B.told h.b).trace
-            (A.told k.a).trace (B.told k.b).trace (told_by (A.told h.a) (B.told h.b) h.left h.less h.extra)
-            (told_by (A.told k.a) (B.told k.b) k.left k.less k.extra)) self.old.state self.new.state }
+        ensures cause { HasCause (mirror_faults self.old) (mirror_faults self.new) result }
+        ensures stops { MirrorStops self.old self.new }
     {
         match &mut self.state {
             State::Paired(halves) => halves.read_line(line, into),
@@ -160,18 +144,16 @@ impl<A: Image, B: Image> Image for Mirror<A, B> {
     }
 
     fn write_line(&mut self, line: u64, words: &[u64; 8]) -> Result<(), ImageFailed>
-        requires { line < (told_of (λ h. told_by (A.told h.a) (B.told h.b) h.left h.less h.extra) self.old.failures self.old.state).size }
-        ensures size { (told_of (λ h. told_by (A.told h.a) (B.told h.b) h.left h.less h.extra) self.new.failures self.new.state).size ≡ (told_of (λ h. told_by (A.told h.a) (B.told h.b) h.left h.less h.extra) self.old.failures self.old.state).size }
-        ensures counted { (told_of (λ h. told_by (A.told h.a) (B.told h.b) h.left h.less h.extra) self.new.failures self.new.state).calls ≡ next_count (told_of (λ h. told_by (A.told h.a) (B.told h.b) h.left h.less h.extra) self.old.failures self.old.state).calls }
-        ensures written { OnOk result ((told_of (λ h. told_by (A.told h.a) (B.told h.b) h.left h.less h.extra) self.new.failures self.new.state).trace
-            ≡ did (Wrote line words.now) (told_of (λ h. told_by (A.told h.a) (B.told h.b) h.left h.less h.extra) self.new.failures self.new.state).calls (told_of (λ h. told_by (A.told h.a) (B.told h.b) h.left h.less h.extra) self.old.failures self.old.state).trace) }
-        ensures failed { OnErr result (((told_of (λ h. told_by (A.told h.a) (B.told h.b) h.left h.less h.extra) self.new.failures self.new.state).trace
-            ≡ did (Wrote line words.now) (told_of (λ h. told_by (A.told h.a) (B.told h.b) h.left h.less h.extra) self.new.failures self.new.state).calls (told_of (λ h. told_by (A.told h.a) (B.told h.b) h.left h.less h.extra) self.old.failures self.old.state).trace)
-            ⊎ ((told_of (λ h. told_by (A.told h.a) (B.told h.b) h.left h.less h.extra) self.new.failures self.new.state).trace ≡ (told_of (λ h. told_by (A.told h.a) (B.told h.b) h.left h.less h.extra) self.old.failures self.old.state).trace)) }
-        ensures cause { HasCause (faults_of (λ h. h.faults) self.old.failures self.old.state) (faults_of (λ h. h.faults) self.new.failures self.new.state) result }
-        ensures stops { OfCall (λ h k. StopsShow ((A.told h.a).size - 1) (A.told h.a).trace (B.told h.b).trace
-            (A.told k.a).trace (B.told k.b).trace (told_by (A.told h.a) (B.told h.b) h.left h.less h.extra)
-            (told_by (A.told k.a) (B.told k.b) k.left k.less k.extra)) self.old.state self.new.state }
+        requires { line < (mirror_told self.old).size }
+        ensures size { (mirror_told self.new).size ≡ (mirror_told self.old).size }
+        ensures counted { (mirror_told self.new).calls ≡ next_count (mirror_told self.old).calls }
+        ensures written { OnOk result ((mirror_told self.new).trace
+            ≡ did (Wrote line words.now) (mirror_told self.new).calls (mirror_told self.old).trace) }
+        ensures failed { OnErr result (((mirror_told self.new).trace
+            ≡ did (Wrote line words.now) (mirror_told self.new).calls (mirror_told self.old).trace)
+            ⊎ ((mirror_told self.new).trace ≡ (mirror_told self.old).trace)) }
+        ensures cause { HasCause (mirror_faults self.old) (mirror_faults self.new) result }
+        ensures stops { MirrorStops self.old self.new }
     {
         match &mut self.state {
             State::Paired(halves) => halves.write_line(line, words),
@@ -183,15 +165,13 @@ impl<A: Image, B: Image> Image for Mirror<A, B> {
     }
 
     fn fence(&mut self) -> Result<(), ImageFailed>
-        ensures size { (told_of (λ h. told_by (A.told h.a) (B.told h.b) h.left h.less h.extra) self.new.failures self.new.state).size ≡ (told_of (λ h. told_by (A.told h.a) (B.told h.b) h.left h.less h.extra) self.old.failures self.old.state).size }
-        ensures counted { (told_of (λ h. told_by (A.told h.a) (B.told h.b) h.left h.less h.extra) self.new.failures self.new.state).calls ≡ next_count (told_of (λ h. told_by (A.told h.a) (B.told h.b) h.left h.less h.extra) self.old.failures self.old.state).calls }
-        ensures fenced { OnOk result ((told_of (λ h. told_by (A.told h.a) (B.told h.b) h.left h.less h.extra) self.new.failures self.new.state).trace
-            ≡ did Fenced (told_of (λ h. told_by (A.told h.a) (B.told h.b) h.left h.less h.extra) self.new.failures self.new.state).calls (told_of (λ h. told_by (A.told h.a) (B.told h.b) h.left h.less h.extra) self.old.failures self.old.state).trace) }
-        ensures failed { OnErr result ((told_of (λ h. told_by (A.told h.a) (B.told h.b) h.left h.less h.extra) self.new.failures self.new.state).trace ≡ (told_of (λ h. told_by (A.told h.a) (B.told h.b) h.left h.less h.extra) self.old.failures self.old.state).trace) }
-        ensures cause { HasCause (faults_of (λ h. h.faults) self.old.failures self.old.state) (faults_of (λ h. h.faults) self.new.failures self.new.state) result }
-        ensures stops { OfCall (λ h k. StopsShow ((A.told h.a).size - 1) (A.told h.a).trace (B.told h.b).trace
-            (A.told k.a).trace (B.told k.b).trace (told_by (A.told h.a) (B.told h.b) h.left h.less h.extra)
-            (told_by (A.told k.a) (B.told k.b) k.left k.less k.extra)) self.old.state self.new.state }
+        ensures size { (mirror_told self.new).size ≡ (mirror_told self.old).size }
+        ensures counted { (mirror_told self.new).calls ≡ next_count (mirror_told self.old).calls }
+        ensures fenced { OnOk result ((mirror_told self.new).trace
+            ≡ did Fenced (mirror_told self.new).calls (mirror_told self.old).trace) }
+        ensures failed { OnErr result ((mirror_told self.new).trace ≡ (mirror_told self.old).trace) }
+        ensures cause { HasCause (mirror_faults self.old) (mirror_faults self.new) result }
+        ensures stops { MirrorStops self.old self.new }
     {
         match &mut self.state {
             State::Paired(halves) => halves.fence(),

@@ -1,7 +1,7 @@
 use Rattle.std.proofs.Common.{◌-◌, ℕ, refl, subst}
 use Rattle.mirror_image.specs.Stops.{KeepsLeader}
 use Rattle.mirror_image.proofs.Halfway.{keeps_none}
-use Rattle.mirror_image.proofs.mirror.Mirror.pair.Goals as goal
+use Rattle.mirror_image.proofs.state.Mirror.pair.Goals as goal
 
 pub returns-then-lines-clause-stops_failed : goal.returns-then-lines-clause-stops_failed
 returns-then-lines-clause-stops_failed g c =
