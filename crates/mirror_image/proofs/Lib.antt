@@ -12,3 +12,4 @@ pub mod Safety
 pub mod Calls
 pub mod Paired
 pub mod Halfway
+pub mod Uses

@@ -1,11 +1,12 @@
 -- What contracts see of a mirror.
-use Rattle.std.specs.Prelude.{◌≡◌, ◌-◌, ℕ}
+use Rattle.std.specs.Prelude.{◌≡◌, ◌-◌, ℕ, Result}
 use Rattle.line_image.specs.Told.{Told, IsCounted}
 use Rattle.line_image.specs.declared.image.Image.{Ghosts}
 use Rattle.mirror_image.specs.declared.state.Mirror.{Mirror}
 use Rattle.mirror_image.specs.Joint.{told_by}
 use Rattle.mirror_image.specs.Order.{in_order_by}
-use Rattle.mirror_image.specs.Leaving.{OfPaired, UsedLeave}
+use Rattle.mirror_image.specs.Leaving.{OfPaired, UsedLeave, KeepsUse}
+use Rattle.mirror_image.specs.Calls.{FailsUnused}
 use Rattle.mirror_image.specs.Mirror.{told_of, faults_of, halves_of, in_order_of, is_closed, IsPairedAs, OfCall}
 use Rattle.mirror_image.specs.Stops.{PairingShows, StopsShow, KeepsLeader}
 
@@ -42,3 +43,11 @@ module _ {A B : Type 0} {g : Ghosts A} {h : Ghosts B} where
   abbrev pub MirrorStops : Mirror A B g h → Mirror A B g h → Type 0
   MirrorStops m n = OfCall (λ old new. StopsShow ((g.told old.a).size - 1) (g.told old.a).trace (h.told old.b).trace (g.told new.a).trace (h.told new.b).trace
       (told_by (g.told old.a) (h.told old.b) old.left old.less old.extra) (told_by (g.told new.a) (h.told new.b) new.left new.less new.extra)) m.state n.state
+
+  -- where it is paired, a call of it leaves a half unused only where that half's count rose in the call
+  abbrev pub MirrorUses : Mirror A B g h → Mirror A B g h → Type 0
+  MirrorUses m n = OfCall (λ old new. KeepsUse old.left old.alive new.left new.alive (g.faults old.a) (g.faults new.a) (h.faults old.b) (h.faults new.b)) m.state n.state
+
+  -- where it is paired, a call that leaves it so fails exactly where both halves are then unused
+  abbrev pub FailsSpent : {T E : Type 0} → Result T E → Mirror A B g h → Type 0
+  FailsSpent result m = OfPaired (λ halves. FailsUnused halves.alive result) m.state

@@ -3,9 +3,9 @@ ghost use Rattle.std.specs.Prelude.{◌≡◌, ◌<◌, ◌-◌, true, OnOk, OnE
 ghost use Rattle.ap_base.specs.Causes.{HasCause};
 ghost use Rattle.line_image.specs.Trace.{Reads};
 ghost use Rattle.line_image.specs.declared.effect.Done.TheVariants.{Wrote, Fenced};
-ghost use Rattle.mirror_image.specs.Calls.{Called, IsSame, Did, MayHave};
+ghost use Rattle.mirror_image.specs.Calls.{Called, CountsFailures, FailsUnused, IsSame, Did, MayHave};
 ghost use Rattle.mirror_image.specs.Sound.{IsSound};
-ghost use Rattle.mirror_image.specs.Leaving.{UsedLeave};
+ghost use Rattle.mirror_image.specs.Leaving.{UsedLeave, KeepsUse};
 ghost use Rattle.mirror_image.specs.Joint.{told_by};
 ghost use Rattle.mirror_image.specs.Safe.{IsSafe};
 ghost use Rattle.mirror_image.specs.Stops.{PairingShows};
@@ -69,6 +69,10 @@ impl<A: Image, B: Image> Halves<A, B> {
         ensures words { OnOk result (Reads (told_by (A.told self.old.a) (B.told self.old.b) self.old.left self.old.less self.old.extra).trace line into.new) }
         ensures untouched { OnErr result (into.new ≡ into.old) }
         ensures cause { HasCause self.old.faults self.new.faults result }
+        ensures failures { CountsFailures self.old.faults self.new.faults result }
+        ensures spent { FailsUnused self.new.alive result }
+        ensures uses { KeepsUse self.old.left self.old.alive self.new.left self.new.alive
+            (A.faults self.old.a) (A.faults self.new.a) (B.faults self.old.b) (B.faults self.new.b) }
     {
         if !self.alive {
             self.extra = self.extra.saturating_add(1);
@@ -105,6 +109,10 @@ impl<A: Image, B: Image> Halves<A, B> {
         ensures failed { OnErr result (Called (MayHave (Wrote line words.now)) (A.told self.old.a) (B.told self.old.b) self.old.left self.old.less self.old.extra
             (A.told self.new.a) (B.told self.new.b) self.new.left self.new.less self.new.extra) }
         ensures cause { HasCause self.old.faults self.new.faults result }
+        ensures failures { CountsFailures self.old.faults self.new.faults result }
+        ensures spent { FailsUnused self.new.alive result }
+        ensures uses { KeepsUse self.old.left self.old.alive self.new.left self.new.alive
+            (A.faults self.old.a) (A.faults self.new.a) (B.faults self.old.b) (B.faults self.new.b) }
     {
         if !self.alive {
             self.extra = self.extra.saturating_add(1);
@@ -140,6 +148,10 @@ impl<A: Image, B: Image> Halves<A, B> {
         ensures failed { OnErr result (Called IsSame (A.told self.old.a) (B.told self.old.b) self.old.left self.old.less self.old.extra
             (A.told self.new.a) (B.told self.new.b) self.new.left self.new.less self.new.extra) }
         ensures cause { HasCause self.old.faults self.new.faults result }
+        ensures failures { CountsFailures self.old.faults self.new.faults result }
+        ensures spent { FailsUnused self.new.alive result }
+        ensures uses { KeepsUse self.old.left self.old.alive self.new.left self.new.alive
+            (A.faults self.old.a) (A.faults self.new.a) (B.faults self.old.b) (B.faults self.new.b) }
     {
         if !self.alive {
             self.extra = self.extra.saturating_add(1);
@@ -178,6 +190,10 @@ impl<A: Image, B: Image> Halves<A, B> {
         ensures words { OnOk result (Reads (told_by (A.told self.old.a) (B.told self.old.b) self.old.left self.old.less self.old.extra).trace line into.new) }
         ensures untouched { OnErr result (into.new ≡ into.old) }
         ensures cause { HasCause self.old.faults self.new.faults result }
+        ensures failures { CountsFailures self.old.faults self.new.faults result }
+        ensures spent { FailsUnused self.new.alive result }
+        ensures uses { KeepsUse self.old.left self.old.alive self.new.left self.new.alive
+            (A.faults self.old.a) (A.faults self.new.a) (B.faults self.old.b) (B.faults self.new.b) }
     {
         if self.a.read_line(line, into).is_ok() {
             return Ok(());
@@ -206,6 +222,10 @@ impl<A: Image, B: Image> Halves<A, B> {
         ensures failed { OnErr result (Called (MayHave (Wrote line words.now)) (A.told self.old.a) (B.told self.old.b) self.old.left self.old.less self.old.extra
             (A.told self.new.a) (B.told self.new.b) self.new.left self.new.less self.new.extra) }
         ensures cause { HasCause self.old.faults self.new.faults result }
+        ensures failures { CountsFailures self.old.faults self.new.faults result }
+        ensures spent { FailsUnused self.new.alive result }
+        ensures uses { KeepsUse self.old.left self.old.alive self.new.left self.new.alive
+            (A.faults self.old.a) (A.faults self.new.a) (B.faults self.old.b) (B.faults self.new.b) }
     {
         if self.a.write_line(line, words).is_err() {
             if mark(&mut self.b, self.a.lines() - 1, self.generation).is_err() {
@@ -244,6 +264,10 @@ impl<A: Image, B: Image> Halves<A, B> {
         ensures failed { OnErr result (Called IsSame (A.told self.old.a) (B.told self.old.b) self.old.left self.old.less self.old.extra
             (A.told self.new.a) (B.told self.new.b) self.new.left self.new.less self.new.extra) }
         ensures cause { HasCause self.old.faults self.new.faults result }
+        ensures failures { CountsFailures self.old.faults self.new.faults result }
+        ensures spent { FailsUnused self.new.alive result }
+        ensures uses { KeepsUse self.old.left self.old.alive self.new.left self.new.alive
+            (A.faults self.old.a) (A.faults self.new.a) (B.faults self.old.b) (B.faults self.new.b) }
     {
         if self.b.fence().is_err() {
             if let Err(made) = mark(&mut self.a, self.b.lines() - 1, self.generation) {

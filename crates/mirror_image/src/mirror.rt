@@ -110,7 +110,8 @@ impl<A: Image, B: Image> Image for Mirror<A, B> {
     ghost use Rattle.line_image.specs.declared.effect.Done.TheVariants.{Wrote, Fenced};
     ghost use Rattle.mirror_image.specs.Joint.{told_by};
     ghost use Rattle.mirror_image.specs.Mirror.{in_order_of};
-    ghost use Rattle.mirror_image.specs.Seen.{mirror_told, mirror_faults, MirrorStops};
+    ghost use Rattle.mirror_image.specs.Seen.{mirror_told, mirror_faults, MirrorStops, MirrorUses, FailsSpent, IsClosed};
+    ghost use Rattle.mirror_image.specs.Calls.{CountsFailures};
     ghost use Rattle.mirror_image.specs.Order.{in_order_by};
 
     ghost told = { λ m. mirror_told m };
@@ -132,6 +133,11 @@ impl<A: Image, B: Image> Image for Mirror<A, B> {
         ensures words { OnOk result (Reads (mirror_told self.old).trace line into.new) }
         ensures untouched { OnErr result (into.new ≡ into.old) }
         ensures cause { HasCause (mirror_faults self.old) (mirror_faults self.new) result }
+        ensures failures { CountsFailures (mirror_faults self.old) (mirror_faults self.new) result }
+        // A closed one always fails; a paired one exactly where both halves have failed.
+        ensures closed { IsClosed self.old → OnOk result ⊥ }
+        ensures spent { FailsSpent result self.new }
+        ensures uses { MirrorUses self.old self.new }
         ensures stops { MirrorStops self.old self.new }
     {
         match &mut self.state {
@@ -153,6 +159,11 @@ impl<A: Image, B: Image> Image for Mirror<A, B> {
             ≡ did (Wrote line words.now) (mirror_told self.new).calls (mirror_told self.old).trace)
             ⊎ ((mirror_told self.new).trace ≡ (mirror_told self.old).trace)) }
         ensures cause { HasCause (mirror_faults self.old) (mirror_faults self.new) result }
+        ensures failures { CountsFailures (mirror_faults self.old) (mirror_faults self.new) result }
+        // A closed one always fails; a paired one exactly where both halves have failed.
+        ensures closed { IsClosed self.old → OnOk result ⊥ }
+        ensures spent { FailsSpent result self.new }
+        ensures uses { MirrorUses self.old self.new }
         ensures stops { MirrorStops self.old self.new }
     {
         match &mut self.state {
@@ -171,6 +182,11 @@ impl<A: Image, B: Image> Image for Mirror<A, B> {
             ≡ did Fenced (mirror_told self.new).calls (mirror_told self.old).trace) }
         ensures failed { OnErr result ((mirror_told self.new).trace ≡ (mirror_told self.old).trace) }
         ensures cause { HasCause (mirror_faults self.old) (mirror_faults self.new) result }
+        ensures failures { CountsFailures (mirror_faults self.old) (mirror_faults self.new) result }
+        // A closed one always fails; a paired one exactly where both halves have failed.
+        ensures closed { IsClosed self.old → OnOk result ⊥ }
+        ensures spent { FailsSpent result self.new }
+        ensures uses { MirrorUses self.old self.new }
         ensures stops { MirrorStops self.old self.new }
     {
         match &mut self.state {

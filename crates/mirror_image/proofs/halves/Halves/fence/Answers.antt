@@ -1,6 +1,7 @@
 use Rattle.std.proofs.Common.{ℕ, false, ◌-◌, refl, sym, ◌∙◌, ap, inl, inr}
 use Rattle.line_image.specs.declared.effect.Done.TheVariants.{Fenced}
 use Rattle.mirror_image.proofs.Exits.{on_ok, on_err}
+use Rattle.mirror_image.proofs.Uses.{use_first_lost, use_same, use_second_lost}
 use Rattle.mirror_image.proofs.Safety.{dead_exit, exact}
 use Rattle.mirror_image.proofs.Calls.{first_fence_exit, first_same_exit, second_fence_exit, second_same_exit}
 use Rattle.mirror_image.proofs.halves.Halves.fence.Goals as goal
@@ -50,3 +51,27 @@ returns-in-Both-clause-fenced g c = c.fence_both.ensures.fenced
 
 pub returns-in-Both-clause-failed : goal.returns-in-Both-clause-failed
 returns-in-Both-clause-failed g c = c.fence_both.ensures.failed
+
+pub returns-then-not-self-clause-uses : goal.returns-then-not-self-clause-uses
+returns-then-not-self-clause-uses g c = use_same
+
+pub returns-then-is_ok-clause-uses : goal.returns-then-is_ok-clause-uses
+returns-then-is_ok-clause-uses g c = use_same
+
+pub returns-else-is_ok-clause-uses : goal.returns-else-is_ok-clause-uses
+returns-else-is_ok-clause-uses g c = use_first_lost c.in-First.is (on_err c.fence.result (sym c.is_ok.ensures.value ∙ c.if-is_ok.false) c.fence.ensures.cause.failed)
+
+pub returns-then-is_ok-2-clause-uses : goal.returns-then-is_ok-2-clause-uses
+returns-then-is_ok-2-clause-uses g c = use_same
+
+pub returns-else-is_ok-2-clause-uses : goal.returns-else-is_ok-2-clause-uses
+returns-else-is_ok-2-clause-uses g c = use_second_lost c.in-Second.is (on_err c.fence-in-Second.result (sym c.is_ok-in-Second.ensures.value ∙ c.if-is_ok-2.false) c.fence-in-Second.ensures.cause.failed)
+
+pub returns-in-Both-clause-failures : goal.returns-in-Both-clause-failures
+returns-in-Both-clause-failures g c = c.fence_both.ensures.failures
+
+pub returns-in-Both-clause-spent : goal.returns-in-Both-clause-spent
+returns-in-Both-clause-spent g c = c.fence_both.ensures.spent
+
+pub returns-in-Both-clause-uses : goal.returns-in-Both-clause-uses
+returns-in-Both-clause-uses g c = c.fence_both.ensures.uses

@@ -1,6 +1,8 @@
 use Rattle.std.proofs.Common.{ℕ, false, ◌-◌, refl, sym, ◌∙◌, ap, inl, inr}
-use Rattle.mirror_image.proofs.Exits.{on_ok, on_done, words_both, words_moved}
-use Rattle.mirror_image.proofs.Writes.{failed_is}
+use Rattle.mirror_image.proofs.Exits.{on_err, on_ok, on_done, words_both, words_moved}
+use Rattle.mirror_image.proofs.Writes.{on_failed, failed_is}
+use Rattle.mirror_image.specs.declared.halves.Left.TheVariants.{Second}
+use Rattle.mirror_image.proofs.Uses.{rose_later, use_lost, use_moved, use_same}
 use Rattle.mirror_image.proofs.Safety.{exact}
 use Rattle.mirror_image.proofs.Calls.{read_exit, read_lost_exit, read_moved_exit, read_moved_lost_exit}
 use Rattle.mirror_image.proofs.halves.Halves.read_both.Goals as goal
@@ -49,3 +51,15 @@ returns-then-is_ok-2-clause-words g c =
     (ap (λ (n : ℕ). n - 1) (c.lines.ensures.size ∙ c.read_line.ensures.size))
     (on_done c.mark.result (sym c.is_err.ensures.value ∙ c.if-is_err.false) c.mark.ensures.marked)
     (on_ok c.read_line-2.result (sym c.is_ok-2.ensures.value ∙ c.if-is_ok-2.true) c.read_line-2.ensures.words)
+
+pub returns-then-is_ok-clause-uses : goal.returns-then-is_ok-clause-uses
+returns-then-is_ok-clause-uses g c = use_same
+
+pub returns-then-is_err-clause-uses : goal.returns-then-is_err-clause-uses
+returns-then-is_err-clause-uses g c = use_lost c.args.self.now.left (on_err c.read_line.result (sym c.is_ok.ensures.value ∙ c.if-is_ok.false) c.read_line.ensures.cause.failed) (on_failed c.mark.result (sym c.is_err.ensures.value ∙ c.if-is_err.true) c.mark.ensures.cause.failed)
+
+pub returns-then-is_ok-2-clause-uses : goal.returns-then-is_ok-2-clause-uses
+returns-then-is_ok-2-clause-uses g c = use_moved c.requires.both c.requires.alive (on_err c.read_line.result (sym c.is_ok.ensures.value ∙ c.if-is_ok.false) c.read_line.ensures.cause.failed)
+
+pub returns-clause-uses : goal.returns-clause-uses
+returns-clause-uses g c = use_lost Second (on_err c.read_line.result (sym c.is_ok.ensures.value ∙ c.if-is_ok.false) c.read_line.ensures.cause.failed) (rose_later c.mark.ensures.cause.later (on_err c.read_line-2.result (sym c.is_ok-2.ensures.value ∙ c.if-is_ok-2.false) c.read_line-2.ensures.cause.failed))

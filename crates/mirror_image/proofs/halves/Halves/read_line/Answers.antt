@@ -1,5 +1,6 @@
 use Rattle.std.proofs.Common.{ℕ, false, ◌-◌, refl, sym, ◌∙◌, ap, inl, inr}
-use Rattle.mirror_image.proofs.Exits.{on_ok, words_first, words_second}
+use Rattle.mirror_image.proofs.Exits.{on_err, on_ok, words_first, words_second}
+use Rattle.mirror_image.proofs.Uses.{use_first_lost, use_same, use_second_lost}
 use Rattle.mirror_image.proofs.Safety.{dead_exit, exact}
 use Rattle.mirror_image.proofs.Calls.{first_same_exit, second_same_exit}
 use Rattle.mirror_image.proofs.halves.Halves.read_line.Goals as goal
@@ -60,3 +61,27 @@ returns-then-is_ok-2-clause-words g c =
     words_second _ (g.A.Image.told c.args.self.now.a) (g.B.Image.told c.args.self.now.b) _ _ _ _ c.args.line _ c.in-Second.is c.if-not-self.false
     c.args.self.now.sound c.requires
     (on_ok c.read_line-in-Second.result (sym c.is_ok-in-Second.ensures.value ∙ c.if-is_ok-2.true) c.read_line-in-Second.ensures.words)
+
+pub returns-then-not-self-clause-uses : goal.returns-then-not-self-clause-uses
+returns-then-not-self-clause-uses g c = use_same
+
+pub returns-then-is_ok-clause-uses : goal.returns-then-is_ok-clause-uses
+returns-then-is_ok-clause-uses g c = use_same
+
+pub returns-else-is_ok-clause-uses : goal.returns-else-is_ok-clause-uses
+returns-else-is_ok-clause-uses g c = use_first_lost c.in-First.is (on_err c.read_line.result (sym c.is_ok.ensures.value ∙ c.if-is_ok.false) c.read_line.ensures.cause.failed)
+
+pub returns-then-is_ok-2-clause-uses : goal.returns-then-is_ok-2-clause-uses
+returns-then-is_ok-2-clause-uses g c = use_same
+
+pub returns-else-is_ok-2-clause-uses : goal.returns-else-is_ok-2-clause-uses
+returns-else-is_ok-2-clause-uses g c = use_second_lost c.in-Second.is (on_err c.read_line-in-Second.result (sym c.is_ok-in-Second.ensures.value ∙ c.if-is_ok-2.false) c.read_line-in-Second.ensures.cause.failed)
+
+pub returns-in-Both-clause-failures : goal.returns-in-Both-clause-failures
+returns-in-Both-clause-failures g c = c.read_both.ensures.failures
+
+pub returns-in-Both-clause-spent : goal.returns-in-Both-clause-spent
+returns-in-Both-clause-spent g c = c.read_both.ensures.spent
+
+pub returns-in-Both-clause-uses : goal.returns-in-Both-clause-uses
+returns-in-Both-clause-uses g c = c.read_both.ensures.uses

@@ -2,6 +2,7 @@ use Rattle.std.proofs.Common.{ℕ, false, ◌-◌, refl, sym, ◌∙◌, ap, inl
 use Rattle.line_image.specs.declared.effect.Done.TheVariants.{Wrote}
 use Rattle.mirror_image.proofs.Pushed.{not_label}
 use Rattle.mirror_image.proofs.Exits.{on_ok, on_err}
+use Rattle.mirror_image.proofs.Uses.{use_first_lost, use_same, use_second_lost}
 use Rattle.mirror_image.proofs.Safety.{dead_exit, exact, may_have}
 use Rattle.mirror_image.proofs.Calls.{first_wrote_exit, first_write_exit, second_wrote_exit, second_write_exit}
 use Rattle.mirror_image.proofs.halves.Halves.write_line.Goals as goal
@@ -51,3 +52,27 @@ returns-in-Both-clause-wrote g c = c.write_both.ensures.wrote
 
 pub returns-in-Both-clause-failed : goal.returns-in-Both-clause-failed
 returns-in-Both-clause-failed g c = c.write_both.ensures.failed
+
+pub returns-then-not-self-clause-uses : goal.returns-then-not-self-clause-uses
+returns-then-not-self-clause-uses g c = use_same
+
+pub returns-then-is_ok-clause-uses : goal.returns-then-is_ok-clause-uses
+returns-then-is_ok-clause-uses g c = use_same
+
+pub returns-else-is_ok-clause-uses : goal.returns-else-is_ok-clause-uses
+returns-else-is_ok-clause-uses g c = use_first_lost c.in-First.is (on_err c.write_line.result (sym c.is_ok.ensures.value ∙ c.if-is_ok.false) c.write_line.ensures.cause.failed)
+
+pub returns-then-is_ok-2-clause-uses : goal.returns-then-is_ok-2-clause-uses
+returns-then-is_ok-2-clause-uses g c = use_same
+
+pub returns-else-is_ok-2-clause-uses : goal.returns-else-is_ok-2-clause-uses
+returns-else-is_ok-2-clause-uses g c = use_second_lost c.in-Second.is (on_err c.write_line-in-Second.result (sym c.is_ok-in-Second.ensures.value ∙ c.if-is_ok-2.false) c.write_line-in-Second.ensures.cause.failed)
+
+pub returns-in-Both-clause-failures : goal.returns-in-Both-clause-failures
+returns-in-Both-clause-failures g c = c.write_both.ensures.failures
+
+pub returns-in-Both-clause-spent : goal.returns-in-Both-clause-spent
+returns-in-Both-clause-spent g c = c.write_both.ensures.spent
+
+pub returns-in-Both-clause-uses : goal.returns-in-Both-clause-uses
+returns-in-Both-clause-uses g c = c.write_both.ensures.uses

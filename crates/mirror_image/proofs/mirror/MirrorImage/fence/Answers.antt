@@ -15,3 +15,15 @@ returns-in-Paired-clause-failed g c = rw c.in-Paired.is (err_map c.fence.result 
 
 pub returns-in-Paired-clause-stops : goal.returns-in-Paired-clause-stops
 returns-in-Paired-clause-stops g c = rw c.in-Paired.is (either_way c.fence.result c.fence.ensures.fenced c.fence.ensures.failed (λ e. e.stops) (λ e. e.stops))
+
+pub returns-in-Paired-clause-failures : goal.returns-in-Paired-clause-failures
+returns-in-Paired-clause-failures g c = rw c.in-Paired.is c.fence.ensures.failures
+
+pub returns-in-Paired-clause-closed : goal.returns-in-Paired-clause-closed
+returns-in-Paired-clause-closed g c = rw c.in-Paired.is (λ e. absurd e)
+
+pub returns-in-Paired-clause-spent : goal.returns-in-Paired-clause-spent
+returns-in-Paired-clause-spent g c = c.fence.ensures.spent
+
+pub returns-in-Paired-clause-uses : goal.returns-in-Paired-clause-uses
+returns-in-Paired-clause-uses g c = rw c.in-Paired.is c.fence.ensures.uses

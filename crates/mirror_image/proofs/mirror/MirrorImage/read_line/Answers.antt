@@ -14,3 +14,15 @@ returns-in-Paired-clause-words g c = rw c.in-Paired.is c.read_line.ensures.words
 
 pub returns-in-Paired-clause-stops : goal.returns-in-Paired-clause-stops
 returns-in-Paired-clause-stops g c = rw c.in-Paired.is c.read_line.ensures.call.stops
+
+pub returns-in-Paired-clause-failures : goal.returns-in-Paired-clause-failures
+returns-in-Paired-clause-failures g c = rw c.in-Paired.is c.read_line.ensures.failures
+
+pub returns-in-Paired-clause-closed : goal.returns-in-Paired-clause-closed
+returns-in-Paired-clause-closed g c = rw c.in-Paired.is (λ e. absurd e)
+
+pub returns-in-Paired-clause-spent : goal.returns-in-Paired-clause-spent
+returns-in-Paired-clause-spent g c = c.read_line.ensures.spent
+
+pub returns-in-Paired-clause-uses : goal.returns-in-Paired-clause-uses
+returns-in-Paired-clause-uses g c = rw c.in-Paired.is c.read_line.ensures.uses
