@@ -6,10 +6,10 @@ pub mod Writes
 pub mod Moves
 pub mod Fences
 pub mod Leaving
+pub mod Using
 pub mod Within
 pub mod Stages
 pub mod Safety
 pub mod Calls
 pub mod Paired
 pub mod Halfway
-pub mod Uses

@@ -1,5 +1,5 @@
 -- What a call of a mirror does.
-use Rattle.std.specs.Prelude.{◌≡◌, ◌⊎◌, ◌-◌, ℕ, Option, Bool, true, false, Result, OnOk, OnErr}
+use Rattle.std.specs.Prelude.{◌≡◌, ◌⊎◌, ◌-◌, ℕ, Option}
 use Rattle.ap_base.specs.Causes.{next_count}
 use Rattle.line_image.specs.Trace.{Trace, did}
 use Rattle.line_image.specs.Told.{Told}
@@ -32,13 +32,3 @@ pub record IsCall (P : ℕ → Option Trace → Option Trace → Type 0) (z : �
 abbrev pub Called : (ℕ → Option Trace → Option Trace → Type 0) → Told → Told → Left → ℕ → ℕ → Told → Told → Left → ℕ → ℕ → Type 0
 Called P a b left less extra a' b' left' less' extra' =
     IsCall P (a.size - 1) a.trace b.trace a'.trace b'.trace (told_by a b left less extra) (told_by a' b' left' less' extra')
-
--- A count is that of the calls that failed. It stays at 2^64 - 1.
-pub record CountsFailures {T E : Type 0} (before now : ℕ) (result : Result T E) : Type 0 where
-  pub made : OnOk result (now ≡ before)
-  pub failed : OnErr result (now ≡ next_count before)
-
--- It fails exactly where no half is left to use.
-pub record FailsUnused {T E : Type 0} (alive : Bool) (result : Result T E) : Type 0 where
-  pub made : OnOk result (alive ≡ true)
-  pub failed : OnErr result (alive ≡ false)

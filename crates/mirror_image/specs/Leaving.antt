@@ -4,7 +4,6 @@ use Rattle.line_image.specs.Trace.{Trace, MayLeave}
 use Rattle.line_image.specs.Told.{Told}
 use Rattle.mirror_image.specs.declared.halves.Left.{Left}
 use Rattle.mirror_image.specs.declared.halves.Left.TheVariants.{Both, First, Second}
-use Rattle.ap_base.specs.Causes.{Rose}
 use Rattle.mirror_image.specs.declared.state.State.{State}
 use Rattle.mirror_image.specs.declared.state.State.TheVariants.{Paired, Closed}
 use Rattle.mirror_image.specs.Joint.{told_by}
@@ -18,14 +17,6 @@ abbrev pub uses_second : Left → Bool → Bool
 uses_second Both alive = alive
 uses_second First alive = false
 uses_second Second alive = alive
-
--- A call leaves a half that was used unused only where its count of faults rose in it, and one that was unused stays so. The counts are
--- those of the first half, before and after it, and those of the second.
-pub record KeepsUse (left : Left) (alive : Bool) (left' : Left) (alive' : Bool) (a a' b b' : ℕ) : Type 0 where
-  pub first : uses_first left alive ≡ true → uses_first left' alive' ≡ false → Rose a a'
-  pub second : uses_second left alive ≡ true → uses_second left' alive' ≡ false → Rose b b'
-  pub first_unused : uses_first left alive ≡ false → uses_first left' alive' ≡ false
-  pub second_unused : uses_second left alive ≡ false → uses_second left' alive' ≡ false
 
 abbrev pub BothTell : Option Trace → Option Trace → Type 0
 BothTell None p = ⊥

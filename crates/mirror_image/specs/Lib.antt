@@ -6,6 +6,7 @@ pub mod Pairing
 pub mod Paired
 pub mod Mirror
 pub mod Leaving
+pub mod Using
 pub mod Safe
 pub mod Stops
 pub mod Calls

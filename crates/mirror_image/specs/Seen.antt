@@ -5,10 +5,10 @@ use Rattle.line_image.specs.declared.image.Image.{Ghosts}
 use Rattle.mirror_image.specs.declared.state.Mirror.{Mirror}
 use Rattle.mirror_image.specs.Joint.{told_by}
 use Rattle.mirror_image.specs.Order.{in_order_by}
-use Rattle.mirror_image.specs.Leaving.{OfPaired, UsedLeave, KeepsUse}
-use Rattle.mirror_image.specs.Calls.{FailsUnused}
+use Rattle.mirror_image.specs.Leaving.{OfPaired, UsedLeave}
 use Rattle.mirror_image.specs.Mirror.{told_of, faults_of, halves_of, in_order_of, is_closed, IsPairedAs, OfCall}
 use Rattle.mirror_image.specs.Stops.{PairingShows, StopsShow, KeepsLeader}
+use Rattle.mirror_image.specs.Using.{AsksFirst, CallsBoth, UsesBoth, UsesHalves}
 
 module _ {A B : Type 0} {g : Ghosts A} {h : Ghosts B} where
   -- what it tells, as an image
@@ -44,10 +44,21 @@ module _ {A B : Type 0} {g : Ghosts A} {h : Ghosts B} where
   MirrorStops m n = OfCall (λ old new. StopsShow ((g.told old.a).size - 1) (g.told old.a).trace (h.told old.b).trace (g.told new.a).trace (h.told new.b).trace
       (told_by (g.told old.a) (h.told old.b) old.left old.less old.extra) (told_by (g.told new.a) (h.told new.b) new.left new.less new.extra)) m.state n.state
 
-  -- where it is paired, a call of it leaves a half unused only where that half's count rose in the call
-  abbrev pub MirrorUses : Mirror A B g h → Mirror A B g h → Type 0
-  MirrorUses m n = OfCall (λ old new. KeepsUse old.left old.alive new.left new.alive (g.faults old.a) (g.faults new.a) (h.faults old.b) (h.faults new.b)) m.state n.state
+  -- it is paired, and both halves are used
+  abbrev pub UsesItsHalves : Mirror A B g h → Type 0
+  UsesItsHalves m = IsPairedAs (λ halves. UsesBoth halves.left halves.alive) m.state
 
-  -- where it is paired, a call that leaves it so fails exactly where both halves are then unused
-  abbrev pub FailsSpent : {T E : Type 0} → Result T E → Mirror A B g h → Type 0
-  FailsSpent result m = OfPaired (λ halves. FailsUnused halves.alive result) m.state
+  -- where it is paired, a call that comes to this uses its halves so
+  abbrev pub MirrorUses : {T E : Type 0} → Result T E → Mirror A B g h → Mirror A B g h → Type 0
+  MirrorUses result m n = OfCall (λ old new. UsesHalves old.left new.left old.alive new.alive (g.told old.a) (h.told old.b)
+      (g.told new.a) (h.told new.b) (g.faults old.a) (h.faults old.b) (g.faults new.a) (h.faults new.b) result) m.state n.state
+
+  -- where it is paired, a read that leaves the first half used asks that alone
+  abbrev pub AsksFirstAlone : Mirror A B g h → Mirror A B g h → Type 0
+  AsksFirstAlone m n = OfCall (λ old new. AsksFirst new.left new.alive (h.told old.b) (h.told new.b) (h.faults old.b) (h.faults new.b))
+      m.state n.state
+
+  -- where it is paired, a write or a fence that leaves both halves used calls each once
+  abbrev pub CallsUsed : Mirror A B g h → Mirror A B g h → Type 0
+  CallsUsed m n = OfCall (λ old new. CallsBoth new.left new.alive (g.told old.a) (h.told old.b) (g.told new.a) (h.told new.b))
+      m.state n.state

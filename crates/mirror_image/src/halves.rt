@@ -3,9 +3,10 @@ ghost use Rattle.std.specs.Prelude.{◌≡◌, ◌<◌, ◌-◌, true, OnOk, OnE
 ghost use Rattle.ap_base.specs.Causes.{HasCause};
 ghost use Rattle.line_image.specs.Trace.{Reads};
 ghost use Rattle.line_image.specs.declared.effect.Done.TheVariants.{Wrote, Fenced};
-ghost use Rattle.mirror_image.specs.Calls.{Called, CountsFailures, FailsUnused, IsSame, Did, MayHave};
+ghost use Rattle.mirror_image.specs.Calls.{Called, IsSame, Did, MayHave};
 ghost use Rattle.mirror_image.specs.Sound.{IsSound};
-ghost use Rattle.mirror_image.specs.Leaving.{UsedLeave, KeepsUse};
+ghost use Rattle.mirror_image.specs.Leaving.{UsedLeave};
+ghost use Rattle.mirror_image.specs.Using.{UsesHalves, AsksFirst, CallsBoth, CountsFailures};
 ghost use Rattle.mirror_image.specs.Joint.{told_by};
 ghost use Rattle.mirror_image.specs.Safe.{IsSafe};
 ghost use Rattle.mirror_image.specs.Stops.{PairingShows};
@@ -69,10 +70,11 @@ impl<A: Image, B: Image> Halves<A, B> {
         ensures words { OnOk result (Reads (told_by (A.told self.old.a) (B.told self.old.b) self.old.left self.old.less self.old.extra).trace line into.new) }
         ensures untouched { OnErr result (into.new ≡ into.old) }
         ensures cause { HasCause self.old.faults self.new.faults result }
-        ensures failures { CountsFailures self.old.faults self.new.faults result }
-        ensures spent { FailsUnused self.new.alive result }
-        ensures uses { KeepsUse self.old.left self.old.alive self.new.left self.new.alive
-            (A.faults self.old.a) (A.faults self.new.a) (B.faults self.old.b) (B.faults self.new.b) }
+        ensures counts { CountsFailures self.old.faults self.new.faults result }
+        ensures uses { UsesHalves self.old.left self.new.left self.old.alive self.new.alive
+            (A.told self.old.a) (B.told self.old.b) (A.told self.new.a) (B.told self.new.b)
+            (A.faults self.old.a) (B.faults self.old.b) (A.faults self.new.a) (B.faults self.new.b) result }
+        ensures asks { AsksFirst self.new.left self.new.alive (B.told self.old.b) (B.told self.new.b) (B.faults self.old.b) (B.faults self.new.b) }
     {
         if !self.alive {
             self.extra = self.extra.saturating_add(1);
@@ -109,10 +111,11 @@ impl<A: Image, B: Image> Halves<A, B> {
         ensures failed { OnErr result (Called (MayHave (Wrote line words.now)) (A.told self.old.a) (B.told self.old.b) self.old.left self.old.less self.old.extra
             (A.told self.new.a) (B.told self.new.b) self.new.left self.new.less self.new.extra) }
         ensures cause { HasCause self.old.faults self.new.faults result }
-        ensures failures { CountsFailures self.old.faults self.new.faults result }
-        ensures spent { FailsUnused self.new.alive result }
-        ensures uses { KeepsUse self.old.left self.old.alive self.new.left self.new.alive
-            (A.faults self.old.a) (A.faults self.new.a) (B.faults self.old.b) (B.faults self.new.b) }
+        ensures counts { CountsFailures self.old.faults self.new.faults result }
+        ensures uses { UsesHalves self.old.left self.new.left self.old.alive self.new.alive
+            (A.told self.old.a) (B.told self.old.b) (A.told self.new.a) (B.told self.new.b)
+            (A.faults self.old.a) (B.faults self.old.b) (A.faults self.new.a) (B.faults self.new.b) result }
+        ensures both { CallsBoth self.new.left self.new.alive (A.told self.old.a) (B.told self.old.b) (A.told self.new.a) (B.told self.new.b) }
     {
         if !self.alive {
             self.extra = self.extra.saturating_add(1);
@@ -148,10 +151,11 @@ impl<A: Image, B: Image> Halves<A, B> {
         ensures failed { OnErr result (Called IsSame (A.told self.old.a) (B.told self.old.b) self.old.left self.old.less self.old.extra
             (A.told self.new.a) (B.told self.new.b) self.new.left self.new.less self.new.extra) }
         ensures cause { HasCause self.old.faults self.new.faults result }
-        ensures failures { CountsFailures self.old.faults self.new.faults result }
-        ensures spent { FailsUnused self.new.alive result }
-        ensures uses { KeepsUse self.old.left self.old.alive self.new.left self.new.alive
-            (A.faults self.old.a) (A.faults self.new.a) (B.faults self.old.b) (B.faults self.new.b) }
+        ensures counts { CountsFailures self.old.faults self.new.faults result }
+        ensures uses { UsesHalves self.old.left self.new.left self.old.alive self.new.alive
+            (A.told self.old.a) (B.told self.old.b) (A.told self.new.a) (B.told self.new.b)
+            (A.faults self.old.a) (B.faults self.old.b) (A.faults self.new.a) (B.faults self.new.b) result }
+        ensures both { CallsBoth self.new.left self.new.alive (A.told self.old.a) (B.told self.old.b) (A.told self.new.a) (B.told self.new.b) }
     {
         if !self.alive {
             self.extra = self.extra.saturating_add(1);
@@ -161,6 +165,7 @@ impl<A: Image, B: Image> Halves<A, B> {
         match self.left {
             Left::Both => self.fence_both(),
             Left::First => {
+                // what the second half holds is ruled out by the first one's label
                 if self.a.fence().is_ok() {
                     return Ok(());
                 }
@@ -190,10 +195,11 @@ impl<A: Image, B: Image> Halves<A, B> {
         ensures words { OnOk result (Reads (told_by (A.told self.old.a) (B.told self.old.b) self.old.left self.old.less self.old.extra).trace line into.new) }
         ensures untouched { OnErr result (into.new ≡ into.old) }
         ensures cause { HasCause self.old.faults self.new.faults result }
-        ensures failures { CountsFailures self.old.faults self.new.faults result }
-        ensures spent { FailsUnused self.new.alive result }
-        ensures uses { KeepsUse self.old.left self.old.alive self.new.left self.new.alive
-            (A.faults self.old.a) (A.faults self.new.a) (B.faults self.old.b) (B.faults self.new.b) }
+        ensures counts { CountsFailures self.old.faults self.new.faults result }
+        ensures uses { UsesHalves self.old.left self.new.left self.old.alive self.new.alive
+            (A.told self.old.a) (B.told self.old.b) (A.told self.new.a) (B.told self.new.b)
+            (A.faults self.old.a) (B.faults self.old.b) (A.faults self.new.a) (B.faults self.new.b) result }
+        ensures asks { AsksFirst self.new.left self.new.alive (B.told self.old.b) (B.told self.new.b) (B.faults self.old.b) (B.faults self.new.b) }
     {
         if self.a.read_line(line, into).is_ok() {
             return Ok(());
@@ -222,10 +228,11 @@ impl<A: Image, B: Image> Halves<A, B> {
         ensures failed { OnErr result (Called (MayHave (Wrote line words.now)) (A.told self.old.a) (B.told self.old.b) self.old.left self.old.less self.old.extra
             (A.told self.new.a) (B.told self.new.b) self.new.left self.new.less self.new.extra) }
         ensures cause { HasCause self.old.faults self.new.faults result }
-        ensures failures { CountsFailures self.old.faults self.new.faults result }
-        ensures spent { FailsUnused self.new.alive result }
-        ensures uses { KeepsUse self.old.left self.old.alive self.new.left self.new.alive
-            (A.faults self.old.a) (A.faults self.new.a) (B.faults self.old.b) (B.faults self.new.b) }
+        ensures counts { CountsFailures self.old.faults self.new.faults result }
+        ensures uses { UsesHalves self.old.left self.new.left self.old.alive self.new.alive
+            (A.told self.old.a) (B.told self.old.b) (A.told self.new.a) (B.told self.new.b)
+            (A.faults self.old.a) (B.faults self.old.b) (A.faults self.new.a) (B.faults self.new.b) result }
+        ensures both { CallsBoth self.new.left self.new.alive (A.told self.old.a) (B.told self.old.b) (A.told self.new.a) (B.told self.new.b) }
     {
         if self.a.write_line(line, words).is_err() {
             if mark(&mut self.b, self.a.lines() - 1, self.generation).is_err() {
@@ -264,10 +271,11 @@ impl<A: Image, B: Image> Halves<A, B> {
         ensures failed { OnErr result (Called IsSame (A.told self.old.a) (B.told self.old.b) self.old.left self.old.less self.old.extra
             (A.told self.new.a) (B.told self.new.b) self.new.left self.new.less self.new.extra) }
         ensures cause { HasCause self.old.faults self.new.faults result }
-        ensures failures { CountsFailures self.old.faults self.new.faults result }
-        ensures spent { FailsUnused self.new.alive result }
-        ensures uses { KeepsUse self.old.left self.old.alive self.new.left self.new.alive
-            (A.faults self.old.a) (A.faults self.new.a) (B.faults self.old.b) (B.faults self.new.b) }
+        ensures counts { CountsFailures self.old.faults self.new.faults result }
+        ensures uses { UsesHalves self.old.left self.new.left self.old.alive self.new.alive
+            (A.told self.old.a) (B.told self.old.b) (A.told self.new.a) (B.told self.new.b)
+            (A.faults self.old.a) (B.faults self.old.b) (A.faults self.new.a) (B.faults self.new.b) result }
+        ensures both { CallsBoth self.new.left self.new.alive (A.told self.old.a) (B.told self.old.b) (A.told self.new.a) (B.told self.new.b) }
     {
         if self.b.fence().is_err() {
             if let Err(made) = mark(&mut self.a, self.b.lines() - 1, self.generation) {

@@ -6,7 +6,7 @@ ghost use Rattle.mirror_image.specs.Paired.{LeaderFits, LeaderTooHigh, ShowsLead
 ghost use Rattle.mirror_image.specs.Stops.{KeepsLeader, Holds, led};
 ghost use Rattle.mirror_image.specs.Labels.{leader};
 ghost use Rattle.mirror_image.specs.Mirror.{HalvesDiffer};
-ghost use Rattle.mirror_image.specs.Seen.{mirror_halves, IsClosed, KeepsWhatLed, MirrorShows, UsedHalvesShow};
+ghost use Rattle.mirror_image.specs.Seen.{mirror_halves, IsClosed, KeepsWhatLed, MirrorShows, UsedHalvesShow, UsesItsHalves};
 ghost use Rattle.mirror_image.specs.declared.pairing.MirrorFault.TheVariants.{Size as Sizes, ImageFailed as Failed, Generation as TooHigh};
 
 use crate::halves::{Halves, Left};
@@ -25,6 +25,7 @@ impl<A: Image, B: Image> Mirror<A, B> {
             (⟦<Mirror<A, B> as Image>⟧.told m).trace) }
         ensures fenced { IfOk result (λ m. IsAllFenced (⟦<Mirror<A, B> as Image>⟧.told m).trace) }
         ensures faultless { IfOk result (λ m. ⟦<Mirror<A, B> as Image>⟧.faults m ≡ 0) }
+        ensures uses { IfOk result (λ m. UsesItsHalves m) }
         ensures fits { IfOk result (λ _. LeaderFits ((A.told a).size - 1) (A.told a).trace (B.told b).trace) }
         ensures alike { IfOk result (λ _. ((A.told a).size ≡ (B.told b).size) × (2 ≤ (A.told a).size)) }
         ensures differ { IfErr result (λ e. (e.0 ≡ Sizes) ↔ HalvesDiffer (A.told a).size (B.told b).size) }
@@ -104,14 +105,14 @@ pub fn law_of_leading()
 {}
 
 impl<A: Image, B: Image> Image for Mirror<A, B> {
-    ghost use Rattle.std.specs.Prelude.{◌⊎◌, OnOk, OnErr};
+    ghost use Rattle.std.specs.Prelude.{◌⊎◌, OnOk, OnErr, IsErr};
     ghost use Rattle.ap_base.specs.Causes.{HasCause, next_count};
     ghost use Rattle.line_image.specs.Trace.{Reads, did};
     ghost use Rattle.line_image.specs.declared.effect.Done.TheVariants.{Wrote, Fenced};
     ghost use Rattle.mirror_image.specs.Joint.{told_by};
     ghost use Rattle.mirror_image.specs.Mirror.{in_order_of};
-    ghost use Rattle.mirror_image.specs.Seen.{mirror_told, mirror_faults, MirrorStops, MirrorUses, FailsSpent, IsClosed};
-    ghost use Rattle.mirror_image.specs.Calls.{CountsFailures};
+    ghost use Rattle.mirror_image.specs.Seen.{mirror_told, mirror_faults, AsksFirstAlone, CallsUsed, IsClosed, MirrorStops, MirrorUses};
+    ghost use Rattle.mirror_image.specs.Using.{CountsFailures};
     ghost use Rattle.mirror_image.specs.Order.{in_order_by};
 
     ghost told = { λ m. mirror_told m };
@@ -133,11 +134,10 @@ impl<A: Image, B: Image> Image for Mirror<A, B> {
         ensures words { OnOk result (Reads (mirror_told self.old).trace line into.new) }
         ensures untouched { OnErr result (into.new ≡ into.old) }
         ensures cause { HasCause (mirror_faults self.old) (mirror_faults self.new) result }
-        ensures failures { CountsFailures (mirror_faults self.old) (mirror_faults self.new) result }
-        // A closed one always fails; a paired one exactly where both halves have failed.
-        ensures closed { IsClosed self.old → OnOk result ⊥ }
-        ensures spent { FailsSpent result self.new }
-        ensures uses { MirrorUses self.old self.new }
+        ensures counts { CountsFailures (mirror_faults self.old) (mirror_faults self.new) result }
+        ensures closed { IsClosed self.old → IsErr result }
+        ensures uses { MirrorUses result self.old self.new }
+        ensures asks { AsksFirstAlone self.old self.new }
         ensures stops { MirrorStops self.old self.new }
     {
         match &mut self.state {
@@ -159,11 +159,10 @@ impl<A: Image, B: Image> Image for Mirror<A, B> {
             ≡ did (Wrote line words.now) (mirror_told self.new).calls (mirror_told self.old).trace)
             ⊎ ((mirror_told self.new).trace ≡ (mirror_told self.old).trace)) }
         ensures cause { HasCause (mirror_faults self.old) (mirror_faults self.new) result }
-        ensures failures { CountsFailures (mirror_faults self.old) (mirror_faults self.new) result }
-        // A closed one always fails; a paired one exactly where both halves have failed.
-        ensures closed { IsClosed self.old → OnOk result ⊥ }
-        ensures spent { FailsSpent result self.new }
-        ensures uses { MirrorUses self.old self.new }
+        ensures counts { CountsFailures (mirror_faults self.old) (mirror_faults self.new) result }
+        ensures closed { IsClosed self.old → IsErr result }
+        ensures uses { MirrorUses result self.old self.new }
+        ensures both { CallsUsed self.old self.new }
         ensures stops { MirrorStops self.old self.new }
     {
         match &mut self.state {
@@ -182,11 +181,10 @@ impl<A: Image, B: Image> Image for Mirror<A, B> {
             ≡ did Fenced (mirror_told self.new).calls (mirror_told self.old).trace) }
         ensures failed { OnErr result ((mirror_told self.new).trace ≡ (mirror_told self.old).trace) }
         ensures cause { HasCause (mirror_faults self.old) (mirror_faults self.new) result }
-        ensures failures { CountsFailures (mirror_faults self.old) (mirror_faults self.new) result }
-        // A closed one always fails; a paired one exactly where both halves have failed.
-        ensures closed { IsClosed self.old → OnOk result ⊥ }
-        ensures spent { FailsSpent result self.new }
-        ensures uses { MirrorUses self.old self.new }
+        ensures counts { CountsFailures (mirror_faults self.old) (mirror_faults self.new) result }
+        ensures closed { IsClosed self.old → IsErr result }
+        ensures uses { MirrorUses result self.old self.new }
+        ensures both { CallsUsed self.old self.new }
         ensures stops { MirrorStops self.old self.new }
     {
         match &mut self.state {

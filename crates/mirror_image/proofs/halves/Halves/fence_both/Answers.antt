@@ -1,11 +1,9 @@
-use Rattle.std.proofs.Common.{ℕ, false, ◌-◌, refl, sym, ◌∙◌, ap, inl, inr}
-use Rattle.line_image.specs.declared.effect.Done.TheVariants.{Fenced}
+use Rattle.std.proofs.Common.{ℕ, false, ◌-◌, refl, sym, ◌∙◌, ap}
 use Rattle.mirror_image.proofs.Exits.{on_ok, on_err, on_done}
 use Rattle.mirror_image.proofs.Writes.{on_failed, failed_is}
-use Rattle.mirror_image.specs.declared.halves.Left.TheVariants.{First, Second}
-use Rattle.mirror_image.proofs.Uses.{rose_later, use_left, use_lost, use_moved, use_same}
 use Rattle.mirror_image.proofs.Safety.{exact}
 use Rattle.mirror_image.proofs.Calls.{fence_exit, fence_left_exit, fence_left_lost_exit, fence_lost_exit, fence_moved_exit, fence_moved_lost_exit, fence_unmarked_exit}
+use Rattle.mirror_image.proofs.Using.{uses_both_ok, uses_both_first, uses_both_second, uses_both_lost, rose_after, none_used}
 use Rattle.mirror_image.proofs.halves.Halves.fence_both.Goals as goal
 
 pub invariant_of-self : goal.invariant_of-self
@@ -65,22 +63,31 @@ pub returns-clause-failed : goal.returns-clause-failed
 returns-clause-failed g c = (exact (fence_moved_lost_exit _ c.args.self.now.generation (g.A.Image.told c.args.self.now.a) (g.B.Image.told c.args.self.now.b) _ _ _ _ c.requires.both c.requires.alive c.args.self.now.sound c.args.self.now.safe (g.met.A.Image.in_order c.args.self.now.a) (g.B.Image.told c.fence.new.self) (g.A.Image.told c.fence-2.new.self) (g.met.B.Image.in_order c.fence.new.self) (g.met.B.Image.in_order c.args.self.now.b) c.fence.ensures.size c.fence.ensures.counted (on_done c.fence.result (sym c.is_err.ensures.value ∙ c.if-is_err.false) c.fence.ensures.fenced) c.fence-2.ensures.size c.fence-2.ensures.counted (on_err c.fence-2.result (sym c.is_ok-2.ensures.value ∙ c.if-is_ok-2.false) c.fence-2.ensures.failed) (g.B.Image.told c.mark-2.new.half) (g.B.Image.told c.fence-3.new.self) _ (ap (λ (n : ℕ). n - 1) (c.lines-2.ensures.size ∙ c.fence-2.ensures.size)) (on_done c.mark-2.result (sym c.is_err-2.ensures.value ∙ c.if-is_err-2.false) c.mark-2.ensures.marked) c.fence-3.ensures.size c.fence-3.ensures.counted (on_err c.fence-3.result (sym c.is_ok-3.ensures.value ∙ c.if-is_ok-3.false) c.fence-3.ensures.failed))).call
 
 pub returns-in-Err-clause-uses : goal.returns-in-Err-clause-uses
-returns-in-Err-clause-uses g c = use_lost c.args.self.now.left c.in-Err.ensures.cause.failed (on_failed c.fence.result (sym c.is_err.ensures.value ∙ c.if-is_err.true) c.fence.ensures.cause.failed)
+returns-in-Err-clause-uses g c = uses_both_lost c.args.self.now.left c.args.self.now.left c.args.self.now.alive c.requires.both c.requires.alive c.in-Err.ensures.cause.failed (on_failed c.fence.result (sym c.is_err.ensures.value ∙ c.if-is_err.true) c.fence.ensures.cause.failed)
 
 pub returns-then-is_ok-clause-uses : goal.returns-then-is_ok-clause-uses
-returns-then-is_ok-clause-uses g c = use_left c.requires.both c.requires.alive (on_failed c.fence.result (sym c.is_err.ensures.value ∙ c.if-is_err.true) c.fence.ensures.cause.failed)
+returns-then-is_ok-clause-uses g c = uses_both_first c.args.self.now.left c.args.self.now.alive c.requires.both c.requires.alive (on_failed c.fence.result (sym c.is_err.ensures.value ∙ c.if-is_err.true) c.fence.ensures.cause.failed) c.fence.ensures.counted
 
 pub returns-then-is_err-clause-uses : goal.returns-then-is_err-clause-uses
-returns-then-is_err-clause-uses g c = use_lost First (rose_later c.mark.ensures.cause.later (on_err c.fence-then-is_err.result (sym c.is_ok.ensures.value ∙ c.if-is_ok.false) c.fence-then-is_err.ensures.cause.failed)) (on_failed c.fence.result (sym c.is_err.ensures.value ∙ c.if-is_err.true) c.fence.ensures.cause.failed)
+returns-then-is_err-clause-uses g c = uses_both_lost c.args.self.now.left _ c.args.self.now.alive c.requires.both c.requires.alive (rose_after c.mark.ensures.cause.later (on_err c.fence-then-is_err.result (sym c.is_ok.ensures.value ∙ c.if-is_ok.false) c.fence-then-is_err.ensures.cause.failed)) (on_failed c.fence.result (sym c.is_err.ensures.value ∙ c.if-is_err.true) c.fence.ensures.cause.failed)
 
 pub returns-then-is_ok-2-clause-uses : goal.returns-then-is_ok-2-clause-uses
-returns-then-is_ok-2-clause-uses g c = use_same
+returns-then-is_ok-2-clause-uses g c = uses_both_ok c.args.self.now.left c.args.self.now.alive c.requires.both c.requires.alive
 
 pub returns-then-is_err-2-clause-uses : goal.returns-then-is_err-2-clause-uses
-returns-then-is_err-2-clause-uses g c = use_lost c.args.self.now.left (on_err c.fence-2.result (sym c.is_ok-2.ensures.value ∙ c.if-is_ok-2.false) c.fence-2.ensures.cause.failed) (rose_later c.fence.ensures.cause.later (on_failed c.mark-2.result (sym c.is_err-2.ensures.value ∙ c.if-is_err-2.true) c.mark-2.ensures.cause.failed))
+returns-then-is_err-2-clause-uses g c = uses_both_lost c.args.self.now.left c.args.self.now.left c.args.self.now.alive c.requires.both c.requires.alive (on_err c.fence-2.result (sym c.is_ok-2.ensures.value ∙ c.if-is_ok-2.false) c.fence-2.ensures.cause.failed) (rose_after c.fence.ensures.cause.later (on_failed c.mark-2.result (sym c.is_err-2.ensures.value ∙ c.if-is_err-2.true) c.mark-2.ensures.cause.failed))
 
 pub returns-then-is_ok-3-clause-uses : goal.returns-then-is_ok-3-clause-uses
-returns-then-is_ok-3-clause-uses g c = use_moved c.requires.both c.requires.alive (on_err c.fence-2.result (sym c.is_ok-2.ensures.value ∙ c.if-is_ok-2.false) c.fence-2.ensures.cause.failed)
+returns-then-is_ok-3-clause-uses g c = uses_both_second c.args.self.now.left c.args.self.now.alive c.requires.both c.requires.alive (on_err c.fence-2.result (sym c.is_ok-2.ensures.value ∙ c.if-is_ok-2.false) c.fence-2.ensures.cause.failed) c.fence-2.ensures.counted
 
 pub returns-clause-uses : goal.returns-clause-uses
-returns-clause-uses g c = use_lost Second (on_err c.fence-2.result (sym c.is_ok-2.ensures.value ∙ c.if-is_ok-2.false) c.fence-2.ensures.cause.failed) (rose_later c.fence.ensures.cause.later (rose_later c.mark-2.ensures.cause.later (on_err c.fence-3.result (sym c.is_ok-3.ensures.value ∙ c.if-is_ok-3.false) c.fence-3.ensures.cause.failed)))
+returns-clause-uses g c = uses_both_lost c.args.self.now.left _ c.args.self.now.alive c.requires.both c.requires.alive (on_err c.fence-2.result (sym c.is_ok-2.ensures.value ∙ c.if-is_ok-2.false) c.fence-2.ensures.cause.failed) (rose_after c.fence.ensures.cause.later (rose_after c.mark-2.ensures.cause.later (on_err c.fence-3.result (sym c.is_ok-3.ensures.value ∙ c.if-is_ok-3.false) c.fence-3.ensures.cause.failed)))
+
+pub returns-in-Err-clause-both : goal.returns-in-Err-clause-both
+returns-in-Err-clause-both g c = none_used c.args.self.now.left false refl
+
+pub returns-then-is_ok-2-clause-both : goal.returns-then-is_ok-2-clause-both
+returns-then-is_ok-2-clause-both g c = λ used. (c.fence-2.ensures.counted, c.fence.ensures.counted)
+
+pub returns-then-is_err-2-clause-both : goal.returns-then-is_err-2-clause-both
+returns-then-is_err-2-clause-both g c = none_used c.args.self.now.left false refl

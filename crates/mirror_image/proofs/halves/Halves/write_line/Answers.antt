@@ -1,10 +1,10 @@
-use Rattle.std.proofs.Common.{ℕ, false, ◌-◌, refl, sym, ◌∙◌, ap, inl, inr}
+use Rattle.std.proofs.Common.{false, sym, ◌∙◌}
 use Rattle.line_image.specs.declared.effect.Done.TheVariants.{Wrote}
 use Rattle.mirror_image.proofs.Pushed.{not_label}
 use Rattle.mirror_image.proofs.Exits.{on_ok, on_err}
-use Rattle.mirror_image.proofs.Uses.{use_first_lost, use_same, use_second_lost}
 use Rattle.mirror_image.proofs.Safety.{dead_exit, exact, may_have}
 use Rattle.mirror_image.proofs.Calls.{first_wrote_exit, first_write_exit, second_wrote_exit, second_write_exit}
+use Rattle.mirror_image.proofs.Using.{uses_none, uses_first_ok, uses_first_lost, uses_second_ok, uses_second_lost, none_used, first_alone, second_alone}
 use Rattle.mirror_image.proofs.halves.Halves.write_line.Goals as goal
 
 pub invariant_of-self : goal.invariant_of-self
@@ -54,25 +54,37 @@ pub returns-in-Both-clause-failed : goal.returns-in-Both-clause-failed
 returns-in-Both-clause-failed g c = c.write_both.ensures.failed
 
 pub returns-then-not-self-clause-uses : goal.returns-then-not-self-clause-uses
-returns-then-not-self-clause-uses g c = use_same
+returns-then-not-self-clause-uses g c = uses_none c.args.self.now.left c.args.self.now.alive c.if-not-self.true
 
 pub returns-then-is_ok-clause-uses : goal.returns-then-is_ok-clause-uses
-returns-then-is_ok-clause-uses g c = use_same
+returns-then-is_ok-clause-uses g c = uses_first_ok c.args.self.now.left c.args.self.now.alive c.in-First.is c.if-not-self.false
 
 pub returns-else-is_ok-clause-uses : goal.returns-else-is_ok-clause-uses
-returns-else-is_ok-clause-uses g c = use_first_lost c.in-First.is (on_err c.write_line.result (sym c.is_ok.ensures.value ∙ c.if-is_ok.false) c.write_line.ensures.cause.failed)
+returns-else-is_ok-clause-uses g c = uses_first_lost c.args.self.now.left c.args.self.now.alive c.in-First.is c.if-not-self.false (on_err c.write_line.result (sym c.is_ok.ensures.value ∙ c.if-is_ok.false) c.write_line.ensures.cause.failed)
 
 pub returns-then-is_ok-2-clause-uses : goal.returns-then-is_ok-2-clause-uses
-returns-then-is_ok-2-clause-uses g c = use_same
+returns-then-is_ok-2-clause-uses g c = uses_second_ok c.args.self.now.left c.args.self.now.alive c.in-Second.is c.if-not-self.false
 
 pub returns-else-is_ok-2-clause-uses : goal.returns-else-is_ok-2-clause-uses
-returns-else-is_ok-2-clause-uses g c = use_second_lost c.in-Second.is (on_err c.write_line-in-Second.result (sym c.is_ok-in-Second.ensures.value ∙ c.if-is_ok-2.false) c.write_line-in-Second.ensures.cause.failed)
-
-pub returns-in-Both-clause-failures : goal.returns-in-Both-clause-failures
-returns-in-Both-clause-failures g c = c.write_both.ensures.failures
-
-pub returns-in-Both-clause-spent : goal.returns-in-Both-clause-spent
-returns-in-Both-clause-spent g c = c.write_both.ensures.spent
+returns-else-is_ok-2-clause-uses g c = uses_second_lost c.args.self.now.left c.args.self.now.alive c.in-Second.is c.if-not-self.false (on_err c.write_line-in-Second.result (sym c.is_ok-in-Second.ensures.value ∙ c.if-is_ok-2.false) c.write_line-in-Second.ensures.cause.failed)
 
 pub returns-in-Both-clause-uses : goal.returns-in-Both-clause-uses
 returns-in-Both-clause-uses g c = c.write_both.ensures.uses
+
+pub returns-then-not-self-clause-both : goal.returns-then-not-self-clause-both
+returns-then-not-self-clause-both g c = none_used c.args.self.now.left c.args.self.now.alive c.if-not-self.true
+
+pub returns-then-is_ok-clause-both : goal.returns-then-is_ok-clause-both
+returns-then-is_ok-clause-both g c = first_alone c.args.self.now.left c.args.self.now.alive c.in-First.is
+
+pub returns-else-is_ok-clause-both : goal.returns-else-is_ok-clause-both
+returns-else-is_ok-clause-both g c = first_alone c.args.self.now.left false c.in-First.is
+
+pub returns-then-is_ok-2-clause-both : goal.returns-then-is_ok-2-clause-both
+returns-then-is_ok-2-clause-both g c = second_alone c.args.self.now.left c.args.self.now.alive c.in-Second.is
+
+pub returns-else-is_ok-2-clause-both : goal.returns-else-is_ok-2-clause-both
+returns-else-is_ok-2-clause-both g c = second_alone c.args.self.now.left false c.in-Second.is
+
+pub returns-in-Both-clause-both : goal.returns-in-Both-clause-both
+returns-in-Both-clause-both g c = c.write_both.ensures.both

@@ -1,4 +1,5 @@
 use Rattle.mirror_image.proofs.Exits.{ok_map, err_map, either_way}
+use Rattle.mirror_image.proofs.Using.{not_closed}
 use Rattle.mirror_image.proofs.mirror.MirrorImage.fence.Goals as goal
 
 pub returns-in-Paired-clause-size : goal.returns-in-Paired-clause-size
@@ -16,14 +17,14 @@ returns-in-Paired-clause-failed g c = rw c.in-Paired.is (err_map c.fence.result 
 pub returns-in-Paired-clause-stops : goal.returns-in-Paired-clause-stops
 returns-in-Paired-clause-stops g c = rw c.in-Paired.is (either_way c.fence.result c.fence.ensures.fenced c.fence.ensures.failed (λ e. e.stops) (λ e. e.stops))
 
-pub returns-in-Paired-clause-failures : goal.returns-in-Paired-clause-failures
-returns-in-Paired-clause-failures g c = rw c.in-Paired.is c.fence.ensures.failures
+pub returns-in-Paired-clause-counts : goal.returns-in-Paired-clause-counts
+returns-in-Paired-clause-counts g c = rw c.in-Paired.is c.fence.ensures.counts
 
 pub returns-in-Paired-clause-closed : goal.returns-in-Paired-clause-closed
-returns-in-Paired-clause-closed g c = rw c.in-Paired.is (λ e. absurd e)
-
-pub returns-in-Paired-clause-spent : goal.returns-in-Paired-clause-spent
-returns-in-Paired-clause-spent g c = c.fence.ensures.spent
+returns-in-Paired-clause-closed g c = not_closed _ c.in-Paired.is
 
 pub returns-in-Paired-clause-uses : goal.returns-in-Paired-clause-uses
 returns-in-Paired-clause-uses g c = rw c.in-Paired.is c.fence.ensures.uses
+
+pub returns-in-Paired-clause-both : goal.returns-in-Paired-clause-both
+returns-in-Paired-clause-both g c = rw c.in-Paired.is c.fence.ensures.both

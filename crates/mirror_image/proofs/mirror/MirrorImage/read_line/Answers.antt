@@ -1,3 +1,4 @@
+use Rattle.mirror_image.proofs.Using.{not_closed}
 use Rattle.mirror_image.proofs.mirror.MirrorImage.read_line.Goals as goal
 
 pub returns-in-Paired-clause-size : goal.returns-in-Paired-clause-size
@@ -15,14 +16,14 @@ returns-in-Paired-clause-words g c = rw c.in-Paired.is c.read_line.ensures.words
 pub returns-in-Paired-clause-stops : goal.returns-in-Paired-clause-stops
 returns-in-Paired-clause-stops g c = rw c.in-Paired.is c.read_line.ensures.call.stops
 
-pub returns-in-Paired-clause-failures : goal.returns-in-Paired-clause-failures
-returns-in-Paired-clause-failures g c = rw c.in-Paired.is c.read_line.ensures.failures
+pub returns-in-Paired-clause-counts : goal.returns-in-Paired-clause-counts
+returns-in-Paired-clause-counts g c = rw c.in-Paired.is c.read_line.ensures.counts
 
 pub returns-in-Paired-clause-closed : goal.returns-in-Paired-clause-closed
-returns-in-Paired-clause-closed g c = rw c.in-Paired.is (λ e. absurd e)
-
-pub returns-in-Paired-clause-spent : goal.returns-in-Paired-clause-spent
-returns-in-Paired-clause-spent g c = c.read_line.ensures.spent
+returns-in-Paired-clause-closed g c = not_closed _ c.in-Paired.is
 
 pub returns-in-Paired-clause-uses : goal.returns-in-Paired-clause-uses
 returns-in-Paired-clause-uses g c = rw c.in-Paired.is c.read_line.ensures.uses
+
+pub returns-in-Paired-clause-asks : goal.returns-in-Paired-clause-asks
+returns-in-Paired-clause-asks g c = rw c.in-Paired.is c.read_line.ensures.asks
