@@ -211,8 +211,7 @@ where
 }
 
 // The files are one image; or one that fails at every call, and why.
-fn paired(a: FileImage, b: FileImage) -> (Mirror<FileImage, FileImage>, Option<MirrorFault>)
-{
+fn paired(a: FileImage, b: FileImage) -> (Mirror<FileImage, FileImage>, Option<MirrorFault>) {
     match Mirror::pair(a, b) {
         Ok(mirror) => (mirror, None),
         Err((fault, a, b)) => (Mirror::closed(a, b), Some(fault)),
