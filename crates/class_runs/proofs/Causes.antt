@@ -17,8 +17,8 @@ use Rattle.class_links.specs.Links.{Links}
 use Rattle.class_links.proofs.Refusals.{link_unrefused, one_refusal}
 use Rattle.class_set.specs.Linked.{Linked}
 use Rattle.class_set.specs.ArrayTypes.{linked_from}
-use Rattle.set_opening.specs.declared.unopened.Unopened.{Unopened}
-use Rattle.set_opening.specs.declared.unopened.Unopened.TheVariants as unopened
+use Rattle.durable_launch.specs.Passed.{Unopened}
+use Rattle.durable_launch.specs.Unopenings as unopened
 use Rattle.statuses.specs.Names.{fault_status}
 use Rattle.statuses.specs.declared.status.Status.{Status}
 use Rattle.statuses.specs.declared.status.Status.TheVariants as status

@@ -11,10 +11,10 @@ use Rattle.durable_launch.specs.Passed.{fault_in}
 use Rattle.durable_launch.specs.Passed.{Met, Stuck}
 use Rattle.durable_launch.specs.Passed.{Turned}
 use Rattle.durable_launch.specs.Passed.{Acted, Ended, Over, Unbuilt}
-use Rattle.program_launch.specs.declared.refusals.NoLaunch.{NoLaunch}
-use Rattle.program_launch.specs.declared.refusals.NoLaunch.TheVariants as no_launch
-use Rattle.set_opening.specs.declared.unopened.Unopened.{Unopened}
-use Rattle.set_opening.specs.declared.unopened.Unopened.TheVariants as unopened
+use Rattle.durable_launch.specs.Passed.{NoLaunch}
+use Rattle.durable_launch.specs.NoLaunches as no_launch
+use Rattle.durable_launch.specs.Passed.{Unopened}
+use Rattle.durable_launch.specs.Unopenings as unopened
 use Rattle.statuses.specs.declared.status.Status.TheVariants as status
 use Rattle.class_runs.specs.Began.{status_of_turned, status_of_unlaunched}
 use Rattle.class_runs.specs.Sets.{status_of_unopened}

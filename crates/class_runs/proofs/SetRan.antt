@@ -33,18 +33,18 @@ use Rattle.durable_launch.specs.Passed.{Acted, Ended, Over, Unbuilt}
 use Rattle.durable_launch.specs.declared.heaps.OpenedHeap.{OpenedHeap}
 use Rattle.durable_launch.specs.declared.launches.Launched.{Launched}
 use Rattle.durable_launch.specs.Launching.{CanLaunch, IsLaunched, launch_over, opening_over}
-use Rattle.program_launch.specs.declared.mains.Main.{Main}
-use Rattle.program_launch.specs.Mains.{main_of}
-use Rattle.program_launch.specs.Refusals.{IfFull}
-use Rattle.program_launch.specs.declared.refusals.NoLaunch.{NoLaunch}
-use Rattle.program_launch.specs.declared.refusals.NoLaunch.TheVariants as no_launch
+use Rattle.durable_launch.specs.Passed.{Main}
+use Rattle.durable_launch.specs.Passed.{main_of}
+use Rattle.durable_launch.specs.Passed.{IfFull}
+use Rattle.durable_launch.specs.Passed.{NoLaunch}
+use Rattle.durable_launch.specs.NoLaunches as no_launch
 use Rattle.one_space.specs.First.{LacksWords}
-use Rattle.set_opening.specs.declared.unopened.Unopened.{Unopened}
-use Rattle.set_opening.specs.Attached.{IsSettled}
-use Rattle.set_opening.specs.declared.unopened.Unopened.TheVariants as unopened
-use Rattle.set_opening.specs.Opened.{IsFoundFor, IsOpenedFor}
-use Rattle.set_opening.specs.Unopened.{IsAttachFault, IsLeft, IsLeftAsFound, IsRecoveryFault, IsUnappended, IsUnopened}
-use Rattle.set_opening.proofs.Opened.{found_left}
+use Rattle.durable_launch.specs.Passed.{Unopened}
+use Rattle.durable_launch.specs.Passed.{IsSettled}
+use Rattle.durable_launch.specs.Unopenings as unopened
+use Rattle.durable_launch.specs.Passed.{IsFoundFor, IsOpenedFor}
+use Rattle.durable_launch.specs.Passed.{IsAttachFault, IsLeft, IsLeftAsFound, IsRecoveryFault, IsUnappended, IsUnopened}
+use Rattle.durable_launch.proofs.Passed.{found_left}
 use Rattle.statuses.specs.declared.status.Status.{Status}
 use Rattle.statuses.specs.declared.status.Status.TheVariants as status
 use Rattle.class_runs.specs.Began.{FindsRoom, RanBy, status_of_turned, status_of_unlaunched}

@@ -27,8 +27,8 @@ use Rattle.class_set.specs.Linked.{Linked}
 use Rattle.class_set.specs.Facts.{facts_of}
 use Rattle.stop_theorem.specs.Stops.{IsAllowedImage}
 use Rattle.stop_theorem.specs.Laws.{IsSafeRun}
-use Rattle.set_opening.specs.Attached.{AreRead, IsAttached, IsSettled}
-use Rattle.set_opening.specs.Opened.{IsOpenedFor, StandsWithFirst}
+use Rattle.durable_launch.specs.Passed.{AreRead, IsAttached, IsSettled}
+use Rattle.durable_launch.specs.Passed.{IsOpenedFor, StandsWithFirst}
 use Rattle.class_runs.specs.Sets.{IsOpenedSo, StandsAllowed, StandsAsBefore, StandsAtStops, StandsRightly}
 
 pub none_before : (n : ℕ) (acts : List Recorded) → All (λ (a : Recorded). n ≤ a.act.at) acts → acts_before n acts ≡ []

@@ -17,8 +17,8 @@ use Rattle.image_meaning.proofs.Standing.{use-within}
 use Rattle.image_meaning.proofs.Standings.{stands-within}
 use Rattle.image_recovery.specs.Recovered.{entries_in}
 use Rattle.directories.specs.Kept.{Kept}
-use Rattle.set_opening.specs.Attached.{IsSettled}
-use Rattle.set_opening.specs.Unopened.{IsLeftAsFound}
+use Rattle.durable_launch.specs.Passed.{IsSettled}
+use Rattle.durable_launch.specs.Passed.{IsLeftAsFound}
 use Rattle.class_runs.specs.Sets.{HasItsDirectory}
 use Rattle.class_runs.proofs.SetStops.{as_shown}
 

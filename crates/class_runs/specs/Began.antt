@@ -15,8 +15,8 @@ use Rattle.durable_launch.specs.Passed.{fault_of_halt}
 use Rattle.durable_launch.specs.Passed.{EndsBy}
 use Rattle.durable_launch.specs.Passed.{Turned}
 use Rattle.durable_launch.specs.Passed.{Acted, Ended, Over, Unbuilt}
-use Rattle.program_launch.specs.declared.refusals.NoLaunch.{NoLaunch}
-use Rattle.program_launch.specs.declared.refusals.NoLaunch.TheVariants as no_launch
+use Rattle.durable_launch.specs.Passed.{NoLaunch}
+use Rattle.durable_launch.specs.NoLaunches as no_launch
 use Rattle.statuses.specs.Names.{fault_status, uncaught_in}
 use Rattle.statuses.specs.declared.status.Status.{Status}
 use Rattle.statuses.specs.declared.status.Status.TheVariants as status

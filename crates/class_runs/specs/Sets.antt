@@ -35,16 +35,16 @@ use Rattle.stop_theorem.specs.Stops.{IsAllowedImage}
 use Rattle.durable_launch.specs.Passed.{HadNoFault}
 use Rattle.durable_launch.specs.Passed.{is_built}
 use Rattle.durable_launch.specs.Launching.{launch_over}
-use Rattle.program_launch.specs.declared.mains.Main.{Main}
-use Rattle.program_launch.specs.declared.mains.NoMain.{NoMain}
-use Rattle.program_launch.specs.declared.mains.NoMain.TheVariants.{Class, Method}
-use Rattle.program_launch.specs.Mains.{main_of}
-use Rattle.set_opening.specs.declared.unopened.Unopened.{Unopened}
-use Rattle.set_opening.specs.declared.unopened.Unopened.TheVariants as unopened
-use Rattle.set_opening.specs.Attached.{AreRead, IsSettled}
-use Rattle.set_opening.specs.Opened.{IsOpenedFor}
-use Rattle.set_opening.specs.Found.{IsDirectoryIn}
-use Rattle.set_opening.specs.Unopened.{IsUnappended, IsUnbegun, IsUnopened}
+use Rattle.durable_launch.specs.Passed.{Main}
+use Rattle.durable_launch.specs.Passed.{NoMain}
+use Rattle.durable_launch.specs.NoMains.{Class, Method}
+use Rattle.durable_launch.specs.Passed.{main_of}
+use Rattle.durable_launch.specs.Passed.{Unopened}
+use Rattle.durable_launch.specs.Unopenings as unopened
+use Rattle.durable_launch.specs.Passed.{AreRead, IsSettled}
+use Rattle.durable_launch.specs.Passed.{IsOpenedFor}
+use Rattle.durable_launch.specs.Passed.{IsDirectoryIn}
+use Rattle.durable_launch.specs.Passed.{IsUnappended, IsUnbegun, IsUnopened}
 use Rattle.statuses.specs.Names.{fault_status, main_text, shortened, uncaught_in}
 use Rattle.statuses.specs.declared.status.Status.{Status}
 use Rattle.statuses.specs.declared.status.Status.TheVariants as status

@@ -14,10 +14,10 @@ use crate::ran::{Ran, no_graph, unbegun};
 use crate::sets::run_set;
 use ap_base::{ClassSource, Gate, Sink};
 use class_file::ClassFile;
-use graph_model::Graph;
 use line_image::Image;
 use run_history::{Acts, Watcher};
 use run_types::Limits;
+use shared_graph::SharedGraph;
 use source_classes::read_files;
 use statuses::Status;
 use std::alloc::Global;
@@ -26,7 +26,7 @@ use std::alloc::Global;
 #[derive(Drop)]
 pub struct Ended<C, I, S, W> {
     pub status: Status,
-    pub opening: Graph,
+    pub opening: SharedGraph,
     pub acts: Acts,
     pub source: C,
     pub image: I,

@@ -3,8 +3,8 @@ ghost use Rattle.std.specs.Prelude.{◌≡◌, [], Some, None};
 ghost use Rattle.image_meaning.specs.Meaning.{empty_graph};
 
 use ap_base::ListOf;
-use graph_model::Graph;
 use run_history::Acts;
+use shared_graph::SharedGraph;
 use statuses::Status;
 use std::alloc::Global;
 
@@ -12,7 +12,7 @@ use std::alloc::Global;
 #[derive(Drop)]
 pub struct Ran<I, S, W> {
     pub status: Status,
-    pub opening: Graph,
+    pub opening: SharedGraph,
     pub acts: Acts,
     pub image: I,
     pub sink: S,
@@ -20,13 +20,10 @@ pub struct Ran<I, S, W> {
 }
 
 /// The graph without roots and nodes.
-pub fn no_graph(alloc: Global) -> Graph
+pub fn no_graph(alloc: Global) -> SharedGraph
     ensures { result ≡ empty_graph }
 {
-    Graph {
-        roots: ListOf::new(alloc),
-        nodes: ListOf::new(alloc),
-    }
+    SharedGraph::new(ListOf::new(alloc), ListOf::new(alloc))
 }
 
 /// What a call gives back that ended without a turn.

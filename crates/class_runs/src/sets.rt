@@ -6,11 +6,8 @@ ghost use Rattle.image_meaning.specs.Meaning.{empty_graph};
 ghost use Rattle.class_set.specs.Linked.{Linked};
 ghost use Rattle.class_set.specs.Facts.{facts_of};
 ghost use Rattle.plain_model.specs.Duties.{IsClass};
-ghost use Rattle.program_launch.specs.Mains.{main_of};
-ghost use Rattle.set_opening.specs.Opened.{IsFoundFor, IsOpenedFor};
 ghost use Rattle.durable_launch.specs.Launching.{CanLaunch};
-ghost use Rattle.durable_launch.specs.Passed.{IsReady};
-ghost use Rattle.durable_launch.specs.Passed.{Opening, memory_of};
+ghost use Rattle.durable_launch.specs.Passed.{IsFoundFor, IsOpenedFor, IsReady, Opening, main_of, memory_of};
 ghost use Rattle.program_host.specs.Hosts.{setting_in};
 ghost use Rattle.class_runs.specs.Sets.{SetRunsOver, kind_of, status_of_unopened};
 ghost use Rattle.class_runs.specs.Began.{FindsRoom, RanBy, status_of_turned, status_of_unlaunched};
@@ -20,15 +17,14 @@ use crate::ran::{Ran, no_graph, unbegun};
 use ap_base::{Gate, Sink, ThreadNo};
 use class_set::ClassSet;
 use durable_launch::{
-    Launched, OpenedHeap, Run, Turned, each_stop_is_allowed, launch, open_heap, run_thread,
+    FoundImage, Launched, Main, NoLaunch, NoMain, OpenedHeap, OpenedImage, Run, Turned, Unopened,
+    complete, each_stop_is_allowed, find_for, find_main, find_room, launch, open_heap, run_thread,
 };
-use graph_model::Graph;
 use line_image::Image;
-use program_launch::{Main, NoLaunch, NoMain, find_main, find_room};
 use run_history::{Acts, Watcher};
 use run_types::{Limits, LinkKind};
-use set_opening::{FoundImage, OpenedImage, Unopened, complete, find_for};
 use set_types::SetTypes;
+use shared_graph::SharedGraph;
 use statuses::{NameRoom, Status, main_status, status_of_fault, uncaught_status};
 use std::alloc::Global;
 
@@ -75,7 +71,7 @@ fn of_turned(set: &ClassSet, turned: Turned, room: NameRoom) -> Status
 }
 
 // The graph from which a run began; the one without roots and nodes where there is no act.
-fn opening_of(alloc: Global, acts: &Acts, graph: Graph) -> Graph
+fn opening_of(alloc: Global, acts: &Acts, graph: SharedGraph) -> SharedGraph
     ensures none { acts.now.acts ≡ [] → result ≡ empty_graph }
     ensures some { (acts.now.acts ≡ [] → ⊥) → result ≡ graph }
 {

@@ -1,5 +1,5 @@
 -- What comes of a new image.
-use Rattle.std.proofs.Common.{◌≡◌, ◌≢◌, ◌⊎◌, ◌↔◌, inl, inr, ⊎_elim, ℕ, ◌<◌, ◌≤◌, Some, None, Err, Ok, refl, sym, ◌∙◌, ap, subst, arith}
+use Rattle.std.proofs.Common.{◌≡◌, ◌≢◌, ◌⊎◌, ◌↔◌, inl, inr, ⊎_elim, ℕ, ◌<◌, ◌≤◌, true, Some, None, Err, Ok, refl, sym, ◌∙◌, ap, subst, arith, length, ◌-◌, ◌^◌}
 use Rattle.std.specs.Prelude.{Result}
 use Rattle.ap_base.specs.Causes.{Rose}
 use Rattle.graph_model.specs.declared.types.Graph.{Graph}
@@ -10,21 +10,25 @@ use Rattle.line_memory.specs.Memory.{Memory, IsTelling, shown}
 use Rattle.line_memory.specs.Moments.{Goes}
 use Rattle.line_memory.specs.declared.attach.AttachFault.{AttachFault}
 use Rattle.line_memory.specs.declared.attach.AttachFault.TheVariants as attach
-use Rattle.image_layout.specs.Places.{min_lines, max_lines}
+use Rattle.image_layout.specs.Places.{has_size, min_lines, max_lines}
 use Rattle.image_meaning.specs.Checks.{Words}
 use Rattle.word_changes.specs.Changes.{AllKnown, Nothing, ChangesTo, StopsLeave}
 use Rattle.image_opening.specs.Attached.{AreRead, IsSettled}
 use Rattle.image_opening.specs.Unopened.{IsOfWrongSize}
-use Rattle.dense_image.specs.Written.{no_room, IsWhole}
+use Rattle.image_meaning.specs.Directories.{spelled_all}
+use Rattle.dense_image.specs.Written.{no_room, lines_taken, entries_of, IsWhole}
 use Rattle.image_compact.specs.declared.fault.WriteFault.{WriteFault}
 use Rattle.image_compact.specs.declared.fault.WriteFault.TheVariants as write
 use Rattle.image_compact.specs.Outcomes.{IsBlankOrWhole, StopsKeepBlankOrWhole, Writes, IsRefused, FailsToWrite}
 use Rattle.statuses.specs.declared.status.NewReason.TheVariants.{Size, NotBlank}
 use Rattle.compact_call.specs.declared.fault.CompactFault.{CompactFault}
-use Rattle.compact_call.specs.declared.fault.CompactFault.TheVariants.{NewImage, Full, ImageFailed, OutOfMemory}
+use Rattle.compact_call.specs.declared.fault.CompactFault.TheVariants.{BadImage, NewImage, Full, ImageFailed, SinkFailed, OutOfMemory}
 use Rattle.compact_call.specs.Faults.{IsOfAttach, IsOfWrite}
-use Rattle.compact_call.specs.Fresh.{StopsAre, IsInRange, IsBlank, WasBlank, WasUsed, HasWords, KeepsFresh, IsWrittenTo, IsOfFresh}
-use Rattle.compact_call.proofs.NewStops.{untouched, shown_is, telling, fixed, since, looked}
+use Rattle.compact_call.specs.Fresh.{StopsAre, IsInRange, IsBlank, WasBlank, WasUsed, HasWords, KeepsFresh, StaysAsItWas, IsWrittenTo}
+use Rattle.compact_call.specs.Fresh.{IsNewFault, StaysIfRefused}
+use Rattle.image_compact.proofs.ImageWords.{sized}
+use Rattle.image_compact.proofs.Plans.{room_of}
+use Rattle.compact_call.proofs.NewStops.{in_size, untouched, shown_is, telling, fixed, since, looked}
 
 -- ---- one that wasn't attached
 
@@ -34,17 +38,17 @@ module _ (graph : Graph) (start : Told) (faults : ℕ) (fault : AttachFault) (af
       → StopsAre start after (IsBlankOrWhole start.size graph)
   blank_still settled words read blank =
       untouched start settled words read after (IsBlankOrWhole start.size graph) back.same_trace back.any_moment
-      (λ c has. inl (has 0 0 (omega (arith, blank.0.0)) ∙ blank.1))
+      (λ c has. let range = in_size start.size blank.0 in inl (blank.0, has 0 0 (omega (arith, range.0)) ∙ blank.1))
 
-  used_still : IsSettled start → (words : Words) → AreRead start words → StopsAre start after (HasWords start.size words)
-  used_still settled words read =
+  pub unattached_stays : StaysAsItWas start after
+  unattached_stays settled words read =
       untouched start settled words read after (HasWords start.size words) back.same_trace back.any_moment (λ c has. has)
 
   pub unattached_keeps : KeepsFresh graph start after
   unattached_keeps = record {
     size = back.same_size;
     blank = blank_still;
-    used = λ settled words read used. used_still settled words read;
+    used = λ settled words read used. unattached_stays settled words read;
   }
 
   pub unattached_sized : (why : CompactFault) → IsOfAttach fault why → IsOfWrongSize start → why ≡ NewImage Size
@@ -52,21 +56,27 @@ module _ (graph : Graph) (start : Told) (faults : ℕ) (fault : AttachFault) (af
       let at : fault ≡ attach.Size = back.size_fault.1 wrong in
       subst (λ (f : AttachFault). IsOfAttach f why) at is
 
-wrong_size : (graph : Graph) (start after : Told) (fault : AttachFault) (why : CompactFault) → IsOfAttach fault why
-    → (fault ≡ attach.Size ↔ IsOfWrongSize start) → IsOfFresh graph start after (Err why)
-wrong_size graph start after attach.Size why is exact =
-    subst (λ (y : CompactFault). IsOfFresh graph start after (Err y)) (sym is) (exact.0 refl)
-wrong_size graph start after attach.ImageFailed why is exact =
-    subst (λ (y : CompactFault). IsOfFresh graph start after (Err y)) (sym is) tt
-wrong_size graph start after attach.OutOfMemory why is exact =
-    subst (λ (y : CompactFault). IsOfFresh graph start after (Err y)) (sym is) tt
+wrong_size : (graph : Graph) (start : Told) (fault : AttachFault) (why : CompactFault) → IsOfAttach fault why
+    → (fault ≡ attach.Size ↔ IsOfWrongSize start) → IsNewFault graph start why
+wrong_size graph start attach.Size why is exact = subst (λ (y : CompactFault). IsNewFault graph start y) (sym is) (exact.0 refl)
+wrong_size graph start attach.ImageFailed why is exact = subst (λ (y : CompactFault). IsNewFault graph start y) (sym is) tt
+wrong_size graph start attach.OutOfMemory why is exact = subst (λ (y : CompactFault). IsNewFault graph start y) (sym is) tt
 
 pub unattached_came : (graph : Graph) (start : Told) (faults : ℕ) (fault : AttachFault) (after : Told) (faults_after : ℕ)
-    → GivesBack start faults fault after faults_after → (why : CompactFault) → IsOfAttach fault why → IsOfFresh graph start after (Err why)
-unattached_came graph start faults fault after faults_after back why is = wrong_size graph start after fault why is back.size_fault
+    → GivesBack start faults fault after faults_after → (why : CompactFault) → IsOfAttach fault why → IsNewFault graph start why
+unattached_came graph start faults fault after faults_after back why is = wrong_size graph start fault why is back.size_fault
+
+-- what stays as it was does so where it must
+pub stays_refused : (start after : Told) (why : CompactFault) → StaysAsItWas start after → StaysIfRefused start after why
+stays_refused start after (NewImage reason) stays = stays
+stays_refused start after (Full full) stays = stays
+stays_refused start after OutOfMemory stays = stays
+stays_refused start after ImageFailed stays = tt
+stays_refused start after (BadImage line reason) stays = tt
+stays_refused start after SinkFailed stays = tt
 
 -- only a failure is told as one
-pub told_failure : (outcome : Result (Unit {0}) CompactFault) (why : CompactFault) → outcome ≡ Err why → outcome ≡ Err ImageFailed
+pub told_failure : {A : Type 0} (outcome : Result A CompactFault) (why : CompactFault) → outcome ≡ Err why → outcome ≡ Err ImageFailed
     → why ≡ ImageFailed
 told_failure outcome why is failed = cc
 
@@ -92,6 +102,9 @@ module _ (graph : Graph) (start : Told) (faults : ℕ) (m n : Memory) (at : Atta
   in_range : IsInRange start
   in_range = let range = at.range in let same = at.size in (omega (arith, range.0, same), omega (arith, range.1, same))
 
+  right_count : has_size start.size ≡ true
+  right_count = sized start.size in_range.0 in_range.1
+
   known : AllKnown m
   known = at.known
 
@@ -109,7 +122,7 @@ module _ (graph : Graph) (start : Told) (faults : ℕ) (m n : Memory) (at : Atta
         since start settled words read faults m at n (IsBlankOrWhole m.size graph) (IsBlankOrWhole start.size graph)
         (stops (telling start settled words read faults m at)
         (λ v left. fixed start settled words read faults m at 0 0 first_there v left ∙ blank.1))
-        (λ c has. inl (has 0 0 first_there ∙ blank.1))
+        (λ c has. inl (blank.0, has 0 0 first_there ∙ blank.1))
         (λ c so. subst (λ (k : ℕ). IsBlankOrWhole k graph c) at.size so)
 
     stays_used : IsSettled start → (words : Words) → AreRead start words → ¬ IsBlank start words
@@ -117,7 +130,7 @@ module _ (graph : Graph) (start : Told) (faults : ℕ) (m n : Memory) (at : Atta
     stays_used settled words read used =
         since start settled words read faults m at n (HasWords start.size words) (HasWords start.size words)
         (looked start settled words read faults m at n
-        (not_blank known (λ zero. used (in_range, sym (shown_is start settled words read faults m at 0 0 first_there) ∙ zero))))
+        (not_blank known (λ zero. used (right_count, sym (shown_is start settled words read faults m at 0 0 first_there) ∙ zero))))
         (λ c has. has) (λ c has. has)
 
     pub attached_keeps : KeepsFresh graph start after
@@ -129,9 +142,16 @@ module _ (graph : Graph) (start : Told) (faults : ℕ) (m n : Memory) (at : Atta
           subst (λ (t : Told). StopsAre start t (HasWords start.size words)) (sym told) (stays_used settled words read used);
     }
 
+  -- nothing was stored, whatever its words
+  pub attached_stays : (after : Told) → after ≡ n.image → ChangesTo Nothing m n → StaysAsItWas start after
+  attached_stays after told look settled words read =
+      subst (λ (t : Told). StopsAre start t (HasWords start.size words)) (sym told)
+      (since start settled words read faults m at n (HasWords start.size words) (HasWords start.size words)
+      (looked start settled words read faults m at n look) (λ c has. has) (λ c has. has))
+
   pub is_written_to : (after : Told) → after ≡ n.image → Writes graph m n → IsWrittenTo graph start after
   is_written_to after told w = record {
-    was = record { words = shown m; read = read_now; blank = (in_range, w.was_blank known) };
+    was = record { words = shown m; read = read_now; blank = (right_count, w.was_blank known) };
     room = subst (λ (k : ℕ). no_room k graph ≡ None) at.size w.room;
     whole = λ tells c left.
         subst (λ (k : ℕ). IsWhole k c graph) at.size
@@ -139,22 +159,39 @@ module _ (graph : Graph) (start : Told) (faults : ℕ) (m n : Memory) (at : Atta
         (λ l w. inr (subst (λ (t : Told). LeavesNow t.trace c) told left l w)));
   }
 
-  refused : (after : Told) (fault : WriteFault) → FailsToWrite graph fault m n → (why : CompactFault) → IsOfWrite fault why
-      → IsOfFresh graph start after (Err why)
-  refused after write.NotBlank fails why is =
-      subst (λ (y : CompactFault). IsOfFresh graph start after (Err y)) (sym is)
+  refused : (fault : WriteFault) → FailsToWrite graph fault m n → (why : CompactFault) → IsOfWrite fault why → IsNewFault graph start why
+  refused write.NotBlank fails why is =
+      subst (λ (y : CompactFault). IsNewFault graph start y) (sym is)
       (record { in_range = in_range; words = shown m; read = read_now; used = fails.refused.0 known })
-  refused after (write.Full full) fails why is =
-      subst (λ (y : CompactFault). IsOfFresh graph start after (Err y)) (sym is) (
-        record { words = shown m; read = read_now; blank = (in_range, fails.refused.0 known) },
+  refused (write.Full full) fails why is =
+      subst (λ (y : CompactFault). IsNewFault graph start y) (sym is) (
+        record { words = shown m; read = read_now; blank = (right_count, fails.refused.0 known) },
         subst (λ (k : ℕ). no_room k graph ≡ Some full) at.size fails.refused.1,
       )
-  refused after write.ImageFailed fails why is = subst (λ (y : CompactFault). IsOfFresh graph start after (Err y)) (sym is) tt
-  refused after write.OutOfMemory fails why is = subst (λ (y : CompactFault). IsOfFresh graph start after (Err y)) (sym is) tt
+  refused write.ImageFailed fails why is = subst (λ (y : CompactFault). IsNewFault graph start y) (sym is) tt
+  refused write.OutOfMemory fails why is = subst (λ (y : CompactFault). IsNewFault graph start y) (sym is) tt
 
-  pub attached_came : (after : Told) (fault : WriteFault) → FailsToWrite graph fault m n → (why : CompactFault) → IsOfWrite fault why
-      → IsOfFresh graph start after (Err why)
-  attached_came after fault fails why is = refused after fault fails why is
+  pub attached_came : (fault : WriteFault) → FailsToWrite graph fault m n → (why : CompactFault) → IsOfWrite fault why
+      → IsNewFault graph start why
+  attached_came fault fails why is = refused fault fails why is
+
+  unstored : (after : Told) → after ≡ n.image → (fault : WriteFault) → IsRefused graph fault m n → (why : CompactFault) → IsOfWrite fault why
+      → StaysIfRefused start after why
+  unstored after told write.NotBlank given why is = stays_refused start after why (attached_stays after told given.1)
+  unstored after told (write.Full full) given why is = stays_refused start after why (attached_stays after told given.2)
+  unstored after told write.OutOfMemory given why is = stays_refused start after why (attached_stays after told given)
+  unstored after told write.ImageFailed given why is = subst (λ (y : CompactFault). StaysIfRefused start after y) (sym is) tt
+
+  pub attached_refused : (after : Told) → after ≡ n.image → (fault : WriteFault) → FailsToWrite graph fault m n → (why : CompactFault)
+      → IsOfWrite fault why → StaysIfRefused start after why
+  attached_refused after told fault fails why is = unstored after told fault fails.refused why is
+
+  -- as many lines as its nodes take are there
+  pub attached_line : Writes graph m n → lines_taken graph.nodes < 2 ^ 64 - 1
+  attached_line w =
+      let range = at.range in
+      let room = room_of m.size (length (spelled_all (entries_of graph))) (lines_taken graph.nodes) range.0 w.room in
+      omega (arith, room.1, range.1)
 
   -- it failed only where its count rose
   rose : (fault : WriteFault) → fault ≡ write.ImageFailed → IsRefused graph fault m n → Rose m.faults n.faults

@@ -1,5 +1,7 @@
 -- What stops leave of a new image, from its attaching on.
-use Rattle.std.proofs.Common.{◌≡◌, ◌≢◌, ◌⊎◌, inl, inr, ⊎_elim, ℕ, ◌<◌, ◌≤◌, Option, Some, None, sym, ◌∙◌, ap, subst, arith}
+use Rattle.std.proofs.Common.{◌≡◌, ◌≢◌, ◌⊎◌, inl, inr, ⊎_elim, ℕ, ◌<◌, ◌≤◌, true, Option, Some, None, sym, ◌∙◌, ap, subst, arith}
+use Rattle.std.specs.Prelude.{nat_le}
+use Rattle.std.proofs.lemmas.Bool.{and_parts, leb-true}
 use Rattle.graph_model.specs.declared.types.Graph.{Graph}
 use Rattle.line_image.specs.Told.{Told}
 use Rattle.line_image.specs.Trace.{Trace, Outcome, IsAllFenced, LeavesNow}
@@ -7,7 +9,7 @@ use Rattle.line_memory.specs.Attached.{Attaches}
 use Rattle.line_memory.specs.Memory.{Memory, ReadsWord, IsTelling, CanLeave, shown}
 use Rattle.line_memory.specs.Moments.{Goes}
 use Rattle.line_memory.proofs.Chain.{goes_on}
-use Rattle.image_layout.specs.Places.{min_lines}
+use Rattle.image_layout.specs.Places.{has_size, min_lines, max_lines}
 use Rattle.image_meaning.specs.Checks.{Words}
 use Rattle.word_changes.specs.Changes.{Tells, AllKnown, IsFixed, Nothing, OldOrGiven, ChangesTo, StopsLeave}
 use Rattle.word_changes.proofs.Changing.{changes_stops}
@@ -15,6 +17,12 @@ use Rattle.image_opening.specs.Attached.{AreRead, IsSettled}
 use Rattle.dense_image.specs.Written.{IsWhole}
 use Rattle.image_compact.specs.Outcomes.{IsBlankOrWhole}
 use Rattle.compact_call.specs.Fresh.{StopsAre, HasWords, KeepsFresh}
+
+-- an image has a size that images have exactly where its lines are in range
+pub in_size : (size : ℕ) → has_size size ≡ true → (min_lines ≤ size) × (size ≤ max_lines)
+in_size size is =
+    let parts = and_parts (nat_le min_lines size) (nat_le size max_lines) is in
+    (leb-true min_lines size parts.0, leb-true size max_lines parts.1)
 
 -- what a stop leaves of an image with nothing unfenced is what reads give
 fenced_as_read : (o : Option Trace) → IsTelling o → IsAllFenced o → (c : Outcome) → LeavesNow o c

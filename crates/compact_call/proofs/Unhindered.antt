@@ -1,10 +1,8 @@
 -- Nothing but what is told stands in the way.
 use Rattle.std.proofs.Common.{◌≡◌, ◌⊎◌, ⊎_elim, ℕ, ◌<◌, ◌≤◌, true, List, Option, Some, None, Result, Ok, Err, refl, sym, ◌∙◌, subst, arith}
-use Rattle.std.proofs.lemmas.Bool.{and_parts, leb-true}
-use Rattle.std.specs.Prelude.{◌&&◌, nat_le}
 use Rattle.graph_model.specs.declared.types.Graph.{Graph}
 use Rattle.line_image.specs.Told.{Told}
-use Rattle.image_layout.specs.Places.{has_size, min_lines, max_lines}
+use Rattle.image_layout.specs.Places.{min_lines, max_lines}
 use Rattle.image_meaning.specs.Checks.{Words}
 use Rattle.image_meaning.specs.Meaning.{StandsFor, meaning}
 use Rattle.image_meaning.proofs.Standing.{standing-sized}
@@ -17,18 +15,13 @@ use Rattle.compact_call.specs.declared.fault.CompactFault.{CompactFault}
 use Rattle.compact_call.specs.declared.fault.CompactFault.TheVariants.{BadImage, NewImage, Full, ImageFailed, SinkFailed, OutOfMemory}
 use Rattle.compact_call.specs.Laws.{IsUnhindered, IsDoneOrFailed, UnhinderedIsDone}
 use Rattle.compact_call.specs.Outcomes.{StoodFor, IsOldFault, IsTried, CameOf}
-use Rattle.compact_call.proofs.NewStops.{one_read}
-
-both : (size : ℕ) → has_size size ≡ true → (min_lines ≤ size) × (size ≤ max_lines)
-both size is =
-    let parts = and_parts (nat_le min_lines size) (nat_le size max_lines) is in
-    (leb-true min_lines size parts.0, leb-true size max_lines parts.1)
+use Rattle.compact_call.proofs.NewStops.{in_size, one_read}
 
 module _ (old start : Told) (free : IsUnhindered old start) where
   -- whatever reads give of the old image, it stands for the graph
   stands_so : (words : Words) → AreRead old words → StandsFor old.size words free.graph
   stands_so words read =
-      let range = both old.size (standing-sized old.size free.words free.graph free.stands) in
+      let range = in_size old.size (standing-sized old.size free.words free.graph free.stands) in
       stands-within old.size free.words words free.graph range.0 range.1 free.stands
       (λ l w below. one_read old.trace free.old_tells l w (free.words l w) (words l w) (free.read l w below) (read l w below))
 
@@ -51,10 +44,10 @@ module _ (old start : Told) (free : IsUnhindered old start) where
     written (Err OutOfMemory) is = tt
     written (Err (BadImage line reason)) is = is.came
     written (Err (NewImage Size)) is =
-        let range = free.blank.0 in
+        let range = in_size start.size free.blank.0 in
         ⊎_elim (λ few. omega (arith, few, range.0)) (λ many. omega (arith, many, range.1)) is.came
     written (Err (NewImage NotBlank)) is =
-        let range = free.blank.0 in
+        let range = in_size start.size free.blank.0 in
         let here : 0 < start.size = omega (arith, range.0) in
         is.came.used
         (one_read start.trace free.new_tells 0 0 (free.fresh 0 0) (is.came.words 0 0) (free.fresh_read 0 0 here) (is.came.read 0 0 here)

@@ -7,6 +7,7 @@ use Rattle.line_image.specs.Trace.{Outcome, LeavesNow}
 use Rattle.line_memory.specs.Memory.{IsTelling}
 use Rattle.line_memory.specs.Moments.{Goes}
 use Rattle.image_layout.specs.Places.{min_lines, max_lines}
+use Rattle.image_layout.specs.Places as layout
 use Rattle.image_meaning.specs.Checks.{Words}
 use Rattle.image_opening.specs.Attached.{AreRead, IsSettled}
 use Rattle.image_opening.specs.Unopened.{IsOfWrongSize}
@@ -27,7 +28,7 @@ IsInRange start = (min_lines ≤ start.size) × (start.size ≤ max_lines)
 
 -- and it is blank, if it has these words
 abbrev pub IsBlank : Told → Words → Type 0
-IsBlank start words = IsInRange start × (words 0 0 ≡ 0)
+IsBlank start words = layout.IsBlank (words 0) start.size
 
 -- reads of the image gave words of a blank one
 pub record WasBlank (start : Told) : Type 0 where
@@ -55,19 +56,37 @@ pub record KeepsFresh (graph : Graph) (start after : Told) : Type 0 where
   pub used : IsSettled start → (words : Words) → AreRead start words → ¬ IsBlank start words
       → StopsAre start after (HasWords start.size words)
 
+-- Where it told what was done to it, and nothing was unfenced, each stop leaves it as it was.
+abbrev pub StaysAsItWas : Told → Told → Type 0
+StaysAsItWas start after =
+    IsSettled start → (words : Words) → AreRead start words → StopsAre start after (HasWords start.size words)
+
 -- it was blank, and each stop from now on leaves the whole graph
 pub record IsWrittenTo (graph : Graph) (start after : Told) : Type 0 where
   pub was : WasBlank start
   pub room : no_room start.size graph ≡ None
   pub whole : IsTelling start.trace → (c : Outcome) → LeavesNow after.trace c → IsWhole start.size c graph
 
+-- it isn't written to, for this fault
+abbrev pub IsNewFault : Graph → Told → CompactFault → Type 0
+IsNewFault graph start (NewImage Size) = IsOfWrongSize start
+IsNewFault graph start (NewImage NotBlank) = WasUsed start
+IsNewFault graph start (Full full) = WasBlank start × (no_room start.size graph ≡ Some full)
+IsNewFault graph start ImageFailed = Unit {0}
+IsNewFault graph start OutOfMemory = Unit {0}
+IsNewFault graph start (BadImage line reason) = ⊥
+IsNewFault graph start SinkFailed = ⊥
+
 -- what came of it
 abbrev pub IsOfFresh : Graph → Told → Told → Result (Unit {0}) CompactFault → Type 0
 IsOfFresh graph start after (Ok done) = IsWrittenTo graph start after
-IsOfFresh graph start after (Err (NewImage Size)) = IsOfWrongSize start
-IsOfFresh graph start after (Err (NewImage NotBlank)) = WasUsed start
-IsOfFresh graph start after (Err (Full full)) = WasBlank start × (no_room start.size graph ≡ Some full)
-IsOfFresh graph start after (Err ImageFailed) = Unit {0}
-IsOfFresh graph start after (Err OutOfMemory) = Unit {0}
-IsOfFresh graph start after (Err (BadImage line reason)) = ⊥
-IsOfFresh graph start after (Err SinkFailed) = ⊥
+IsOfFresh graph start after (Err fault) = IsNewFault graph start fault
+
+-- It is as it was where it can't be taken, has too little room, or memory ran out.
+abbrev pub StaysIfRefused : Told → Told → CompactFault → Type 0
+StaysIfRefused start after (NewImage reason) = StaysAsItWas start after
+StaysIfRefused start after (Full full) = StaysAsItWas start after
+StaysIfRefused start after OutOfMemory = StaysAsItWas start after
+StaysIfRefused start after ImageFailed = Unit {0}
+StaysIfRefused start after (BadImage line reason) = Unit {0}
+StaysIfRefused start after SinkFailed = Unit {0}

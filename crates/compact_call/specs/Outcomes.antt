@@ -1,5 +1,5 @@
 -- What comes of writing an image anew. Of this project's own format.
-use Rattle.std.specs.Prelude.{◌≡◌, ◌⊎◌, ◌<◌, ◌++◌, ◌∷◌, [], ℕ, List, Option, codes, decimal, length, take, Result, Ok, Err}
+use Rattle.std.specs.Prelude.{◌≡◌, ◌⊎◌, ◌<◌, ◌++◌, ◌∷◌, [], ℕ, List, Option, codes, decimal, length, take, Result, Ok, Err, IfErr}
 use Rattle.ap_base.specs.Sinks.{with_bytes}
 use Rattle.graph_model.specs.declared.types.Graph.{Graph}
 use Rattle.line_image.specs.Told.{Told}
@@ -8,7 +8,7 @@ use Rattle.image_meaning.specs.Meaning.{StandsFor}
 use Rattle.image_opening.specs.Attached.{AreRead}
 use Rattle.image_opening.specs.Unopened.{IsBad, IsOfWrongSize}
 use Rattle.dense_image.specs.Written.{lines_taken}
-use Rattle.compact_call.specs.Fresh.{KeepsFresh, IsWrittenTo, IsOfFresh}
+use Rattle.compact_call.specs.Fresh.{KeepsFresh, IsWrittenTo, IsOfFresh, StaysIfRefused}
 use Rattle.statuses.specs.declared.status.NewReason.TheVariants.{Size}
 use Rattle.compact_call.specs.declared.fault.CompactFault.{CompactFault}
 use Rattle.compact_call.specs.declared.fault.CompactFault.TheVariants.{BadImage, NewImage, Full, ImageFailed, SinkFailed, OutOfMemory}
@@ -61,6 +61,7 @@ pub record IsTried (graph : Graph) (old start after : Told) (taken taken' : Opti
   -- its size is the first thing that is looked at
   pub sized : IsOfWrongSize start → outcome ≡ Err (NewImage Size)
   pub came : IsOfNew graph start after outcome
+  pub refused : IfErr outcome (StaysIfRefused start after)
   pub puts : Puts graph taken taken' outcome
 
 -- the old image couldn't be opened

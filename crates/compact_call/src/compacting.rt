@@ -1,17 +1,15 @@
 // An image is written anew, densely, to another one.
-ghost use Rattle.std.specs.Prelude.{◌≡◌, ◌⊎◌, ◌<◌, ◌-◌, ◌^◌, Ok, Err, IfErr};
-ghost use Rattle.dense_image.specs.Written.{lines_taken};
+ghost use Rattle.std.specs.Prelude.{◌≡◌, ◌⊎◌, Err, IfErr};
 ghost use Rattle.ap_base.specs.Causes.{Rose};
 ghost use Rattle.image_opening.specs.Attached.{IsSettled};
 ghost use Rattle.image_opening.specs.Stops.{KeepsItsGraph};
-ghost use Rattle.compact_call.specs.Outcomes.{CameOf, Puts};
+ghost use Rattle.graph_model.specs.declared.types.Graph.{Graph as WrittenGraph};
+ghost use Rattle.compact_call.specs.Outcomes.{CameOf, Puts, written_line};
 
 use crate::fault::CompactFault;
 use crate::fresh::{Fresh, write_fresh};
 use crate::old::read_graph;
-use crate::text::line_of;
 use ap_base::Sink;
-use graph_model::Graph;
 use line_image::Image;
 use put_bytes::put_all;
 use std::alloc::Global;
@@ -34,7 +32,8 @@ pub struct Compacted<I: Image, J: Image, S: Sink> {
 ///
 /// In this order: `BadImage` exactly where a check of the old image fails; `NewImage` exactly where the new one's size isn't in range,
 /// or it isn't blank; `Full` exactly where it has too few lines. `ImageFailed` only where the count of faults of one of the images
-/// rose, `SinkFailed` only where the sink's did, once the new image was written.
+/// rose, `SinkFailed` only where the sink's did, once the new image was written. `NewImage`, `Full` and want of memory leave the new
+/// image as it was: the line is made before anything is written to it.
 pub fn compact_images<I: Image, J: Image, S: Sink>(
     alloc: Global,
     old: I,
@@ -61,15 +60,18 @@ pub fn compact_images<I: Image, J: Image, S: Sink>(
         }
     };
     let Fresh { outcome, image } = write_fresh(alloc, &graph, fresh);
-    if let Err(fault) = outcome {
-        return Compacted {
-            outcome: Err(fault),
-            old,
-            fresh: image,
-            sink,
-        };
-    }
-    let outcome = tell(alloc, &graph, &mut sink);
+    let line = match outcome {
+        Ok(line) => line,
+        Err(fault) => {
+            return Compacted {
+                outcome: Err(fault),
+                old,
+                fresh: image,
+                sink,
+            };
+        }
+    };
+    let outcome = put_line(&mut sink, line.as_slice());
     Compacted {
         outcome,
         old,
@@ -78,18 +80,14 @@ pub fn compact_images<I: Image, J: Image, S: Sink>(
     }
 }
 
-/// Puts how many nodes were written, and how many lines they take.
-fn tell<S: Sink>(alloc: Global, graph: &Graph, sink: &mut S) -> Result<(), CompactFault>
-    requires { lines_taken graph.now.nodes < 2 ^ 64 - 1 }
-    ensures puts { Puts graph.now (S.taken sink.old) (S.taken sink.new) result }
-    ensures fault { IfErr result (λ fault. (fault ≡ CompactFault.SinkFailed) ⊎ (fault ≡ CompactFault.OutOfMemory)) }
+/// Puts the line about the graph that was written.
+fn put_line<S: Sink>(sink: &mut S, line: &[u8]) -> Result<(), CompactFault>
+    ensures puts { (graph : WrittenGraph) → line.now ≡ written_line graph
+        → Puts graph (S.taken sink.old) (S.taken sink.new) result }
+    ensures fault { IfErr result (λ fault. fault ≡ CompactFault.SinkFailed) }
     ensures cause { result ≡ Err CompactFault.SinkFailed → Rose (S.faults sink.old) (S.faults sink.new) }
 {
-    let text = match line_of(alloc, graph) {
-        Ok(text) => text,
-        Err(_) => return Err(CompactFault::OutOfMemory),
-    };
-    match put_all(sink, text.as_slice()) {
+    match put_all(sink, line) {
         Ok(()) => Ok(()),
         Err(_) => Err(CompactFault::SinkFailed),
     }

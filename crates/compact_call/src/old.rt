@@ -8,13 +8,16 @@ ghost use Rattle.compact_call.specs.Outcomes.{StoodFor, IsOldFault};
 
 use crate::fault::{CompactFault, of_opening};
 use dense_image::standing_graphs_can_be_written;
-use graph_model::Graph;
 use image_opening::{give_back, open_image};
 use line_image::Image;
+use shared_graph::SharedGraph;
 use std::alloc::Global;
 
 /// Opens the old image, which is put back and emptied, and gives it back with the graph for which it stands. Its lines are let go.
-pub(crate) fn read_graph<I: Image>(alloc: Global, image: I) -> Result<(Graph, I), (CompactFault, I)>
+pub(crate) fn read_graph<I: Image>(
+    alloc: Global,
+    image: I,
+) -> Result<(SharedGraph, I), (CompactFault, I)>
     ensures can { IfOk result (λ r. CanBeStoodFor r.0) }
     ensures stood { IfOk result (λ r. StoodFor (I.told image) r.0) }
     ensures kept { IfOk result (λ r. IsSettled (I.told image) → KeepsItsGraph (I.told image) (I.told r.1)) }

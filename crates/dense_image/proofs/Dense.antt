@@ -133,6 +133,7 @@ module _ (size : ℕ) (words : Words) (graph : Graph) (enough : min_lines ≤ si
 
   pub whole : IsWhole size words graph
   whole = record {
+    written = is;
     well_formed = (λ z. absurd (omega (arith, z, is.begins)), graph, stood_for size words graph enough most can room is);
     stands = stood_for size words graph enough most can room is;
     dense = dense;

@@ -115,8 +115,9 @@ abbrev pub IsDense : ℕ → Words → Graph → Type 0
 IsDense size words graph = (directory : Directory) (lines : List ℕ) → Finds size words directory lines
     → free_line (put_back words) lines ≡ end_line graph
 
--- The image is well formed, stands for the graph, and has no line between its objects.
+-- The image has the words of the dense one, so it is well formed, stands for the graph, and has no line between its objects.
 pub record IsWhole (size : ℕ) (words : Words) (graph : Graph) : Type 0 where
+  pub written : IsWritten size words graph
   pub well_formed : IsWellFormed size words
   pub stands : StandsFor size words graph
   pub dense : IsDense size words graph

@@ -1,3 +1,4 @@
 pub mod FirstHeaps
 pub mod Beginning
 pub mod Launching
+pub mod Passed

@@ -1,2 +1,5 @@
 pub mod Launching
+pub mod NoLaunches
+pub mod NoMains
 pub mod Passed
+pub mod Unopenings

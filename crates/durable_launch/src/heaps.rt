@@ -13,12 +13,12 @@ ghost use Rattle.durable_launch.specs.Launching.{CanLaunch};
 use ap_base::Ref;
 use class_set::ClassSet;
 use first_spaces::FirstSpaces;
-use graph_model::Graph;
 use line_image::Image;
 use line_memory::LineMemory;
 use program_launch::NoLaunch;
 use set_opening::OpenedImage;
 use set_spaces::spaces_parts;
+use shared_graph::SharedGraph;
 use std::alloc::Global;
 use two_spaces::TwoSpaces;
 
@@ -32,7 +32,7 @@ pub struct OpenedHeap<I: Image> {
     /// The objects of the string literals, in their order.
     pub literals: Vec<Ref>,
     /// The graph for which the image stands.
-    pub graph: Graph,
+    pub graph: SharedGraph,
     /// The first line of the image behind all objects.
     pub free: u32,
 }

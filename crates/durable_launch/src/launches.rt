@@ -13,7 +13,6 @@ use ap_base::Ref;
 use class_code::programs_name_what_is_there;
 use class_set::{ClassSet, linked_sets_are_consistent};
 use durable_run::{SharedHeap, events_keep_lines, lines_stay_unwritten};
-use graph_model::Graph;
 use launch_laws::{
     asked_arrays_are_written, first_heaps_have_their_directory, first_machines_keep_their_run,
     first_machines_run_as_plain_runs,
@@ -25,6 +24,7 @@ use private_steps::Frames;
 use program_host::ProgramHost;
 use program_launch::Main;
 use run_types::Limits;
+use shared_graph::SharedGraph;
 use std::alloc::Global;
 
 /// What a run over an opened image begins with: what its frames are given, its heap with the empty
@@ -34,7 +34,7 @@ pub struct Launched<I: Image> {
     pub host: ProgramHost,
     pub heap: SharedHeap<I>,
     pub frames: Frames<Ref, NativeState>,
-    pub graph: Graph,
+    pub graph: SharedGraph,
 }
 
 /// What the run of a class set over an opened image begins with, at this main class and method. It

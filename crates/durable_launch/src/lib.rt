@@ -9,3 +9,5 @@ mod launches;
 pub use durable_run::{Run, Turned, each_stop_is_allowed, run_thread};
 pub use heaps::{OpenedHeap, open_heap};
 pub use launches::{Launched, launch};
+pub use program_launch::{Main, NoLaunch, NoMain, find_main, find_room};
+pub use set_opening::{FoundImage, OpenedImage, Unopened, complete, find_for};

@@ -220,7 +220,7 @@ fn what_was_durable_stays_so(rt: HostRuntime) -> Result<(), Fail> {
     }
     let stored = word_of(&ended.image, 20_577, 1);
     let graph = recovered(rt.alloc(), ended.image)?.graph;
-    let is_empty = graph.nodes.len() == 0 && stored == Some(9);
+    let is_empty = graph.nodes().len() == 0 && stored == Some(9);
     assert!(rt; is_empty && has_null_root(&graph), "a null root");
     Ok(())
 }
@@ -279,7 +279,7 @@ where
     let listing = storing(alloc, 1_048_574_u32.saturating_sub(room))?;
     let ended = run_class(rt, alloc, "Main", listing.as_str(), blank(alloc)?)?;
     let graph = recovered(alloc, ended.image.crash(alloc, pick, no_fails(alloc))?)?.graph;
-    let is_null = has_null_root(&graph) && graph.nodes.len() == 0;
+    let is_null = has_null_root(&graph) && graph.nodes().len() == 0;
     let is_left = if is_null { null } else { array };
     Ok(is_left && has_output(alloc, &ended, text)?)
 }

@@ -1,13 +1,13 @@
 -- The words of an image that is written, in their order.
-use Rattle.std.proofs.Common.{◌≡◌, ◌⊎◌, inl, inr, ⊎_elim, ◌<◌, ◌≤◌, ◌+◌, ◌-◌, ◌*◌, ◌/◌, ◌%◌, ℕ, zero, suc, List, [], ◌∷◌, length, map, refl}
+use Rattle.std.proofs.Common.{◌≡◌, ◌⊎◌, inl, inr, ⊎_elim, ◌<◌, ◌≤◌, ◌+◌, ◌-◌, ◌*◌, ◌/◌, ◌%◌, ℕ, zero, suc, List, [], ◌∷◌, length, map, refl, true}
 use Rattle.std.proofs.Common.{sym, ◌∙◌, ap, subst, arith, slice_index_or}
-use Rattle.std.proofs.lemmas.Bool.{cases_lt}
+use Rattle.std.proofs.lemmas.Bool.{cases_lt, le-leb}
 use Rattle.std.proofs.lemmas.List.{get_or-map}
 use Rattle.graph_model.specs.declared.types.Value.TheVariants.{Null}
 use Rattle.graph_model.specs.declared.types.Graph.{Graph}
 use Rattle.line_image.specs.Trace.{Outcome}
 use Rattle.line_memory.specs.Memory.{Memory, shown, CanLeaveAll, IsWritten as IsWrittenBack, IsDurable}
-use Rattle.image_layout.specs.Places.{magic, version, min_lines, max_lines, root_slots, logs, slot_line, slot_word, directory_line}
+use Rattle.image_layout.specs.Places.{has_size, magic, version, min_lines, max_lines, root_slots, logs, slot_line, slot_word, directory_line}
 use Rattle.image_layout.specs.Places.{directory_word, log_head_line, first_object_line, lines_of, object_line, object_word, head_of}
 use Rattle.image_meaning.specs.Checks.{Words}
 use Rattle.image_meaning.specs.Directories.{spelled_all}
@@ -310,6 +310,11 @@ module _ (size : ℕ) (graph : Graph) (enough : min_lines ≤ size) (most : size
   first_left : IsLeft (OfBody size graph) 0 0
   first_left v given = body_behind size graph enough room size 0 0 v magic given (refl, refl, refl)
 
+-- ---- blank images
+
+pub sized : (size : ℕ) → min_lines ≤ size → size ≤ max_lines → has_size size ≡ true
+sized size enough most = rw (le-leb min_lines size enough, le-leb size max_lines most) refl
+
 -- ---- the magic word
 
 pub body_of_image : (graph : Graph) (a b : Memory) → ChangesTo (OfBody a.size graph) a b → ChangesTo (OfImage a.size graph) a b
@@ -320,7 +325,10 @@ module _ (graph : Graph) (a b : Memory) (enough : min_lines ≤ a.size) (most : 
   pub body_stops : IsFixed a 0 0 0 → StopsLeave a b (IsBlankOrWhole a.size graph)
   body_stops blank =
       changes_stops (OfBody a.size graph) a b (IsBlankOrWhole a.size graph) body
-      (λ k all. inl (left_fixed (OfBody a.size graph) a k 0 0 0 all (first_left a.size graph enough most can room) blank))
+      (λ k all. inl (
+        sized a.size enough most,
+        left_fixed (OfBody a.size graph) a k 0 0 0 all (first_left a.size graph enough most can room) blank,
+      ))
 
   module _ (c : Memory) (mark : ChangesTo (IsGiven 0 0 magic) b c) where
     pub image_change : ChangesTo (OfImage a.size graph) a c
@@ -349,15 +357,17 @@ module _ (graph : Graph) (a b : Memory) (enough : min_lines ≤ a.size) (most : 
         stops_then a b c (IsBlankOrWhole a.size graph) (body_stops blank)
         (changes_stops (IsGiven 0 0 magic) b c (IsBlankOrWhole a.size graph) mark
         (λ k all. ⊎_elim
-        (λ was. inl (still (k 0 0) was))
+        (λ was. inl (sized a.size enough most, still (k 0 0) was))
         (λ given. inr (whole_by a.size graph enough most can room k given.2
         (left_as_fixed (OfBody a.size graph) (IsGiven 0 0 magic) a b c (body_behind a.size graph enough room a.size) mark k all fixed)))
         (all 0 0)))
 
 -- nothing is stored before
-pub look_stops : (a b : Memory) (size : ℕ) (graph : Graph) → ChangesTo Nothing a b → IsFixed a 0 0 0 → StopsLeave a b (IsBlankOrWhole size graph)
-look_stops a b size graph look blank =
-    changes_stops Nothing a b (IsBlankOrWhole size graph) look (λ k all. inl (left_fixed Nothing a k 0 0 0 all (λ v none. none) blank))
+pub look_stops : (a b : Memory) (size : ℕ) (graph : Graph) → min_lines ≤ size → size ≤ max_lines → ChangesTo Nothing a b → IsFixed a 0 0 0
+    → StopsLeave a b (IsBlankOrWhole size graph)
+look_stops a b size graph enough most look blank =
+    changes_stops Nothing a b (IsBlankOrWhole size graph) look
+    (λ k all. inl (sized size enough most, left_fixed Nothing a k 0 0 0 all (λ v none. none) blank))
 
 pub still_blank : (a b : Memory) → ChangesTo Nothing a b → IsFixed a 0 0 0 → IsFixed b 0 0 0
 still_blank a b look blank = stays_fixed Nothing a b 0 0 0 look (λ v none. none) blank

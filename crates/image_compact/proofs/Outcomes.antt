@@ -22,13 +22,14 @@ use Rattle.image_compact.proofs.ImageWords.{whole_given, look_stops, still_blank
 pub rose_by : {A B : Type 0} (r : Result A B) (e : B) (before now : ℕ) → r ≡ Err e → HasCause before now r → Rose before now
 rose_by {A = A} {B = B} r e before now is cause = subst (λ (x : Result A B). OnErr x (Rose before now)) is cause.failed
 
-module _ (graph : Graph) (a b : Memory) (look : ChangesTo Nothing a b) (goes : GoesOn a b) (later : a.faults ≤ b.faults) where
+module _ (graph : Graph) (a b : Memory) (enough : min_lines ≤ a.size) (most : a.size ≤ max_lines) (look : ChangesTo Nothing a b)
+    (goes : GoesOn a b) (later : a.faults ≤ b.faults) where
   -- nothing was written
   pub unwritten : (fault : WriteFault) → IsRefused graph fault a b → FailsToWrite graph fault a b
   unwritten fault refused = record {
     refused = refused;
     not_blank = λ known used. look;
-    stops = λ tells blank. look_stops a b a.size graph look blank;
+    stops = λ tells blank. look_stops a b a.size graph enough most look blank;
     goes_on = goes;
     later = later;
   }
@@ -44,7 +45,7 @@ module _ (graph : Graph) (a b : Memory) (look : ChangesTo Nothing a b) (goes : G
   module _ (c : Memory) (was : AllKnown a → shown a 0 0 ≡ 0) (stops : StopsKeepBlankOrWhole graph b c) (on : GoesOn b c) where
     all_stops : StopsKeepBlankOrWhole graph a c
     all_stops tells blank =
-        stops_then a b c (IsBlankOrWhole a.size graph) (look_stops a b a.size graph look blank)
+        stops_then a b c (IsBlankOrWhole a.size graph) (look_stops a b a.size graph enough most look blank)
         (subst (λ (n : ℕ). StopsLeave b c (IsBlankOrWhole n graph)) look.size (stops (look.telling tells) (still_blank a b look blank)))
 
     -- the image failed
@@ -57,20 +58,26 @@ module _ (graph : Graph) (a b : Memory) (look : ChangesTo Nothing a b) (goes : G
       later = omega (arith, later, after);
     }
 
+    enough_still : min_lines ≤ b.size
+    enough_still = subst (λ (n : ℕ). min_lines ≤ n) (sym look.size) enough
+
+    most_still : b.size ≤ max_lines
+    most_still = subst (λ (n : ℕ). n ≤ max_lines) (sym look.size) most
+
     -- it is written
-    pub written : min_lines ≤ b.size → b.size ≤ max_lines → CanBeStoodFor graph → HasRoom b.size graph → no_room b.size graph ≡ None
+    pub written : CanBeStoodFor graph → HasRoom b.size graph → no_room b.size graph ≡ None
         → ChangesTo (OfImage b.size graph) b c → WritesAll (OfImage b.size graph) b c
         → (Tells b → AllFixed (OfImage b.size graph) c) → b.faults ≤ c.faults → Writes graph a c
-    written enough most can room none changes wrote fixed after = record {
+    written can room none changes wrote fixed after = record {
       was_blank = was;
       room = subst (λ (n : ℕ). no_room n graph ≡ None) look.size none;
       whole = λ known.
           subst (λ (n : ℕ). IsWhole n (shown c) graph) (sym changes.size)
-          (whole_given b.size graph enough most can room (shown c) (λ l w v given. wrote.shows (look.known known) l w v given));
+          (whole_given b.size graph enough_still most_still can room (shown c) (λ l w v given. wrote.shows (look.known known) l w v given));
       stops = all_stops;
       kept = λ tells k all.
           subst (λ (n : ℕ). IsWhole n k graph) look.size
-          (whole_given b.size graph enough most can room k (λ l w v given. fixed (look.telling tells) l w v given (k l w) (all l w)));
+          (whole_given b.size graph enough_still most_still can room k (λ l w v given. fixed (look.telling tells) l w v given (k l w) (all l w)));
       goes_on = goes_more a b c goes on;
       later = omega (arith, later, after);
     }

@@ -6,6 +6,7 @@ use Rattle.graph_model.specs.declared.types.Graph.{Graph}
 use Rattle.line_image.specs.Trace.{Outcome}
 use Rattle.line_memory.specs.Memory.{Memory, shown, CanLeaveAll}
 use Rattle.run_types.specs.declared.fault.Full.{Full as Wanted}
+use Rattle.image_layout.specs.Places.{IsBlank}
 use Rattle.image_meaning.specs.Checks.{Words}
 use Rattle.word_changes.specs.Changes.{Tells, AllKnown, IsFixed, Nothing, ChangesTo, StopsLeave, GoesOn}
 use Rattle.dense_image.specs.Written.{no_room, IsWhole}
@@ -14,7 +15,7 @@ use Rattle.image_compact.specs.declared.fault.WriteFault.TheVariants.{NotBlank, 
 
 -- nothing is written yet, or the whole graph is
 abbrev pub IsBlankOrWhole : ℕ → Graph → Words → Type 0
-IsBlankOrWhole size graph words = (words 0 0 ≡ 0) ⊎ IsWhole size words graph
+IsBlankOrWhole size graph words = IsBlank (words 0) size ⊎ IsWhole size words graph
 
 -- Where each stop would have left a blank image, a stop at any moment leaves one, or the whole graph.
 abbrev pub StopsKeepBlankOrWhole : Graph → Memory → Memory → Type 0

@@ -11,15 +11,16 @@ ghost use Rattle.image_compact.specs.Writing.{OfWords, OfObject, OfObjects};
 use crate::planning::Plan;
 use crate::values::eight_of_object;
 use crate::words::write_eight;
-use graph_model::{Graph, Value};
+use graph_model::Value;
 use image_layout::{head_word, lines_of};
 use line_image::{Image, ImageFailed};
 use line_memory::LineMemory;
+use shared_graph::SharedGraph;
 
 /// Writes the object of each node.
 pub(crate) fn write_objects<I: Image>(
     memory: &mut LineMemory<I>,
-    graph: &Graph,
+    graph: &SharedGraph,
     plan: &Plan,
 ) -> Result<(), ImageFailed>
     requires graph { CanBeStoodFor graph.now }
@@ -30,7 +31,7 @@ pub(crate) fn write_objects<I: Image>(
     ensures goes_on { GoesOn memory.old memory.new }
     ensures cause { HasCause memory.old.faults memory.new.faults result }
 {
-    for n in 0..graph.nodes.len() {
+    for n in 0..graph.nodes().len() {
         write_object(memory, graph, plan, n)?;
     }
     Ok(())
@@ -39,7 +40,7 @@ pub(crate) fn write_objects<I: Image>(
 /// Writes the object of a node.
 fn write_object<I: Image>(
     memory: &mut LineMemory<I>,
-    graph: &Graph,
+    graph: &SharedGraph,
     plan: &Plan,
     n: usize,
 ) -> Result<(), ImageFailed>
@@ -52,8 +53,8 @@ fn write_object<I: Image>(
     ensures goes_on { GoesOn memory.old memory.new }
     ensures cause { HasCause memory.old.faults memory.new.faults result }
 {
-    let nodes = graph.nodes.as_slice();
-    let values = nodes[n].values.as_slice();
+    let nodes = graph.nodes();
+    let values = nodes[n].values();
     let head = head_word(plan.numbers[n], values.len() as u32);
     write_values(memory, plan.lines[n], head, values, plan.lines.as_slice())
 }

@@ -8,9 +8,9 @@ ghost use Rattle.image_compact.specs.Planning.{IsPlan, ArePlaces, IsWant};
 use crate::fault::WriteFault;
 use crate::shapes::{Numbered, add_roots, number_shapes};
 use crate::values::slot_words;
-use graph_model::{Graph, Node};
 use image_layout::{DIRECTORY_WORDS, FIRST_OBJECT_LINE, lines_of};
 use run_types::{Full, Which};
+use shared_graph::{SharedGraph, SharedNode};
 use std::alloc::{AllocError, Global};
 
 /// What is written of a graph: the words of the roots' slots and of the directory, and of each node the number of its shape and
@@ -24,7 +24,7 @@ pub(crate) struct Plan {
 }
 
 /// Plans the image of a graph, which has so many lines.
-pub(crate) fn plan_image(alloc: Global, graph: &Graph, size: u64) -> Result<Plan, WriteFault>
+pub(crate) fn plan_image(alloc: Global, graph: &SharedGraph, size: u64) -> Result<Plan, WriteFault>
     requires graph { CanBeStoodFor graph.now }
     requires enough { min_lines ≤ size }
     requires most { size ≤ max_lines }
@@ -32,8 +32,8 @@ pub(crate) fn plan_image(alloc: Global, graph: &Graph, size: u64) -> Result<Plan
     ensures room { IfOk result (λ plan. no_room size graph.now ≡ None) }
     ensures want { IfErr result (IsWant (no_room size graph.now)) }
 {
-    let nodes = graph.nodes.as_slice();
-    let roots = graph.roots.as_slice();
+    let nodes = graph.nodes();
+    let roots = graph.roots();
     let mut numbered = number_shapes(alloc, nodes)?;
     add_roots(&mut numbered.words, roots)?;
     check_room(size, numbered.words.need, count_lines(nodes))?;
@@ -77,25 +77,25 @@ fn check_room(size: u64, words: u64, lines: u64) -> Result<(), WriteFault>
 }
 
 /// How many lines the objects of a graph take, up to the greatest number of 64 bits.
-pub fn lines_taken(graph: &Graph) -> u64
+pub fn lines_taken(graph: &SharedGraph) -> u64
     ensures { result ≡ min (lines_taken graph.now.nodes) (2 ^ 64 - 1) }
 {
-    count_lines(graph.nodes.as_slice())
+    count_lines(graph.nodes())
 }
 
 /// How many lines nodes take, up to the greatest number of 64 bits.
-fn count_lines(nodes: &[Node]) -> u64
+fn count_lines(nodes: &[SharedNode]) -> u64
     ensures { result ≡ min (lines_taken nodes.now) (2 ^ 64 - 1) }
 {
     let mut count: u64 = 0;
     for node in nodes {
-        count = count.saturating_add(node.values.len() as u64 / 8 + 1);
+        count = count.saturating_add(node.values().len() as u64 / 8 + 1);
     }
     count
 }
 
 /// The first lines of nodes, one behind another.
-fn place_nodes(alloc: Global, nodes: &[Node]) -> Result<Vec<u32>, AllocError>
+fn place_nodes(alloc: Global, nodes: &[SharedNode]) -> Result<Vec<u32>, AllocError>
     requires { first_object_line + lines_taken nodes.now ≤ max_lines }
     ensures { IfOk result (λ lines. ArePlaces nodes.now lines.items) }
 {
@@ -103,7 +103,7 @@ fn place_nodes(alloc: Global, nodes: &[Node]) -> Result<Vec<u32>, AllocError>
     let mut line = FIRST_OBJECT_LINE;
     for node in nodes {
         lines.push(line)?;
-        line += lines_of(node.values.len() as u32);
+        line += lines_of(node.values().len() as u32);
     }
     Ok(lines)
 }

@@ -7,7 +7,8 @@ ghost use Rattle.image_meaning.specs.Entries.{DirectoryEntry, ShapeEntry};
 ghost use Rattle.image_compact.specs.Planning.{Spell, Lists, NumberIn, AreNumbers};
 
 use crate::entry_words::EntryWords;
-use graph_model::{NamedValue, Node, Shape};
+use graph_model::{NamedValue, Shape};
+use shared_graph::SharedNode;
 use std::alloc::{AllocError, Global};
 use text_table::Texts;
 
@@ -56,14 +57,14 @@ impl Shapes {
 }
 
 /// Numbers the shapes of nodes, in the order of the first node of each.
-pub(crate) fn number_shapes(alloc: Global, nodes: &[Node]) -> Result<Numbered, AllocError>
+pub(crate) fn number_shapes(alloc: Global, nodes: &[SharedNode]) -> Result<Numbered, AllocError>
     ensures numbers { IfOk result (λ numbered. AreNumbers nodes.now numbered.numbers.items) }
     ensures words { IfOk result (λ numbered. Spell (map ShapeEntry (shapes_of nodes.now)) numbered.words) }
 {
     let mut shapes = Shapes::new(alloc);
-    let mut numbers = Vec::new(alloc);
+    let mut numbers = Vec::with_capacity(alloc, nodes.len())?;
     for node in nodes {
-        let number = shapes.add(alloc, &node.shape)?;
+        let number = shapes.add(alloc, node.shape())?;
         numbers.push(number)?;
     }
     let Shapes { names: _, words } = shapes;

@@ -18,10 +18,10 @@ use crate::objects::write_objects;
 use crate::planning::{Plan, plan_image};
 use crate::words::write_words;
 use ap_base::{Spot, ThreadNo};
-use graph_model::Graph;
 use image_layout::{FIRST_DIRECTORY_LINE, FIRST_SLOT_LINE, LOGS, ROOT_SLOTS, VERSION, log_head};
 use line_image::{Image, ImageFailed};
 use line_memory::LineMemory;
+use shared_graph::SharedGraph;
 use std::alloc::Global;
 use word_changes::{fetch_line, make_fence, put_word, write_line};
 
@@ -37,7 +37,7 @@ use word_changes::{fetch_line, make_fence, put_word, write_line};
 /// image's count of faults rose.
 pub fn write_image<J: Image>(
     alloc: Global,
-    graph: &Graph,
+    graph: &SharedGraph,
     mut into: LineMemory<J>,
 ) -> Result<LineMemory<J>, (WriteFault, LineMemory<J>)>
     requires graph { CanBeStoodFor graph.now }
@@ -55,7 +55,7 @@ pub fn write_image<J: Image>(
 /// Writes a graph to a blank image that stays in its memory.
 fn write_into<J: Image>(
     alloc: Global,
-    graph: &Graph,
+    graph: &SharedGraph,
     memory: &mut LineMemory<J>,
 ) -> Result<(), WriteFault>
     requires graph { CanBeStoodFor graph.now }
@@ -87,7 +87,7 @@ fn is_blank<I: Image>(memory: &mut LineMemory<I>) -> Result<bool, ImageFailed>
 /// Writes what is planned, and the magic word last.
 fn write_planned<I: Image>(
     memory: &mut LineMemory<I>,
-    graph: &Graph,
+    graph: &SharedGraph,
     plan: &Plan,
 ) -> Result<(), ImageFailed>
     requires graph { CanBeStoodFor graph.now }
@@ -108,7 +108,7 @@ fn write_planned<I: Image>(
 /// Writes all that is planned but the magic word, and makes it durable.
 fn write_body<I: Image>(
     memory: &mut LineMemory<I>,
-    graph: &Graph,
+    graph: &SharedGraph,
     plan: &Plan,
 ) -> Result<(), ImageFailed>
     requires graph { CanBeStoodFor graph.now }
@@ -131,7 +131,7 @@ fn write_body<I: Image>(
 /// Writes the root slots, the directory, and empty logs.
 fn write_front<I: Image>(
     memory: &mut LineMemory<I>,
-    graph: &Graph,
+    graph: &SharedGraph,
     plan: &Plan,
 ) -> Result<(), ImageFailed>
     requires plan { IsPlan memory.old.size graph.now plan.now }
@@ -150,7 +150,7 @@ fn write_front<I: Image>(
 /// Writes the root slots.
 fn write_slots<I: Image>(
     memory: &mut LineMemory<I>,
-    graph: &Graph,
+    graph: &SharedGraph,
     plan: &Plan,
 ) -> Result<(), ImageFailed>
     requires plan { IsPlan memory.old.size graph.now plan.now }
@@ -168,7 +168,7 @@ fn write_slots<I: Image>(
 /// Writes the directory.
 fn write_directory<I: Image>(
     memory: &mut LineMemory<I>,
-    graph: &Graph,
+    graph: &SharedGraph,
     plan: &Plan,
 ) -> Result<(), ImageFailed>
     requires plan { IsPlan memory.old.size graph.now plan.now }

@@ -5,12 +5,12 @@ ghost use Rattle.line_memory.specs.Memory.{Memory};
 ghost use Rattle.image_opening.specs.Opened.{IsOpenImage};
 ghost use Rattle.image_opening.specs.Stops.{IsGivenBack};
 
-use graph_model::Graph;
 use image_recovery::Recovered;
 use line_image::Image;
+use shared_graph::SharedGraph;
 
 /// Gives the image back, and the graph for which it stands at any stop from now on. Directory, lines and memory are let go.
-pub fn give_back<I: Image>(found: Recovered<I>) -> (Graph, I)
+pub fn give_back<I: Image>(found: Recovered<I>) -> (SharedGraph, I)
     ensures graph { result.0 ≡ found.graph }
     ensures told { I.told result.1 ≡ found.memory.image }
     ensures faults { I.faults result.1 ≡ found.memory.faults }

@@ -13,11 +13,11 @@ use crate::front::read_entries;
 use crate::recovering::FoundImage;
 use ap_base::ListOf;
 use directories::{Directory, format_image};
-use graph_model::Graph;
 use image_layout::{FIRST_OBJECT_LINE, VERSION};
 use image_walk::RecoverFault;
 use line_image::Image;
 use line_memory::LineMemory;
+use shared_graph::SharedGraph;
 use std::alloc::Global;
 
 /// Formats a blank image: nothing is found in it.
@@ -57,10 +57,7 @@ fn nothing_found(alloc: Global, directory: Directory) -> FoundImage
     FoundImage {
         version: VERSION as u32,
         directory,
-        graph: Graph {
-            roots: ListOf::from_vec(Vec::new(alloc)),
-            nodes: ListOf::from_vec(Vec::new(alloc)),
-        },
+        graph: SharedGraph::new(ListOf::new(alloc), ListOf::new(alloc)),
         lines: ListOf::from_vec(Vec::new(alloc)),
         free: FIRST_OBJECT_LINE,
         undone: 0,

@@ -15,10 +15,10 @@ use crate::front::read_front;
 use crate::putting::put_back_logs;
 use ap_base::ListOf;
 use directories::Directory;
-use graph_model::Graph;
 use image_walk::{RecoverFault, find_graph};
 use line_image::Image;
 use line_memory::LineMemory;
+use shared_graph::SharedGraph;
 use std::alloc::Global;
 
 /// What is found in an image that is recovered.
@@ -27,7 +27,7 @@ pub(crate) struct FoundImage {
     /// The version of the layout.
     pub(crate) version: u32,
     pub(crate) directory: Directory,
-    pub(crate) graph: Graph,
+    pub(crate) graph: SharedGraph,
     /// The first line of each node of the graph.
     pub(crate) lines: ListOf<u32>,
     /// The first line behind all nodes.

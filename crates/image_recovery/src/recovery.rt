@@ -9,11 +9,11 @@ use crate::recovering::{FoundImage, recover_used};
 use crate::superblock::read_super;
 use ap_base::ListOf;
 use directories::Directory;
-use graph_model::Graph;
 use image_layout::Super;
 use image_walk::RecoverFault;
 use line_image::Image;
 use line_memory::LineMemory;
+use shared_graph::SharedGraph;
 use std::alloc::Global;
 
 /// An image that was recovered.
@@ -25,8 +25,8 @@ pub struct Recovered<I: Image> {
     pub version: u32,
     /// Its directory.
     pub directory: Directory,
-    /// The graph for which it stands.
-    pub graph: Graph,
+    /// The graph for which it stands. Its nodes share their shapes.
+    pub graph: SharedGraph,
     /// The first line of each node of the graph.
     pub lines: ListOf<u32>,
     /// The first line behind all nodes.

@@ -19,8 +19,8 @@ pub fn check_text<I: Image>(alloc: Global, found: &Recovered<I>) -> Result<Vec<u
     put_counted(&mut out, b" free ", u64::from(found.free))?;
     put_found(
         &mut out,
-        found.graph.roots.len(),
-        found.graph.nodes.len(),
+        found.graph.roots().len(),
+        found.graph.nodes().len(),
         found.undone,
     )?;
     Ok(out)

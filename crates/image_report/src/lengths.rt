@@ -3,7 +3,8 @@ ghost use Rattle.std.specs.Prelude.{◌≡◌, ◌+◌, length, IfOk};
 ghost use Rattle.image_report.specs.Texts.{each, root_line, slot_line, node_lines, dump_lines};
 
 use crate::lines::{put_counts, put_node, put_root, put_slot};
-use graph_model::{Graph, NamedValue, Node, Shape, Value};
+use graph_model::{NamedValue, Shape, Value};
+use shared_graph::{SharedGraph, SharedNode};
 use std::alloc::{AllocError, Global};
 
 /// The length of a text behind which a line is put. No memory holds one that is longer than any number tells.
@@ -48,17 +49,22 @@ fn with_slots(
 }
 
 /// The length of a text behind which the lines of a node are put.
-fn with_node(line: &mut Vec<u8>, before: usize, k: usize, node: &Node) -> Result<usize, AllocError>
+fn with_node(
+    line: &mut Vec<u8>,
+    before: usize,
+    k: usize,
+    node: &SharedNode,
+) -> Result<usize, AllocError>
     ensures { IfOk result (λ n. n ≡ before + length (node_lines k node.now)) }
 {
     line.clear();
     put_node(line, k, node)?;
     let length = longer(before, line)?;
-    with_slots(line, length, &node.shape, node.values.as_slice())
+    with_slots(line, length, node.shape(), node.values())
 }
 
 /// The length of a text behind which the lines of nodes are put.
-fn with_nodes(line: &mut Vec<u8>, before: usize, nodes: &[Node]) -> Result<usize, AllocError>
+fn with_nodes(line: &mut Vec<u8>, before: usize, nodes: &[SharedNode]) -> Result<usize, AllocError>
     ensures { IfOk result (λ n. n ≡ before + length (each node_lines 0 nodes.now)) }
 {
     let mut length = before;
@@ -69,12 +75,12 @@ fn with_nodes(line: &mut Vec<u8>, before: usize, nodes: &[Node]) -> Result<usize
 }
 
 /// How long a graph's text is. Takes memory for its longest line.
-pub(crate) fn dump_length(alloc: Global, graph: &Graph) -> Result<usize, AllocError>
+pub(crate) fn dump_length(alloc: Global, graph: &SharedGraph) -> Result<usize, AllocError>
     ensures { IfOk result (λ n. n ≡ length (dump_lines graph.now)) }
 {
     let mut line = Vec::new(alloc);
     put_counts(&mut line, graph)?;
     let counts = line.len();
-    let roots = with_roots(&mut line, counts, graph.roots.as_slice())?;
-    with_nodes(&mut line, roots, graph.nodes.as_slice())
+    let roots = with_roots(&mut line, counts, graph.roots())?;
+    with_nodes(&mut line, roots, graph.nodes())
 }

@@ -3,8 +3,9 @@ ghost use Rattle.std.specs.Prelude.{◌≡◌, ◌++◌, length, codes, decimal,
 ghost use Rattle.image_report.specs.Texts.{counted, value_text, root_line, bracketed, name_of, slot_line, node_line, counts_line};
 ghost use Rattle.image_report.specs.Texts.{each, node_lines};
 
-use graph_model::{Graph, NamedValue, Node, Shape, Value};
+use graph_model::{NamedValue, Shape, Value};
 use put_bytes::{put_decimal, put_signed, put_text};
+use shared_graph::{SharedGraph, SharedNode};
 use std::alloc::AllocError;
 
 /// Puts a word and a number.
@@ -16,11 +17,11 @@ pub(crate) fn put_counted(out: &mut Vec<u8>, word: &[u8], number: u64) -> Result
 }
 
 /// Puts how many roots and nodes there are.
-pub(crate) fn put_counts(out: &mut Vec<u8>, graph: &Graph) -> Result<(), AllocError>
+pub(crate) fn put_counts(out: &mut Vec<u8>, graph: &SharedGraph) -> Result<(), AllocError>
     ensures { OnOk result (out.new.items ≡ out.old.items ++ counts_line graph.now) }
 {
-    put_counted(out, b"roots ", graph.roots.len() as u64)?;
-    put_counted(out, b" nodes ", graph.nodes.len() as u64)?;
+    put_counted(out, b"roots ", graph.roots().len() as u64)?;
+    put_counted(out, b" nodes ", graph.nodes().len() as u64)?;
     put_text(out, b"\n")
 }
 
@@ -91,13 +92,13 @@ pub(crate) fn put_slot(
 }
 
 /// Puts a node's own line.
-pub(crate) fn put_node(out: &mut Vec<u8>, k: usize, node: &Node) -> Result<(), AllocError>
+pub(crate) fn put_node(out: &mut Vec<u8>, k: usize, node: &SharedNode) -> Result<(), AllocError>
     ensures { OnOk result (out.new.items ≡ out.old.items ++ node_line k node.now) }
 {
     put_counted(out, b"node #", k as u64)?;
     put_text(out, b" ")?;
-    put_text(out, node.shape.name.as_slice())?;
-    put_counted(out, b" ", node.values.len() as u64)?;
+    put_text(out, node.shape().name.as_slice())?;
+    put_counted(out, b" ", node.values().len() as u64)?;
     put_text(out, b"\n")
 }
 
@@ -122,15 +123,15 @@ fn put_slots(out: &mut Vec<u8>, shape: &Shape, values: &[Value]) -> Result<(), A
 }
 
 /// Puts the lines of a node.
-fn put_whole_node(out: &mut Vec<u8>, k: usize, node: &Node) -> Result<(), AllocError>
+fn put_whole_node(out: &mut Vec<u8>, k: usize, node: &SharedNode) -> Result<(), AllocError>
     ensures { OnOk result (out.new.items ≡ out.old.items ++ node_lines k node.now) }
 {
     put_node(out, k, node)?;
-    put_slots(out, &node.shape, node.values.as_slice())
+    put_slots(out, node.shape(), node.values())
 }
 
 /// Puts the lines of nodes, which are numbered.
-pub(crate) fn put_nodes(out: &mut Vec<u8>, nodes: &[Node]) -> Result<(), AllocError>
+pub(crate) fn put_nodes(out: &mut Vec<u8>, nodes: &[SharedNode]) -> Result<(), AllocError>
     ensures { OnOk result (out.new.items ≡ out.old.items ++ each node_lines 0 nodes.now) }
 {
     for (k, node) in nodes.iter().enumerate() {

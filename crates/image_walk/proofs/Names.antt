@@ -64,11 +64,15 @@ fails_at_walk size directory words faults.ImageFailed passes fails = tt
 fails_at_walk size directory words faults.OutOfMemory passes fails = tt
 
 pub graph_is : (shapes : List Shape) (names : List (List ℕ)) (words : Words) (found lines : List ℕ) (values places : List Value)
-    (roots : List NamedValue) (nodes : List Node) → lines ≡ found → values ≡ root_values_of words (length names)
-    → places ≡ map (renumbered found) values → roots ≡ map (named_root names places) (range_with_len 0 (length names))
-    → nodes ≡ map (node_at shapes words found) found
-    → let graph : Graph = record { roots = roots; nodes = nodes } in graph ≡ graph_found (directory_with shapes names) words lines
-graph_is shapes names words found lines values places roots nodes lines_are values_are places_are roots_are nodes_are =
-    let named : roots ≡ map (root_at words names found) (range_with_len 0 (length names)) =
+    (graph : Graph) → lines ≡ found → values ≡ root_values_of words (length names)
+    → places ≡ map (renumbered found) values → graph.roots ≡ map (named_root names places) (range_with_len 0 (length names))
+    → graph.nodes ≡ map (node_at shapes words found) found → graph ≡ graph_found (directory_with shapes names) words lines
+graph_is shapes names words found lines values places graph lines_are values_are places_are roots_are nodes_are =
+    let named : graph.roots ≡ map (root_at words names found) (range_with_len 0 (length names)) =
     roots_are ∙ named_roots words names found places (places_are ∙ ap (map (renumbered found)) values_are) in
-    rw (lines_are, named, nodes_are) refl
+    rw lines_are (same_graph graph (map (root_at words names found) (range_with_len 0 (length names)))
+    (map (node_at shapes words found) found) named nodes_are)
+  where
+    same_graph : (g : Graph) (roots : List NamedValue) (nodes : List Node) → g.roots ≡ roots → g.nodes ≡ nodes
+        → let other : Graph = record { roots = roots; nodes = nodes } in g ≡ other
+    same_graph g roots nodes e f = rw (← e, ← f) refl

@@ -14,15 +14,16 @@ use crate::found::FoundObjects;
 use crate::roots::read_roots;
 use crate::walking::walk_objects;
 use ap_base::{Bytes, ListOf};
-use graph_model::{Graph, NamedValue, Shape, Value};
+use graph_model::{NamedValue, Shape, Value};
 use line_image::Image;
 use line_memory::LineMemory;
+use shared_graph::{SharedGraph, shared_shapes};
 use std::alloc::{AllocError, Global};
 
 /// The graph of an image, the first line of each of its nodes, and the first line behind all of them.
 #[derive(Drop)]
 pub struct FoundGraph {
-    pub graph: Graph,
+    pub graph: SharedGraph,
     pub lines: ListOf<u32>,
     pub free: u32,
 }
@@ -49,13 +50,14 @@ pub fn find_graph<I: Image>(
     let values = read_roots(alloc, memory, roots.len())?;
     let mut found = FoundObjects::new(alloc, memory.lines() as usize)?;
     found.add_each(values.as_slice())?;
-    let walked = walk_objects(alloc, memory, shapes, found)?;
+    let shared = shared_shapes(alloc, shapes)?;
+    let walked = walk_objects(alloc, memory, shared.as_slice(), found)?;
     let places = walked.found.renumbered_each(alloc, values.as_slice())?;
     Ok(FoundGraph {
-        graph: Graph {
-            roots: name_values(alloc, roots, places.as_slice())?,
-            nodes: ListOf::from_vec(walked.nodes),
-        },
+        graph: SharedGraph::new(
+            name_values(alloc, roots, places.as_slice())?,
+            ListOf::from_vec(walked.nodes),
+        ),
         lines: walked.found.into_lines(),
         free: walked.free,
     })

@@ -7,6 +7,7 @@ ghost use Rattle.image_walk.specs.Walking.{IsFault, head_fault};
 use crate::RecoverFault;
 use graph_model::Shape;
 use image_layout::{BadReason, head_parts, lines_of};
+use shared_graph::SharedShape;
 
 /// What an object's head tells: its shape's number, and how many slots it has.
 #[derive(Clone, Copy)]
@@ -24,7 +25,7 @@ fn holds_slots(shape: &Shape, slots: u32) -> bool
 
 /// Checks the head of the object that begins at a line of an image of so many lines.
 pub(crate) fn check_head(
-    shapes: &[Shape],
+    shapes: &[SharedShape],
     size: u64,
     line: u32,
     word: u64,
@@ -45,7 +46,7 @@ pub(crate) fn check_head(
         });
     }
     let behind = u64::from(line) + u64::from(lines_of(length));
-    if !holds_slots(&shapes[shape as usize], length) || behind > size {
+    if !holds_slots(shapes[shape as usize].get(), length) || behind > size {
         return Err(RecoverFault::Bad {
             line,
             reason: BadReason::Length,

@@ -14,16 +14,16 @@ use crate::slots::read_values;
 use crate::taken::take_lines;
 use crate::words::read_word;
 use ap_base::Spot;
-use graph_model::{Node, Shape};
 use image_layout::lines_of;
 use line_image::Image;
 use line_memory::LineMemory;
+use shared_graph::{SharedNode, SharedShape};
 use std::alloc::Global;
 
 /// An object that was looked at: its node, and the line behind it.
 #[derive(Drop)]
 pub(crate) struct Visited {
-    pub(crate) node: Node,
+    pub(crate) node: SharedNode,
     pub(crate) end: u32,
 }
 
@@ -31,7 +31,7 @@ pub(crate) struct Visited {
 pub(crate) fn visit<I: Image>(
     alloc: Global,
     memory: &mut LineMemory<I>,
-    shapes: &[Shape],
+    shapes: &[SharedShape],
     found: &mut FoundObjects,
     taken: &mut [bool],
     line: u32,
@@ -55,14 +55,11 @@ pub(crate) fn visit<I: Image>(
     let count = lines_of(head.length);
     take_lines(taken, line, count)?;
     let shape = &shapes[head.shape as usize];
-    let values = read_values(alloc, memory, shape, line, head.length)?;
+    let values = read_values(alloc, memory, shape.get(), line, head.length)?;
     found.add_each(values.as_slice())?;
     let values = found.renumbered_each(alloc, values.as_slice())?;
     Ok(Visited {
-        node: Node {
-            shape: shape.copy(alloc)?,
-            values,
-        },
+        node: SharedNode::new(shape.share()?, values),
         end: line + count,
     })
 }

@@ -12,26 +12,26 @@ ghost use Rattle.image_walk.specs.Found.{IsWalk};
 use crate::RecoverFault;
 use crate::found::FoundObjects;
 use crate::visiting::visit;
-use graph_model::{Node, Shape};
 use image_layout::FIRST_OBJECT_LINE;
 use line_image::Image;
 use line_memory::LineMemory;
+use shared_graph::{SharedNode, SharedShape};
 use std::alloc::Global;
 
 /// What a walk found: the objects in order, their nodes, and the first line behind all of them.
 #[derive(Drop)]
 pub(crate) struct Walked {
     pub(crate) found: FoundObjects,
-    pub(crate) nodes: Vec<Node>,
+    pub(crate) nodes: Vec<SharedNode>,
     pub(crate) free: u32,
 }
 
 /// Looks at each object that was found, in order, and so at those that are found meanwhile. For each line of the image a
-/// byte is taken here, and eight bytes by the places; for each node its own memory.
+/// byte is taken here, and eight bytes by the places; for each node its own memory, but for its shape, which nodes share.
 pub(crate) fn walk_objects<I: Image>(
     alloc: Global,
     memory: &mut LineMemory<I>,
-    shapes: &[Shape],
+    shapes: &[SharedShape],
     mut found: FoundObjects,
 ) -> Result<Walked, RecoverFault>
     requires most { memory.old.size ≤ max_lines }

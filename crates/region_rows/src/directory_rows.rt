@@ -3,11 +3,12 @@ use crate::images::LINES;
 use crate::recovery::attach;
 use class_set::{ClassSet, link};
 use directories::{Append, Directory};
-use graph_model::{Graph, Value};
+use graph_model::Value;
 use image_recovery::{Recovered, recover};
 use line_image::{Fails, MemoryImage};
 use listing::assemble;
 use set_directory::SetClasses;
+use shared_graph::SharedGraph;
 use std::alloc::{AllocError, Global};
 use std::test::Fail;
 
@@ -116,13 +117,13 @@ fn is_whole(directory: &Directory) -> bool {
 }
 
 /// Whether a graph has no nodes and so many roots, all null.
-fn has_null_roots(graph: &Graph, count: usize) -> bool {
-    for root in graph.roots.as_slice() {
+fn has_null_roots(graph: &SharedGraph, count: usize) -> bool {
+    for root in graph.roots() {
         if root.value != Value::Null {
             return false;
         }
     }
-    graph.roots.len() as usize == count && graph.nodes.len() == 0
+    graph.roots().len() as usize == count && graph.nodes().len() == 0
 }
 
 /// Whether a set's entries are appended to a blank image, and a second run finds them all and adds none.
@@ -189,7 +190,7 @@ fn goes_on(alloc: Global, set: &ClassSet, call: u64, pick: u64) -> Result<bool, 
     let left = stopped(alloc, set, call)?;
     let again = left.crash(alloc, pick, fails(alloc, u64::MAX))?;
     let (found, is_appended) = appended(alloc, set, again)?;
-    let roots = found.graph.roots.len() as usize;
+    let roots = found.graph.roots().len() as usize;
     Ok(is_appended && has_null_roots(&found.graph, roots) && is_whole(&found.directory))
 }
 

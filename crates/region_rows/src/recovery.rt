@@ -3,7 +3,7 @@
 ghost use Rattle.std.specs.Prelude.{◌≤◌};
 
 use crate::images::{LINES, Word, fails, image, words};
-use graph_model::{Graph, Node, Value};
+use graph_model::Value;
 use image_layout::BadReason;
 use image_layout::BadReason::{
     DirectoryUse, Entry, Length, LineCount, LogCount, LogPlace, Magic, Overlap, Reference,
@@ -13,6 +13,7 @@ use image_recovery::{Recovered, recover};
 use image_walk::RecoverFault;
 use line_image::{Image, MemoryImage};
 use line_memory::LineMemory;
+use shared_graph::{SharedGraph, SharedNode};
 use std::alloc::Global;
 use std::test::Fail;
 
@@ -242,28 +243,28 @@ struct Seen {
 }
 
 /// Whether the graph is the one of the whole image, but for the array's last int.
-fn is_whole(graph: &Graph, last: i32) -> bool {
-    let (first, second) = match graph.nodes.as_slice() {
+fn is_whole(graph: &SharedGraph, last: i32) -> bool {
+    let (first, second) = match graph.nodes() {
         [first, second] => (first, second),
         _ => return false,
     };
-    let (r, s) = match graph.roots.as_slice() {
+    let (r, s) = match graph.roots() {
         [r, s] => (r, s),
         _ => return false,
     };
     r.name.as_slice() == b"A.r".as_slice()
         && s.name.as_slice() == b"A.s".as_slice()
         && (r.value, s.value) == (Value::Obj(0), Value::Obj(1))
-        && first.shape.name.as_slice() == b"A".as_slice()
-        && first.values.as_slice() == [Value::Int(1), Value::Obj(1)].as_slice()
+        && first.shape().name.as_slice() == b"A".as_slice()
+        && first.values() == [Value::Int(1), Value::Obj(1)].as_slice()
         && is_array(second, last)
 }
 
 /// Whether the node is an array of eight zeros and this int.
-fn is_array(node: &Node, last: i32) -> bool {
+fn is_array(node: &SharedNode, last: i32) -> bool {
     let mut values = [Value::Int(0); 9];
     values[8] = Value::Int(last);
-    node.shape.name.as_slice() == b"[I".as_slice() && node.values.as_slice() == values.as_slice()
+    node.shape().name.as_slice() == b"[I".as_slice() && node.values() == values.as_slice()
 }
 
 /// What is found.
@@ -421,7 +422,7 @@ fn a_blank_image_is_formatted(rt: HostRuntime) -> Result<(), Fail> {
         Err(_) => return Err(Fail::from("it is blank")),
     };
     let seen = (
-        (found.graph.roots.len(), found.graph.nodes.len()),
+        (found.graph.roots().len(), found.graph.nodes().len()),
         (found.lines.len(), found.free, found.undone, found.version),
     );
     let image = found.memory.into_image();

@@ -1,5 +1,6 @@
 // A ring that runs make, and what graphs have of it.
-use graph_model::{Graph, Node, Value};
+use graph_model::Value;
+use shared_graph::{SharedGraph, SharedNode};
 
 /// A ring of three nodes with the values 1, 2 and 3, made where `head` is null, and else walked once around, each value printed.
 pub const RING: &str = ".class Node\n.super java/lang/Object\n.field v I\n.field next LNode;\n\
@@ -22,18 +23,18 @@ pub const RING: &str = ".class Node\n.super java/lang/Object\n.field v I\n.field
     iinc 2 -1\niload_2\nifgt STEP\nreturn\n.end\n";
 
 /// Whether a node has this value and this successor.
-fn is_link(node: &Node, value: i32, next: u32) -> bool {
+fn is_link(node: &SharedNode, value: i32, next: u32) -> bool {
     let values = [Value::Int(value), Value::Obj(next)];
-    node.shape.name.as_slice() == b"Node".as_slice() && node.values.as_slice() == values.as_slice()
+    node.shape().name.as_slice() == b"Node".as_slice() && node.values() == values.as_slice()
 }
 
 /// Whether a graph is the ring, to which its one root refers.
-pub fn is_ring(graph: &Graph) -> bool {
-    let is_root = match graph.roots.as_slice() {
+pub fn is_ring(graph: &SharedGraph) -> bool {
+    let is_root = match graph.roots() {
         [root] => root.name.as_slice() == b"Main.head".as_slice() && root.value == Value::Obj(0),
         _ => false,
     };
-    let are_nodes = match graph.nodes.as_slice() {
+    let are_nodes = match graph.nodes() {
         [first, second, third] => {
             is_link(first, 1, 1) && is_link(second, 2, 2) && is_link(third, 3, 0)
         }
@@ -43,8 +44,8 @@ pub fn is_ring(graph: &Graph) -> bool {
 }
 
 /// Whether a graph has one root, which is null.
-pub fn has_null_root(graph: &Graph) -> bool {
-    match graph.roots.as_slice() {
+pub fn has_null_root(graph: &SharedGraph) -> bool {
+    match graph.roots() {
         [root] => root.value == Value::Null,
         _ => false,
     }

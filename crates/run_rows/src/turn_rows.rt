@@ -169,8 +169,8 @@ fn storing_acts() -> Result<[(u64, Op); 19], Fail> {
 fn prints_seven(ended: &Run, roots: u64) -> bool {
     ended.status.number() == 0
         && ended.sink.as_slice() == b"7\n".as_slice()
-        && ended.opening.roots.len() as u64 == roots
-        && ended.opening.nodes.len() == 0
+        && ended.opening.roots().len() as u64 == roots
+        && ended.opening.nodes().len() == 0
 }
 
 /// How many image calls came before an act since the first one, and what it did, where it is the first thread's.

@@ -14,10 +14,10 @@ use ap_base::ListOf;
 use class_set::ClassSet;
 use directories::Directory;
 use first_spaces::a_run_can_begin_over_recovered_images;
-use graph_model::Graph;
 use image_recovery::Recovered;
 use line_image::Image;
 use line_memory::{LineMemory, every_line_is_resident};
+use shared_graph::SharedGraph;
 use std::alloc::Global;
 
 /// An image that was found, and made ready for a class set. What its directory lacks of the set's
@@ -29,7 +29,7 @@ pub struct FoundImage<I: Image> {
     /// Its directory, with what is planned.
     pub directory: Directory,
     /// The graph for which it stands, and a null root for each root that is planned.
-    pub graph: Graph,
+    pub graph: SharedGraph,
     /// The first line of each node of the graph.
     pub lines: ListOf<u32>,
     /// The first line behind all nodes.
@@ -44,7 +44,7 @@ pub struct OpenedImage<I: Image> {
     /// Its directory.
     pub directory: Directory,
     /// The graph for which it stands.
-    pub graph: Graph,
+    pub graph: SharedGraph,
     /// The first line of each node of the graph.
     pub lines: ListOf<u32>,
     /// The first line behind all nodes.

@@ -13,8 +13,9 @@ use crate::unopened::Unopened;
 use ap_base::Bytes;
 use class_set::ClassSet;
 use directories::{Directory, PlanFault};
-use graph_model::{Graph, NamedValue, Value};
+use graph_model::{NamedValue, Value};
 use set_directory::SetClasses;
+use shared_graph::SharedGraph;
 use std::alloc::{AllocError, Global};
 
 /// Makes the directory and the graph of an image ready for the class set: the shapes are checked,
@@ -24,7 +25,7 @@ pub(crate) fn prepare(
     alloc: Global,
     set: &mut ClassSet,
     directory: &mut Directory,
-    graph: &mut Graph,
+    graph: &mut SharedGraph,
 ) -> Result<(), Unopened>
     requires shapes { All IsShape directory.old.shapes }
     requires roots { map (λ (root : SomeRoot). root.name) graph.old.roots ≡ directory.old.roots }
@@ -38,7 +39,7 @@ pub(crate) fn prepare(
     number_arrays(alloc, set, directory)?;
     what_sets_keep(set);
     plan_missing(alloc, set, directory)?;
-    let had = graph.roots.len();
+    let had = graph.roots().len();
     add_null_roots(alloc, graph, behind(directory.roots(), had))?;
     Ok(())
 }
@@ -90,13 +91,13 @@ fn behind(names: &[Bytes], had: usize) -> &[Bytes]
 }
 
 /// Adds roots of these names, which are null.
-fn add_null_roots(alloc: Global, graph: &mut Graph, names: &[Bytes]) -> Result<(), AllocError>
+fn add_null_roots(alloc: Global, graph: &mut SharedGraph, names: &[Bytes]) -> Result<(), AllocError>
     ensures { OnOk result (graph.new ≡ with_null_roots graph.old names.now) }
 {
     for name in names {
         let name = Bytes::copy(alloc, name.as_slice())?;
         let value = Value::Null;
-        graph.roots.push(NamedValue { name, value })?;
+        graph.add_root(NamedValue { name, value })?;
     }
     Ok(())
 }

@@ -1,10 +1,11 @@
 // Failure-atomic regions over durable objects: what stops leave, and what the next run finds.
 use crate::stops::next_at;
 use ap_base::Place;
-use graph_model::{Graph, Value};
+use graph_model::Value;
 use line_image::MemoryImage;
 use run_fixture::{Run, blank, fails_from, has_output, no_fails, recovered, run_class};
 use run_history::{Acts, Op};
+use shared_graph::SharedGraph;
 use std::alloc::{AllocError, Global};
 use std::sync::Wait;
 use std::test::Fail;
@@ -163,16 +164,16 @@ fn the_next_run_finds_ended_regions_alone(rt: HostRuntime) -> Result<(), Fail> {
 type Numbers = [i32; 3];
 
 /// The numbers that a graph has of the object; none where it is another graph.
-fn numbers_of(graph: &Graph) -> Option<Numbers> {
-    match graph.roots.as_slice() {
+fn numbers_of(graph: &SharedGraph) -> Option<Numbers> {
+    match graph.roots() {
         [root] if root.value == Value::Obj(0) => {}
         _ => return None,
     }
-    let node = match graph.nodes.as_slice() {
+    let node = match graph.nodes() {
         [node] => node,
         _ => return None,
     };
-    match node.values.as_slice() {
+    match node.values() {
         [Value::Int(a), Value::Int(b), Value::Int(c)] => Some([*a, *b, *c]),
         _ => None,
     }
@@ -349,17 +350,17 @@ fn filling(alloc: Global, count: u32) -> Result<String, AllocError> {
 }
 
 /// Whether a graph is one array of so many times this number.
-fn is_full_of(graph: &Graph, count: u32, number: i32) -> bool {
-    let node = match graph.nodes.as_slice() {
+fn is_full_of(graph: &SharedGraph, count: u32, number: i32) -> bool {
+    let node = match graph.nodes() {
         [node] => node,
         _ => return false,
     };
-    for value in node.values.as_slice() {
+    for value in node.values() {
         if *value != Value::Int(number) {
             return false;
         }
     }
-    node.values.len() == count as usize
+    node.values().len() == count as usize
 }
 
 /// How many elements an array has, what a run prints that stores 7 into each of them within a

@@ -1,25 +1,26 @@
 // What stops leave of the image of a run that stores an array and one of its elements, and how runs end whose image fails.
-use graph_model::{Graph, Value};
+use graph_model::Value;
 use line_image::{Fails, MemoryImage};
 use run_fixture::{
     LINES, PRINTS, RING, Run, STORES, blank, fails_from, has_null_root, has_output, is_ring,
     no_fails, recovered, run, run_class,
 };
 use run_history::Op;
+use shared_graph::SharedGraph;
 use std::alloc::{AllocError, Global};
 use std::sync::Wait;
 use std::test::Fail;
 use std::thread::Threads;
 
 /// What a graph has of its one root: null, or element 1 of an array of three with zeros beside it; none where it is another graph.
-fn element_of(graph: &Graph) -> Option<Value> {
-    let root = match graph.roots.as_slice() {
+fn element_of(graph: &SharedGraph) -> Option<Value> {
+    let root = match graph.roots() {
         [root] => root.value,
         _ => return None,
     };
-    match graph.nodes.as_slice() {
+    match graph.nodes() {
         [] if root == Value::Null => Some(Value::Null),
-        [node] if root == Value::Obj(0) => match node.values.as_slice() {
+        [node] if root == Value::Obj(0) => match node.values() {
             [Value::Int(0), middle, Value::Int(0)] => Some(*middle),
             _ => None,
         },
@@ -220,7 +221,13 @@ fn fails_at(alloc: Global, call: u64, later: bool) -> Result<Fails, AllocError> 
 }
 
 /// How a run on a blank image ends, a call of which fails so, and what the image stands for that a stop by this pick then leaves.
-fn failing<R>(rt: &R, alloc: Global, call: u64, later: bool, pick: u64) -> Result<(u8, Graph), Fail>
+fn failing<R>(
+    rt: &R,
+    alloc: Global,
+    call: u64,
+    later: bool,
+    pick: u64,
+) -> Result<(u8, SharedGraph), Fail>
 where
     R: Threads + Wait + Clone + Send + Sync + Drop,
 {
@@ -231,8 +238,8 @@ where
 }
 
 /// Whether a graph has no nodes, and at most one root, which is null.
-fn is_null(graph: &Graph) -> bool {
-    graph.roots.len() == 0 || element_of(graph) == Some(Value::Null)
+fn is_null(graph: &SharedGraph) -> bool {
+    graph.roots().len() == 0 || element_of(graph) == Some(Value::Null)
 }
 
 /// Calls of a run on a blank image whose failure ends it before an act: the image's first read, its last one, and such as lay the image out

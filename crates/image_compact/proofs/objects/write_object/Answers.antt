@@ -1,5 +1,6 @@
 use Rattle.std.proofs.Common.{◌≡◌, ◌∙◌, ◌≤◌, ◌<◌, ◌+◌, ℕ, List, length, ap, sym, subst, arith, slice_index_or}
 use Rattle.std.proofs.lemmas.Result.{on_ok_weaker}
+use Rattle.graph_model.specs.declared.types.Node.{Node}
 use Rattle.image_meaning.specs.Opening.{graph_node}
 use Rattle.image_meaning.proofs.Ranges.{get_or_any}
 use Rattle.image_compact.specs.Planning.{ArePlaces}
@@ -10,16 +11,16 @@ pub overflow_cast-values : goal.overflow_cast-values
 overflow_cast-values g c =
     let graph = c.args.graph.now in
     let h = c.requires.node in
-    let values = c.as_slice-values.result.now in
-    let same = same_values graph c.args.n h c.as_slice-nodes.result.now values c.index-nodes-n.result c.as_slice-nodes.ensures c.as_slice-values.ensures in
+    let values = c.values-values.result.now in
+    let same = same_values graph c.args.n h c.nodes-nodes.result.now values c.index-nodes-n.result c.nodes-nodes.ensures.same (c.values-values.ensures.same ∙ ap (λ (d : Node). d.values) c.index-nodes-n.is) in
     omega (arith, object_within graph c.args.n h values same, c.requires.plan.room.objects, c.requires.most)
 
 pub write_values-requires-clause-within : goal.write_values-requires-clause-within
 write_values-requires-clause-within g c =
     let graph = c.args.graph.now in
     let h = c.requires.node in
-    let values = c.as_slice-values.result.now in
-    let same = same_values graph c.args.n h c.as_slice-nodes.result.now values c.index-nodes-n.result c.as_slice-nodes.ensures c.as_slice-values.ensures in
+    let values = c.values-values.result.now in
+    let same = same_values graph c.args.n h c.nodes-nodes.result.now values c.index-nodes-n.result c.nodes-nodes.ensures.same (c.values-values.ensures.same ∙ ap (λ (d : Node). d.values) c.index-nodes-n.is) in
     let lines = c.args.plan.now.lines.items in
     let there : c.args.n < length lines = omega (arith, h, c.requires.plan.lines.count) in
     let first : c.index-2.result.now ≡ slice_index_or lines c.args.n 0 =
@@ -30,8 +31,8 @@ pub returns-clause-wrote : goal.returns-clause-wrote
 returns-clause-wrote g c =
     let graph = c.args.graph.now in
     let h = c.requires.node in
-    let values = c.as_slice-values.result.now in
-    let same = same_values graph c.args.n h c.as_slice-nodes.result.now values c.index-nodes-n.result c.as_slice-nodes.ensures c.as_slice-values.ensures in
+    let values = c.values-values.result.now in
+    let same = same_values graph c.args.n h c.nodes-nodes.result.now values c.index-nodes-n.result c.nodes-nodes.ensures.same (c.values-values.ensures.same ∙ ap (λ (d : Node). d.values) c.index-nodes-n.is) in
     let numbers = c.args.plan.now.numbers.items in
     let kept = c.args.plan.now.lines.items in
     let lines = c.as_slice.result.now in
@@ -51,8 +52,8 @@ pub returns-clause-changes : goal.returns-clause-changes
 returns-clause-changes g c =
     let graph = c.args.graph.now in
     let h = c.requires.node in
-    let values = c.as_slice-values.result.now in
-    let same = same_values graph c.args.n h c.as_slice-nodes.result.now values c.index-nodes-n.result c.as_slice-nodes.ensures c.as_slice-values.ensures in
+    let values = c.values-values.result.now in
+    let same = same_values graph c.args.n h c.nodes-nodes.result.now values c.index-nodes-n.result c.nodes-nodes.ensures.same (c.values-values.ensures.same ∙ ap (λ (d : Node). d.values) c.index-nodes-n.is) in
     let numbers = c.args.plan.now.numbers.items in
     let kept = c.args.plan.now.lines.items in
     let lines = c.as_slice.result.now in

@@ -1,4 +1,4 @@
-use Rattle.std.proofs.Common.{◌+◌, ℕ, length, subst, sym, arith}
+use Rattle.std.proofs.Common.{◌+◌, ℕ, length, ap, subst, sym, arith}
 use Rattle.line_memory.specs.Memory.{Memory}
 use Rattle.word_changes.specs.Changes.{ChangesTo, WritesAll}
 use Rattle.word_changes.proofs.Changing.{changes_weaker}
@@ -22,7 +22,7 @@ returns-in_err-write_object-clause-changes g c =
     let graph = c.args.graph.now in
     let n = c.loop-n.n in
     changes_weaker (OfObjects graph (n + 1)) (OfObjects graph (length graph.nodes)) a d
-    (fewer_objects graph (n + 1) (length graph.nodes) (omega (arith, c.loop-n-test.true)))
+    (fewer_objects graph (n + 1) (length graph.nodes) (omega (arith, c.loop-n-test.true, ap length c.nodes-n-end.ensures.same)))
     (both_change (OfObjects graph n) (OfObject graph n) (OfObjects graph (n + 1)) a b d c.loop-n.invariant.changes c.write_object.ensures.changes
     (fewer_objects graph n (n + 1) (omega arith)) (next_object graph n))
 
@@ -41,8 +41,8 @@ loop-n-preserved g c =
     let room = c.requires.plan.room in
     record {
       wrote = both_wrote (OfObjects graph n) (OfObject graph n) (OfObjects graph (n + 1)) a b d so_far.changes c.write_object.ensures.changes
-          (of_object graph n) (objects_apart graph n (omega (arith, c.loop-n-test.true)))
-          (objects_within graph n b.size (omega (arith, c.loop-n-test.true)) (omega (arith, room.objects, so_far.changes.size)))
+          (of_object graph n) (objects_apart graph n (omega (arith, c.loop-n-test.true, ap length c.nodes-n-end.ensures.same)))
+          (objects_within graph n b.size (omega (arith, c.loop-n-test.true, ap length c.nodes-n-end.ensures.same)) (omega (arith, room.objects, so_far.changes.size)))
           so_far.wrote c.in_ok-write_object.ensures.wrote;
       changes = both_change (OfObjects graph n) (OfObject graph n) (OfObjects graph (n + 1)) a b d so_far.changes c.write_object.ensures.changes
           (fewer_objects graph n (n + 1) (omega arith)) (next_object graph n);

@@ -13,29 +13,29 @@ use Rattle.image_compact.proofs.planning.plan_image.Goals as goal
 
 pub place_nodes-requires : goal.place_nodes-requires
 place_nodes-requires c =
-    let nodes : c.as_slice-nodes.result.now ≡ c.args.graph.now.nodes = c.as_slice-nodes.ensures in
-    let spell = c.in_ok-add_roots.ensures (map ShapeEntry (shapes_of c.as_slice-nodes.result.now)) c.in_ok-numbered.ensures.words in
-    let none = c.in_ok-check_room.ensures.fits (length (spelled_all (map ShapeEntry (shapes_of c.as_slice-nodes.result.now) ++ map root_entry c.as_slice-roots.result.now)))
-    (lines_taken c.as_slice-nodes.result.now) spell.need c.count_lines.ensures in
-    omega (arith, (room_of c.args.size _ (lines_taken c.as_slice-nodes.result.now) c.requires.enough none).1, c.requires.most)
+    let nodes : c.nodes-nodes.result.now ≡ c.args.graph.now.nodes = c.nodes-nodes.ensures.same in
+    let spell = c.in_ok-add_roots.ensures (map ShapeEntry (shapes_of c.nodes-nodes.result.now)) c.in_ok-numbered.ensures.words in
+    let none = c.in_ok-check_room.ensures.fits (length (spelled_all (map ShapeEntry (shapes_of c.nodes-nodes.result.now) ++ map root_entry c.roots-roots.result.now)))
+    (lines_taken c.nodes-nodes.result.now) spell.need c.count_lines.ensures in
+    omega (arith, (room_of c.args.size _ (lines_taken c.nodes-nodes.result.now) c.requires.enough none).1, c.requires.most)
 
 pub slot_words-requires : goal.slot_words-requires
 slot_words-requires c =
     let lines = c.in_ok-lines.lines.items in
     let places : ArePlaces c.args.graph.now.nodes lines =
-    subst (λ (ns : List Node). ArePlaces ns lines) c.as_slice-nodes.ensures c.in_ok-lines.ensures in
+    subst (λ (ns : List Node). ArePlaces ns lines) c.nodes-nodes.ensures.same c.in_ok-lines.ensures in
     subst (λ (rs : List NamedValue). All (λ (root : NamedValue). IsBelow (length c.as_slice.result.now) root.value) rs)
-    (sym c.as_slice-roots.ensures)
+    (sym c.roots-roots.ensures.same)
     (subst (λ (ls : List ℕ). All (λ (root : NamedValue). IsBelow (length ls) root.value) c.args.graph.now.roots)
     (sym c.as_slice.ensures.value) (roots_below c.args.graph.now lines places c.requires.graph))
 
 pub returns-clause-plan : goal.returns-clause-plan
 returns-clause-plan c =
     let graph = c.args.graph.now in
-    let ns = c.as_slice-nodes.result.now in
-    let rs = c.as_slice-roots.result.now in
-    let nodes : ns ≡ graph.nodes = c.as_slice-nodes.ensures in
-    let roots : rs ≡ graph.roots = c.as_slice-roots.ensures in
+    let ns = c.nodes-nodes.result.now in
+    let rs = c.roots-roots.result.now in
+    let nodes : ns ≡ graph.nodes = c.nodes-nodes.ensures.same in
+    let roots : rs ≡ graph.roots = c.roots-roots.ensures.same in
     let lines = c.in_ok-lines.lines.items in
     let spell_first = c.in_ok-add_roots.ensures (map ShapeEntry (shapes_of ns)) c.in_ok-numbered.ensures.words in
     let none_first = c.in_ok-check_room.ensures.fits (length (spelled_all (map ShapeEntry (shapes_of ns) ++ map root_entry rs)))

@@ -12,7 +12,8 @@ loop-node-preserved c =
     let before = with_shapes [] (take i nodes) in
     let next = next_shapes [] nodes i node c.loop-node-test.true c.node-item.is in
     record {
-      lists = rw next (c.in_ok-number.ensures.lists before c.loop-node.invariant.lists);
+      lists = rw next (rw c.shape.ensures.same at (c.in_ok-number.ensures.lists before c.loop-node.invariant.lists));
       numbers = rw (next, c.in_ok-push.ensures.items) (numbers_more before nodes c.loop-node.numbers.items i node c.in_ok-number.number
-          c.loop-node-test.true c.node-item.is c.loop-node.invariant.numbers (c.in_ok-number.ensures.number before c.loop-node.invariant.lists));
+          c.loop-node-test.true c.node-item.is c.loop-node.invariant.numbers
+          (rw c.shape.ensures.same at (c.in_ok-number.ensures.number before c.loop-node.invariant.lists)));
     }

@@ -13,7 +13,7 @@ returns-in_err-is_blank-clause-fails g c =
     let a : Memory = c.args.memory.now in
     let b : Memory = c.is_blank.new.memory in
     let look = c.is_blank.ensures in
-    rw (p.1, p.2) (unwritten c.args.graph.now a b look.changes look.goes_on look.cause.later ImageFailed
+    rw (p.1, p.2) (unwritten c.args.graph.now a b c.requires.enough c.requires.most look.changes look.goes_on look.cause.later ImageFailed
     (rose_by c.is_blank.result c.in_err-is_blank.field-0.0 a.faults b.faults c.in_err-is_blank.was look.cause))
 
 pub returns-then-not-branch-clause-fails : goal.returns-then-not-branch-clause-fails
@@ -21,7 +21,7 @@ returns-then-not-branch-clause-fails g c =
     let a : Memory = c.args.memory.now in
     let b : Memory = c.is_blank.new.memory in
     let look = c.is_blank.ensures in
-    unwritten c.args.graph.now a b look.changes look.goes_on look.cause.later NotBlank
+    unwritten c.args.graph.now a b c.requires.enough c.requires.most look.changes look.goes_on look.cause.later NotBlank
     ((λ known zero. let yes = (c.in_ok-is_blank.ensures.blank known).1 zero in let no = c.if-not-branch.true in cc), look.changes)
 
 pub returns-in_err-plan-clause-fails : goal.returns-in_err-plan-clause-fails
@@ -30,7 +30,7 @@ returns-in_err-plan-clause-fails g c =
     let a : Memory = c.args.memory.now in
     let b : Memory = c.is_blank.new.memory in
     let look = c.is_blank.ensures in
-    rw (p.1, p.2) (unplanned c.args.graph.now a b look.changes look.goes_on look.cause.later c.in_err-plan.field-0.0
+    rw (p.1, p.2) (unplanned c.args.graph.now a b c.requires.enough c.requires.most look.changes look.goes_on look.cause.later c.in_err-plan.field-0.0
     (λ known. (c.in_ok-is_blank.ensures.blank known).0 c.if-not-branch.false)
     (rw c.lines.ensures at c.in_err-plan.ensures.want))
 
@@ -42,7 +42,7 @@ returns-in_err-write_planned-clause-fails g c =
     let d : Memory = c.write_planned.new.memory in
     let look = c.is_blank.ensures in
     let wrote = c.write_planned.ensures in
-    rw (p.1, p.2) (broken_off c.args.graph.now a b look.changes look.goes_on look.cause.later d
+    rw (p.1, p.2) (broken_off c.args.graph.now a b c.requires.enough c.requires.most look.changes look.goes_on look.cause.later d
     (λ known. (c.in_ok-is_blank.ensures.blank known).0 c.if-not-branch.false) wrote.stops wrote.goes_on
     (rose_by c.write_planned.result c.in_err-write_planned.field-0.0 b.faults d.faults c.in_err-write_planned.was wrote.cause)
     wrote.cause.later)
@@ -55,11 +55,10 @@ returns-clause-writes g c =
     let look = c.is_blank.ensures in
     let wrote = c.write_planned.ensures in
     let done = c.in_ok-write_planned.ensures in
-    let sized : b.size ≡ a.size = look.changes.size in
     let room : HasRoom b.size c.args.graph.now = subst (λ (n : ℕ). HasRoom n c.args.graph.now) c.lines.ensures c.in_ok-plan.ensures.plan.room in
     let none : no_room b.size c.args.graph.now ≡ None =
     subst (λ (n : ℕ). no_room n c.args.graph.now ≡ None) c.lines.ensures c.in_ok-plan.ensures.room in
-    written c.args.graph.now a b look.changes look.goes_on look.cause.later d
+    written c.args.graph.now a b c.requires.enough c.requires.most look.changes look.goes_on look.cause.later d
     (λ known. (c.in_ok-is_blank.ensures.blank known).0 c.if-not-branch.false) wrote.stops wrote.goes_on
-    (omega (arith, sized, c.requires.enough)) (omega (arith, sized, c.requires.most)) c.requires.graph room none
+    c.requires.graph room none
     wrote.changes done.wrote done.fixed wrote.cause.later

@@ -21,17 +21,19 @@ returns-clause-found g c words so =
     let begins : c.add_each.new.self.numbers ≡ with_new [] (root_values_of words (length names)) =
     c.in_ok-add_each.ensures.added ∙ ap (λ (ls : List ℕ). with_new ls c.as_slice.result.now) c.in_ok-found.ensures.none
     ∙ ap (with_new []) (c.as_slice.ensures.value ∙ values) in
-    let walked = c.in_ok-walked.ensures.walked words (root_values_of words (length names)) now begins in
+    let same : c.as_slice-2.result.now ≡ shapes = c.as_slice-2.ensures.value ∙ c.in_ok-shared.ensures.same in
+    let walked = rw same at (c.in_ok-walked.ensures.walked words (root_values_of words (length names)) now begins) in
     let found = c.in_ok-walked.walked.found.numbers in
     let lines : c.into_lines.result ≡ found = c.into_lines.ensures in
     record {
       roots = c.in_ok-values.ensures.passes words so;
       walks = (rw bytes at walked.walks) ∙ ap (λ (ls : List ℕ). Ok ls) (sym lines);
       graph = graph_is shapes names words found c.into_lines.result c.in_ok-values.values.items c.in_ok-places.places
-          c.in_ok-name_values.field-0 c.from_vec.result lines values
-          (c.in_ok-places.ensures ∙ ap (λ (vs : List Value). map (renumbered found) vs) c.as_slice-2.ensures.value)
-          (c.in_ok-name_values.ensures ∙ ap (λ (vs : List Value). map (named_root names vs) (range_with_len 0 (length names))) c.as_slice-3.ensures)
-          (c.from_vec.ensures ∙ walked.nodes);
+          c.new-2.result lines values
+          (c.in_ok-places.ensures ∙ ap (λ (vs : List Value). map (renumbered found) vs) c.as_slice-3.ensures.value)
+          (c.new-2.ensures.roots ∙ c.in_ok-name_values.ensures
+          ∙ ap (λ (vs : List Value). map (named_root names vs) (range_with_len 0 (length names))) c.as_slice-4.ensures)
+          (c.new-2.ensures.nodes ∙ c.from_vec.ensures ∙ walked.nodes);
       free = walked.free ∙ ap (λ (ls : List ℕ). free_line words ls) (sym lines);
     }
 
@@ -54,7 +56,8 @@ returns-in_err-walked-clause-bad g c words so =
     let begins : c.add_each.new.self.numbers ≡ with_new [] (root_values_of words (length names)) =
     c.in_ok-add_each.ensures.added ∙ ap (λ (ls : List ℕ). with_new ls c.as_slice.result.now) c.in_ok-found.ensures.none
     ∙ ap (with_new []) (c.as_slice.ensures.value ∙ values) in
-    let seen = c.in_err-walked.ensures.bad words (root_values_of words (length names)) now begins in
+    let same : c.as_slice-2.result.now ≡ shapes = c.as_slice-2.ensures.value ∙ c.in_ok-shared.ensures.same in
+    let seen = rw same at (c.in_err-walked.ensures.bad words (root_values_of words (length names)) now begins) in
     err_is c.from_residual-in_err-walked.result c.in_err-walked.field-0.0 (IsFaultOf (graph_from size directory words))
     c.from_residual-in_err-walked.ensures.1
     (fails_at_walk size directory words c.in_err-walked.field-0.0 (c.in_ok-values.ensures.passes words so) (rw bytes at seen))

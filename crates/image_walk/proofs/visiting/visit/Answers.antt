@@ -22,8 +22,8 @@ pub returns-in_err-values-2-clause-looks : goal.returns-in_err-values-2-clause-l
 returns-in_err-values-2-clause-looks g c =
     looks_more c.args.memory.now c.read_word.new.memory c.read_values.new.memory c.read_word.ensures.looks c.read_values.ensures.looks
 
-pub returns-in_err-copy-clause-looks : goal.returns-in_err-copy-clause-looks
-returns-in_err-copy-clause-looks g c =
+pub returns-in_err-share-clause-looks : goal.returns-in_err-share-clause-looks
+returns-in_err-share-clause-looks g c =
     looks_more c.args.memory.now c.read_word.new.memory c.read_values.new.memory c.read_word.ensures.looks c.read_values.ensures.looks
 
 pub returns-clause-looks : goal.returns-clause-looks
@@ -43,7 +43,7 @@ returns-in_err-values-clause-bad g c words earlier so is =
     err_is c.from_residual-in_err-values.result c.in_err-values.field-0.0
     (IsFault (object_fault c.args.shapes.now size words earlier line)) c.from_residual-in_err-values.ensures.1
     (slots_fail c.args.shapes.now size words earlier line shape c.in_ok-head.head.length c.lines_of-count.result head c.in_err-values.field-0.0
-    (rw later at (c.in_err-values.ensures.bad words (c.read_word.ensures.looks.keeps words so))))
+    (rw (later, c.get.ensures.same) at (c.in_err-values.ensures.bad words (c.read_word.ensures.looks.keeps words so))))
 
 pub returns-clause-visited : goal.returns-clause-visited
 returns-clause-visited g c words earlier so is =
@@ -62,11 +62,11 @@ returns-clause-visited g c words earlier so is =
     let more = c.add_each.new.self.numbers in
     let values : List Value = c.in_ok-values.values.items in
     visit_of c.args.shapes.now size words earlier line shape count lines head c.args.found.now.numbers more values c.take_lines.new.taken
-    (record { node = record { shape = c.in_ok-copy.field-0; values = c.in_ok-values-2.values }; end = line + lines })
-    (rw later at (c.in_ok-values.ensures.passes words now))
-    (c.in_ok-values.ensures.values words now)
+    (record { node = c.new.result; end = line + lines })
+    (rw (later, c.get.ensures.same) at (c.in_ok-values.ensures.passes words now))
+    (rw c.get.ensures.same at (c.in_ok-values.ensures.values words now))
     (c.in_ok-add_each.ensures.added ∙ ap (with_new c.args.found.now.numbers) c.as_slice.ensures.value)
     (c.in_ok-take_lines.ensures.taken words earlier is (sym head.lines_are))
-    c.in_ok-copy.ensures.same
-    (c.in_ok-values-2.ensures ∙ ap (λ (vs : List Value). map (renumbered more) vs) c.as_slice-2.ensures.value)
+    (c.new.ensures.shape ∙ c.in_ok-share.ensures.same)
+    (c.new.ensures.values ∙ c.in_ok-values-2.ensures ∙ ap (λ (vs : List Value). map (renumbered more) vs) c.as_slice-2.ensures.value)
     refl

@@ -15,7 +15,7 @@ behind-requires c =
     let now = ap (λ (d : Directory). length d.roots) planned.planned.directory in
     let had = sym (length-map c.args.graph.now.roots (λ (root : NamedValue). root.name))
     ∙ ap (λ (names : List (List ℕ)). length names) c.requires.roots in
-    let many = c.len-had.ensures in
+    let many = ap (λ (roots : List NamedValue). length roots) c.roots-had.ensures.same in
     let long = ap (λ (names : List (List ℕ)). length names) c.roots.ensures in
     omega (arith, more, now, had, many, long)
 
@@ -27,6 +27,7 @@ returns-clause-fitted c = record {
   few = c.what_sets_keep.ensures.few;
   planned = c.in_ok-plan_missing.ensures.planned;
   graph_is = c.in_ok-add_null_roots.ensures ∙ ap (with_null_roots c.args.graph.now)
-      (c.behind.ensures ∙ ap (λ (n : ℕ). drop n c.roots.result.now) c.len-had.ensures
+      (c.behind.ensures
+      ∙ ap (λ (n : ℕ). drop n c.roots.result.now) (ap (λ (roots : List NamedValue). length roots) c.roots-had.ensures.same)
       ∙ ap (λ (names : List (List ℕ)). drop (length c.args.graph.now.roots) names) c.roots.ensures);
 }
