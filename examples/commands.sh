@@ -1,6 +1,6 @@
 #!/bin/sh
 # The commands on real files: a listing is assembled by `asm`, its class files are run, `check` and `dump` tell what is in the
-# image, `compact` writes it anew, and a run is saved; then words that are no command, listings and images that are refused, and that nothing is printed behind a refusal.
+# image, `compact` writes it anew and `audit` checks a saved run; then words that are no command, listings and images that are refused, and that nothing is printed behind a refusal.
 #
 # usage: examples/commands.sh [PROGRAM]
 top=$(dirname "$0")/..
@@ -186,13 +186,27 @@ truncate -s 2097152 lost.b
 told=$(timeout 60 "$program" dump lost.a --mirror lost.b 2>&1)
 [ "$? $(printf '%s\n' "$told" | tail -n 1)" = "11 autopersist: mirror: the halves differ in size, or are too small" ] || { echo "halves of two sizes: $told"; failed=1; }
 
-# A run is saved, to a file that is empty, or isn't there.
+# A run is saved, to a file that is empty, or isn't there, and audited by it, by its output and by the images before and after it.
+cp ring.img before.img
 "$program" run --image ring.img --main Main --history ring.history classes >ring.out || { echo "no run was saved"; failed=1; }
 [ "$(head -c 8 ring.history)" = APHISTOR ] || { echo "ring.history is none"; failed=1; }
 for history in ring.img ring.history; do
     told=$(timeout 60 "$program" run --image ring.img --main Main --history $history classes 2>&1)
     case "$? $told" in "12 autopersist: sink fault"*"autopersist: history $history: "*) ;; *) echo "history over $history: $told"; failed=1 ;; esac
 done
+audit="audit --before before.img --main Main"
+gives "0 yes" $audit --after ring.img --history ring.history --output ring.out classes
+gives "20 no output
+autopersist: refuted" $audit --after ring.img --history ring.history --output ring.lst classes
+truncate -s 2097152 blank.img
+gives "20 no image
+autopersist: refuted" $audit --after blank.img --history ring.history --output ring.out classes
+gives "20 no act 2
+autopersist: refuted" audit --before blank.img --main Main --after ring.img --history ring.history --output ring.out classes
+printf '\101\120\110\111\123\124\117\122' >bad.history
+gives "19 autopersist: history 1" $audit --after ring.img --history bad.history --output ring.out classes
+gives "10 autopersist: source fault" $audit --after ring.img --history missing --output ring.out classes
+gives "15 autopersist: link MissingClass Maine" audit --before before.img --main Maine --after ring.img --history ring.history --output ring.out classes
 gives "0 $ring" dump ring.img
 
 # Refusals, behind which nothing is printed.

@@ -1,5 +1,5 @@
 #!/bin/sh
-# Runs the four programs of java/durable, each several times on one image. Each run but the last is killed once it has printed some
+# Runs five programs of java/durable, each several times on one image. Each run but the last is killed once it has printed some
 # lines, and the next one has to find all that these lines told, and nothing else but what was being done then. No JDK is needed.
 #
 # usage: examples/durable_programs.sh [--program PROGRAM] [--rounds N]
@@ -115,8 +115,29 @@ transfers() {
     tail -n 1 "$work/told"
 }
 
+# The same with two threads, each of which counts its own transfers.
+tellers() {
+    counts="0 0"
+    for round in $(seq 1 "$rounds"); do
+        killed_after Tellers $((5 * round))
+        check_tellers $counts
+        counts="$(last_of "teller 0 made transfer" told "$first") $(last_of "teller 1 made transfer" told "$second")"
+    done
+    whole_run Tellers || fail Tellers "$(cat "$work/errors")"
+    check_tellers $counts
+    tail -n 1 "$work/told"
+}
+
+check_tellers() {
+    first=$(sed -n 's/^begins with \([0-9]*\) and .*/\1/p' "$work/told")
+    second=$(sed -n 's/^begins with .* and \([0-9]*\) transfers.*/\1/p' "$work/told")
+    is_near "${first:--1}" "$1" || fail Tellers "after $1 transfers of teller 0 it begins with ${first:-none}"
+    is_near "${second:--1}" "$2" || fail Tellers "after $2 transfers of teller 1 it begins with ${second:-none}"
+    grep -q "^begins with .* sum 100000$" "$work/told" || fail Tellers "the sum isn't 100000"
+}
+
 "$program" >/dev/null 2>&1
-for each in ledger jobs_queue key_value transfers; do
+for each in ledger jobs_queue key_value transfers tellers; do
     rm -f "$work/image" && truncate -s 2097152 "$work/image"
     $each
 done

@@ -18,7 +18,7 @@ failed=0
 # The blocks of commands of a page, each behind a line with its number in the page.
 blocks() {
     awk '
-        /^    / { if (!inside) { inside = 1; is_code = /^    (javac|truncate|mkdir|\(cd|cd|python3|sh|\.\/autopersist) / ; if (is_code) print "block " NR }
+        /^    / { if (!inside) { inside = 1; is_code = /^    (javac|cp|truncate|mkdir|\(cd|cd|python3|sh|\.\/autopersist) / ; if (is_code) print "block " NR }
                   if (is_code) print substr($0, 5); next }
         { inside = 0 }' "$1"
 }

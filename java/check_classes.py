@@ -221,8 +221,6 @@ class Check:
             return f"instruction {opcode}, {MISSING.get(opcode, 'which Java lacks')}" if self.is_whole else None
         if opcode in MEMBER_OPS:
             owner, member = file.member(operand)
-            if self.is_whole and owner in self.files and member in ("start()V", "join()V"):
-                return f"{owner}.{member}: a method that is called so counts as a thread's, and the program ends with status 17"
             counts = self.is_whole or owner.startswith("java/")
             return f"{owner}.{member}" if counts and not self.has_member(owner, member) else None
         if opcode in CLASS_OPS:

@@ -5,7 +5,8 @@
 # Beside NAME.java may stand NAME.then, sources that are compiled behind it and over it, as for classes that have changed since
 # their users were compiled; NAME.gone, the class files that are taken away then (then/FILE: one of NAME.then); and
 # NAME.status, the status and the line with which the run ends where that isn't 0, written by hand. A program of status 3, 5
-# or 9 is no matter of the JDK's, which knows no such limits: its NAME.out is written by hand too.
+# or 9 is no matter of the JDK's, which knows no such limits, and under a JDK one of status 14 never ends: its NAME.out is
+# written by hand too.
 #
 # usage: java/programs/make.sh [NAME..]
 set -e
@@ -40,7 +41,7 @@ make() {
     cp -r "$work/then/." "$work/classes"
     status=$(status_of "$1")
     case $status in
-        3 | 5 | 9) ;;
+        3 | 5 | 9 | 14) ;;
         *)
             java -Xverify:none -Dfile.encoding=UTF-8 -cp "$work/classes" "$(main_of "$1")" >"$1.out" 2>"$work/err" || [ "$status" != 0 ] || {
                 cat "$work/err"

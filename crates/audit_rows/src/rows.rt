@@ -278,7 +278,7 @@ static ROWS: [Row; 8] = [
     ),
 ];
 
-fn row_verdict(alloc: Global, row: &Row) -> Result<Verdict, Fail> {
+fn row_verdict(alloc: Global, row: &Row, output: &[u8]) -> Result<Verdict, Fail> {
     let first = ops_of(alloc, row.0)?;
     let then = ops_of(alloc, row.2)?;
     let history = History {
@@ -287,13 +287,64 @@ fn row_verdict(alloc: Global, row: &Row) -> Result<Verdict, Fail> {
         then: then.as_slice(),
     };
     let after = rooted(alloc, row.4)?;
-    verdict(alloc, STORES, history, row.3, b"", &after)
+    verdict(alloc, STORES, history, row.3, output, &after)
 }
 
 #[test]
 fn stores_to_a_durable_root_are_judged(rt: HostRuntime) -> Result<(), Fail> {
     for row in &ROWS {
-        let is = row_verdict(rt.alloc(), row)?;
+        let is = row_verdict(rt.alloc(), row, b"")?;
+        assert!(rt; is == row.5, "{is:?}");
+    }
+    Ok(())
+}
+
+/// Rows of which several things are wrong, with what they are said to print: the verdict is the first that applies. The program
+/// prints nothing.
+static WRONG: [(Row, &[u8]); 4] = [
+    (
+        (&[Did::Begun, Did::Done], false, &[], 0, 7, Verdict::Image),
+        b"",
+    ),
+    (
+        (
+            &[Did::Begun, Did::Done, Did::Made, Did::Asked],
+            true,
+            &[Did::Rooted, Did::Fenced],
+            0,
+            0,
+            Verdict::Output,
+        ),
+        b"7\n",
+    ),
+    (
+        (
+            &[Did::Begun, Did::Done, Did::Made, Did::Asked],
+            true,
+            &[Did::Rooted, Did::Fenced],
+            0,
+            7,
+            Verdict::Output,
+        ),
+        b"7\n",
+    ),
+    (
+        (
+            &[Did::Begun, Did::Done, Did::Made],
+            true,
+            &[Did::Rooted],
+            0,
+            7,
+            Verdict::Act(3),
+        ),
+        b"7\n",
+    ),
+];
+
+#[test]
+fn the_first_that_applies_is_said(rt: HostRuntime) -> Result<(), Fail> {
+    for (row, output) in &WRONG {
+        let is = row_verdict(rt.alloc(), row, output)?;
         assert!(rt; is == row.5, "{is:?}");
     }
     Ok(())

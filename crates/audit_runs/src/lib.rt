@@ -11,3 +11,4 @@ mod picks;
 pub use audit_verdicts::Verdict;
 pub use audits::audit_run;
 pub use picks::words_pick_by_threads;
+pub use program_launch::{Main, NoMain, find_main};

@@ -76,7 +76,6 @@ module _ (Says : ℕ → Words → List ℕ → Type 0) (start left : Told) (tak
   report_none status.SinkFault report is = absurd cc
   report_none (status.Stuck waits) report is = absurd cc
   report_none (status.LinkFault kind name) report is = absurd cc
-  report_none status.NotBuilt report is = absurd cc
   report_none (status.NewImage reason) report is = absurd cc
   report_none (status.BadHistory word) report is = absurd cc
   report_none status.Refuted report is = absurd cc

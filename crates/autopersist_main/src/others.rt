@@ -1,9 +1,9 @@
-// The commands of two images.
+// The commands that have two images.
 use crate::telling::{is_of_image, tell, tell_trouble};
 use autopersist::Status;
-use command_words::Compact;
-use host_edges::{FileImage, OutSink};
-use image_commands::compact;
+use command_words::{Audit, Compact};
+use host_edges::{FileImage, HostSource, OutSink};
+use image_commands::{audit, compact};
 use std::process::ExitCode;
 
 /// Writes an image anew. The new file is made only where the old one can be opened.
@@ -39,6 +39,48 @@ pub(crate) fn compact_files(rt: HostRuntime, words: &Vec<String>, asked: &Compac
                 trouble,
             );
         }
+    }
+    code
+}
+
+/// Audits a saved run.
+pub(crate) fn audit_saved(rt: HostRuntime, words: &Vec<String>, asked: &Audit) -> ExitCode {
+    let Ok(before) = FileImage::at(&rt, rt.alloc(), asked.before.as_str(), None) else {
+        return tell(rt.alloc(), rt.stderr(), &Status::OutOfMemory);
+    };
+    let Ok(after) = FileImage::at(&rt, rt.alloc(), asked.after.as_str(), None) else {
+        return tell(rt.alloc(), rt.stderr(), &Status::OutOfMemory);
+    };
+    let source = HostSource::folder(rt, rt.alloc(), asked.folder.as_str());
+    let (history, output) = (asked.history.as_str(), asked.output.as_str());
+    let records = HostSource::records(rt, rt.alloc(), history, output);
+    let ended = audit(
+        rt.alloc(),
+        words,
+        source,
+        records,
+        before,
+        after,
+        OutSink::new(rt),
+    );
+    let code = tell(rt.alloc(), rt.stderr(), &ended.status);
+    if is_of_image(&ended.status) {
+        let trouble = ended.before.trouble();
+        tell_trouble(
+            rt.alloc(),
+            rt.stderr(),
+            "image",
+            asked.before.as_str(),
+            trouble,
+        );
+        let trouble = ended.after.trouble();
+        tell_trouble(
+            rt.alloc(),
+            rt.stderr(),
+            "image",
+            asked.after.as_str(),
+            trouble,
+        );
     }
     code
 }

@@ -1,7 +1,6 @@
 -- The cause of each status, by its stage.
-use Rattle.std.proofs.Common.{◌≡◌, ◌⊎◌, ℕ, List, Option, Some, None, [], Result, Ok, Err, refl, sym, ap, subst, ◌∙◌, inl, inr}
+use Rattle.std.proofs.Common.{◌≡◌, ◌⊎◌, ℕ, List, Option, Some, [], Result, Ok, Err, refl, sym, ap, subst, ◌∙◌, inl, inr}
 use Rattle.std.specs.Prelude.{◌≢◌, IsOk}
-use Rattle.std.proofs.lemmas.Bool.{false≢true}
 use Rattle.ap_base.specs.declared.source.NamedBytes.{NamedBytes}
 use Rattle.graph_model.specs.declared.types.Graph.{Graph}
 use Rattle.line_image.specs.Told.{Told}
@@ -22,14 +21,14 @@ use Rattle.durable_launch.specs.Unopenings as unopened
 use Rattle.statuses.specs.Names.{fault_status}
 use Rattle.statuses.specs.declared.status.Status.{Status}
 use Rattle.statuses.specs.declared.status.Status.TheVariants as status
-use Rattle.class_runs.specs.Chosen.{Builds, Choice, ClassesGive, GivenBy, FilesGive}
+use Rattle.class_runs.specs.Chosen.{Choice, ClassesGive, GivenBy, FilesGive, chosen}
 use Rattle.source_classes.specs.Files.{classes_among}
 use Rattle.source_classes.specs.Names.{slashed}
 use Rattle.source_classes.specs.Reading as reading
 use Rattle.source_classes.specs.Reading.{HasNoCause, IsOfFiles, IsOfClasses, IsLeft, LeavesAt}
-use Rattle.class_runs.specs.Runs.{Answers, AnswersFor, ComesTo, OfChoice, IsCauseOf, IsCauseAt, Over, EndsOver, IsOfRun, IsEarly}
+use Rattle.class_runs.specs.Runs.{Answers, ComesTo, OfChoice, IsCauseOf, IsCauseAt, Over, EndsOver, IsOfRun, IsEarly}
 use Rattle.class_runs.specs.Sets.{CannotBegin, HasEndedSo, SetEnds, status_of_ending, status_of_unopened}
-use Rattle.statuses.specs.Stages.{Stage, OfWords, OfSource, OfMemory, OfFile, OfListing, OfLinking, OfForm, OfOpening, OfRoom, OfNames}
+use Rattle.statuses.specs.Stages.{Stage, OfWords, OfSource, OfMemory, OfFile, OfListing, OfLinking, OfOpening, OfRoom, OfNames}
 use Rattle.statuses.specs.Stages.{OfImage, OfTurns, OfOthers, stage_of, IsFreeStage, IsFilesStage, IsClassesStage, IsEarlyStage}
 use Rattle.statuses.specs.Stages.{IsRunStage}
 use Rattle.source_classes.proofs.SourceFiles.{all_read}
@@ -87,7 +86,6 @@ module _ (gives : Result Choice Status → Type 0) (limits : Limits) (over : Ove
   nothing_at : (stage : Stage) → IsClassesStage stage → (stage ≢ OfMemory → gives (Err s)) → IsCauseAt stage gives limits over s
   nothing_at OfMemory of comes = tt
   nothing_at OfLinking of comes = comes (λ is. cc)
-  nothing_at OfForm of comes = inl (comes (λ is. cc))
   nothing_at OfOpening of comes = absurd of
   nothing_at OfWords of comes = absurd of
   nothing_at OfListing of comes = absurd of
@@ -109,7 +107,6 @@ module _ (gives : Result Choice Status → Type 0) (limits : Limits) (over : Ove
   file_at OfWords of cause = absurd of
   file_at OfListing of cause = absurd of
   file_at OfLinking of cause = absurd of
-  file_at OfForm of cause = absurd of
   file_at OfOpening of cause = absurd of
   file_at OfNames of cause = absurd of
   file_at OfImage of cause = absurd of
@@ -128,7 +125,6 @@ cause_of_classes gives limits over s of (inr give) = nothing_at gives limits ove
 early_classes : (stage : Stage) → IsClassesStage stage → IsEarlyStage stage
 early_classes OfMemory of = tt
 early_classes OfLinking of = tt
-early_classes OfForm of = tt
 early_classes OfOpening of = absurd of
 early_classes OfWords of = absurd of
 early_classes OfListing of = absurd of
@@ -147,7 +143,6 @@ left_classes : (stage : Stage) (files : List NamedBytes) (left : Option (List Na
     → IsOk (classes_among files) → left ≡ Some [] → LeavesAt stage files s left
 left_classes OfMemory files left s of unrefused none = all_read files left unrefused none
 left_classes OfLinking files left s of unrefused none = none
-left_classes OfForm files left s of unrefused none = none
 left_classes OfOpening files left s of unrefused none = absurd of
 left_classes OfWords files left s of unrefused none = absurd of
 left_classes OfListing files left s of unrefused none = absurd of
@@ -174,7 +169,6 @@ early_files OfRoom of = tt
 early_files OfWords of = absurd of
 early_files OfListing of = absurd of
 early_files OfLinking of = absurd of
-early_files OfForm of = absurd of
 early_files OfOpening of = absurd of
 early_files OfNames of = absurd of
 early_files OfImage of = absurd of
@@ -202,7 +196,6 @@ module _ (gives gives' : Result Choice Status → Type 0) (so : (answer : Result
   caused_at OfMemory cause = cause
   caused_at OfFile cause = so (Err s) cause
   caused_at OfLinking cause = so (Err s) cause
-  caused_at OfForm cause = either_so cause
   caused_at OfRoom cause = either_so cause
   caused_at OfOpening cause = chosen_so (EndsOver limits over s) cause
   caused_at OfNames cause = chosen_so (EndsOver limits over s) cause
@@ -252,10 +245,8 @@ module _ (set : Linked) (name : List ℕ) (limits : Limits) (start : Told) (open
   ]
 
   ran_stage : HasEndedSo set name limits start opening acts s → IsOfRun s
-  ran_stage ran = elim ran.ends [
-    | inl ends ↦ so_staged s (status_of_ending ran.of.numbered ends.ending) ends.is (ending_stage ran.of.numbered ends.ending)
-    | inr more ↦ so_staged s status.NotBuilt more.is tt
-  ]
+  ran_stage ran =
+      so_staged s (status_of_ending ran.of.numbered ran.ends.ending) ran.ends.is (ending_stage ran.of.numbered ran.ends.ending)
 
   -- what a call that had something to run came to is one of the statuses of runs
   pub of_run : SetEnds set name limits start opening acts after s → IsOfRun s
@@ -283,10 +274,7 @@ ending_apart set Finished is = cc
 module _ (set : Linked) (name : List ℕ) (limits : Limits) (start : Told) (opening : Graph) (acts : List Recorded) (after : Told)
     (s : Status) (is : s ≡ status.OutOfMemory) where
   ran_apart : HasEndedSo set name limits start opening acts s → ⊥
-  ran_apart ran = elim ran.ends [
-    | inl ends ↦ ending_apart ran.of.numbered ends.ending (sym ends.is ∙ is)
-    | inr more ↦ let no : status.NotBuilt ≡ status.OutOfMemory = sym more.is ∙ is in cc
-  ]
+  ran_apart ran = ending_apart ran.of.numbered ran.ends.ending (sym ran.ends.is ∙ is)
 
   pub memory_early : SetEnds set name limits start opening acts after s → acts ≡ []
   memory_early (inl cannot) = cannot.0
@@ -299,7 +287,6 @@ module _ (gives : Result Choice Status → Type 0) (limits : Limits) (over : Ove
 
   run_at : (stage : Stage) → IsRunStage stage → IsCauseAt stage gives limits over s
   run_at OfMemory of = tt
-  run_at OfForm of = inr so
   run_at OfOpening of = so
   run_at OfRoom of = inr so
   run_at OfNames of = so
@@ -320,7 +307,6 @@ not_classes : (stage : Stage) → IsClassesStage stage → stage ≢ OfSource
 not_classes OfSource of is = of
 not_classes OfMemory of is = cc
 not_classes OfLinking of is = cc
-not_classes OfForm of is = cc
 not_classes OfOpening of is = of
 not_classes OfWords of is = of
 not_classes OfListing of is = of
@@ -335,7 +321,6 @@ not_run : (stage : Stage) → IsRunStage stage → stage ≢ OfSource
 not_run OfSource of is = of
 not_run OfMemory of is = cc
 not_run OfLinking of is = of
-not_run OfForm of is = cc
 not_run OfOpening of is = cc
 not_run OfWords of is = of
 not_run OfListing of is = of
@@ -360,7 +345,6 @@ unrefused_apart (Err e) s good is = cc
 left_at : (stage : Stage) (files : List NamedBytes) (s : Status) (others : Option (List NamedBytes)) → IsRunStage stage → IsOk (classes_among files)
     → others ≡ Some [] → LeavesAt stage files s others
 left_at OfMemory files s others of good all = all_read files others good all
-left_at OfForm files s others of good all = all
 left_at OfOpening files s others of good all = all
 left_at OfRoom files s others of good all = (λ refused. absurd (unrefused_apart (classes_among files) s good refused), λ is. all)
 left_at OfNames files s others of good all = all
@@ -386,38 +370,18 @@ link_err refusal = Err (status.LinkRefused refusal)
 abbrev ok : Choice → Result Choice Status
 ok choice = Ok choice
 
--- it isn't built and built at once
-unbuilt : (name : List ℕ) (set : Linked) (choice : Choice) (s : Status) → Builds name set (Ok choice) → Builds name set (Err s) → ⊥
-unbuilt name set choice s one other = false≢true (sym one.0 ∙ other.1)
-
--- what is built of a set is one answer
-one_built : (name : List ℕ) (set : Linked) (a b : Result Choice Status) → Builds name set a → Builds name set b → a ≡ b
-one_built name set (Ok a) (Ok b) one other = ap ok (one.1 ∙ sym other.1)
-one_built name set (Err a) (Err b) one other = ap err (one.0 ∙ sym other.0)
-one_built name set (Ok a) (Err b) one other = absurd (unbuilt name set a b one other)
-one_built name set (Err a) (Ok b) one other = absurd (unbuilt name set b a other one)
-
--- the classes link, and what they make is built, or isn't
-pub built_so : (class : List ℕ) (classes : List ClassFile) (set : Linked) (main : List ℕ) → Links classes
-    → set ≡ linked_from classes → main ≡ slashed class → Builds main set (ok (record { set = set; main = main }))
-    → ClassesGive class classes (ok (record { set = set; main = main }))
-built_so class classes set main links same named is =
-    let answer = ok (record { set = set; main = main }) in
-    inl (
-      links,
-      subst (λ (s : Linked). Builds (slashed class) s answer) same
-          (subst (λ (name : List ℕ). Builds name set answer) named is),
-    )
-
-pub unbuilt_so : (class : List ℕ) (classes : List ClassFile) (set : Linked) → Links classes
-    → set ≡ linked_from classes → Builds (slashed class) set (err status.NotBuilt)
-    → ClassesGive class classes (err status.NotBuilt)
-unbuilt_so class classes set links same is =
-    inl (links, subst (λ (s : Linked). Builds (slashed class) s (err status.NotBuilt)) same is)
+-- the classes link
+pub chosen_so_far : (class : List ℕ) (classes : List ClassFile) (set : Linked) (main : List ℕ) → Links classes
+    → set ≡ linked_from classes → main ≡ slashed class → ClassesGive class classes (ok (record { set = set; main = main }))
+chosen_so_far class classes set main links same named = inl (
+  links,
+  ap (λ (name : List ℕ). ok (chosen name (linked_from classes))) (sym named)
+      ∙ ap (λ (s : Linked). ok (chosen main s)) (sym same),
+)
 
 one_given : (name : List ℕ) (r : Result (List ClassFile) Status) (a b : Result Choice Status) → GivenBy name r a → GivenBy name r b → a ≡ b
 one_given name (Err s) a b one other = sym one ∙ other
-one_given name (Ok classes) a b (inl one) (inl other) = one_built (slashed name) (linked_from (kept_files classes)) a b one.1 other.1
+one_given name (Ok classes) a b (inl one) (inl other) = sym one.1 ∙ other.1
 one_given name (Ok classes) a b (inl one) (inr other) =
     absurd (other.1.0 (link_unrefused (kept_files classes) other.0 one.0 other.1.1))
 one_given name (Ok classes) a b (inr one) (inl other) =
@@ -452,8 +416,6 @@ module _ (gives : Result Choice Status → Type 0) (one : (a b : Result Choice S
   refused_at OfMemory e s of cause is = inl tt
   refused_at OfFile e s of cause is = inr (same_status e s is cause)
   refused_at OfLinking e s of cause is = inr (same_status e s is cause)
-  refused_at OfForm e s of (inl comes) is = inr (same_status e s is comes)
-  refused_at OfForm e s of (inr of_choice) is = absurd (not_given s of_choice.choice is of_choice.given)
   refused_at OfRoom e s of (inl comes) is = inr (same_status e s is comes)
   refused_at OfRoom e s of (inr of_choice) is = absurd (not_given s of_choice.choice is of_choice.given)
   refused_at OfOpening e s of cause is = absurd of
@@ -470,7 +432,6 @@ module _ (gives : Result Choice Status → Type 0) (one : (a b : Result Choice S
   runs_at OfMemory e choice of cause is = inl tt
   runs_at OfFile e choice of cause is = absurd (not_given e choice cause is)
   runs_at OfLinking e choice of cause is = absurd (not_given e choice cause is)
-  runs_at OfForm e choice of cause is = inr tt
   runs_at OfRoom e choice of cause is = inr tt
   runs_at OfOpening e choice of cause is = absurd of
   runs_at OfNames e choice of cause is = absurd of

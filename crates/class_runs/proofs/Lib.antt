@@ -1,3 +1,4 @@
+pub mod Again
 pub mod Causes
 pub mod Outside
 pub mod SetStops

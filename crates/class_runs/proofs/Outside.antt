@@ -3,20 +3,19 @@ use Rattle.std.proofs.Common.{◌≡◌, ◌≤◌, ℕ, List, [], ◌++◌, Opt
 use Rattle.std.proofs.lemmas.List.{append-nil}
 use Rattle.ap_base.specs.Causes.{Rose}
 use Rattle.ap_base.specs.Sinks.{with_bytes}
-use Rattle.run_types.specs.declared.fault.StepFault.TheVariants as met
+use Rattle.run_types.specs.declared.fault.RunFault.TheVariants as fault
 use Rattle.run_history.specs.Recorded.{Recorded}
 use Rattle.class_set.specs.Linked.{Linked}
 use Rattle.durable_launch.specs.Passed.{HasTold, IsCaused, with_all}
 use Rattle.durable_launch.specs.Passed.{fault_in}
-use Rattle.durable_launch.specs.Passed.{Met, Stuck}
-use Rattle.durable_launch.specs.Passed.{Turned}
-use Rattle.durable_launch.specs.Passed.{Acted, Ended, Over, Unbuilt}
+use Rattle.durable_launch.specs.Passed.{RunEnd}
+use Rattle.durable_launch.specs.Passed.{Ended, Over}
 use Rattle.durable_launch.specs.Passed.{NoLaunch}
 use Rattle.durable_launch.specs.NoLaunches as no_launch
 use Rattle.durable_launch.specs.Passed.{Unopened}
 use Rattle.durable_launch.specs.Unopenings as unopened
 use Rattle.statuses.specs.declared.status.Status.TheVariants as status
-use Rattle.class_runs.specs.Began.{status_of_turned, status_of_unlaunched}
+use Rattle.class_runs.specs.Began.{status_of_end, status_of_unlaunched}
 use Rattle.class_runs.specs.Sets.{status_of_unopened}
 use Rattle.class_runs.specs.Runs.{Tells}
 
@@ -44,33 +43,29 @@ tells_all old new sees sees' takes takes' empty told =
 -- ---- faults
 
 module _ (set : Linked) (sink sink' image image' : ℕ) where
-  pub sink_caused : (turned : Turned) → IsCaused (fault_in turned) sink sink' image image'
-      → status_of_turned set turned ≡ status.SinkFault → Rose sink sink'
-  sink_caused Acted caused is = absurd (cc)
+  pub sink_caused : (end : RunEnd) → IsCaused (fault_in end) sink sink' image image'
+      → status_of_end set end ≡ status.SinkFault → Rose sink sink'
   sink_caused (Ended None) caused is = absurd (cc)
-  sink_caused (Ended (Some class)) caused is = absurd (cc)
-  sink_caused Unbuilt caused is = absurd (cc)
-  sink_caused (Over (Met met.SinkFault)) caused is = caused.0
-  sink_caused (Over (Met met.ImageFault)) caused is = absurd (cc)
-  sink_caused (Over (Met (met.BadCode at))) caused is = absurd (cc)
-  sink_caused (Over (Met (met.RegionRace thread other place))) caused is = absurd (cc)
-  sink_caused (Over (Met (met.Full full))) caused is = absurd (cc)
-  sink_caused (Over (Stuck on)) caused is = absurd (cc)
-  sink_caused (Over (Met (met.LinkFault kind class index))) caused is = absurd (cc)
+  sink_caused (Ended (Some thrown)) caused is = absurd (cc)
+  sink_caused (Over fault.SinkFault) caused is = caused.0
+  sink_caused (Over fault.ImageFault) caused is = absurd (cc)
+  sink_caused (Over (fault.BadCode at)) caused is = absurd (cc)
+  sink_caused (Over (fault.RegionRace thread other place)) caused is = absurd (cc)
+  sink_caused (Over (fault.Full full)) caused is = absurd (cc)
+  sink_caused (Over (fault.Stuck waits)) caused is = absurd (cc)
+  sink_caused (Over (fault.LinkFault kind class index)) caused is = absurd (cc)
 
-  pub image_caused : (turned : Turned) → IsCaused (fault_in turned) sink sink' image image'
-      → status_of_turned set turned ≡ status.ImageFault → Rose image image'
-  image_caused Acted caused is = absurd (cc)
+  pub image_caused : (end : RunEnd) → IsCaused (fault_in end) sink sink' image image'
+      → status_of_end set end ≡ status.ImageFault → Rose image image'
   image_caused (Ended None) caused is = absurd (cc)
-  image_caused (Ended (Some class)) caused is = absurd (cc)
-  image_caused Unbuilt caused is = absurd (cc)
-  image_caused (Over (Met met.SinkFault)) caused is = absurd (cc)
-  image_caused (Over (Met met.ImageFault)) caused is = caused.1
-  image_caused (Over (Met (met.BadCode at))) caused is = absurd (cc)
-  image_caused (Over (Met (met.RegionRace thread other place))) caused is = absurd (cc)
-  image_caused (Over (Met (met.Full full))) caused is = absurd (cc)
-  image_caused (Over (Stuck on)) caused is = absurd (cc)
-  image_caused (Over (Met (met.LinkFault kind class index))) caused is = absurd (cc)
+  image_caused (Ended (Some thrown)) caused is = absurd (cc)
+  image_caused (Over fault.SinkFault) caused is = absurd (cc)
+  image_caused (Over fault.ImageFault) caused is = caused.1
+  image_caused (Over (fault.BadCode at)) caused is = absurd (cc)
+  image_caused (Over (fault.RegionRace thread other place)) caused is = absurd (cc)
+  image_caused (Over (fault.Full full)) caused is = absurd (cc)
+  image_caused (Over (fault.Stuck waits)) caused is = absurd (cc)
+  image_caused (Over (fault.LinkFault kind class index)) caused is = absurd (cc)
 
 -- the sink fails in a run alone
 pub never_by_sink : (why : Unopened) → status_of_unopened why ≡ status.SinkFault → ⊥

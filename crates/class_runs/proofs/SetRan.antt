@@ -11,7 +11,7 @@ use Rattle.directories.specs.Kept.{Kept}
 use Rattle.graph_model.specs.declared.types.Graph.{Graph}
 use Rattle.line_image.specs.Told.{Told}
 use Rattle.line_image.specs.Trace.{Outcome}
-use Rattle.line_memory.specs.Memory.{Memory, IsTelling, CanLeaveAll}
+use Rattle.line_memory.specs.Memory.{Memory, IsTelling, CanLeaveAll, shown}
 use Rattle.image_meaning.specs.Meaning.{empty_graph}
 use Rattle.run_types.specs.declared.limits.Limits.{Limits}
 use Rattle.run_history.specs.Recorded.{Recorded}
@@ -21,15 +21,14 @@ use Rattle.class_set.specs.Linked.{Linked}
 use Rattle.class_set.specs.Facts.{facts_of}
 use Rattle.stop_theorem.specs.Stops.{IsAllowedImage}
 use Rattle.stop_theorem.specs.Laws.{IsSafeRun}
-use Rattle.durable_launch.specs.Passed.{Opening, memory_of, shown_in}
+use Rattle.durable_launch.specs.Passed.{Opening, memory_of}
 use Rattle.durable_launch.specs.Passed.{EachStopIsAllowed}
 use Rattle.durable_launch.specs.Passed.{HadNoFault}
-use Rattle.run_forms.specs.Standing.{Launch, IsRun, StandsFor as FramesStandFor, plain_code}
+use Rattle.run_forms.specs.Standing.{Launch, IsRun, plain_code}
 use Rattle.image_recovery.specs.Recovered.{entries_in}
 use Rattle.durable_launch.specs.Passed.{EndsBy, HasRun}
-use Rattle.durable_launch.specs.Passed.{fault_of_halt}
-use Rattle.durable_launch.specs.Passed.{Turned}
-use Rattle.durable_launch.specs.Passed.{Acted, Ended, Over, Unbuilt}
+use Rattle.durable_launch.specs.Passed.{RunEnd}
+use Rattle.durable_launch.specs.Passed.{Ended, Over}
 use Rattle.durable_launch.specs.declared.heaps.OpenedHeap.{OpenedHeap}
 use Rattle.durable_launch.specs.declared.launches.Launched.{Launched}
 use Rattle.durable_launch.specs.Launching.{CanLaunch, IsLaunched, launch_over, opening_over}
@@ -47,20 +46,25 @@ use Rattle.durable_launch.specs.Passed.{IsAttachFault, IsLeft, IsLeftAsFound, Is
 use Rattle.durable_launch.proofs.Passed.{found_left}
 use Rattle.statuses.specs.declared.status.Status.{Status}
 use Rattle.statuses.specs.declared.status.Status.TheVariants as status
-use Rattle.class_runs.specs.Began.{FindsRoom, RanBy, status_of_turned, status_of_unlaunched}
-use Rattle.class_runs.specs.Sets.{AsksMore, Ends, HasEndedSo, HasItsDirectory, HasNoMain, IsOfSet, IsOpenedSo, LacksFirstWords}
+use Rattle.class_runs.specs.Began.{FindsRoom, RanBy, status_of_end, status_of_unlaunched}
+use Rattle.class_runs.specs.Sets.{Ends, HasEndedSo, HasItsDirectory, HasNoMain, IsOfSet, IsOpenedSo, LacksFirstWords}
 use Rattle.class_runs.specs.Sets.{SetRunsOver, StandsAtStops, status_of_unopened}
 use Rattle.class_runs.proofs.Unappended.{its_directory}
-use Rattle.class_runs.proofs.SetStops.{stops_opened, stops_run, stops_unattached, stops_without}
+use Rattle.class_runs.proofs.SetStops.{AddsNew, adds_lacking, adds_none, stops_opened, stops_run, stops_unattached, stops_without}
 
 -- ---- an image that is given back
 
 module _ (set : Linked) (start after : Told) where
-  left_stops : (before m : Memory) (added : _) → IsLeft start after before m added → (opening : Graph) → IsSettled start
-      → StandsAtStops set start opening [] after
-  left_stops before m added left opening settled =
+  left_stops : (before m : Memory) (added : _) → IsLeft start after before m added → AddsNew set before.size (shown before) added
+      → (opening : Graph) → IsSettled start → StandsAtStops set start opening [] after
+  left_stops before m added left adds opening settled =
       subst (λ (t : Told). StandsAtStops set start opening [] t) (sym left.told)
-      (stops_without start settled before left.attached set opening m added (left.stops settled.0))
+      (stops_without start settled set before left.attached opening m added adds (left.stops settled.0))
+
+  -- nothing was appended
+  as_left : (before m : Memory) → IsLeft start after before m [] → (opening : Graph) → IsSettled start
+      → StandsAtStops set start opening [] after
+  as_left before m left = left_stops before m [] left (adds_none set before.size (shown before))
 
 -- a set has no part in the faults of attaching and of recovery
 attached_without : (start : Told) (why : Unopened) → IsAttachFault start why → IsOfSet why → ⊥
@@ -87,9 +91,9 @@ module _ (set numbered : Linked) (start after : Told) (why : Unopened) where
       → StandsAtStops set start opening [] after
   unopened_stops (inl (unattached, same)) opening settled =
       stops_unattached set start opening after settled.1 unattached.trace unattached.moments
-  unopened_stops (inr (inl (u, same))) opening settled = left_stops set start after u.before u.memory [] u.left opening settled
+  unopened_stops (inr (inl (u, same))) opening settled = as_left set start after u.before u.memory u.left opening settled
   unopened_stops (inr (inr u)) opening settled =
-      left_stops set start after u.left.before u.left.memory [] u.left.left opening settled
+      as_left set start after u.left.before u.left.memory u.left.left opening settled
 
   unopened_had : IsUnopened start after set numbered why → IsOfSet why → IsSettled start → HasItsDirectory start after
   unopened_had (inl (unattached, same)) of settled = absurd (attached_without start why unattached.cause of)
@@ -133,7 +137,7 @@ module _ (set numbered : Linked) (start : Told) (m : Memory) (directory : Kept) 
           })),
         );
         unbegun = λ none. refl;
-        stops = left_stops set start after left.before left.memory [] left.left empty_graph;
+        stops = as_left set start after left.before left.memory left.left empty_graph;
       }
 
   -- the first objects find no room, or there is no memory
@@ -153,7 +157,10 @@ unappended_ran set numbered name limits start after u = record {
   size = u.left.size;
   ends = inl (refl, inr (inr (inl (record { numbered = numbered; unappended = u; is = refl }))));
   unbegun = λ none. refl;
-  stops = left_stops set start after u.before u.memory u.added u.left empty_graph;
+  stops = left_stops set start after u.before u.memory u.added u.left
+      (subst (AddsNew set u.before.size (shown u.before)) (sym u.added_is)
+      (adds_lacking set numbered u.before.size (shown u.before) u.found u.entries u.found_is u.set_is u.are_its))
+      empty_graph;
 }
 
 -- objects for which there is room don't lack words
@@ -223,14 +230,12 @@ module _ {I : Type 0} (set numbered : Linked) (name : List ℕ) (limits : Limits
   size_now = can.opened.ready.same_size
 
   module _ (ran : RanBy o heap.free numbered heap.graph opening acts after how) where
-    has_run : (turned : Turned) → EndsBy o heap.free turned ran.shared → HasRun o ran.shared
-    has_run Acted ends = absurd ends
+    has_run : (end : RunEnd) → EndsBy o heap.free end ran.shared → HasRun o ran.shared
     has_run (Ended uncaught) ends = ends.0
-    has_run (Over halt) ends = ends.0
-    has_run Unbuilt ends = ends.0
+    has_run (Over fault) ends = ends.0
 
     run : HasRun o ran.shared
-    run = has_run ran.turned ran.ends
+    run = has_run ran.end ran.ends
 
     machine_acts : ran.shared.machine.acts ≡ acts
     machine_acts = sym (ran.acts_are ∙ run.history)
@@ -250,29 +255,12 @@ module _ {I : Type 0} (set numbered : Linked) (name : List ℕ) (limits : Limits
         (subst (λ (n : ℕ). EndsAs launch.set launch.main launch.opening (plain_code launch) launch.limits
         (n - heap.free) ran.shared.machine.acts ending) machine_size ended)
 
-    turned_ended : (turned : Turned) → how ≡ status_of_turned numbered turned → EndsBy o heap.free turned ran.shared
-        → Ends numbered launch (start.size - heap.free) acts how ⊎ AsksMore launch acts how
-    turned_ended Acted is ends = absurd ends
-    turned_ended (Ended None) is ends =
-        inl (record { ending = Finished; ended = ended_by Finished ends.1; is = is })
-    turned_ended (Ended (Some class)) is ends =
-        inl (record { ending = Uncaught 0 class; ended = ended_by (Uncaught 0 class) ends.1; is = is })
-    turned_ended (Over halt) is ends = inl (record {
-      ending = Fault (fault_of_halt halt);
-      ended = ended_by (Fault (fault_of_halt halt)) (0, ends.1);
-      is = is;
-    })
-    turned_ended Unbuilt is ends = inr (record {
-      shown = shown_in ran.shared.machine;
-      rest = ran.shared.machine.rest;
-      frames = ends.1.frames;
-      stands = subst (λ (made : List Recorded). FramesStandFor launch made (shown_in ran.shared.machine)
-          ran.shared.machine.rest (ends.1.frames ∷ [])) machine_acts ends.1.stands;
-      request = ends.1.request;
-      asks = ends.1.asks;
-      unbuilt = ends.1.unbuilt;
-      is = is;
-    })
+    has_end : (end : RunEnd) → how ≡ status_of_end numbered end → EndsBy o heap.free end ran.shared
+        → Ends numbered launch (start.size - heap.free) acts how
+    has_end (Ended None) is ends = record { ending = Finished; ended = ended_by Finished ends.1; is = is }
+    has_end (Ended (Some (t, class))) is ends =
+        record { ending = Uncaught t class; ended = ended_by (Uncaught t class) ends.1; is = is }
+    has_end (Over fault) is ends = record { ending = Fault fault; ended = ended_by (Fault fault) ends.1; is = is }
 
     pub has_ended : HasEndedSo set name limits start opening acts how
     has_ended = record {
@@ -283,7 +271,7 @@ module _ {I : Type 0} (set numbered : Linked) (name : List ℕ) (limits : Limits
       literals = l.literals;
       run = subst (λ (made : List Recorded). IsRun launch made) machine_acts run.run;
       within = subst (λ (made : List Recorded). HadNoFault launch made) machine_acts run.unfaulted;
-      ends = turned_ended ran.turned ran.is ran.ends;
+      ends = has_end ran.end ran.is ran.ends;
       from = ran.some;
     }
 

@@ -1,8 +1,9 @@
 -- What a stop leaves of an image that is attached, opened for a class set, and then run on.
 use Rattle.std.proofs.Math.Path.{fun_ext}
-use Rattle.std.proofs.Common.{◌≡◌, inl, inr, ⊎_elim, ℕ, ◌<◌, ◌≤◌, ◌+◌, ◌-◌, ◌^◌, List, [], ◌∷◌, Option, Some, None, Ok, Result}
+use Rattle.std.proofs.Common.{◌≡◌, ◌⊎◌, inl, inr, ⊎_elim, ℕ, ◌<◌, ◌≤◌, ◌+◌, ◌-◌, ◌^◌, List, [], ◌∷◌, Option, Some, None, Ok, Result}
 use Rattle.std.proofs.Common.{refl, sym, ◌∙◌, subst, arith}
-use Rattle.std.specs.Prelude.{◌≢◌, All, take}
+use Rattle.std.specs.Prelude.{◌≢◌, All}
+use Rattle.std.proofs.Math.Seq.{take-nil}
 use Rattle.std.proofs.lemmas.Bool.{cases_lt, le-ltb}
 use Rattle.std.proofs.lemmas.List.Elements.{All-head, All-tail}
 use Rattle.graph_model.specs.declared.types.Graph.{Graph}
@@ -13,22 +14,25 @@ use Rattle.line_memory.specs.Moments.{Goes, CountsFrom}
 use Rattle.line_memory.proofs.Chain.{goes_on}
 use Rattle.image_meaning.specs.Appending.{with_all_too}
 use Rattle.image_meaning.specs.Checks.{Words, Bad}
+use Rattle.image_meaning.specs.Directories.{Directory}
 use Rattle.image_meaning.specs.Entries.{DirectoryEntry}
 use Rattle.image_meaning.specs.Laws.{Opens}
 use Rattle.image_meaning.specs.Meaning.{StandsFor, meaning}
 use Rattle.image_meaning.proofs.Standings.{stands-within}
 use Rattle.image_recovery.specs.Recovered.{entries_in}
 use Rattle.word_changes.specs.Changes.{StopsLeave}
+use Rattle.directories.specs.ClassSets.{AreEntriesOf}
 use Rattle.directories.specs.Planning.{lacking}
 use Rattle.run_history.specs.Recorded.{Recorded}
 use Rattle.run_history.specs.Kept.{acts_before}
 use Rattle.plain_model.specs.First.{first_known}
 use Rattle.class_set.specs.Linked.{Linked}
 use Rattle.class_set.specs.Facts.{facts_of}
+use Rattle.class_set.specs.Sets.{made_of}
 use Rattle.stop_theorem.specs.Stops.{IsAllowedImage}
 use Rattle.stop_theorem.specs.Laws.{IsSafeRun}
 use Rattle.durable_launch.specs.Passed.{AreRead, IsAttached, IsSettled}
-use Rattle.durable_launch.specs.Passed.{IsOpenedFor, StandsWithFirst}
+use Rattle.durable_launch.specs.Passed.{IsDirectoryIn, IsOpenedFor, StandsWithFirst, StandsWithNew, with_arrays_of}
 use Rattle.class_runs.specs.Sets.{IsOpenedSo, StandsAllowed, StandsAsBefore, StandsAtStops, StandsRightly}
 
 pub none_before : (n : ℕ) (acts : List Recorded) → All (λ (a : Recorded). n ≤ a.act.at) acts → acts_before n acts ≡ []
@@ -51,13 +55,30 @@ fenced_as_read : (o : Option Trace) → IsTelling o → IsAllFenced o → (c : O
 fenced_as_read None telling settled c left l w v reads = absurd telling
 fenced_as_read (Some h) telling settled c left l w v reads = settled l w (c l w) (left l w) ∙ sym reads
 
--- the words stand for the graph with some further roots, which are null
-abbrev WithSome : ℕ → Graph → Outcome → Type 0
-WithSome size graph c = (entries : List DirectoryEntry) × StandsFor size c (with_all_too graph entries)
+-- the words stand for the graph, or for it with the first of the set's new entries
+abbrev WithNew : Linked → ℕ → Words → Graph → Outcome → Type 0
+WithNew set size before graph c = StandsFor size c graph ⊎ StandsWithNew set size before graph c
 
-with_first : (size : ℕ) (graph : Graph) (entries : List DirectoryEntry) (c : Outcome) → StandsWithFirst size graph entries c
-    → WithSome size graph c
-with_first size graph entries c of = (take of.0 entries, of.2)
+-- where these entries are appended, so it is with the first of them
+abbrev pub AddsNew : Linked → ℕ → Words → List DirectoryEntry → Type 0
+AddsNew set size before added = (graph : Graph) (c : Outcome) → StandsWithFirst size graph added c → WithNew set size before graph c
+
+-- none are
+pub adds_none : (set : Linked) (size : ℕ) (before : Words) → AddsNew set size before []
+adds_none set size before graph c first =
+    inl (subst (λ (entries : List DirectoryEntry). StandsFor size c (with_all_too graph entries)) (take-nil first.0) first.2)
+
+-- those that the directory lacks
+pub adds_lacking : (set numbered : Linked) (size : ℕ) (before : Words) (found : Directory) (entries : List DirectoryEntry)
+    → IsDirectoryIn before found → numbered ≡ with_arrays_of set found.shapes
+    → AreEntriesOf (facts_of numbered) (made_of numbered) entries → AddsNew set size before (lacking found entries)
+adds_lacking set numbered size before found entries found_is set_is are_its graph c first = inr (record {
+  found = found;
+  found_is = found_is;
+  entries = entries;
+  are_its = subst (λ (s : Linked). AreEntriesOf (facts_of s) (made_of s) entries) set_is are_its;
+  first = first;
+})
 
 module _ (start : Told) (settled : IsSettled start) (before : Memory) (attached : IsAttached start before) where
   -- what a settled image leaves is what is shown
@@ -67,20 +88,30 @@ module _ (start : Told) (settled : IsSettled start) (before : Memory) (attached 
       fenced_as_read start.trace settled.0 settled.1 c left l w (shown before l w)
       (attached.shows l w (omega (arith, below, size)))
 
+-- and opened for a set
+module _ (start : Told) (settled : IsSettled start) (set : Linked) (before : Memory) (attached : IsAttached start before) where
+  abbrev New : ℕ → Graph → Outcome → Type 0
+  New size graph c = WithNew set size (shown before) graph c
+
   still : (graph : Graph) → StandsFor before.size (shown before) graph → (c : Outcome) → LeavesNow start.trace c
-      → WithSome before.size graph c
+      → New before.size graph c
   still graph stands c left =
-      ([], stands-within before.size (shown before) c graph attached.enough attached.most stands (as_shown c left))
+      inl (stands-within before.size (shown before) c graph attached.enough attached.most stands
+      (as_shown start settled before attached c left))
+
+  -- these entries may be appended
+  abbrev Adds : List DirectoryEntry → Type 0
+  Adds added = AddsNew set before.size (shown before) added
 
   -- each stop since the start left the graph for which the image stood, with some null roots
-  pub goes_since : (m : Memory) (added : List DirectoryEntry) (graph : Graph) → StandsFor before.size (shown before) graph
-      → StopsLeave before m (StandsWithFirst before.size graph added) → Goes start m.image (WithSome before.size graph)
-  goes_since m added graph stands stops =
+  pub goes_since : (m : Memory) (added : List DirectoryEntry) → Adds added → (graph : Graph) → StandsFor before.size (shown before) graph
+      → StopsLeave before m (StandsWithFirst before.size graph added) → Goes start m.image (New before.size graph)
+  goes_since m added adds graph stands stops =
       goes_on start before.image m.image (LeavesNow start.trace) (StandsWithFirst before.size graph added)
-      (WithSome before.size graph) attached.moments stops.within (still graph stands) (with_first before.size graph added)
+      (New before.size graph) attached.moments stops.within (still graph stands) (adds graph)
 
-  sized : (graph : Graph) (c : Outcome) → WithSome before.size graph c → WithSome start.size graph c
-  sized graph c some = subst (λ (n : ℕ). WithSome n graph c) attached.size some
+  sized : (graph : Graph) (c : Outcome) → New before.size graph c → New start.size graph c
+  sized graph c some = subst (λ (n : ℕ). New n graph c) attached.size some
 
   stood : (graph : Graph) → StandsFor start.size (shown before) graph → StandsFor before.size (shown before) graph
   stood graph stands = subst (λ (n : ℕ). StandsFor n (shown before) graph) (sym attached.size) stands
@@ -90,27 +121,27 @@ module _ (start : Told) (settled : IsSettled start) (before : Memory) (attached 
   AllStop m added = (graph : Graph) → StandsFor before.size (shown before) graph
       → StopsLeave before m (StandsWithFirst before.size graph added)
 
-  pub as_before_within : (m : Memory) (added : List DirectoryEntry) → AllStop m added → (n : ℕ) → 0 < n → start.calls + n ≤ m.image.calls
+  pub as_before_within : (m : Memory) (added : List DirectoryEntry) → Adds added → AllStop m added → (n : ℕ) → 0 < n → start.calls + n ≤ m.image.calls
       → start.calls + n < 2 ^ 64 - 1 → (c : Outcome) → LeftWithin m.image.trace (start.calls + n) c
-      → StandsAsBefore start.size (shown before) c
-  as_before_within m added stops n some le lt c left graph stands =
+      → StandsAsBefore set start.size (shown before) c
+  as_before_within m added adds stops n some le lt c left graph stands =
       let there = stood graph stands in
-      sized graph c ((goes_since m added graph there (stops graph there)).during (start.calls + n) (omega (arith, some)) le lt c left)
+      sized graph c ((goes_since m added adds graph there (stops graph there)).during (start.calls + n) (omega (arith, some)) le lt c left)
 
-  pub as_before_now : (m : Memory) (added : List DirectoryEntry) → AllStop m added → (c : Outcome) → LeavesNow m.image.trace c
-      → StandsAsBefore start.size (shown before) c
-  as_before_now m added stops c left graph stands =
+  pub as_before_now : (m : Memory) (added : List DirectoryEntry) → Adds added → AllStop m added → (c : Outcome)
+      → LeavesNow m.image.trace c → StandsAsBefore set start.size (shown before) c
+  as_before_now m added adds stops c left graph stands =
       let there = stood graph stands in
-      sized graph c (with_first before.size graph added c ((stops graph there).after c (λ l w. inr (left l w))))
+      sized graph c (adds graph c ((stops graph there).after c (λ l w. inr (left l w))))
 
   -- there was no first turn
-  pub stops_without : (set : Linked) (opening : Graph) (m : Memory) (added : List DirectoryEntry) → AllStop m added
+  pub stops_without : (opening : Graph) (m : Memory) (added : List DirectoryEntry) → Adds added → AllStop m added
       → StandsAtStops set start opening [] m.image
-  stops_without set opening m added stops = record {
+  stops_without opening m added adds stops = record {
     words = shown before;
     read = attached.shows;
-    within = λ n some le lt c left. inr (refl, as_before_within m added stops n some le lt c left);
-    now = λ c left. inr (refl, as_before_now m added stops c left);
+    within = λ n some le lt c left. inr (refl, as_before_within m added adds stops n some le lt c left);
+    now = λ c left. inr (refl, as_before_now m added adds stops c left);
   }
 
 -- ---- images that were opened
@@ -126,8 +157,14 @@ module _ (start : Told) (settled : IsSettled start) (set numbered : Linked) (m :
       subst (λ (g : Graph). StopsLeave opened.before m (StandsWithFirst opened.before.size g added))
       (same_graph (meaning opened.before.size (shown opened.before)) opened.stood other opened.stands stands) (opened.stops settled.0)
 
+  -- what is appended are the set's entries that the directory lacked
+  pub adds : AddsNew set opened.before.size (shown opened.before) added
+  adds =
+      adds_lacking set numbered opened.before.size (shown opened.before) opened.found opened.entries opened.found_is opened.set_is
+      opened.are_its
+
   pub stops_opened : (opening : Graph) → StandsAtStops set start opening [] m.image
-  stops_opened opening = stops_without start settled opened.before opened.attached set opening m added all_stop
+  stops_opened opening = stops_without start settled set opened.before opened.attached opening m added adds all_stop
 
   -- ---- and on which a run went on
 
@@ -164,7 +201,7 @@ module _ (start : Told) (settled : IsSettled start) (set numbered : Linked) (m :
         subst (λ (o : Option Trace). LeavesNow o c) (safe.before (start.calls + n) within lt) left in
         inr (
           none_before n acts (all_late n le),
-          as_before_within start settled opened.before opened.attached m added all_stop n some within lt c there,
+          as_before_within start settled set opened.before opened.attached m added adds all_stop n some within lt c there,
         )
 
     pub stops_run : StandsAtStops set start opening acts end.image
@@ -200,9 +237,9 @@ is_read (Some h) settled c left = fun_ext (λ l. fun_ext (λ w. settled l w (c l
 pub stops_unattached : (set : Linked) (start : Told) (opening : Graph) (after : Told) → IsAllFenced start.trace
     → after.trace ≡ start.trace → Goes start after (LeavesNow start.trace) → StandsAtStops set start opening [] after
 stops_unattached set start opening after settled same goes =
-    let quiet : (c : Outcome) → LeavesNow start.trace c → StandsAsBefore start.size (words_read start.trace) c =
+    let quiet : (c : Outcome) → LeavesNow start.trace c → StandsAsBefore set start.size (words_read start.trace) c =
     λ c left graph stands.
-    ([], subst (λ (words : Words). StandsFor start.size words graph) (sym (is_read start.trace settled c left)) stands) in
+    inl (subst (λ (words : Words). StandsFor start.size words graph) (sym (is_read start.trace settled c left)) stands) in
     record {
       words = words_read start.trace;
       read = are_read start;

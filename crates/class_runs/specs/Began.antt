@@ -1,4 +1,4 @@
--- The statuses of a run that doesn't begin, and of one by its last turn; and what a run leaves.
+-- The statuses of a run that doesn't begin, and of one by how it ended; and what a run leaves.
 use Rattle.std.specs.Prelude.{◌≡◌, ◌≢◌, ◌≤◌, ℕ, List, [], Some, None}
 use Rattle.graph_model.specs.declared.types.Graph.{Graph}
 use Rattle.line_image.specs.Told.{Told}
@@ -11,10 +11,9 @@ use Rattle.class_set.specs.Linked.{Linked}
 use Rattle.class_set.specs.Facts.{facts_of}
 use Rattle.durable_launch.specs.Passed.{Opening, memory_of}
 use Rattle.durable_launch.specs.Passed.{Shared}
-use Rattle.durable_launch.specs.Passed.{fault_of_halt}
 use Rattle.durable_launch.specs.Passed.{EndsBy}
-use Rattle.durable_launch.specs.Passed.{Turned}
-use Rattle.durable_launch.specs.Passed.{Acted, Ended, Over, Unbuilt}
+use Rattle.durable_launch.specs.Passed.{RunEnd}
+use Rattle.durable_launch.specs.Passed.{Ended, Over}
 use Rattle.durable_launch.specs.Passed.{NoLaunch}
 use Rattle.durable_launch.specs.NoLaunches as no_launch
 use Rattle.statuses.specs.Names.{fault_status, uncaught_in}
@@ -29,23 +28,21 @@ abbrev pub status_of_unlaunched : NoLaunch → Status
 status_of_unlaunched (no_launch.Full full) = status.Full full
 status_of_unlaunched no_launch.OutOfMemory = status.OutOfMemory
 
--- A run with threads isn't built.
-abbrev pub status_of_turned : Linked → Turned → Status
-status_of_turned set (Ended None) = status.Ok
-status_of_turned set (Ended (Some class)) = uncaught_in set 0 class
-status_of_turned set (Over halt) = fault_status set (fault_of_halt halt)
-status_of_turned set Unbuilt = status.NotBuilt
-status_of_turned set Acted = status.NotBuilt
+-- the least thread that a throwable ended, and its class, or none
+abbrev pub status_of_end : Linked → RunEnd → Status
+status_of_end set (Ended None) = status.Ok
+status_of_end set (Ended (Some thrown)) = uncaught_in set thrown.0 thrown.1
+status_of_end set (Over fault) = fault_status set fault
 
--- The run of this opening ended by its last turn, and its acts, its image and its status are these.
+-- The run of this opening ended so, and its acts, its image and its status are these.
 pub record RanBy (o : Opening) (first : ℕ) (set : Linked) (graph opening : Graph) (acts : List Recorded)
     (after : Told) (how : Status) : Type 0 where
-  pub turned : Turned
+  pub end : RunEnd
   pub shared : Shared
-  pub ends : EndsBy o first turned shared
+  pub ends : EndsBy o first end shared
   pub acts_are : acts ≡ shared.history.acts
   pub image : after ≡ (memory_of shared.machine).image
   pub size : after.size ≡ (memory_of shared.machine).size
-  pub is : how ≡ status_of_turned set turned
+  pub is : how ≡ status_of_end set end
   pub none : acts ≡ [] → opening ≡ empty_graph
   pub some : acts ≢ [] → opening ≡ graph

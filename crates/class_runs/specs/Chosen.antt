@@ -1,5 +1,5 @@
 -- What is to run of the classes that are given, or of a source's files.
-use Rattle.std.specs.Prelude.{◌≡◌, ◌⊎◌, ℕ, true, false, List, Result, Ok, Err}
+use Rattle.std.specs.Prelude.{◌≡◌, ◌⊎◌, ℕ, List, Result, Ok, Err}
 use Rattle.ap_base.specs.declared.source.NamedBytes.{NamedBytes}
 use Rattle.class_file.specs.declared.class.ClassFile.{ClassFile}
 use Rattle.class_links.specs.declared.refusal.LinkRefusal.{LinkRefusal}
@@ -7,7 +7,6 @@ use Rattle.class_links.specs.Kept.{kept_files}
 use Rattle.class_links.specs.Links.{Links}
 use Rattle.class_set.specs.Linked.{Linked}
 use Rattle.class_set.specs.ArrayTypes.{linked_from}
-use Rattle.set_demands.specs.Demands.{asks}
 use Rattle.source_classes.specs.Files.{classes_among}
 use Rattle.source_classes.specs.Names.{slashed}
 use Rattle.source_classes.specs.Reading.{IsRefused}
@@ -19,16 +18,13 @@ pub record Choice : Type 0 where
   pub set : Linked
   pub main : List ℕ
 
--- What is built of a class set: each whose code asks for no threads.
-abbrev pub Builds : List ℕ → Linked → Result Choice Status → Type 0
-Builds name set (Ok choice) = (asks set ≡ false) × (choice ≡ record { set = set; main = name })
-Builds name set (Err s) = (s ≡ status.NotBuilt) × (asks set ≡ true)
+abbrev pub chosen : List ℕ → Linked → Choice
+chosen name set = record { set = set; main = name }
 
--- What these classes give: what is to run where the main class has this name, or that it isn't built, where they link; otherwise why
--- they don't.
+-- What these classes give: what is to run where the main class has this name, where they link; otherwise why they don't.
 abbrev pub ClassesGive : List ℕ → List ClassFile → Result Choice Status → Type 0
 ClassesGive name classes answer =
-    (Links classes × Builds (slashed name) (linked_from classes) answer)
+    (Links classes × (Ok (chosen (slashed name) (linked_from classes)) ≡ answer))
     ⊎ ((refusal : LinkRefusal) × IsRefused classes refusal × (Err (status.LinkRefused refusal) ≡ answer))
 
 abbrev pub GivenBy : List ℕ → Result (List ClassFile) Status → Result Choice Status → Type 0

@@ -1,3 +1,4 @@
+pub mod Again
 pub mod Passed
 pub mod Chosen
 pub mod Sets

@@ -12,7 +12,7 @@ use Rattle.statuses.specs.declared.status.Status.{Status}
 use Rattle.class_runs.specs.Chosen.{Choice, FilesGive}
 use Rattle.source_classes.specs.Reading.{HadLeft, HasNoCause}
 use Rattle.class_runs.specs.Sets.{SetEnds, SetRunsOver}
-use Rattle.statuses.specs.Stages.{Stage, OfWords, OfSource, OfMemory, OfFile, OfListing, OfLinking, OfForm, OfOpening, OfRoom, OfNames}
+use Rattle.statuses.specs.Stages.{Stage, OfWords, OfSource, OfMemory, OfFile, OfListing, OfLinking, OfOpening, OfRoom, OfNames}
 use Rattle.statuses.specs.Stages.{OfImage, OfTurns, OfOthers, stage_of, IsRunStage, IsEarlyStage}
 
 -- The files that a source had come to this, where the main class has this name: what is to run, or why nothing is.
@@ -57,7 +57,6 @@ IsCauseAt OfSource gives limits over how = Unit {0}
 IsCauseAt OfMemory gives limits over how = Unit {0}
 IsCauseAt OfFile gives limits over how = gives (Err how)
 IsCauseAt OfLinking gives limits over how = gives (Err how)
-IsCauseAt OfForm gives limits over how = gives (Err how) ⊎ OfChoice gives (EndsOver limits over how)
 IsCauseAt OfRoom gives limits over how = gives (Err how) ⊎ OfChoice gives (EndsOver limits over how)
 IsCauseAt OfOpening gives limits over how = OfChoice gives (EndsOver limits over how)
 IsCauseAt OfNames gives limits over how = OfChoice gives (EndsOver limits over how)

@@ -1,15 +1,12 @@
 -- The run of a class set over an image, which told `start` at the call's begin and tells `after` at its end.
-use Rattle.std.specs.Prelude.{◌≡◌, ◌≢◌, ◌⊎◌, ℕ, ◌+◌, ◌-◌, ◌^◌, ◌<◌, ◌≤◌, false, List, [], ◌∷◌, Ok, Err}
+use Rattle.std.specs.Prelude.{◌≡◌, ◌≢◌, ◌⊎◌, ℕ, ◌+◌, ◌-◌, ◌^◌, ◌<◌, ◌≤◌, List, [], Ok, Err}
 use Rattle.ap_base.specs.declared.reference.Ref.{Ref}
-use Rattle.ap_base.specs.declared.reference.Item.{Item}
 use Rattle.graph_model.specs.declared.types.Graph.{Graph}
 use Rattle.line_image.specs.Told.{Told}
 use Rattle.line_image.specs.Trace.{Outcome, LeavesNow, LeftWithin}
 use Rattle.line_memory.specs.Memory.{Memory}
-use Rattle.image_meaning.specs.Appending.{with_all_too}
 use Rattle.image_meaning.specs.Checks.{Words}
 use Rattle.image_meaning.specs.Directories.{Directory}
-use Rattle.image_meaning.specs.Entries.{DirectoryEntry}
 use Rattle.image_meaning.specs.Laws.{Opens}
 use Rattle.image_meaning.specs.Meaning.{StandsFor, empty_graph}
 use Rattle.image_recovery.specs.Recovered.{entries_in}
@@ -17,7 +14,6 @@ use Rattle.run_types.specs.declared.fault.Full.{Full}
 use Rattle.run_types.specs.declared.fault.LinkKind.{LinkKind}
 use Rattle.run_types.specs.declared.fault.LinkKind.TheVariants.{MissingClass, MissingMethod}
 use Rattle.run_types.specs.declared.limits.Limits.{Limits}
-use Rattle.natives.specs.declared.requests.Request.{Request}
 use Rattle.run_history.specs.Kept.{acts_before}
 use Rattle.run_history.specs.Recorded.{Recorded}
 use Rattle.plain_model.specs.Ends.{Ending, EndsAs, Fault, Uncaught, Finished}
@@ -27,13 +23,9 @@ use Rattle.class_set.specs.Linked.{Linked}
 use Rattle.class_set.specs.Facts.{facts_of}
 use Rattle.directories.specs.Kept.{Kept}
 use Rattle.one_space.specs.First.{LacksWords}
-use Rattle.shared_objects.specs.declared.rest.Rest.{Rest}
-use Rattle.shared_objects.specs.Shown.{Shown}
-use Rattle.run_forms.specs.Views.{ThreadFrames}
-use Rattle.run_forms.specs.Standing.{Launch, IsAsking, IsRun, StandsFor as FramesStandFor, plain_code}
+use Rattle.run_forms.specs.Standing.{Launch, IsRun, plain_code}
 use Rattle.stop_theorem.specs.Stops.{IsAllowedImage}
 use Rattle.durable_launch.specs.Passed.{HadNoFault}
-use Rattle.durable_launch.specs.Passed.{is_built}
 use Rattle.durable_launch.specs.Launching.{launch_over}
 use Rattle.durable_launch.specs.Passed.{Main}
 use Rattle.durable_launch.specs.Passed.{NoMain}
@@ -42,7 +34,7 @@ use Rattle.durable_launch.specs.Passed.{main_of}
 use Rattle.durable_launch.specs.Passed.{Unopened}
 use Rattle.durable_launch.specs.Unopenings as unopened
 use Rattle.durable_launch.specs.Passed.{AreRead, IsSettled}
-use Rattle.durable_launch.specs.Passed.{IsOpenedFor}
+use Rattle.durable_launch.specs.Passed.{IsOpenedFor, StandsWithNew}
 use Rattle.durable_launch.specs.Passed.{IsDirectoryIn}
 use Rattle.durable_launch.specs.Passed.{IsUnappended, IsUnbegun, IsUnopened}
 use Rattle.statuses.specs.Names.{fault_status, main_text, shortened, uncaught_in}
@@ -158,17 +150,6 @@ pub record Ends (set : Linked) (launch : Launch) (lines : ℕ) (acts : List Reco
   pub ended : EndsAs launch.set launch.main launch.opening (plain_code launch) launch.limits lines acts ending
   pub is : how ≡ status_of_ending set ending
 
--- After these acts its thread asks to start another one: that isn't built yet.
-pub record AsksMore (launch : Launch) (acts : List Recorded) (how : Status) : Type 0 where
-  pub shown : Shown
-  pub rest : Rest
-  pub frames : ThreadFrames
-  pub stands : FramesStandFor launch acts shown rest (frames ∷ [])
-  pub request : Request Ref Item
-  pub asks : IsAsking launch rest (frames ∷ []) 0 frames request
-  pub unbuilt : is_built request ≡ false
-  pub is : how ≡ status.NotBuilt
-
 -- The image was opened, `main` of the class of this name is there, and the acts are a plain run of the set from
 -- there, with the code of its files, which kept these limits and ended as the status says.
 pub record HasEndedSo (set : Linked) (name : List ℕ) (limits : Limits) (start : Told) (opening : Graph) (acts : List Recorded)
@@ -180,9 +161,7 @@ pub record HasEndedSo (set : Linked) (name : List ℕ) (limits : Limits) (start 
   pub literals : List Ref
   pub run : IsRun (launch_over of.numbered main limits graph literals) acts
   pub within : HadNoFault (launch_over of.numbered main limits graph literals) acts
-  pub ends : Ends of.numbered (launch_over of.numbered main limits graph literals)
-      (start.size - of.free) acts how
-      ⊎ AsksMore (launch_over of.numbered main limits graph literals) acts how
+  pub ends : Ends of.numbered (launch_over of.numbered main limits graph literals) (start.size - of.free) acts how
   -- the opening graph, where there is an act
   pub from : acts ≢ [] → opening ≡ graph
 
@@ -194,10 +173,11 @@ SetEnds set name limits start opening acts after how =
 
 -- ---- stops
 
--- The words stand for the graph for which those before stood, with some further roots, which are null.
-abbrev pub StandsAsBefore : (size : ℕ) → (before : Words) → Outcome → Type 0
-StandsAsBefore size before words = (graph : Graph) → StandsFor size before graph
-    → (entries : List DirectoryEntry) × StandsFor size words (with_all_too graph entries)
+-- The words stand for the graph for which those before stood; or for it with the first of the set's entries that the directory lacked, in
+-- their order, and the roots among these are null.
+abbrev pub StandsAsBefore : Linked → (size : ℕ) → (before : Words) → Outcome → Type 0
+StandsAsBefore set size before words = (graph : Graph) → StandsFor size before graph
+    → StandsFor size words graph ⊎ StandsWithNew set size before graph words
 
 -- They open with the directory with which the image was opened, and stand for a graph that these acts of all allow from
 -- the graph with which it was.
@@ -213,7 +193,7 @@ pub record StandsAllowed (set : Linked) (start : Told) (opening : Graph) (all ac
 -- So they do; or, where there are no acts yet, they stand as before.
 abbrev pub StandsRightly : Linked → Told → Graph → (all acts : List Recorded) → (before : Words) → Outcome → Type 0
 StandsRightly set start opening all acts before words = StandsAllowed set start opening all acts words
-    ⊎ ((acts ≡ []) × StandsAsBefore start.size before words)
+    ⊎ ((acts ≡ []) × StandsAsBefore set start.size before words)
 
 -- A stop within call n of the top call leaves only images that stand rightly for the acts before that call,
 -- and a stop after the last call those that do for all acts.
@@ -239,6 +219,6 @@ pub record SetRunsOver (set : Linked) (name : List ℕ) (limits : Limits) (start
   pub unbegun : acts ≡ [] → opening ≡ empty_graph
   -- The persistence theorem: a stop within any image call, or after the last one, leaves only images that
   -- stand for a graph which the acts before that call allow; before the first act, for the graph that the
-  -- image stood for, new null roots aside. The image tells what is done to it, keeps what was fenced and tears no
+  -- image stood for, with some of the new null roots of the set. The image tells what is done to it, keeps what was fenced and tears no
   -- word, and had nothing unfenced at the start.
   pub stops : IsSettled start → StandsAtStops set start opening acts after

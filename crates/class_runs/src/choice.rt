@@ -7,7 +7,6 @@ ghost use Rattle.source_classes.specs.Reading.{IsOfClasses};
 
 use class_file::ClassFile;
 use class_set::ClassSet;
-use set_demands::asks_for_threads;
 use source_classes::{internal_name, link};
 use statuses::{NameRoom, Status};
 use std::alloc::Global;
@@ -37,8 +36,5 @@ pub(crate) fn choose(alloc: Global, class: &[u8], classes: Vec<ClassFile>) -> Re
     let Ok(room) = NameRoom::reserve(alloc) else {
         return Err(Status::OutOfMemory);
     };
-    if asks_for_threads(&set) {
-        return Err(Status::NotBuilt);
-    }
     Ok(Found { set, main, room })
 }

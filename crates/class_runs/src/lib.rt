@@ -3,8 +3,10 @@
 
 mod choice;
 mod class_run;
+mod laws;
 mod ran;
 mod sets;
 
 pub use class_run::{Ended, run_class, run_classes};
+pub use laws::stopped_runs_open_again;
 pub use ran::{Ran, no_graph};

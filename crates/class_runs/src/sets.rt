@@ -10,15 +10,15 @@ ghost use Rattle.durable_launch.specs.Launching.{CanLaunch};
 ghost use Rattle.durable_launch.specs.Passed.{IsFoundFor, IsOpenedFor, IsReady, Opening, main_of, memory_of};
 ghost use Rattle.program_host.specs.Hosts.{setting_in};
 ghost use Rattle.class_runs.specs.Sets.{SetRunsOver, kind_of, status_of_unopened};
-ghost use Rattle.class_runs.specs.Began.{FindsRoom, RanBy, status_of_turned, status_of_unlaunched};
+ghost use Rattle.class_runs.specs.Began.{FindsRoom, RanBy, status_of_end, status_of_unlaunched};
 ghost use Rattle.class_runs.specs.Runs.{Tells};
 
 use crate::ran::{Ran, no_graph, unbegun};
-use ap_base::{Gate, Sink, ThreadNo};
+use ap_base::{Gate, Sink};
 use class_set::ClassSet;
 use durable_launch::{
-    FoundImage, Launched, Main, NoLaunch, NoMain, OpenedHeap, OpenedImage, Run, Turned, Unopened,
-    complete, each_stop_is_allowed, find_for, find_main, find_room, launch, open_heap, run_thread,
+    FoundImage, Launched, Main, NoLaunch, NoMain, OpenedHeap, OpenedImage, Run, RunEnd, Unopened,
+    complete, each_stop_is_allowed, find_for, find_main, find_room, launch, open_heap, run_threads,
 };
 use line_image::Image;
 use run_history::{Acts, Watcher};
@@ -58,15 +58,14 @@ fn of_unlaunched(why: NoLaunch) -> Status
     }
 }
 
-// How a run has ended, by its last turn.
-fn of_turned(set: &ClassSet, turned: Turned, room: NameRoom) -> Status
-    ensures { result ≡ status_of_turned set.now turned }
+// The status of a run that ended so.
+fn of_end(set: &ClassSet, end: RunEnd, room: NameRoom) -> Status
+    ensures { result ≡ status_of_end set.now end }
 {
-    match turned {
-        Turned::Ended(None) => Status::Ok,
-        Turned::Ended(Some(class)) => uncaught_status(set, ThreadNo::main(), class, room),
-        Turned::Over(halt) => status_of_fault(set, &halt.of_run(), room),
-        Turned::Unbuilt | Turned::Acted => Status::NotBuilt,
+    match end {
+        RunEnd::Ended(None) => Status::Ok,
+        RunEnd::Ended(Some((thread, class))) => uncaught_status(set, thread, class, room),
+        RunEnd::Over(fault) => status_of_fault(set, &fault, room),
     }
 }
 
@@ -315,10 +314,10 @@ fn run_launched<I: Image, S: Sink, G: Gate, W: Watcher>(
     watcher: W,
 ) -> Ran<I, S, W>
     requires ready { (o : Opening) × (first : ℕ) × IsReady o first (facts_of set.now)
-        (setting_in launched.host) launched.heap launched.frames }
+        (setting_in launched.host) launched.heap launched.frames.items }
     requires empty { launched.heap.history.acts ≡ [] }
     ensures ran { (o : Opening) (first : ℕ) → IsReady o first (facts_of set.now)
-        (setting_in launched.host) launched.heap launched.frames
+        (setting_in launched.host) launched.heap launched.frames.items
         → RanBy o first set.now launched.graph result.opening result.acts.acts
         (I.told result.image) result.status }
     ensures told { Tells result.acts.acts (W.seen watcher) (W.seen result.watcher)
@@ -339,9 +338,9 @@ fn run_launched<I: Image, S: Sink, G: Gate, W: Watcher>(
         heap,
         sink,
         watcher,
-        turns: 0,
+        turns: [0; 64],
     };
-    let turned = run_thread(&mut run, &SetTypes::of(set), &host, gate);
+    let end = run_threads(&mut run, &SetTypes::of(set), &host, gate);
     let Run {
         heap,
         sink,
@@ -350,7 +349,7 @@ fn run_launched<I: Image, S: Sink, G: Gate, W: Watcher>(
     } = run;
     let (acts, memory) = heap.finish();
     Ran {
-        status: of_turned(set, turned, room),
+        status: of_end(set, end, room),
         opening: opening_of(alloc, &acts, graph),
         acts,
         image: memory.into_image(),

@@ -48,7 +48,7 @@ const NO_CLASS: &str = "autopersist: listing 0 NoClass\n";
 
 const USAGE: &str = "autopersist: usage\n";
 
-static COMMANDS: [Row; 21] = [
+static COMMANDS: [Row; 20] = [
     (CHECK, Given::Nothing, EMPTY_CHECK),
     (DUMP, Given::Nothing, "roots 0 nodes 0\n"),
     (RUN, Given::Classes(RING), ""),
@@ -69,11 +69,6 @@ static COMMANDS: [Row; 21] = [
         &["asm", "F", "--class=A"],
         Given::Text(".class A\n.super java/lang/Object\nfrob\n"),
         "autopersist: listing 3 UnknownWord\n",
-    ),
-    (
-        &["make", "--image", "F", "50"],
-        Given::Nothing,
-        "autopersist: not built\n",
     ),
     // the limits are those of the words
     (
@@ -105,6 +100,13 @@ static COMMANDS: [Row; 21] = [
         "version 1 lines 32768 free 20577 roots 1 nodes 0 undone 0\n",
     ),
 ];
+
+/// Four threads with 50 nodes each.
+const MAKE: Row = (
+    &["make", "--image", "F", "50"],
+    Given::Nothing,
+    "200\n19900\n",
+);
 
 /// The source of a row.
 fn source_of(alloc: Global, given: Given) -> Result<MemorySource, Fail> {
@@ -151,6 +153,14 @@ fn commands_print_what_is_there(rt: HostRuntime) -> Result<(), Fail> {
         image = left;
         assert!(rt; is_right, "row {i}: {}", row.2);
     }
+    Ok(())
+}
+
+/// On a blank image, whose classes are then those of the map.
+#[test]
+fn a_map_is_made(rt: HostRuntime) -> Result<(), Fail> {
+    let (_, is_right) = done(&rt, rt.alloc(), &MAKE, blank(rt.alloc())?)?;
+    assert!(rt; is_right, "{}", MAKE.2);
     Ok(())
 }
 

@@ -16,9 +16,10 @@ use Rattle.convert_queue.specs.Threads.InGroup.{itself, needed}
 use Rattle.convert_words.specs.Agreeing.{Is, Far}
 use Rattle.convert_words.specs.Scenes.{Scene, AgreesAt}
 use Rattle.convert_words.specs.Converting.{GoesOn, RefersTo, Lacks, Waits, WaitsFor}
-use Rattle.converter.specs.Beginning.{begun_at}
+use Rattle.converter.specs.Beginning.{settled_at}
 use Rattle.converter.specs.Laws.{AreUnwritten}
 use Rattle.converter.proofs.Exact.{flush_stays}
+use Rattle.converter.proofs.Sealed.{rests}
 use Rattle.converter.proofs.Waiting.{is_still}
 use Rattle.convert_waits.proofs.Waiting.{needs-below, waits_come_settled}
 use Rattle.convert_waits.specs.Rows.{Why, HasSome, HoldsStill, InRow, with_wait, BeginsToNeed, RowsBegin}
@@ -231,21 +232,6 @@ needing_waits_keep plain s at s' es waited t u below row begins goes waits =
       | inr lacks ↦ absurd (begins.nothing lacks.n lacks.is.claimed)
     ])
 
-pub stays : (t : ℕ) (s : Scene) (es : List Entry) → AgreesAt s es → GoesOn t s s es
-stays t s es agrees = record {
-  heap = refl;
-  free = refl;
-  keys = refl;
-  queues = refl;
-  marks = refl;
-  other_phases = λ u other. refl;
-  other_places = λ u other. refl;
-  on = inr (refl, inr (refl, omega arith));
-  kept = λ a b needs. needs;
-  met = λ a b needs. inl needs;
-  agrees = agrees;
-}
-
 -- all that a settled thread has claimed is forwarded
 settled-forwarded : (s : Scene) (es : List Entry) (t n : ℕ) → AgreesAt s es → phase_of s.queue t ≡ Flush → IsClaimed es t n
     → (entry es n).stage ≡ 2
@@ -257,12 +243,12 @@ settled-forwarded s es t n agrees flush claimed =
 pub settled_waits_keep : SettledWaitsKeep
 settled_waits_keep plain s es waited t u below row for =
     let agrees = row.agrees in
-    member_waits_keep plain s s es waited t u below row (stays t s es agrees)
+    member_waits_keep plain s s es waited t u below row (rests t s es agrees)
     (record { why = inl for; forwarded = λ n claimed. settled-forwarded s es t n agrees for.settled.phase claimed }) for
 
 pub needs_wait_settled : NeedsWaitSettled
 needs_wait_settled plain s s' es waited t u below row begins agrees for =
-    needing_waits_keep plain s s' s' es waited t u below row begins (stays t s' es agrees)
+    needing_waits_keep plain s s' s' es waited t u below row begins (rests t s' es agrees)
     (record { why = inl for; forwarded = λ n claimed. absurd (begins.nothing n claimed) })
 
 pub converting_waits_keep : ConvertingWaitsKeep
@@ -278,13 +264,13 @@ converting_waits_keep plain s s' es ms ms' waited t u below row e =
 pub beginnings_need : BeginningsNeed
 beginnings_need s s' es t m u nothing begins =
     let needs = s'.queue.needs in
-    let now : Queues = record (begun_at s.queue t) { needs = needs } in
+    let now : Queues = record (settled_at s.queue t) { needs = needs } in
     let is : s'.queue ≡ now = begins.queue in record {
       nothing = nothing;
       heap = begins.heap;
       queues = ap (λ (q : Queues). q.queues) is;
       marks = ap (λ (q : Queues). q.marks) is;
-      other_phases = λ v other. ap (λ (q : Queues). phase_of q v) is ∙ get_or-set_other s.queue.phases t v Copy Copy other;
+      other_phases = λ v other. ap (λ (q : Queues). phase_of q v) is ∙ get_or-set_other s.queue.phases t v Flush Copy other;
       other_places = λ v other. ap (λ (q : Queues). place_of q v) is ∙ get_or-set_other s.queue.places t v (0, 0) (0, 0) other;
       kept = λ a b old. elim (eqb_tells a t) [
         | inl same ↦ elim (eqb_tells b u) [

@@ -18,6 +18,10 @@ use Rattle.convert_words.proofs.Bridges.{moved_same}
 use Rattle.convert_words.proofs.Moves.{moved_on}
 use Rattle.convert_words.proofs.Released.{one_sealed, sealed_alike}
 use Rattle.convert_words.proofs.Settled.{settled_forwarded}
+use Rattle.monitors.specs.declared.monitor.Monitor.{Monitor}
+use Rattle.convert_words.specs.declared.step.ConvertStep.TheVariants as step
+use Rattle.convert_words.specs.Converting.{Converts, GoesOn}
+use Rattle.converter.specs.Stepping.{Event}
 use Rattle.converter.specs.Sealing.{IsOfFirst, AreSealedTo}
 use Rattle.converter.proofs.Placed.{few_queued}
 
@@ -171,4 +175,33 @@ sealed_none_of s s' es es' set a a' heap queue le settled = record {
     here = λ n ln those. absurd (elim those [ inl x ↦ (let y = x.1 in omega (arith, y)) | inr x ↦ (let y = x.1 in omega (arith, y)) ]);
     others = λ n ln not. refl;
   };
+}
+
+-- ---- as an event
+
+-- A place may stay where it is.
+pub rests : (t : ℕ) (s : Scene) (es : List Entry) → AgreesAt s es → GoesOn t s s es
+rests t s es agrees = record {
+  heap = refl;
+  free = refl;
+  keys = refl;
+  queues = refl;
+  marks = refl;
+  other_phases = λ u other. refl;
+  other_places = λ u other. refl;
+  on = inr (refl, inr (refl, omega arith));
+  kept = λ a b needs. needs;
+  met = λ a b needs. inl needs;
+  agrees = agrees;
+}
+
+pub seals_event : (t set : ℕ) (s s' : Scene) (es es' : List Entry) (ms : List Monitor) → AgreesAt s es
+    → Converts t (step.Sealed set) s s' es es' → Event t (step.Sealed set) s s' es ms ms
+seals_event t set s s' es es' ms agrees converts = record {
+  at = s;
+  after = es';
+  goes_on = rests t s es agrees;
+  converts = converts;
+  monitors = refl;
+  full = λ need left is. absurd (let no : step.Sealed set ≡ step.Full need left = is in cc);
 }

@@ -3,7 +3,8 @@ use Rattle.std.proofs.Common.{◌≡◌, ◌≢◌, inr, ℕ, ◌+◌, ◌-◌, 
 use Rattle.twin_forms.specs.Table.{Entry, entry, lines_of, IsClaimed}
 use Rattle.twin_forms.specs.Moves.{Moved}
 use Rattle.twin_forms.specs.Sights.{Twin, view_of}
-use Rattle.convert_queue.specs.declared.phase.Phase.TheVariants.{Copy}
+use Rattle.convert_queue.specs.declared.phase.Phase.{Phase}
+use Rattle.convert_queue.specs.declared.phase.Phase.TheVariants.{Copy, Flush}
 use Rattle.convert_queue.specs.Queues.{Queued, Queues, queue_of}
 use Rattle.convert_queue.specs.Threads.{needs_of}
 use Rattle.convert_words.specs.Steps.{GoesTo, OneBecomes, claimed_at, with_object}
@@ -12,14 +13,20 @@ use Rattle.convert_words.proofs.Bridges.{moved_same}
 use Rattle.convert_words.proofs.Converted.{durable_claimed}
 use Rattle.convert_words.proofs.Noting.{need_on, need_real}
 use Rattle.convert_words.proofs.StepLaws.{claims_keep, needs_keep, places_keep}
-use Rattle.converter.specs.Beginning.{begun_at, Begins}
+use Rattle.converter.specs.Beginning.{begun_at, settled_at, Begins}
 use Rattle.converter.specs.declared.begin.Begun.TheVariants as begun
 use Rattle.converter.specs.Working.{IsTakable}
 
 -- a thread without objects is at the beginning
-pub begins_at : (s : Scene) (q : Queues) (es : List Entry) (t : ℕ) → AgreesAt s es → queue_of s.queue t ≡ [] → GoesTo t Copy 0 0 s.queue q → AgreesAt (record s { queue = q }) es
-begins_at s q es t a empty goes = places_keep s q t Copy 0 0 es goes
+-- a thread with nothing queued may be in any phase
+pub begins_in : (p : Phase) (s : Scene) (q : Queues) (es : List Entry) (t : ℕ) → AgreesAt s es
+    → queue_of s.queue t ≡ [] → GoesTo t p 0 0 s.queue q → AgreesAt (record s { queue = q }) es
+begins_in p s q es t a empty goes = places_keep s q t p 0 0 es goes
     (λ i m is. absurd (let lt = is.within in let e : length (queue_of s.queue t) ≡ 0 = ap length empty in omega (arith, lt, e))) a
+
+pub begins_at : (s : Scene) (q : Queues) (es : List Entry) (t : ℕ) → AgreesAt s es → queue_of s.queue t ≡ []
+    → GoesTo t Copy 0 0 s.queue q → AgreesAt (record s { queue = q }) es
+begins_at s q es t a empty goes = begins_in Copy s q es t a empty goes
 
 pub begin_takable : (s : Scene) (q : Queues) (es : List Entry) (t object line count m : ℕ) → AgreesAt s es → queue_of
     s.queue t ≡ [] → GoesTo t Copy 0 0 s.queue q → line ≡ s.free → m < length es → (entry es m).at ≡ object →
@@ -86,12 +93,13 @@ begin_full s es t need left m a young nobody need_is left_is more = (
   },
 )
 
-pub begin_needs : (s : Scene) (q q2 : Queues) (es : List Entry) (t u m : ℕ) → AgreesAt s es → queue_of s.queue t ≡ [] → GoesTo t Copy 0 0 s.queue q → q ≡ begun_at s.queue t → IsClaimed es u m →
+pub begin_needs : (s : Scene) (q q2 : Queues) (es : List Entry) (t u m : ℕ) → AgreesAt s es → queue_of s.queue t ≡ []
+    → GoesTo t Flush 0 0 s.queue q → q ≡ settled_at s.queue t → IsClaimed es u m →
     needs_of q2.needs t u ≡ true → ((a b : ℕ) → (a ≡ t → b ≢ u) → needs_of q2.needs a b ≡ needs_of q.needs a b) → length q2.needs ≡ length q.needs → q2 ≡ record q { needs = q2.needs } →
     (es' : List Entry) × Begins t m (begun.Needs u) s (record s { queue = q2 }) es es'
 begin_needs s q q2 es t u m a empty goes whole claimed here others long same =
     let s1 : Scene = record s { queue = q } in
-    let a1 : AgreesAt s1 es = begins_at s q es t a empty goes in
+    let a1 : AgreesAt s1 es = begins_in Flush s q es t a empty goes in
     let kept = needs_keep s1 q2.needs es long (λ x y n. need_on q.needs q2.needs t u here others x y n)
     (λ x y lx ly n. need_real es q.needs q2.needs t u m claimed others a1.real x y lx ly n) a1 in (
       es,

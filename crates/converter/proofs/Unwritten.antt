@@ -22,7 +22,7 @@ use Rattle.convert_words.specs.Converting.{GoesOn, Converts, CopiesLine, Forward
 use Rattle.convert_words.proofs.Basics.{room_of, claimed_once, line_other}
 use Rattle.convert_words.proofs.Tied.{stored_here, stored_other, written_other, fenced_at}
 use Rattle.converter.specs.declared.begin.Begun.TheVariants as begun
-use Rattle.converter.specs.Beginning.{begun_at}
+use Rattle.converter.specs.Beginning.{begun_at, settled_at}
 use Rattle.converter.specs.Laws.{AreUnwritten, FirstLinesAreUnwritten, BeginningsStayUnwritten, EventsStayUnwritten}
 use Rattle.converter.specs.Laws.{StoresStayUnwritten}
 use Rattle.converter.proofs.Exact.{flush_stays}
@@ -315,6 +315,13 @@ begun_phases s es t a empty u n own early flush = elim (same_or_not u t) [
   | inr ne ↦ early (get_or-set_other s.queue.phases t u Copy Copy ne ∙ flush)
 ]
 
+settled_phases : (s : Scene) (es : List Entry) (t : ℕ) → AgreesAt s es → queue_of s.queue t ≡ [] → (u n : ℕ)
+    → IsClaimed es u n → phase_of (settled_at s.queue t) u ≢ Flush → phase_of s.queue u ≢ Flush
+settled_phases s es t a empty u n own early flush = elim (same_or_not u t) [
+  | inl eq ↦ none_claimed s es t n a empty (subst (λ y. IsClaimed es y n) eq own)
+  | inr ne ↦ early (get_or-set_other s.queue.phases t u Flush Copy ne ∙ flush)
+]
+
 pub beginnings_stay_unwritten : BeginningsStayUnwritten
 beginnings_stay_unwritten t m begun.Claimed s s' es es' a empty b old =
     let x = b.says in
@@ -323,7 +330,7 @@ beginnings_stay_unwritten t m begun.Claimed s s' es es' a empty b old =
 beginnings_stay_unwritten t m (begun.Needs u) s s' es es' a empty b old =
     let x = b.says in
     subst (λ (y : List Entry). AreUnwritten s'.queue y) (sym x.table) (subst (λ (q : Queues). AreUnwritten q es) (sym x.queue)
-    (λ u n c claimed early lc has. old u n c claimed (begun_phases s es t a empty u n claimed early) lc has))
+    (λ u n c claimed early lc has. old u n c claimed (settled_phases s es t a empty u n claimed early) lc has))
 beginnings_stay_unwritten t m (begun.Full need left) s s' es es' a empty b old =
     let x = b.says in
     subst (λ (y : List Entry). AreUnwritten s'.queue y) (sym x.table) (subst (λ (y : Scene). AreUnwritten y.queue es) (sym x.same) old)

@@ -3,7 +3,7 @@ use Rattle.std.specs.Prelude.{◌≡◌, ◌≢◌, ◌↔◌, ℕ, ◌+◌, ◌
 use Rattle.twin_forms.specs.Table.{Entry, entry, Names, lines_of, IsClaimed, InP}
 use Rattle.twin_forms.specs.Moves.{SameHeap}
 use Rattle.twin_forms.specs.Sights.{view_of}
-use Rattle.convert_queue.specs.declared.phase.Phase.TheVariants.{Copy}
+use Rattle.convert_queue.specs.declared.phase.Phase.TheVariants.{Copy, Flush}
 use Rattle.convert_queue.specs.Queues.{Queues}
 use Rattle.convert_queue.specs.Threads.{needs_of}
 use Rattle.convert_words.specs.Steps.{OneBecomes, claimed_at, with_object}
@@ -14,6 +14,10 @@ use Rattle.converter.specs.declared.begin.Begun.TheVariants as begun
 -- the thread is in phase Copy, at the first line of its first object
 abbrev pub begun_at : Queues → ℕ → Queues
 begun_at q t = record q { places = slice_set q.places t (0, 0); phases = slice_set q.phases t Copy }
+
+-- the thread is in phase Flush: it has nothing to copy, to forward or to repair, so that it is settled
+abbrev pub settled_at : Queues → ℕ → Queues
+settled_at q t = record q { places = slice_set q.places t (0, 0); phases = slice_set q.phases t Flush }
 
 -- The word is a reference to object m, which isn't durable.
 pub record IsAsked (es : List Entry) (word m : ℕ) : Type 0 where
@@ -30,13 +34,13 @@ pub record BeginsByClaim (s s' : Scene) (es es' : List Entry) (t m : ℕ) : Type
   pub free : s'.free ≡ s.free + lines_of (entry es m)
   pub queue : s'.queue ≡ with_object (begun_at s.queue t) t (entry es m).at s.free
 
--- Another thread has claimed it, and the thread needs that thread.
+-- Another thread has claimed it, and the thread needs that thread. It has nothing to convert itself.
 pub record BeginsByNeed (s s' : Scene) (es es' : List Entry) (t m u : ℕ) : Type 0 where
   pub claimed : IsClaimed es u m
   pub other : u ≢ t
   pub here : needs_of s'.queue.needs t u ≡ true
   pub others : (a b : ℕ) → (a ≡ t → b ≢ u) → needs_of s'.queue.needs a b ≡ needs_of s.queue.needs a b
-  pub queue : s'.queue ≡ record (begun_at s.queue t) { needs = s'.queue.needs }
+  pub queue : s'.queue ≡ record (settled_at s.queue t) { needs = s'.queue.needs }
   pub heap : s'.heap ≡ s.heap
   pub free : s'.free ≡ s.free
   pub table : es' ≡ es

@@ -77,7 +77,7 @@ fn begin_claim<I: Image>(
 }
 
 /// Thread t begins to convert what a value reaches, which isn't durable: it claims the object, or
-/// needs the thread that has claimed it. The thread has nothing queued.
+/// needs the thread that has claimed it, and is settled then. The thread has nothing queued.
 pub fn begin_conversion<I: Image>(
     t: ThreadNo,
     heap: &mut TwinHeap<I>,
@@ -103,7 +103,7 @@ pub fn begin_conversion<I: Image>(
 {
     match heap.claimed_by(value) {
         Some(u) => {
-            go_to(queue, t, Phase::Copy, 0, 0);
+            go_to(queue, t, Phase::Flush, 0, 0);
             queue.needs(t, u);
             Begun::Needs(u)
         }

@@ -21,3 +21,4 @@ pub use laws::{
     events_are_exact, events_take_work, lines_stay_unwritten_until_the_flush,
     seals_name_what_was_queued, steps_take_work, threads_wait_for_what_they_lack,
 };
+pub use seals::{is_member, seal};

@@ -1,5 +1,6 @@
 // Seals.
 ghost use Rattle.std.specs.Prelude.{◌≡◌, ◌+◌, ◌<◌, ◌^◌, ℕ, List, true};
+ghost use Rattle.monitors.specs.declared.monitor.Monitor.{Monitor};
 ghost use Rattle.twin_forms.specs.Table.{Entry, View};
 ghost use Rattle.twin_forms.specs.Sights.{sight};
 ghost use Rattle.convert_queue.specs.Marks.{IsClean};
@@ -8,7 +9,7 @@ ghost use Rattle.convert_queue.specs.Threads.{has, IsGroupOf};
 ghost use Rattle.convert_words.specs.Scenes.{scene, AgreesAt};
 ghost use Rattle.convert_words.specs.Converting.{Converts};
 ghost use Rattle.converter.specs.Sealing.{AreSealedTo};
-ghost use Rattle.converter.specs.Stepping.{IsOther};
+ghost use Rattle.converter.specs.Stepping.{Event, IsOther};
 ghost use Rattle.converter.specs.Working.{SomeScene};
 
 use ap_base::ThreadNo;
@@ -17,8 +18,8 @@ use convert_words::ConvertStep;
 use line_image::Image;
 use twin_heap::TwinHeap;
 
-/// Whether the set has the thread.
-fn is_member(set: u64, t: u8) -> bool
+/// Whether a set of threads has this one.
+pub fn is_member(set: u64, t: u8) -> bool
     requires { t < 64 }
     ensures { result ≡ has set t }
 {
@@ -108,6 +109,22 @@ fn seal_group<I: Image>(t: ThreadNo, heap: &mut TwinHeap<I>, queue: &mut Convers
 {
     seal_threads(heap, queue, set);
     queue.seal(set);
+}
+
+/// Seals the group of a thread, all of whose members are settled: the event that `convert_next` makes
+/// for such a thread, for whoever names what the group has queued first. Makes no call of the image.
+pub fn seal<I: Image>(t: ThreadNo, heap: &mut TwinHeap<I>, queue: &mut Conversions, set: u64)
+    requires agrees { SomeScene heap.old.space heap.old.memory heap.old.marks queue.old }
+    requires group { IsGroupOf queue.old.needs t set }
+    requires settled { AllSettled queue.old set }
+    ensures seals { (free : ℕ) (keys : List ℕ) (es : List Entry) (ms : List Monitor)
+        → AgreesAt (scene heap.old.space heap.old.memory heap.old.marks queue.old free keys) es
+        → Event t (ConvertStep.Sealed set)
+        (scene heap.old.space heap.old.memory heap.old.marks queue.old free keys)
+        (scene heap.new.space heap.new.memory heap.new.marks queue.new free keys) es ms ms }
+    ensures memory { heap.new.memory ≡ heap.old.memory }
+{
+    seal_group(t, heap, queue, set);
 }
 
 /// The next step of a settled thread: its group is sealed, or it waits for the least member that

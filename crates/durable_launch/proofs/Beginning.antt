@@ -1,36 +1,40 @@
--- A first machine is one whose thread may take its first turn.
-use Rattle.std.proofs.Common.{◌≡◌, ℕ, ◌<◌, true, false, List, [], ◌∷◌, length, Some, None, refl, ap, sym, subst, ◌∙◌, arith}
-use Rattle.std.proofs.Common.{lit<}
-use Rattle.std.specs.Prelude.{nat_lt, ◌≢◌, AllPairs}
-use Rattle.std.proofs.lemmas.Bool.{lt-ltb}
+-- A first machine is one of which an event of the first thread may come.
+use Rattle.std.proofs.Common.{◌≡◌, ℕ, zero, suc, ◌<◌, true, false, List, [], ◌∷◌, length, replicate, Option, Some, None, refl, ap}
+use Rattle.std.proofs.Common.{sym, subst, ◌∙◌, arith, inl, inr}
+use Rattle.std.specs.Prelude.{nat_lt, slice_get, slice_index_or}
+use Rattle.std.proofs.Math.ListN.{get_or-eq_default}
+use Rattle.std.proofs.lemmas.Bool.{cases_lt, lt-ltb}
+use Rattle.ap_base.specs.declared.reference.Ref.{Ref}
+use Rattle.ap_base.specs.declared.reference.Item.{Item}
+use Rattle.run_types.specs.declared.wait.On.TheVariants as on
+use Rattle.natives.specs.declared.methods.Native.{Native}
+use Rattle.natives.specs.declared.states.NativeState.{NativeState}
+use Rattle.frames.specs.Settings.{Setting}
+use Rattle.durable_run.specs.Passed.{AreOf}
 use Rattle.run_history.specs.Recorded.{Recorded}
-use Rattle.run_history.specs.Knowing.{Pending, pending_of}
-use Rattle.graph_model.specs.Heaps.{has_number}
 use Rattle.plain_model.specs.Facts.{class_at, class_count}
 use Rattle.class_set.specs.Linked.{Linked, class_count as linked_count}
 use Rattle.class_set.proofs.Supertypes.{program_counted}
 use Rattle.class_set.specs.Facts.{facts_of}
 use Rattle.set_directory.specs.Written.{is_written}
 use Rattle.run_forms.specs.Views.{ThreadFrames}
-use Rattle.run_forms.specs.Standing.{Launch, known_at}
+use Rattle.run_forms.specs.Standing.{Launch}
 use Rattle.twin_forms.specs.Table.{Entry, IsClaimed}
-use Rattle.convert_queue.specs.Queues.{Queued}
-use Rattle.durable_run.specs.Passed.{Doing}
-use Rattle.durable_run.specs.Passed.{Nothing}
+use Rattle.convert_queue.specs.Queues.{Queues, total}
 use Rattle.region_log.specs.Log.{Log}
-use Rattle.durable_run.specs.Passed.{Opening, doing_of, known_in, layout_in, log_of, memory_of}
-use Rattle.durable_run.specs.Passed.{IsDoing, KeepsRun}
+use Rattle.durable_run.specs.Passed.{Opening, empty_log, log_of, memory_of}
+use Rattle.durable_run.specs.Passed.{AllKeep, BeginnersKeepTheirs, IsUnbegun, KeepsRun}
 use Rattle.durable_run.specs.Passed.{RunsAsPlain}
 use Rattle.launch_laws.specs.First.{IsFirstMachine}
 use Rattle.launch_laws.proofs.Nodes.{nobody_owns, table_of_lines}
-use Rattle.launch_laws.proofs.Queues.{nothing_queued}
 use Rattle.launch_laws.proofs.Stops.{all_idle}
 use Rattle.durable_run.specs.Passed.{TakesLines}
 use Rattle.durable_run.specs.Passed.{StartsTakeNoLines}
 use Rattle.durable_run.specs.Passed.{StartsHaveUnwritten}
 use Rattle.durable_run.specs.Passed.{Shared}
-use Rattle.durable_run.specs.Passed.{NamesClaimed}
-use Rattle.durable_run.specs.Passed.{AsksItsEnd, IsRunning, IsAboutItsStore, LagsByItsStore, HadNoFault, ListsClasses}
+use Rattle.durable_run.specs.Passed.{ThreadNotes, asked_by, no_notes, waits_on}
+use Rattle.durable_run.specs.Passed.{IsRunning, HadNoFault, ListsClasses, Runs}
+use Rattle.durable_run.specs.Turning.{HasFrames, HaveTurned}
 
 -- ---- no act
 
@@ -49,6 +53,25 @@ written_class set n below plain =
     let inside : nat_lt n (linked_count set) ≡ true = lt-ltb n (linked_count set) (omega (arith, below, many)) in
     rw (inside, plain) refl
 
+-- ---- nothing is noted
+
+abbrev nones : {X : Type 0} → ℕ → List (Option X)
+nones n = replicate n None
+
+none-at : {X : Type 0} (n t : ℕ) → slice_index_or (nones {X = X} n) t None ≡ None
+none-at zero t = refl
+none-at (suc n) zero = refl
+none-at (suc n) (suc t) = none-at n t
+
+no-some : {X P : Type 0} (at : Option X) (x : X) → at ≡ None → at ≡ Some x → P
+no-some {X} at x none some = absurd (let no : ◌≡◌ {A = Option X} None (Some x) = sym none ∙ some in cc)
+
+-- ---- nothing is queued
+
+none-queued : (n : ℕ) → total (replicate n []) ≡ 0
+none-queued zero = refl
+none-queued (suc n) = none-queued n
+
 -- ---- the machine
 
 module _ (o : Opening) (lines : List ℕ) (s : Shared) (es : List Entry) (fs : ThreadFrames)
@@ -59,40 +82,22 @@ module _ (o : Opening) (lines : List ℕ) (s : Shared) (es : List Entry) (fs : T
       let somebody = claimed.1 in
       omega (arith, nobody, somebody)
 
-  pub idle : doing_of s.machine 0 ≡ Nothing
-  idle = all_idle o lines s.machine es first 0
+  log_is : (t : ℕ) → log_of s.machine t ≡ empty_log t
+  log_is t = elim (cases_lt t 64) [
+    | inl below ↦ first.empty t below
+    | inr past ↦ get_or-eq_default s.machine.logs (empty_log t) (let many = first.logs in omega (arith, many, past))
+  ]
 
-  lags : LagsByItsStore o.launch (doing_of s.machine 0) fs
-  lags = subst (λ (d : Doing). LagsByItsStore o.launch d fs) (sym idle) tt
-
-  -- no region is being ended
-  ends : AsksItsEnd o.launch (log_of s.machine 0).underway fs
-  ends = subst (λ (log : Log). AsksItsEnd o.launch log.underway fs) (sym (first.empty 0 (lit< tt))) tt
-
-  unasked : (p : Pending) → pending_of (known_at o.launch s.machine.acts).asked 0 ≡ Some p → ⊥
-  unasked p is =
-      let doing : IsDoing (known_in o s.machine) (layout_in o es) 0 Nothing =
-      subst (IsDoing (known_in o s.machine) (layout_in o es) 0) idle (keeps.asked.doing 0) in
-      let both = sym doing.0 ∙ is in
-      let no : None ≡ Some p = both in
-      absurd (cc)
-
-  about : IsAboutItsStore o.launch s.machine.acts
-  about = record {
-    durable = λ p is. absurd (unasked p is);
-    stores = λ p request is asks. absurd (unasked p is);
+  unbegun : (t : ℕ) → IsUnbegun s.machine t
+  unbegun t = record {
+    doing = all_idle o lines s.machine es first t;
+    log = ap (λ (log : Log). log.underway) (log_is t);
   }
 
-  names : s.history.named ≡ [] → s.named ≡ 0 → NamesClaimed 0 s es
-  names none count = record {
-    once = subst (λ (ns : List ℕ). AllPairs (λ m n. m ≢ n) ns) (sym none)
-        (λ i j d less below. absurd (omega (arith, below)));
-    those = λ n. (
-      (λ has. absurd (let no : false ≡ true = sym (ap (λ (ns : List ℕ). has_number ns n) none) ∙ has in cc)),
-      (λ claimed. absurd (no_claim 0 n claimed)),
-    );
-    alone = λ u n claimed. absurd (no_claim u n claimed);
-    count = count ∙ sym (ap (λ (q : List Queued). length q) (nothing_queued s.machine.queue o.start.size first.queue 0));
+  all_keep : BeginnersKeepTheirs → AllKeep o s.machine es (fs ∷ [])
+  all_keep begin = record {
+    each = λ t gs there. begin o t s.machine es gs keeps (unbegun t);
+    unbegun = λ t past. unbegun t;
   }
 
   taken : StartsTakeNoLines → TakesLines o s.machine.free s.machine es
@@ -105,27 +110,66 @@ module _ (o : Opening) (lines : List ℕ) (s : Shared) (es : List Entry) (fs : T
       ))
       no_claim
 
-  pub running : StartsTakeNoLines → StartsHaveUnwritten → RunsAsPlain o s.machine (fs ∷ [])
-      → s.history.named ≡ [] → s.named ≡ 0 → s.lines ≡ (memory_of s.machine).size
+  queued : total s.machine.queue.queues ≡ 0
+  queued = ap (λ (q : Queues). total q.queues) first.queue ∙ none-queued 64
+
+  pub runs : BeginnersKeepTheirs → StartsTakeNoLines → StartsHaveUnwritten → RunsAsPlain o s.machine (fs ∷ [])
+      → s.history.named ≡ [] → s.lines ≡ (memory_of s.machine).size
       → s.history.acts ≡ s.machine.acts → s.history.limit ≡ o.launch.limits.acts
       → s.history.room ≡ (memory_of s.machine).size
       → length s.machine.rest.threads ≡ 1 → ListsClasses o s.machine
-      → IsRunning o s.machine.free s es fs
-  running lines_law unwritten_law plain none count lines_are acts limit room alone listed = record {
+      → Runs o s.machine.free s es (fs ∷ [])
+  runs begin lines_law unwritten_law plain none lines_are acts limit room alone listed = record {
     keeps = keeps;
     plain = plain;
     taken = taken lines_law;
     from = keeps.heap.within;
     unwritten = unwritten_law s.machine es no_claim;
-    names = names none count;
-    about = about;
-    lags = lags;
-    ends = ends;
-    alone = alone;
+    all = all_keep begin;
+    many = sym alone;
+    few = omega arith;
     lines = lines_are;
     acts = acts;
     limit = limit;
-    room = let behind = keeps.heap.behind in let within = keeps.heap.within in omega (arith, room, behind, within);
+    unnamed = none;
+    room =
+        (let behind = keeps.heap.behind in let within = keeps.heap.within in let empty = queued in
+        omega (arith, room, behind, within, empty));
     listed = listed;
     unfaulted = nothing_met o.launch s.machine.acts first.acts;
   }
+
+  asked : s.notes ≡ no_notes → (t : ℕ) → asked_by s.notes t ≡ None
+  asked is t = ap (λ (n : ThreadNotes). asked_by n t) is ∙ none-at 64 t
+
+  waits : s.notes ≡ no_notes → (t : ℕ) → waits_on s.notes t ≡ None
+  waits is t = ap (λ (n : ThreadNotes). waits_on n t) is ∙ none-at 64 t
+
+  pub running : Runs o s.machine.free s es (fs ∷ []) → s.notes ≡ no_notes → IsRunning o s.machine.free s es (fs ∷ [])
+  running run is = record {
+    runs = run;
+    asked = record {
+      asks = λ t q noted. no-some (asked_by s.notes t) q (asked is t) noted;
+      beside = λ t on noted. no-some (waits_on s.notes t) on (waits is t) noted;
+      ready = λ t on noted. no-some (waits_on s.notes t) on (waits is t) noted;
+      recorded = record {
+        forwarded = λ t on noted. no-some (waits_on s.notes t) on (waits is t) noted;
+        below = λ t u noted. no-some (waits_on s.notes t) (on.Conversion u) (waits is t) noted;
+      };
+    };
+  }
+
+  -- thread 0 has its frames, and no other has begun
+  pub own : (x : Setting Native Ref (NativeState Ref) Item) (frames : List ThreadFrames) → s.notes ≡ no_notes
+      → slice_get frames 0 ≡ Some fs → AreOf x.program fs.frames → (t : ℕ) (before : ThreadFrames)
+      → slice_get (fs ∷ []) t ≡ Some before → HasFrames x (asked_by s.notes t) frames t before
+  own x frames is there of zero before at =
+      let same : fs ≡ before = cc in
+      subst (λ gs. HasFrames x (asked_by s.notes 0) frames 0 gs) same (record {
+        now = fs;
+        there = there;
+        of = of;
+        turned = subst (λ q. HaveTurned x q fs fs) (sym (asked is 0)) refl;
+      })
+  own x frames is there of (suc t) before at =
+      absurd (let no : ◌≡◌ {A = Option ThreadFrames} None (Some before) = at in cc)

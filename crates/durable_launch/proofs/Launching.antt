@@ -1,6 +1,6 @@
 -- What is launched over an opened image.
-use Rattle.std.proofs.Common.{◌≡◌, ℕ, ◌<◌, List, length, refl, ap, sym, subst, arith, slice_index_or}
-use Rattle.std.specs.Prelude.{unwrap_or}
+use Rattle.std.proofs.Common.{◌≡◌, ℕ, ◌<◌, List, [], ◌∷◌, length, Some, refl, ap, sym, subst, arith, slice_index_or}
+use Rattle.std.specs.Prelude.{slice_get, unwrap_or}
 use Rattle.std.proofs.lemmas.Option.{slice_get-get_or}
 use Rattle.ap_base.specs.declared.reference.Ref.{Ref}
 use Rattle.ap_base.specs.declared.reference.Ref.TheVariants.{Null as NoRef}
@@ -35,7 +35,7 @@ use Rattle.launch_laws.specs.Laws.{FirstMachinesKeepRuns, FirstMachinesRunAsPlai
 use Rattle.launch_laws.specs.Shapes.{MadeHeapsHaveTheirDirectory}
 use Rattle.durable_run.specs.Passed.{StartsTakeNoLines}
 use Rattle.durable_run.specs.Passed.{StartsHaveUnwritten}
-use Rattle.durable_run.specs.Passed.{ListsClasses}
+use Rattle.durable_run.specs.Passed.{BeginnersKeepTheirs, ListsClasses}
 use Rattle.launch_laws.specs.Written.{ThreadsAskForWrittenArrays}
 use Rattle.durable_run.specs.Passed.{Shared}
 use Rattle.durable_run.proofs.Passed.{at_to, long_to}
@@ -43,7 +43,7 @@ use Rattle.durable_run.specs.Passed.{first_shared}
 use Rattle.durable_run.specs.Turning.{IsReady, AsksListed}
 use Rattle.durable_launch.specs.declared.heaps.OpenedHeap.{OpenedHeap}
 use Rattle.durable_launch.specs.Launching.{CanLaunch, launch_over, opening_over}
-use Rattle.durable_launch.proofs.Beginning.{idle, running, written_class}
+use Rattle.durable_launch.proofs.Beginning.{own, running, runs as runs_of, written_class}
 
 -- the reference of a literal's number is that of its place
 given_at : (literals : List Ref) (k : ℕ) → k < length literals
@@ -58,6 +58,7 @@ pub record Laws : Type 0 where
   pub lines : StartsTakeNoLines
   pub unwritten : StartsHaveUnwritten
   pub arrays : ThreadsAskForWrittenArrays
+  pub begin : BeginnersKeepTheirs
 
 -- what is known of the set, of the main class and of what is beside the heap
 pub record CanRun (set : Linked) (main : Main) (rest : Rest) : Type 0 where
@@ -152,25 +153,28 @@ module _ {I : Type 0} (start : Told) (old set : Linked) (main : Main) (limits : 
       (can.over.listed shape (laws.arrays launch acts shown beside threads launched stands t frames from shape count asks
       set runs.linked (record { facts = refl; program = refl }))).1
 
-  is_ready : IsReady o heap.free (facts_of set) (setting_of launch) s fs
-  is_ready =
+  is_ready : (frames : List ThreadFrames) → length frames ≡ 64 → slice_get frames 0 ≡ Some fs
+      → IsReady o heap.free (facts_of set) (setting_of launch) s frames
+  is_ready frames many there =
       let keeps = laws.keep o can.lines s.machine es first in record {
         facts = refl;
         setting = refl;
         table = es;
-        running = running o can.lines s es fs first keeps laws.lines laws.unwritten
-            (laws.plain o can.lines s.machine es first fs begins) refl refl refl refl refl refl
-            (ap (λ (ts : List ThreadState). length ts) runs.beside.threads) listed;
-        of = (tt, tt);
-        idle = idle o can.lines s es fs first keeps;
+        threads = fs ∷ [];
+        running = running o can.lines s es fs first keeps
+            (runs_of o can.lines s es fs first keeps laws.begin laws.lines laws.unwritten
+            (laws.plain o can.lines s.machine es first fs begins) refl refl refl refl refl
+            (ap (λ (ts : List ThreadState). length ts) runs.beside.threads) listed) refl;
+        own = own o can.lines s es fs first keeps (setting_of launch) frames refl there (tt, tt);
+        many = many;
         arrays = asks_listed;
       }
 
-  pub ready_as : (x : Setting Native Ref (NativeState Ref) Item) (made : Shared) (frames : ThreadFrames)
-      → x ≡ setting_of launch → made ≡ s → frames ≡ fs → IsReady o heap.free (facts_of set) x made frames
-  ready_as x made frames same_setting same_heap same_frames =
+  pub ready_as : (x : Setting Native Ref (NativeState Ref) Item) (made : Shared) (frames : List ThreadFrames)
+      → x ≡ setting_of launch → made ≡ s → length frames ≡ 64 → slice_get frames 0 ≡ Some fs
+      → IsReady o heap.free (facts_of set) x made frames
+  ready_as x made frames same_setting same_heap many there =
       subst (λ (y : Setting Native Ref (NativeState Ref) Item). IsReady o heap.free (facts_of set) y made frames)
       (sym same_setting)
       (subst (λ (t : Shared). IsReady o heap.free (facts_of set) (setting_of launch) t frames) (sym same_heap)
-      (subst (λ (f : ThreadFrames). IsReady o heap.free (facts_of set) (setting_of launch) s f) (sym same_frames)
-      is_ready))
+      (is_ready frames many there))

@@ -77,12 +77,12 @@ opening_over start m directory launch = record {
   start = m;
 }
 
--- A turn may come of the run of the set over this image, which has made no act.
+-- An event may come of the run of the set over this image, which has made no act.
 pub record IsLaunched {I : Type 0} (start : Told) (directory : Directory) (set : Linked) (main : Main) (limits : Limits)
     (heap : OpenedHeap I) (launched : Launched I) : Type 0 where
   pub literals : List Ref
   pub ready : IsReady (opening_over start heap.spaces.heap.memory directory
       (launch_over set main limits heap.graph literals)) heap.free (facts_of set)
-      (setting_in launched.host) launched.heap launched.frames
+      (setting_in launched.host) launched.heap launched.frames.items
   pub empty : launched.heap.history.acts ≡ []
   pub memory : memory_of launched.heap.machine ≡ heap.spaces.heap.memory

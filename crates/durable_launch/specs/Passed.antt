@@ -1,18 +1,21 @@
 -- What crates above name of the crates below this one: they stand on this one alone.
-pub use Rattle.durable_run.specs.Passed.{EachStopIsAllowed, HadNoFault, Met, Opening, Shared, Stuck, fault_of_halt, memory_of}
+pub use Rattle.durable_run.specs.Passed.{EachStopIsAllowed, HadNoFault, Opening, Shared, memory_of}
 pub use Rattle.durable_run.specs.Passed.{shown_in}
 pub use Rattle.durable_run.specs.Telling.{HasTold, IsCaused, with_all}
-pub use Rattle.durable_run.specs.Turning.{EndsBy, HasRun, IsReady, fault_in, is_built}
-pub use Rattle.durable_run.specs.declared.turns.Turned.{Turned}
-pub use Rattle.durable_run.specs.declared.turns.Turned.TheVariants.{Acted, Ended, Over, Unbuilt}
+pub use Rattle.durable_run.specs.Turning.{EndsBy, HasRun, IsReady, ending_of, fault_in}
+pub use Rattle.durable_run.specs.declared.runs.RunEnd.{RunEnd}
+pub use Rattle.durable_run.specs.declared.runs.RunEnd.TheVariants.{Ended, Over}
 pub use Rattle.program_launch.specs.Mains.{main_of}
 pub use Rattle.program_launch.specs.Refusals.{IfFull}
 pub use Rattle.program_launch.specs.declared.mains.Main.{Main}
 pub use Rattle.program_launch.specs.declared.mains.NoMain.{NoMain}
 pub use Rattle.program_launch.specs.declared.refusals.NoLaunch.{NoLaunch}
+pub use Rattle.set_opening.specs.Again.{HoldsGraph, IsNoRefusal, OpenedImagesOpenAgain}
+pub use Rattle.set_opening.specs.Arrays.{with_arrays_of}
 pub use Rattle.set_opening.specs.Attached.{AreRead, IsAttached, IsSettled}
+pub use Rattle.set_opening.specs.Fitted.{IsUnfit}
 pub use Rattle.set_opening.specs.Found.{IsDirectoryIn}
-pub use Rattle.set_opening.specs.Opened.{IsFoundFor, IsOpenedFor, StandsWithFirst}
+pub use Rattle.set_opening.specs.Opened.{IsFoundFor, IsOpenedFor, StandsWithFirst, StandsWithNew}
 pub use Rattle.set_opening.specs.Unopened.{IsAttachFault, IsLeft, IsLeftAsFound, IsRecoveryFault, IsUnappended, IsUnbegun}
 pub use Rattle.set_opening.specs.Unopened.{IsUnopened}
 pub use Rattle.set_opening.specs.declared.unopened.Unopened.{Unopened}

@@ -1,5 +1,5 @@
 // What a run has beside its heap.
-ghost use Rattle.std.specs.Prelude.{◌≡◌, IfOk};
+ghost use Rattle.std.specs.Prelude.{◌≡◌, length, slice_get, IfOk, Some};
 ghost use Rattle.class_set.specs.Facts.{facts_of};
 ghost use Rattle.frames.specs.Turns.{begun_main};
 ghost use Rattle.one_space.specs.Beside.{IsFirstRest};
@@ -17,13 +17,33 @@ use program_launch::{Main, first_rest, program_of};
 use shared_objects::Rest;
 use std::alloc::{AllocError, Global};
 
-/// What the frames of a run are given, those of thread 0, which is about to initialise the main class
-/// and then to call its `main`, and what its world has beside the heap.
+/// How many threads a run may have.
+const THREADS: usize = 64;
+
+/// What the frames of a run are given, those of its threads, and what its world has beside the heap.
 #[derive(Drop)]
 pub(crate) struct Beside {
     pub(crate) host: ProgramHost,
-    pub(crate) frames: Frames<Ref, NativeState>,
+    pub(crate) frames: Vec<Frames<Ref, NativeState>>,
     pub(crate) rest: Rest,
+}
+
+// The frames of all threads. Thread 0 is about to initialise the main class and then to call its `main`.
+fn make_frames(
+    alloc: Global,
+    main: &Main,
+    arguments: Ref,
+) -> Result<Vec<Frames<Ref, NativeState>>, AllocError>
+    ensures many { IfOk result (λ frames. length frames.items ≡ 64) }
+    ensures main { IfOk result (λ frames. slice_get frames.items 0
+        ≡ Some (begun_main main.now.class main.now.method arguments)) }
+{
+    let mut frames = Vec::with_capacity(alloc, THREADS)?;
+    for _thread in 0..THREADS {
+        frames.push_reserved(Frames::new(alloc)?);
+    }
+    frames[0].begin_main(main.class, main.method, arguments);
+    Ok(frames)
 }
 
 /// What the run of a set has beside its heap, where these references stand for the array of arguments
@@ -37,8 +57,9 @@ pub(crate) fn make_beside(
 ) -> Result<Beside, AllocError>
     ensures host { IfOk result (λ beside. setting_in beside.host ≡ setting_of (set_program set.now)
         main.now.method (known_classes (facts_of set.now)) literals.items) }
-    ensures frames { IfOk result (λ beside.
-        beside.frames ≡ begun_main main.now.class main.now.method arguments) }
+    ensures many { IfOk result (λ beside. length beside.frames.items ≡ 64) }
+    ensures main { IfOk result (λ beside. slice_get beside.frames.items 0
+        ≡ Some (begun_main main.now.class main.now.method arguments)) }
     ensures rest { IfOk result (λ beside. IsFirstRest (facts_of set.now) beside.rest) }
 {
     let program = program_of(alloc, set)?;
@@ -48,11 +69,9 @@ pub(crate) fn make_beside(
         set.known(),
         ListOf::from_vec(literals),
     );
-    let mut frames = Frames::new(alloc)?;
-    frames.begin_main(main.class, main.method, arguments);
     Ok(Beside {
         host,
-        frames,
+        frames: make_frames(alloc, main, arguments)?,
         rest: first_rest(alloc, set)?,
     })
 }

@@ -12,7 +12,7 @@ use crate::heaps::OpenedHeap;
 use ap_base::Ref;
 use class_code::programs_name_what_is_there;
 use class_set::{ClassSet, linked_sets_are_consistent};
-use durable_run::{SharedHeap, events_keep_lines, lines_stay_unwritten};
+use durable_run::{SharedHeap, events_keep_lines, lines_stay_unwritten, others_keep_theirs};
 use launch_laws::{
     asked_arrays_are_written, first_heaps_have_their_directory, first_machines_keep_their_run,
     first_machines_run_as_plain_runs,
@@ -28,12 +28,12 @@ use shared_graph::SharedGraph;
 use std::alloc::Global;
 
 /// What a run over an opened image begins with: what its frames are given, its heap with the empty
-/// history, the frames of thread 0, and the graph for which the image stands.
+/// history, the frames of its threads, of which thread 0 has begun, and the graph for which the image stands.
 #[derive(Drop)]
 pub struct Launched<I: Image> {
     pub host: ProgramHost,
     pub heap: SharedHeap<I>,
-    pub frames: Frames<Ref, NativeState>,
+    pub frames: Vec<Frames<Ref, NativeState>>,
     pub graph: SharedGraph,
 }
 
@@ -66,6 +66,7 @@ pub fn launch<I: Image>(
     events_keep_lines();
     lines_stay_unwritten();
     asked_arrays_are_written();
+    others_keep_theirs();
     programs_name_what_is_there::<Native>();
     linked_sets_are_consistent();
     let _linked = set.shapes();

@@ -6,8 +6,10 @@ mod beside;
 mod heaps;
 mod launches;
 
-pub use durable_run::{Run, Turned, each_stop_is_allowed, run_thread};
+pub use durable_run::{Run, RunEnd, Stepped, each_stop_is_allowed, is_live, run_threads, step};
 pub use heaps::{OpenedHeap, open_heap};
 pub use launches::{Launched, launch};
 pub use program_launch::{Main, NoLaunch, NoMain, find_main, find_room};
-pub use set_opening::{FoundImage, OpenedImage, Unopened, complete, find_for};
+pub use set_opening::{
+    FoundImage, OpenedImage, Unopened, complete, find_for, opened_images_open_again,
+};

@@ -1,6 +1,11 @@
+mod Ending
 mod Going
+mod Noting
+mod Passing
+mod Places
 mod Raising
-mod Running
+mod Reading
+mod Stepping
 mod Telling
 mod Throwing
 mod Thrown

@@ -1,25 +1,34 @@
--- What events in a row, for one request of the thread, do and tell the outside.
-use Rattle.std.specs.Prelude.{◌≡◌, ℕ, ◌<◌, Bool, true, false, List, length, Option, Some, None, Result, Ok, Err}
+-- What an event of a thread leaves of a run, and what it tells the outside.
+use Rattle.std.specs.Prelude.{◌≡◌, ◌≢◌, ◌⊎◌, ℕ, ◌<◌, ◌≤◌, true, List, length, slice_get, slice_set, Option, Some, None}
 use Rattle.ap_base.specs.declared.reference.Ref.{Ref}
 use Rattle.ap_base.specs.declared.reference.Item.{Item}
 use Rattle.run_types.specs.declared.fault.RunFault.{RunFault}
+use Rattle.run_types.specs.declared.wait.On.{On}
+use Rattle.natives.specs.declared.methods.Native.{Native}
 use Rattle.natives.specs.declared.requests.Request.{Request}
-use Rattle.natives.specs.declared.requests.Reply.{Reply}
+use Rattle.natives.specs.declared.states.NativeState.{NativeState}
 use Rattle.run_history.specs.Recorded.{Recorded}
 use Rattle.plain_model.specs.Facts.{SetFacts}
+use Rattle.frames.specs.Settings.{Setting}
+use Rattle.frames.specs.Turns.{begun_thread}
+use Rattle.frame_steps.specs.Sized.{AreOf}
+use Rattle.frame_thread.specs.declared.private.Stop.{Stop}
+use Rattle.private_steps.specs.Ahead.{HasCome}
 use Rattle.run_forms.specs.Views.{ThreadFrames}
+use Rattle.run_forms.specs.Standing.{setting_of}
 use Rattle.twin_forms.specs.Table.{Entry}
 use Rattle.machine_forms.specs.Machines.{Opening, memory_of}
-use Rattle.machine.specs.Passed.{Shared}
+use Rattle.machine.specs.Passed.{Shared, asked_by, measure, waits_on}
 use Rattle.machine.specs.declared.events.Event.{Event}
-use Rattle.machine.specs.declared.events.Event.TheVariants.{Did, Micro, Over}
-use Rattle.machine.specs.declared.events.Halt.{Halt}
+use Rattle.machine.specs.declared.events.Event.TheVariants as event
 use Rattle.machine.specs.Halts.{fault_of_halt}
-use Rattle.machine.specs.Running.{IsDue}
-use Rattle.machine.specs.Events.{GoesOn}
-use Rattle.machine.specs.Passed.{measure}
+use Rattle.machine.specs.Events.{AddsOne}
+use Rattle.machine.specs.Remembering.{GoesOnWaiting, IsNext}
 use Rattle.durable_run.specs.Telling.{AddsShare, HasTold, IsCaused}
-use Rattle.durable_run.specs.Turning.{HasMet, HasRun}
+use Rattle.durable_run.specs.Turning.{AsksListed, EndsBy, HasFrames, IsReady, is_live}
+use Rattle.durable_run.specs.declared.runs.RunEnd.TheVariants as ends
+use Rattle.durable_run.specs.declared.steps.Stepped.{Stepped}
+use Rattle.durable_run.specs.declared.steps.Stepped.TheVariants.{Acted, Micro, WouldWait, Over}
 
 -- ---- the outside
 
@@ -43,41 +52,77 @@ pub record Tells (request : Request Ref Item) (over : Option RunFault) (old new 
   pub cause : IsCaused over out.faults out'.faults (memory_of old.machine).faults
       (memory_of new.machine).faults
 
-abbrev pub fault_of : Event → Option RunFault
-fault_of (Over halt) = Some (fault_of_halt halt)
-fault_of event = None
+-- ---- a request that is next
+
+-- The event of thread t is next, for this request, which its turn asked of these frames; some table says where the objects
+-- lie, and with these frames of all threads the machine goes on as the plain run does.
+pub record HasAsked (o : Opening) (first : ℕ) (set : SetFacts) (x : Setting Native Ref (NativeState Ref) Item)
+    (s : Shared) (frames : List ThreadFrames) (t : ℕ) (request : Request Ref Item) : Type 0 where
+  pub setting : x ≡ setting_of o.launch
+  pub table : List Entry
+  pub threads : List ThreadFrames
+  pub before : ThreadFrames
+  pub next : IsNext o first set s table threads t before request
+  pub own : HasFrames x (Some request) frames t before
+  pub others : (u : ℕ) (fs : ThreadFrames) → u ≢ t → slice_get threads u ≡ Some fs
+      → HasFrames x (asked_by s.notes u) frames u fs
+  pub many : length frames ≡ 64
+  pub arrays : AsksListed o s.machine
+
+-- Thread t's turn has begun: of these frames, with which an event might come, and it has come so far without an event.
+pub record HasBegun (o : Opening) (first : ℕ) (set : SetFacts) (x : Setting Native Ref (NativeState Ref) Item)
+    (s : Shared) (frames : List ThreadFrames) (t : ℕ) (stop : Option Stop) (before now : ThreadFrames) : Type 0 where
+  pub ready : IsReady o first set x s frames
+  pub there : slice_get frames t ≡ Some before
+  pub unasked : asked_by s.notes t ≡ None
+  pub live : is_live s.machine.rest.threads t ≡ true
+  pub come : HasCome x stop before now
+  pub of : AreOf x.program now.frames
+
+-- ---- frames that begin
+
+-- with the frames of thread t, if it begins with this reference to its Thread object
+abbrev pub with_begun : List ThreadFrames → ℕ → Option Ref → List ThreadFrames
+with_begun frames t None = frames
+with_begun frames t (Some thread) = slice_set frames t (begun_thread thread)
 
 -- ---- what was done
 
--- An event is due for this request; some table says where the objects lie.
-abbrev pub HasDue : Opening → ℕ → SetFacts → Shared → ThreadFrames → Request Ref Item → Type 0
-HasDue o first set s fs request = (es : List Entry) × IsDue o first set s es fs request
+-- The fault by which the run is over, if it is.
+abbrev pub fault_in_event : Shared → Event → Option RunFault
+fault_in_event s (event.Over halt) = Some (fault_of_halt s halt)
+fault_in_event s other = None
 
--- The request was done, by an act at least; or it is being done; or the run is over.
-abbrev pub LeadsTo : Opening → ℕ → SetFacts → ThreadFrames → Request Ref Item → Event → Shared → Shared
-    → Type 0
-LeadsTo o first set fs request (Did r) old new =
-    GoesOn o first r new fs × (length old.history.acts < length new.history.acts)
-LeadsTo o first set fs request Micro old new = HasDue o first set new fs request
-LeadsTo o first set fs request (Over halt) old new =
-    HasRun o new × HasMet o first new.machine (fault_of_halt halt)
+abbrev pub fault_of : Shared → Stepped → Option RunFault
+fault_of s (Over halt) = Some (fault_of_halt s halt)
+fault_of s went = None
 
--- what several events came to
-abbrev pub event_of : Result (Reply Ref Item) Halt → Event
-event_of (Ok r) = Did r
-event_of (Err halt) = Over halt
+-- The thread waits for this, by some frames of the threads: the run isn't stuck, and a row of waits goes on with this one.
+abbrev pub WaitsOn : Opening → ℕ → On → Shared → Shared → ℕ → Type 0
+WaitsOn o first on old new t = (threads : List ThreadFrames) × GoesOnWaiting o first on old new threads t
 
-abbrev pub is_micro : Event → Bool
-is_micro Micro = true
-is_micro event = false
+-- An event of thread t leaves the run so that an event of each live thread may come; or the run is over.
+abbrev pub StepsTo : Opening → ℕ → SetFacts → Setting Native Ref (NativeState Ref) Item → ℕ → Stepped → Shared → Shared
+    → List ThreadFrames → Type 0
+StepsTo o first set x t (WouldWait on) old new frames =
+    IsReady o first set x new frames × WaitsOn o first on old new t
+StepsTo o first set x t (Over halt) old new frames = EndsBy o first (ends.Over (fault_of_halt new halt)) new
+StepsTo o first set x t went old new frames = IsReady o first set x new frames
 
--- the run is over
-abbrev pub IsOver : Event → Type 0
-IsOver (Over halt) = Unit {0}
-IsOver event = ⊥
+-- one act of the thread where it acted, none where it waits or the run is over, and one or none otherwise
+abbrev pub AddsBy : Stepped → ℕ → List Recorded → List Recorded → Type 0
+AddsBy Acted t old new = AddsOne t old new
+AddsBy Micro t old new = (new ≡ old) ⊎ AddsOne t old new
+AddsBy went t old new = new ≡ old
 
--- an event that is neither an act nor the last one leaves less to do
-abbrev pub LeavesLess : Event → Shared → Shared → Type 0
+-- An event that adds no act leaves less to do; one that waits, no more.
+abbrev pub LeavesLess : Stepped → Shared → Shared → Type 0
 LeavesLess Micro old new =
     new.history.acts ≡ old.history.acts → measure new.machine < measure old.machine
-LeavesLess event old new = Unit {0}
+LeavesLess (WouldWait on) old new = measure new.machine ≤ measure old.machine
+LeavesLess went old new = Unit {0}
+
+-- The wait of thread t's event is noted, and what is noted of all others stays.
+pub record NotesWait (t : ℕ) (went : Stepped) (old new : Shared) : Type 0 where
+  pub own : (on : On) → went ≡ WouldWait on → waits_on new.notes t ≡ Some on
+  pub others : (u : ℕ) → u ≢ t → waits_on new.notes u ≡ waits_on old.notes u

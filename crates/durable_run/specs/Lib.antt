@@ -1,4 +1,5 @@
 pub mod Events
+pub mod Passes
 pub mod Quick
 pub mod Telling
 pub mod Turning

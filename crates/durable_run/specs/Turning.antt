@@ -1,5 +1,5 @@
--- What a turn leaves of a run over a shared heap, whose objects are made durable.
-use Rattle.std.specs.Prelude.{◌≡◌, ℕ, ℤ, ◌<◌, Bool, true, false, not, List, [], ◌∷◌, length, Option, Some, None}
+-- When an event of a thread may come over a shared heap whose objects are made durable, and how a run ends.
+use Rattle.std.specs.Prelude.{◌≡◌, ℕ, ℤ, Bool, false, not, List, length, slice_get, slice_index, slice_set, Option, Some, None}
 use Rattle.ap_base.specs.Causes.{next_count}
 use Rattle.ap_base.specs.declared.reference.Ref.{Ref}
 use Rattle.ap_base.specs.declared.reference.Item.{Item}
@@ -12,8 +12,11 @@ use Rattle.natives.specs.declared.states.NativeState.{NativeState}
 use Rattle.run_history.specs.Recorded.{Recorded}
 use Rattle.plain_model.specs.Facts.{SetFacts}
 use Rattle.plain_model.specs.Ends.{Ending, EndsAs}
+use Rattle.plain_model.specs.Ends.Ending.{Uncaught, Finished}
 use Rattle.frames.specs.Settings.{Setting}
+use Rattle.frames.specs.Turns.{turn}
 use Rattle.frame_steps.specs.Sized.{AreOf}
+use Rattle.private_steps.specs.Waits.{WaitsAfter}
 use Rattle.shared_objects.specs.declared.rest.Rest.{Rest}
 use Rattle.shared_objects.specs.declared.threads.ThreadState.{ThreadState}
 use Rattle.shared_objects.specs.Shown.{Shown}
@@ -21,41 +24,37 @@ use Rattle.run_forms.specs.Views.{ThreadFrames}
 use Rattle.run_forms.specs.Standing.{StandsFor, IsAsking, IsRun, plain_code, setting_of}
 use Rattle.run_forms.specs.Ends.{IsEndedBy}
 use Rattle.twin_forms.specs.Table.{Entry}
-use Rattle.machine_forms.specs.declared.doing.Doing.TheVariants.{Nothing}
-use Rattle.machine_forms.specs.Machines.{Opening, Machine, doing_of, shown_in}
+use Rattle.machine_forms.specs.Machines.{Opening, Machine}
 use Rattle.machine_forms.specs.Events.{IsListed}
 use Rattle.machine_forms.specs.Keeping.{KeepsRun}
-use Rattle.machine.specs.Passed.{Shared}
-use Rattle.machine.specs.Passed.{ending_of}
-use Rattle.machine.specs.Passed.{lines_from}
-use Rattle.machine.specs.Halts.{fault_of_halt}
+use Rattle.machine.specs.Passed.{Shared, asked_by, lines_from}
 use Rattle.machine.specs.Running.{IsRunning, HadNoFault}
-use Rattle.durable_run.specs.declared.turns.Turned.{Turned}
-use Rattle.durable_run.specs.declared.turns.Turned.TheVariants.{Acted, Ended, Over, Unbuilt}
+use Rattle.durable_run.specs.declared.runs.RunEnd.{RunEnd}
+use Rattle.durable_run.specs.declared.runs.RunEnd.TheVariants.{Ended, Over}
 
--- ---- threads and requests
+-- ---- threads
 
--- whether thread 0 was started and hasn't ended
-abbrev pub is_live : List ThreadState → Bool
-is_live [] = false
-is_live (s ∷ ss) = not s.ended
+abbrev pub lives : Option ThreadState → Bool
+lives None = false
+lives (Some state) = not state.ended
 
--- the class of the throwable that ended thread 0, if one did
-abbrev pub uncaught_in : List ThreadState → Option ℕ
-uncaught_in [] = None
-uncaught_in (s ∷ ss) = s.uncaught
+-- whether thread t was started and hasn't ended
+abbrev pub is_live : List ThreadState → ℕ → Bool
+is_live states t = lives (slice_get states t)
 
--- starting a thread isn't built yet
-abbrev pub is_built : Request Ref Item → Bool
-is_built (ask.Start from thread) = false
-is_built request = true
+-- The counts of the threads' turns after an event of thread t: its turn is counted as it begins, and goes on while its
+-- request isn't answered.
+abbrev pub turns_after : Option (Request Ref Item) → ℕ → List ℕ → List ℕ
+turns_after None t turns = slice_set turns t (next_count (slice_index turns t))
+turns_after (Some request) t turns = turns
 
--- the count of turns: one more where the thread lives
-abbrev pub turns_after : Bool → ℕ → ℕ
-turns_after true turns = next_count turns
-turns_after false turns = turns
+-- what thread t asks next: the request that isn't answered, or that of its next turn
+abbrev pub asks_next : Setting Native Ref (NativeState Ref) Item → Option (Request Ref Item) → ThreadFrames
+    → Option (Request Ref Item)
+asks_next x None fs = (turn x fs).asks
+asks_next x (Some request) fs = Some request
 
--- ---- a turn may come
+-- ---- an event may come
 
 -- Whatever array a thread asks to make in a plain run of the launch, its shape is one of the directory's.
 abbrev pub AsksListed : Opening → Machine → Type 0
@@ -63,16 +62,33 @@ AsksListed o m = (acts : List Recorded) (shown : Shown) (rest : Rest) (threads :
     (fs : ThreadFrames) (from : At) (shape : ℕ) (count : ℤ) → StandsFor o.launch acts shown rest threads
     → IsAsking o.launch rest threads t fs (ask.NewArray from shape count) → IsListed o m shape
 
--- A turn may come: of this opening, by the class set and the setting of its launch. The machine with these
--- frames goes on as the plain run does, and its thread is about nothing yet.
+-- The frames of a thread now, which had these before its turn: the same where its next turn is to begin. While a request
+-- isn't answered they are as the turn left them, and wait for the reply.
+abbrev pub HaveTurned : Setting Native Ref (NativeState Ref) Item → (asked : Option (Request Ref Item))
+    → (before now : ThreadFrames) → Type 0
+HaveTurned x None before now = now ≡ before
+HaveTurned x (Some request) before now = (now ≡ (turn x before).frames) × WaitsAfter request now
+
+-- Thread t has such frames, of the program.
+pub record HasFrames (x : Setting Native Ref (NativeState Ref) Item) (asked : Option (Request Ref Item))
+    (frames : List ThreadFrames) (t : ℕ) (before : ThreadFrames) : Type 0 where
+  pub now : ThreadFrames
+  pub there : slice_get frames t ≡ Some now
+  pub of : AreOf x.program now.frames
+  pub turned : HaveTurned x asked before now
+
+-- An event may come of each live thread: of this opening, by the class set and the setting of its launch. With the frames that
+-- the threads had before the turns that aren't done yet, the machine goes on as the plain run does.
 pub record IsReady (o : Opening) (first : ℕ) (set : SetFacts) (x : Setting Native Ref (NativeState Ref) Item)
-    (s : Shared) (fs : ThreadFrames) : Type 0 where
+    (s : Shared) (frames : List ThreadFrames) : Type 0 where
   pub facts : set ≡ o.launch.set
   pub setting : x ≡ setting_of o.launch
   pub table : List Entry
-  pub running : IsRunning o first s table fs
-  pub of : AreOf o.launch.program fs.frames
-  pub idle : doing_of s.machine 0 ≡ Nothing
+  pub threads : List ThreadFrames
+  pub running : IsRunning o first s table threads
+  pub own : (t : ℕ) (before : ThreadFrames) → slice_get threads t ≡ Some before
+      → HasFrames x (asked_by s.notes t) frames t before
+  pub many : length frames ≡ 64
   pub arrays : AsksListed o s.machine
 
 -- ---- how it ends
@@ -90,46 +106,20 @@ abbrev pub HasEnded : Opening → ℕ → Machine → Ending → Type 0
 HasEnded o first m ending = EndsAs o.launch.set o.launch.main o.launch.opening (plain_code o.launch)
     o.launch.limits (lines_from m first) m.acts ending
 
--- its thread's event meets this fault
+-- some thread's event meets this fault
 abbrev pub HasMet : Opening → ℕ → Machine → RunFault → Type 0
-HasMet o first m f = IsEndedBy o.launch (lines_from m first) m.acts 0 f
+HasMet o first m f = (t : ℕ) × IsEndedBy o.launch (lines_from m first) m.acts t f
 
--- Thread 0 asks, after this plain run, what isn't built yet.
-pub record AsksUnbuilt (o : Opening) (m : Machine) : Type 0 where
-  pub frames : ThreadFrames
-  pub stands : StandsFor o.launch m.acts (shown_in m) m.rest (frames ∷ [])
-  pub request : Request Ref Item
-  pub asks : IsAsking o.launch m.rest (frames ∷ []) 0 frames request
-  pub unbuilt : is_built request ≡ false
+-- how a run ends of which all threads have ended: by the least one that a throwable ended, with its class, if one did
+abbrev pub ending_of : Option (ℕ × ℕ) → Ending
+ending_of None = Finished
+ending_of (Some thrown) = Uncaught thrown.0 thrown.1
 
--- The acts are a plain run, which ends as the last turn says; or its thread asks what isn't built yet.
-abbrev pub EndsBy : Opening → ℕ → Turned → Shared → Type 0
-EndsBy o first Acted s = ⊥
+-- The acts are a plain run, which ends so.
+abbrev pub EndsBy : Opening → ℕ → RunEnd → Shared → Type 0
 EndsBy o first (Ended uncaught) s = HasRun o s × HasEnded o first s.machine (ending_of uncaught)
-EndsBy o first (Over halt) s = HasRun o s × HasMet o first s.machine (fault_of_halt halt)
-EndsBy o first Unbuilt s = HasRun o s × AsksUnbuilt o s.machine
+EndsBy o first (Over f) s = HasRun o s × HasMet o first s.machine f
 
--- ---- what a turn leaves
-
--- The thread did what it asked, by one act or more, and a turn may come again. Or the run ends so: by a
--- fault, maybe
--- after acts of persistence in this turn; or else nothing was changed.
-abbrev pub TurnsTo : Opening → ℕ → SetFacts → Setting Native Ref (NativeState Ref) Item → Shared → Turned
-    → Shared → ThreadFrames → Type 0
-TurnsTo o first set x old Acted new fs =
-    IsReady o first set x new fs × (length old.history.acts < length new.history.acts)
-TurnsTo o first set x old (Over halt) new fs = EndsBy o first (Over halt) new
-TurnsTo o first set x old turned new fs = (new ≡ old) × EndsBy o first turned new
-
-abbrev pub is_acted : Turned → Bool
-is_acted Acted = true
-is_acted other = false
-
--- it isn't Acted
-abbrev pub IsFinal : Turned → Type 0
-IsFinal Acted = ⊥
-IsFinal other = Unit {0}
-
-abbrev pub fault_in : Turned → Option RunFault
-fault_in (Over halt) = Some (fault_of_halt halt)
-fault_in other = None
+abbrev pub fault_in : RunEnd → Option RunFault
+fault_in (Ended uncaught) = None
+fault_in (Over f) = Some f

@@ -1,15 +1,19 @@
-//! The run of a program over a heap whose objects are made durable: the frames of its one thread,
-//! and the events by which what they ask is done.
+//! The run of a program over a heap whose objects are made durable: the frames of its threads, and
+//! the events by which what they ask is done.
 #![tactic(auto)]
 
 mod events;
 mod parts;
+mod passes;
 mod quick;
 mod run;
 mod runs;
-mod turns;
+mod steps;
 
-pub use machine::{SharedHeap, each_stop_is_allowed, events_keep_lines, lines_stay_unwritten};
+pub use machine::{
+    SharedHeap, each_stop_is_allowed, events_keep_lines, lines_stay_unwritten, others_keep_theirs,
+};
+pub use parts::is_live;
 pub use run::Run;
-pub use runs::run_thread;
-pub use turns::{Turned, turn};
+pub use runs::{RunEnd, run_threads};
+pub use steps::{Stepped, step};

@@ -1,38 +1,115 @@
 // Whole runs.
-ghost use Rattle.std.specs.Prelude.{◌≡◌, ℕ};
+ghost use Rattle.std.specs.Prelude.{◌≡◌, ◌≢◌, ◌≤◌, ◌<◌, ℕ, None, length, slice_index_or, slice_set};
 ghost use Rattle.machine_forms.specs.Machines.{Opening, memory_of};
+ghost use Rattle.machine.specs.declared.events.Halt.TheVariants.{Stuck};
+ghost use Rattle.machine.specs.Halts.{fault_of_halt};
+ghost use Rattle.durable_run.specs.Passes.{PassesTo, fault_of_pass};
 ghost use Rattle.durable_run.specs.Telling.{HasTold, IsCaused};
-ghost use Rattle.durable_run.specs.Turning.{EndsBy, IsReady, fault_in, is_acted};
+ghost use Rattle.durable_run.specs.Turning.{EndsBy, IsReady, fault_in};
 
+use crate::parts::first_uncaught;
+use crate::passes::{Pass, pass_over};
 use crate::run::Run;
-use crate::turns::{Turned, turn};
-use ap_base::{Gate, Item, Ref, Sink};
+use ap_base::{Gate, Item, Ref, Sink, ThreadNo};
 use frame_thread::Host;
 use line_image::Image;
+use machine::{Halt, SharedHeap};
 use natives::{Native, NativeState};
 use run_history::Watcher;
+use run_types::{On, RunFault, Waits};
 use shared_objects::Types;
 
-fn is_acted(turned: &Turned) -> bool
-    ensures { result ≡ is_acted turned.now }
-{
-    matches!(turned, Turned::Acted)
+/// How a run ended.
+#[derive(Drop)]
+pub enum RunEnd {
+    /// All threads have ended, and this is the least one that a throwable ended, with the throwable's class, if one did.
+    Ended(Option<(ThreadNo, u32)>),
+    /// It was over by this fault.
+    Over(RunFault),
 }
 
-/// Turns of the thread until it has ended, or asks what isn't built, or the run is over. Never
-/// `Acted`. As each turn does an act or is the last one, the limit of acts bounds them.
-pub fn run_thread<
+// Notes what a thread waits for, if it does.
+fn note(waits: &mut Waits, t: ThreadNo, on: Option<On>)
+    requires { slice_index_or waits.old t None ≡ None }
+    ensures { waits.new ≡ slice_set waits.old t on }
+{
+    if let Some(on) = on {
+        waits.set(t, on);
+    }
+}
+
+// What the last event of each thread waited for.
+fn waits_of<I: Image>(heap: &SharedHeap<I>) -> Waits
+    requires { length heap.now.notes.waits ≡ 64 }
+    ensures { result ≡ heap.now.notes.waits }
+{
+    let mut waits = Waits::none();
+    for n in 0..64 {
+        let t = ThreadNo::new(n).unwrap();
+        note(&mut waits, t, heap.waiting(t));
+    }
+    waits
+}
+
+// The fault by which a run is over that an event ends so.
+fn fault_of<I: Image>(heap: &SharedHeap<I>, halt: Halt) -> RunFault
+    requires stuck { halt ≡ Stuck → length heap.now.notes.waits ≡ 64 }
+    ensures { result ≡ fault_of_halt heap.now halt }
+{
+    match halt {
+        Halt::Met(fault) => fault.of_run(),
+        Halt::Stuck => RunFault::Stuck(waits_of(heap)),
+    }
+}
+
+// Passes up to one in which an act was made, or the last one.
+fn next_act<
     C: Types,
     I: Image,
     H: Host<Native, Ref, NativeState, Item>,
     S: Sink,
     G: Gate,
     W: Watcher,
->(run: &mut Run<I, S, W>, set: &C, host: &H, gate: &G) -> Turned
+>(run: &mut Run<I, S, W>, set: &C, host: &H, gate: &G) -> Pass
     requires ready { (o : Opening) × (first : ℕ)
-        × IsReady o first (C.facts set.now) (H.setting host.now) run.old.heap run.old.frames }
+        × IsReady o first (C.facts set.now) (H.setting host.now) run.old.heap run.old.frames.items }
+    ensures goes { (o : Opening) (first : ℕ)
+        → IsReady o first (C.facts set.now) (H.setting host.now) run.old.heap run.old.frames.items
+        → PassesTo o first (C.facts set.now) (H.setting host.now) result run.new.heap run.new.frames.items }
+    ensures told { HasTold run.old.heap.history.acts run.new.heap.history.acts
+        (W.seen run.old.watcher) (W.seen run.new.watcher)
+        (S.taken run.old.sink) (S.taken run.new.sink) }
+    ensures cause { IsCaused (fault_of_pass run.new.heap result) (S.faults run.old.sink) (S.faults run.new.sink)
+        (memory_of run.old.heap.machine).faults (memory_of run.new.heap.machine).faults }
+    ensures full { run.old.heap.history.limit ≤ length run.old.heap.history.acts → result ≢ Pass.Went }
+    ensures acts { result ≡ Pass.Went → length run.old.heap.history.acts < length run.new.heap.history.acts }
+{
+    let before = run.heap.acts().len();
+    'passes: loop {
+        match pass_over(run, set, host, gate) {
+            Pass::Went => {}
+            last => return last,
+        }
+        if run.heap.acts().len() > before {
+            return Pass::Went;
+        }
+    }
+}
+
+/// Passes over the threads until none lives or the run is over. As each act is one of those that the history may have, and a pass
+/// without one leaves less to do, that comes.
+pub fn run_threads<
+    C: Types,
+    I: Image,
+    H: Host<Native, Ref, NativeState, Item>,
+    S: Sink,
+    G: Gate,
+    W: Watcher,
+>(run: &mut Run<I, S, W>, set: &C, host: &H, gate: &G) -> RunEnd
+    requires ready { (o : Opening) × (first : ℕ)
+        × IsReady o first (C.facts set.now) (H.setting host.now) run.old.heap run.old.frames.items }
     ensures ends { (o : Opening) (first : ℕ)
-        → IsReady o first (C.facts set.now) (H.setting host.now) run.old.heap run.old.frames
+        → IsReady o first (C.facts set.now) (H.setting host.now) run.old.heap run.old.frames.items
         → EndsBy o first result run.new.heap }
     ensures told { HasTold run.old.heap.history.acts run.new.heap.history.acts
         (W.seen run.old.watcher) (W.seen run.new.watcher)
@@ -41,11 +118,12 @@ pub fn run_thread<
         (memory_of run.old.heap.machine).faults (memory_of run.new.heap.machine).faults }
     ensures size { (memory_of run.new.heap.machine).size ≡ (memory_of run.old.heap.machine).size }
 {
-    'turns: while !run.heap.is_full() {
-        let turned = turn(run, set, host, gate);
-        if !is_acted(&turned) {
-            return turned;
+    machine::machines_finish_with_their_threads();
+    'acts: loop {
+        match next_act(run, set, host, gate) {
+            Pass::Went => {}
+            Pass::Ended => return RunEnd::Ended(first_uncaught(run.heap.threads())),
+            Pass::Over(halt) => return RunEnd::Over(fault_of(&run.heap, halt)),
         }
     }
-    turn(run, set, host, gate)
 }

@@ -1,13 +1,10 @@
 -- The plan of a request, and its step.
-use Rattle.std.proofs.Common.{◌≡◌, ℕ, ◌-◌, ◌<◌, ◌≤◌, ◌^◌, List, [], ◌∷◌, length, Option, Some, None, refl, sym, ap, subst}
-use Rattle.std.proofs.Common.{arith}
+use Rattle.std.proofs.Common.{◌≡◌, ℕ, ◌<◌, ◌^◌, List, length, Option, Some, None, refl, sym, subst}
 use Rattle.std.specs.Prelude.{IsSome}
 use Rattle.ap_base.specs.declared.reference.Ref.{Ref}
 use Rattle.ap_base.specs.declared.reference.Item.{Item}
-use Rattle.run_types.specs.declared.fault.Which.TheVariants as which
 use Rattle.natives.specs.declared.requests.Request.{Request}
 use Rattle.plain_model.specs.Facts.{SetFacts}
-use Rattle.plain_model.specs.Ends.{full}
 use Rattle.step_forms.specs.declared.stepped.Stepped.{Stepped}
 use Rattle.step_forms.specs.Becomes.{IsNoStore, given}
 use Rattle.step_forms.specs.Follows.{Agrees}
@@ -15,78 +12,77 @@ use Rattle.shared_steps.specs.Output.{FaultsGo, OutputGoes, SharesGo}
 use Rattle.run_forms.specs.Views.{ThreadFrames}
 use Rattle.twin_forms.specs.Table.{Entry}
 use Rattle.region_log.specs.declared.entry.Underway.TheVariants.{Nothing as Idle}
-use Rattle.machine_forms.specs.Machines.{Opening, doing_of, log_of, memory_of, shown_in}
-use Rattle.machine_laws.specs.Frames.{IsReady}
+use Rattle.machine_forms.specs.Machines.{Opening, doing_of, log_of, shown_in}
+use Rattle.machine_threads.specs.Passed.{IsReady}
 use Rattle.object_steps.specs.declared.storing.Store.{Store}
 use Rattle.shared_heap.specs.Shared.{Shared}
 use Rattle.shared_heap.specs.Requests.{IsPlannedFor, MayRequest, StepsTo}
 use Rattle.machine.specs.declared.events.Event.{Event}
 use Rattle.machine.specs.Ended.{ComesTo, HasPlanned, HasSomePlanned, IsOutside, Serves, StoreComesTo, event_of}
-use Rattle.machine.specs.Events.{Comes, HasSinkCause, IsOver, SparesSink}
+use Rattle.machine.specs.Events.{Comes, HasSinkCause, SparesSink}
 use Rattle.machine.specs.Laws.{Laws}
 use Rattle.machine.specs.Running.{IsDue}
 use Rattle.machine.proofs.Given.{agrees-now, may-ask}
-use Rattle.machine.proofs.Leaving.{lives}
+use Rattle.machine.proofs.Starting.{HasNotes}
 use Rattle.machine.proofs.Printing.{spares-cause, spares-output, spares-share}
 use Rattle.machine.proofs.Stepping.{stepped-cause, stepped-comes, stepped-share, stepped-told}
 
 -- an event is due of some run of this set, for this request
-abbrev pub IsDueFor : SetFacts → Shared → Request Ref Item → Type 0
-IsDueFor set s request = (o : Opening) × (first : ℕ) × (es : List Entry) × (fs : ThreadFrames)
-    × IsDue o first set s es fs request
+abbrev pub IsDueFor : SetFacts → Shared → ℕ → Request Ref Item → Type 0
+IsDueFor set s t request = (o : Opening) × (first : ℕ) × (es : List Entry) × (threads : List ThreadFrames)
+    × (fs : ThreadFrames) × IsDue o first set s es threads t fs request
 
 pub some-of : {X : Type 0} (o : Option X) → (o ≡ None → ⊥) → IsSome o
 some-of None none = absurd (none refl)
 some-of (Some x) none = refl
 
-module _ (laws : Laws) (set : SetFacts) (s : Shared) (request : Request Ref Item)
-    (ready : IsReady (doing_of s.machine 0)) where
+module _ (laws : Laws) (set : SetFacts) (s : Shared) (t : ℕ) (request : Request Ref Item)
+    (ready : IsReady (doing_of s.machine t)) where
   -- ---- what is given
 
-  pub agrees-at : (now : Shared) → now ≡ s → IsDueFor set s request → (count : ℕ) → count < 4294967296
+  pub agrees-at : (now : Shared) → now ≡ s → IsDueFor set s t request → (count : ℕ) → count < 4294967296
       → count ≡ length s.history.acts → Agrees set (shown_in now.machine) now.machine.rest
-  agrees-at now same (o, first, es, fs, due) count few is =
+  agrees-at now same (o, first, es, threads, fs, due) count few is =
       subst (λ (x : Shared). Agrees set (shown_in x.machine) x.machine.rest) (sym same)
-      (agrees-now laws o first set s es fs request due (subst (λ n. n < 2 ^ 32) is few))
+      (agrees-now laws o first set s es threads t fs request due (subst (λ n. n < 2 ^ 32) is few))
 
-  pub may-at : (now : Shared) → now ≡ s → (t : ℕ) → t ≡ 0 → IsDueFor set s request
-      → MayRequest set now.machine t request
-  may-at now same t zero (o, first, es, fs, due) =
+  pub may-at : (now : Shared) → now ≡ s → IsDueFor set s t request → MayRequest set now.machine t request
+  may-at now same (o, first, es, threads, fs, due) =
       subst (λ (x : Shared). MayRequest set x.machine t request) (sym same)
-      (subst (λ u. MayRequest set s.machine u request) (sym zero)
-      (may-ask laws o first set s es fs request due ready))
+      (may-ask laws o first set s es threads t fs request due ready)
 
   -- ---- a store
 
-  module _ (now : Shared) (store : Store) (t : ℕ) (zero : t ≡ 0) (same : now ≡ s)
-      (idle : (log_of s.machine 0).underway ≡ Idle) (planned : IsPlannedFor set t request store s)
+  module _ (now : Shared) (store : Store) (same : now ≡ s)
+      (idle : (log_of s.machine t).underway ≡ Idle) (planned : IsPlannedFor set t request store s)
       (gives : given request ≡ None → ⊥) where
-    has-planned : (o : Opening) (first : ℕ) (es : List Entry) (fs : ThreadFrames)
-        → IsDue o first set s es fs request → HasPlanned o first set now es fs request store
-    has-planned o first es fs due =
-        subst (λ (x : Shared). HasPlanned o first set x es fs request store) (sym same) (record {
+    has-planned : (o : Opening) (first : ℕ) (es : List Entry) (threads : List ThreadFrames) (fs : ThreadFrames)
+        → IsDue o first set s es threads t fs request → HasPlanned o first set now es threads t fs request store
+    has-planned o first es threads fs due =
+        subst (λ (x : Shared). HasPlanned o first set x es threads t fs request store) (sym same) (record {
           due = due;
           ready = ready;
           idle = idle;
-          planned = subst (λ u. IsPlannedFor set u request store s) zero planned;
+          planned = planned;
           gives = some-of (given request) gives;
         })
 
-    pub some-planned : IsDueFor set s request → HasSomePlanned now store
-    some-planned (o, first, es, fs, due) = (o, first, set, es, fs, request, has-planned o first es fs due)
+    pub some-planned : IsDueFor set s t request → HasSomePlanned now t store
+    some-planned (o, first, es, threads, fs, due) =
+        (o, first, set, es, threads, fs, request, has-planned o first es threads fs due)
 
-    module _ (new : Shared) (result : Event) (x : StoreComesTo store result now new) where
-      from-start : StoreComesTo store result s new
-      from-start = subst (λ (y : Shared). StoreComesTo store result y new) same x
+    module _ (new : Shared) (result : Event) (x : StoreComesTo t store result now new) where
+      from-start : StoreComesTo t store result s new
+      from-start = subst (λ (y : Shared). StoreComesTo t store result y new) same x
 
-      store-comes : (o : Opening) (first : ℕ) (es : List Entry) (fs : ThreadFrames)
-          → IsDue o first set s es fs request → Comes o first fs request result s new
-      store-comes o first es fs due = from-start.comes o first set es fs request
-          (subst (λ (y : Shared). HasPlanned o first set y es fs request store) same
-          (has-planned o first es fs due))
+      store-comes : (o : Opening) (first : ℕ) (es : List Entry) (threads : List ThreadFrames) (fs : ThreadFrames)
+          → IsDue o first set s es threads t fs request → Comes o first es threads t fs request result s new
+      store-comes o first es threads fs due = from-start.comes o first set es threads fs request
+          (subst (λ (y : Shared). HasPlanned o first set y es threads t fs request store) same
+          (has-planned o first es threads fs due))
 
       pub store-serves : (takes : ℕ → Option ℕ) (taken : Option (List ℕ)) (faults : ℕ)
-          → Serves set request result s new takes taken taken faults faults
+          → Serves set t request result s new takes taken taken faults faults
       store-serves takes taken faults = record {
         comes = store-comes;
         told = spares-output result s.history.acts new.history.acts taken from-start.sink;
@@ -96,79 +92,60 @@ module _ (laws : Laws) (set : SetFacts) (s : Shared) (request : Request Ref Item
 
   -- ---- a step
 
-  module _ (room : length s.history.acts < s.history.limit) (now new : Shared) (result : Stepped) (t : ℕ)
-      (zero : t ≡ 0) (same : now ≡ s) (x : StepsTo set t request result now new) (none : IsNoStore result)
-      (idle : (log_of s.machine 0).underway ≡ Idle) (outside : IsOutside (log_of s.machine 0).depth request)
-      (event : Event) (is_event : event ≡ event_of request result) where
-    steps : StepsTo set 0 request result s new
-    steps = subst (λ (y : Shared). StepsTo set 0 request result y new) same
-        (subst (λ u. StepsTo set u request result now new) zero x)
+  module _ (room : length s.history.acts < s.history.limit) (now new : Shared) (result : Stepped)
+      (same : now ≡ s) (x : StepsTo set t request result now new) (none : IsNoStore result)
+      (idle : (log_of s.machine t).underway ≡ Idle) (outside : IsOutside (log_of s.machine t).depth request)
+      (event : Event) (is_event : event ≡ event_of request result) (notes : HasNotes request new) where
+    steps : StepsTo set t request result s new
+    steps = subst (λ (y : Shared). StepsTo set t request result y new) same x
 
-    step-comes : (o : Opening) (first : ℕ) (es : List Entry) (fs : ThreadFrames)
-        → IsDue o first set s es fs request → Comes o first fs request event s new
-    step-comes o first es fs due = subst (λ e. Comes o first fs request e s new) (sym is_event)
-        (stepped-comes laws o first set s es fs request due room ready new idle outside result steps none)
+    step-comes : (o : Opening) (first : ℕ) (es : List Entry) (threads : List ThreadFrames) (fs : ThreadFrames)
+        → IsDue o first set s es threads t fs request → Comes o first es threads t fs request event s new
+    step-comes o first es threads fs due = subst (λ e. Comes o first es threads t fs request e s new) (sym is_event)
+        (stepped-comes laws o first set s es threads t fs request due room ready new idle outside notes result steps none)
 
-    pub step-serves : IsDueFor set s request → (takes : ℕ → Option ℕ) (taken taken' : Option (List ℕ))
+    pub step-serves : IsDueFor set s t request → (takes : ℕ → Option ℕ) (taken taken' : Option (List ℕ))
         (faults faults' : ℕ) → OutputGoes request taken result taken' → SharesGo request takes result
         → FaultsGo request faults result faults'
-        → Serves set request event s new takes taken taken' faults faults'
-    step-serves (o, first, es, fs, due) takes taken taken' faults faults' put share go = record {
+        → Serves set t request event s new takes taken taken' faults faults'
+    step-serves (o, first, es, threads, fs, due) takes taken taken' faults faults' put share go = record {
       comes = step-comes;
-      told = stepped-told laws o first set s es fs request due room ready new result steps none taken taken' put;
-      share = stepped-share laws o first set s es fs request due room ready new result steps none takes share;
+      told = stepped-told laws o first set s es threads t fs request due room ready new result steps none taken taken'
+          put;
+      share = stepped-share laws o first set s es threads t fs request due room ready new result steps none takes share;
       cause = subst (λ e. HasSinkCause e faults faults') (sym is_event)
-          (stepped-cause laws o first set s es fs request due room ready new result steps none faults faults' go);
+          (stepped-cause laws o first set s es threads t fs request due room ready new result steps none faults faults'
+          go);
     }
 
 -- ---- an event that has no part in the sink
 
-pub spared-serves : (set : SetFacts) (s new : Shared) (request : Request Ref Item) (result : Event)
-    → ((o : Opening) (first : ℕ) (es : List Entry) (fs : ThreadFrames) → IsDue o first set s es fs request
-    → Comes o first fs request result s new)
+pub spared-serves : (set : SetFacts) (s new : Shared) (t : ℕ) (request : Request Ref Item) (result : Event)
+    → ((o : Opening) (first : ℕ) (es : List Entry) (threads : List ThreadFrames) (fs : ThreadFrames)
+    → IsDue o first set s es threads t fs request
+    → Comes o first es threads t fs request result s new)
     → SparesSink result s.history.acts new.history.acts
     → (takes : ℕ → Option ℕ) (taken : Option (List ℕ)) (faults : ℕ)
-    → Serves set request result s new takes taken taken faults faults
-spared-serves set s new request result comes spares takes taken faults = record {
+    → Serves set t request result s new takes taken taken faults faults
+spared-serves set s new t request result comes spares takes taken faults = record {
   comes = comes;
   told = spares-output result s.history.acts new.history.acts taken spares;
   share = spares-share result s.history.acts new.history.acts request takes spares;
   cause = spares-cause result faults spares.fault;
 }
 
-pub comes-serves : (set : SetFacts) (s new : Shared) (request : Request Ref Item) (result : Event)
-    → ComesTo result s new → (takes : ℕ → Option ℕ) (taken : Option (List ℕ)) (faults : ℕ)
-    → Serves set request result s new takes taken taken faults faults
-comes-serves set s new request result x = spared-serves set s new request result
-    (λ o first es fs due. x.comes o first set es fs request due) x.sink
+pub comes-serves : (set : SetFacts) (s new : Shared) (t : ℕ) (request : Request Ref Item) (result : Event)
+    → ComesTo t result s new → (takes : ℕ → Option ℕ) (taken : Option (List ℕ)) (faults : ℕ)
+    → Serves set t request result s new takes taken taken faults faults
+comes-serves set s new t request result x = spared-serves set s new t request result
+    (λ o first es threads fs due. x.comes o first set es threads fs request due) x.sink
 
 -- the sink was left alone
-pub serves-as : (set : SetFacts) (s new : Shared) (request : Request Ref Item) (result event : Event)
+pub serves-as : (set : SetFacts) (s new : Shared) (t : ℕ) (request : Request Ref Item) (result event : Event)
     (takes : ℕ → Option ℕ) (taken taken' : Option (List ℕ)) (faults faults' : ℕ)
-    → Serves set request result s new takes taken taken faults faults → event ≡ result → taken' ≡ taken
-    → faults' ≡ faults → Serves set request event s new takes taken taken' faults faults'
-serves-as set s new request result event takes taken taken' faults faults' x is same_taken same_faults =
-    subst (λ e. Serves set request e s new takes taken taken' faults faults') (sym is)
-    (subst (λ t. Serves set request result s new takes taken t faults faults') (sym same_taken)
-    (subst (λ n. Serves set request result s new takes taken taken faults n) (sym same_faults) x))
-
--- ---- a full history
-
-pub full-over : (laws : Laws) (o : Opening) (first : ℕ) (set : SetFacts) (s : Shared) (es : List Entry)
-    (fs : ThreadFrames) (request : Request Ref Item) → IsDue o first set s es fs request
-    → s.history.limit ≤ length s.history.acts → IsOver o first (full which.Acts 1 0) s s fs
-full-over laws o first set s es fs request due enough = record {
-  es = es;
-  keeps = due.running.keeps;
-  plain = due.running.plain;
-  history = refl;
-  acts = refl;
-  ends = laws.ends.full o s.machine es (fs ∷ []) due.running.keeps due.running.plain
-      ((memory_of s.machine).size - first) 0 fs (lives laws o first set s es fs request due)
-      (let same = ap length due.running.acts in let limit = due.running.limit in omega (
-        arith,
-        enough,
-        same,
-        limit,
-      ));
-}
+    → Serves set t request result s new takes taken taken faults faults → event ≡ result → taken' ≡ taken
+    → faults' ≡ faults → Serves set t request event s new takes taken taken' faults faults'
+serves-as set s new t request result event takes taken taken' faults faults' x is same_taken same_faults =
+    subst (λ e. Serves set t request e s new takes taken taken' faults faults') (sym is)
+    (subst (λ put. Serves set t request result s new takes taken put faults faults') (sym same_taken)
+    (subst (λ n. Serves set t request result s new takes taken taken faults n) (sym same_faults) x))

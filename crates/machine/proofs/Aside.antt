@@ -30,7 +30,7 @@ use Rattle.converter.specs.Stepping.{keys_of, key_words}
 use Rattle.converter.proofs.Calling.{key_cons}
 use Rattle.machine_forms.specs.Machines.{Opening, Machine, roots_in, scene_of, shown_in}
 use Rattle.machine_forms.specs.Keeping.{KeepsRun, KeepsHeap, KeepsWorld, KeepsAsked}
-use Rattle.machine_laws.specs.Frames.{RunsAsPlain}
+use Rattle.machine_threads.specs.Passed.{RunsAsPlain}
 
 -- ---- keys of monitors
 
@@ -166,6 +166,11 @@ module _ (o : Opening) (m : Machine) (es : List Entry) (k : KeepsRun o m es) (re
       apart = k.asked.regions.apart;
     };
   }
+
+  -- the scene agrees with each table with which it agreed
+  pub agrees-aside : (table : List Entry) → AgreesAt (scene_of m) table → AgreesAt (scene_of aside) table
+  agrees-aside table agrees = rekeyed_agrees (scene_of m) (keys_of rest.monitors) table
+      (all_resolved m.spaces table agrees.lies rest.monitors known) agrees
 
   pub keeps-aside : KeepsRun o aside es
   keeps-aside = record { heap = heap; world = world; asked = asked; stops = k.stops }

@@ -1,13 +1,12 @@
 -- Small facts about options, lists and what threads are about.
-use Rattle.std.proofs.Common.{◌≡◌, inl, inr, ℕ, ◌<◌, Bool, true, false, List, [], ◌∷◌, ◌++◌, length, Option, Some, None, sym}
-use Rattle.std.proofs.Common.{◌∙◌, ap, arith}
-use Rattle.std.proofs.lemmas.Bool.{cases_lt}
+use Rattle.std.proofs.Common.{◌≡◌, ℕ, ◌<◌, List, [], ◌∷◌, ◌++◌, length, Option, Some, None, ap, arith}
 use Rattle.std.specs.Prelude.{slice_index_or, slice_set}
 use Rattle.std.proofs.lemmas.List.{get_or-set_same, set-get_or, length-append}
 use Rattle.run_history.specs.Recorded.{History}
 use Rattle.machine_forms.specs.declared.doing.Doing.{Doing}
 use Rattle.machine_forms.specs.declared.doing.Doing.TheVariants.{Nothing}
 use Rattle.machine_forms.specs.Machines.{Machine}
+use Rattle.shared_heap.specs.Notes.{ThreadNotes}
 use Rattle.shared_heap.specs.Shared.{Shared}
 
 pub no-some : {X : Type 0} {P : Type 0} (v : X) → ◌≡◌ {A = Option X} None (Some v) → P
@@ -24,27 +23,20 @@ not-longer xs x e = absurd (let long = ap length e in let one = length-append xs
   one,
 ))
 
--- what isn't more than none is none
-pub none-of : (b : Bool) (n : ℕ) → b ≡ false → (0 < n → b ≡ true) → n ≡ 0
-none-of b n is some = elim (cases_lt 0 n) [
-  | inl below ↦ absurd (let no : false ≡ true = sym is ∙ some below in cc)
-  | inr past ↦ omega (arith, past)
-]
-
 -- ---- what the thread is about
 
-pub doing-set : (ds : List Doing) (d : Doing) → length ds ≡ 64
-    → slice_index_or (slice_set ds 0 d) 0 Nothing ≡ d
-doing-set ds d long = get_or-set_same ds 0 d Nothing (omega (arith, long))
+pub doing-set : (ds : List Doing) (t : ℕ) (d : Doing) → t < 64 → length ds ≡ 64
+    → slice_index_or (slice_set ds t d) t Nothing ≡ d
+doing-set ds t d below long = get_or-set_same ds t d Nothing (omega (arith, below, long))
 
-pub doing-same : (ds : List Doing) → slice_set ds 0 (slice_index_or ds 0 Nothing) ≡ ds
-doing-same ds = set-get_or ds 0 Nothing
+pub doing-same : (ds : List Doing) (t : ℕ) → slice_set ds t (slice_index_or ds t Nothing) ≡ ds
+doing-same ds t = set-get_or ds t Nothing
 
 -- ---- shared heaps
 
 -- a shared heap by its parts
-pub shared-is : (s : Shared) (m : Machine) (h : History) (lines named : ℕ) → s.machine ≡ m → s.history ≡ h
-    → s.lines ≡ lines → s.named ≡ named
-    → s ≡ record { machine = m; history = h; lines = lines; named = named }
-shared-is s m h lines named machine history is_lines is_named =
-    λ i. record { machine = machine i; history = history i; lines = is_lines i; named = is_named i }
+pub shared-is : (s : Shared) (m : Machine) (h : History) (lines : ℕ) (notes : ThreadNotes) → s.machine ≡ m
+    → s.history ≡ h → s.lines ≡ lines → s.notes ≡ notes
+    → s ≡ record { machine = m; history = h; lines = lines; notes = notes }
+shared-is s m h lines notes machine history is_lines is_notes =
+    λ i. record { machine = machine i; history = history i; lines = is_lines i; notes = is_notes i }

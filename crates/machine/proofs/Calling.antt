@@ -1,6 +1,26 @@
 -- The write-back and the fence of a durable store, and calls of the image that fail.
-use Rattle.std.proofs.Common.{◌≡◌, inl, inr, ℕ, ◌-◌, ◌<◌, ◌≤◌, List, [], ◌∷◌, ◌++◌, length, refl, sym, ◌∙◌, ap, subst, arith}
-use Rattle.std.specs.Prelude.{IsSome}
+use Rattle.std.proofs.Common.{
+  ◌≡◌,
+  inl,
+  inr,
+  ℕ,
+  ◌-◌,
+  ◌<◌,
+  ◌≤◌,
+  List,
+  [],
+  ◌∷◌,
+  ◌++◌,
+  length,
+  refl,
+  sym,
+  ◌∙◌,
+  ap,
+  subst,
+  arith,
+}
+use Rattle.std.specs.Prelude.{IsSome, slice_set}
+use Rattle.std.proofs.lemmas.List.{append-nil, length-set}
 use Rattle.ap_base.specs.Causes.{Rose}
 use Rattle.ap_base.specs.declared.reference.Ref.{Ref}
 use Rattle.ap_base.specs.declared.reference.Item.{Item}
@@ -13,7 +33,9 @@ use Rattle.run_history.specs.declared.act.Op.TheVariants as op
 use Rattle.run_history.specs.Recorded.{History, Recorded, with_act}
 use Rattle.plain_model.specs.Facts.{SetFacts}
 use Rattle.step_forms.specs.Becomes.{given}
+use Rattle.run_forms.specs.Laws.{answered_threads}
 use Rattle.run_forms.specs.Views.{ThreadFrames}
+use Rattle.machine_threads.specs.Passed.{Begins, stored_frames}
 use Rattle.region_log.specs.declared.entry.Underway.{Underway}
 use Rattle.region_log.specs.declared.entry.Underway.TheVariants.{Nothing as Idle, Adding, Ending}
 use Rattle.twin_forms.specs.Table.{Entry}
@@ -24,25 +46,28 @@ use Rattle.shared_heap.specs.Shared.{Shared, Failed, TellsFence, Writes}
 use Rattle.machine.specs.declared.events.Event.TheVariants.{Did, Micro, Over}
 use Rattle.machine.specs.declared.events.Halt.TheVariants.{Met}
 use Rattle.machine.specs.Ended.{ComesTo}
-use Rattle.machine.specs.Events.{Comes, IsBroken, answered}
+use Rattle.machine.specs.Events.{Comes, IsBroken, SparesOthers}
 use Rattle.machine.specs.Laws.{Laws}
-use Rattle.machine.specs.Running.{AsksItsEnd, AsksSomeStore, IsDue, LagsByItsStore}
-use Rattle.machine.proofs.About.{IsIdle, about-idle}
+use Rattle.machine_threads.specs.Keeping.{AsksItsEnd, AsksSomeStore, KeepsThread, LagsByItsStore}
+use Rattle.machine.specs.Running.{IsDue, Runs}
 use Rattle.machine.proofs.Basics.{doing-set, shared-is, some-same}
 use Rattle.machine.proofs.Faults.{none-more}
-use Rattle.machine.proofs.Leaving.{few, goes-on, lives, same-room, happened}
+use Rattle.machine.proofs.Leaving.{AsksStill, Kept, as-set, as-they-were, few, goes-on, happened, lives, same-room}
 use Rattle.machine.proofs.Steps.{given-whole}
 use Rattle.machine_forms.specs.Happening as event
 
 module _ (laws : Laws) (o : Opening) (first : ℕ) (set : SetFacts) (s : Shared) (es : List Entry)
-    (fs : ThreadFrames) (request : Request Ref Item) (due : IsDue o first set s es fs request) where
+    (threads : List ThreadFrames) (t : ℕ) (fs : ThreadFrames) (request : Request Ref Item) (due : IsDue o first set s es threads t fs request) where
   -- ---- what the thread's own frames ask
 
-  lag-writing : (line : ℕ) → doing_of s.machine 0 ≡ Writing line → AsksSomeStore o.launch fs
-  lag-writing line is = subst (λ d. LagsByItsStore o.launch d fs) is due.running.lags
+  own : KeepsThread o s.machine es t fs
+  own = due.running.all.each t fs due.asks.frames
 
-  lag-fencing : doing_of s.machine 0 ≡ Fencing → AsksSomeStore o.launch fs
-  lag-fencing is = subst (λ d. LagsByItsStore o.launch d fs) is due.running.lags
+  lag-writing : (line : ℕ) → doing_of s.machine t ≡ Writing line → AsksSomeStore o.launch fs
+  lag-writing line is = subst (λ d. LagsByItsStore o.launch d fs) is own.lags
+
+  lag-fencing : doing_of s.machine t ≡ Fencing → AsksSomeStore o.launch fs
+  lag-fencing is = subst (λ d. LagsByItsStore o.launch d fs) is own.lags
 
   -- a turn that asks a store isn't one that broke
   whole : AsksSomeStore o.launch fs → IsBroken request → ⊥
@@ -60,50 +85,45 @@ module _ (laws : Laws) (o : Opening) (first : ℕ) (set : SetFacts) (s : Shared)
 
   -- ---- the write-back
 
-  module _ (new : Shared) (w : Writes 0 s new)
+  module _ (new : Shared) (w : Writes t s new)
       (later : (memory_of s.machine).faults ≤ (memory_of new.machine).faults) where
     abbrev written : Shared
     written = record {
-      machine = with_write s.machine w.twin 0;
+      machine = with_write s.machine w.twin t;
       history = s.history;
       lines = s.lines;
-      named = s.named;
+      notes = s.notes;
     }
 
     wrote-is : new ≡ written
-    wrote-is = shared-is new _ _ _ _ w.machine w.history w.lines w.named
+    wrote-is = shared-is new _ _ _ _ w.machine w.history w.lines w.notes
 
     wrote-now : (memory_of s.machine).faults ≤ w.twin.memory.faults
-        → Comes o first fs request Micro s written
+        → Comes o first es threads t fs request Micro s written
     wrote-now later_now =
-        let now = happened laws o first set s es fs request due (event.written w.twin w.wrote) [] refl tt in let kept = now.keeps in record {
+        let still : AsksStill o written.machine t fs = record {
+          lags = subst (λ d. LagsByItsStore o.launch d fs)
+              (sym (doing-set s.machine.doing t Fencing due.thread due.running.keeps.asked.threads))
+              (lag-writing w.wrote.line w.wrote.doing);
+          ends = own.ends;
+        } in
+        let now = happened laws o first set s es threads t fs request due (event.written w.twin w.wrote) [] due.asks.frames
+        tt tt (as-they-were laws o first set s es threads t fs request due written.machine still) in record {
           goes = record {
-            es = es;
-            running = goes-on o first s es fs due.running written es fs (record {
-              keeps = kept;
-              plain = now.plain;
-              taken = now.taken;
-              unwritten = now.unwritten;
-              names = record {
-                once = due.running.names.once;
-                those = due.running.names.those;
-                alone = due.running.names.alone;
-                count = due.running.names.count;
-              };
-              about = due.running.about;
-              lags = subst (λ d. LagsByItsStore o.launch d fs)
-                  (sym (doing-set s.machine.doing Fencing due.running.keeps.asked.threads))
-                  (lag-writing w.wrote.line w.wrote.doing);
-              ends = due.running.ends;
-              alone = due.running.alone;
+            after = es;
+            runs = goes-on laws o first set s es threads t fs request due written es threads (record {
+              kept = now;
+              many = due.running.many;
               lines = refl;
               acts = due.running.acts;
               limit = refl;
-              room = same-room o first s es fs due.running (with_write s.machine w.twin 0) es kept refl;
+              unnamed = due.running.unnamed;
+              room = same-room laws o first set s es threads t fs request due written es now.keeps refl refl refl;
               numbers = refl;
               unfaulted = due.running.unfaulted;
             });
-            threads = refl;
+            own = λ gs q asks. asks;
+            others = now.others;
           };
           acts = inl refl;
           calls = w.wrote.calls.count;
@@ -111,83 +131,101 @@ module _ (laws : Laws) (o : Opening) (first : ℕ) (set : SetFacts) (s : Shared)
           answers = tt;
           numbers = refl;
           quiet = λ micro same. (let less = laws.measure.writes o s.machine es due.running.keeps
-              due.running.unwritten w.twin 0 w.wrote in omega (arith, less));
+              due.running.unwritten w.twin t w.wrote in omega (arith, less));
+          waits = λ on no. absurd (let e = no in cc);
+          asks = refl;
+          noted = refl;
         }
 
-    pub wrote : Comes o first fs request Micro s new
-    wrote = subst (Comes o first fs request Micro s) (sym wrote-is)
+    pub wrote : Comes o first es threads t fs request Micro s new
+    wrote = subst (Comes o first es threads t fs request Micro s) (sym wrote-is)
         (wrote-now (subst (λ (x : Shared). (memory_of s.machine).faults ≤ (memory_of x.machine).faults)
         wrote-is
         later))
 
   -- ---- the fence
 
-  module _ (new : Shared) (f : TellsFence 0 s new) (room : length s.history.acts < s.history.limit)
+  module _ (new : Shared) (f : TellsFence t s new) (room : length s.history.acts < s.history.limit)
       (later : (memory_of s.machine).faults ≤ (memory_of new.machine).faults) where
     abbrev fence_act : Act
-    fence_act = record { thread = 0; at = f.twin.memory.calls; op = op.Fenced }
+    fence_act = record { thread = t; at = f.twin.memory.calls; op = op.Fenced }
 
     abbrev fence_recorded : Recorded
     fence_recorded = record { act = fence_act; named = [] }
 
     abbrev fenced_now : Shared
     fenced_now = record {
-      machine = with_fence s.machine f.twin 0;
+      machine = with_fence s.machine f.twin t;
       history = with_act s.history fence_act;
       lines = s.lines;
-      named = s.named;
+      notes = s.notes;
     }
 
     fenced-is : new ≡ fenced_now
-    fenced-is = shared-is new _ _ _ _ f.machine f.history f.lines f.named
+    fenced-is = shared-is new _ _ _ _ f.machine f.history f.lines f.notes
 
-    idle-now : doing_of (with_fence s.machine f.twin 0) 0 ≡ Nothing
-    idle-now = doing-set s.machine.doing Nothing due.running.keeps.asked.threads
+    idle-now : doing_of fenced_now.machine t ≡ Nothing
+    idle-now = doing-set s.machine.doing t Nothing due.thread due.running.keeps.asked.threads
+
+    abbrev answer_now : ThreadFrames
+    answer_now = stored_frames o.launch fs
+
+    fence-keeps : Kept o first t s.machine fenced_now.machine es es threads (slice_set threads t answer_now)
+    fence-keeps = happened laws o first set s es threads t fs request due (event.fenced f.twin f.made) [] due.asks.frames
+        tt tt (as-set laws o first set s es threads t fs request due fenced_now.machine answer_now (record {
+          lags = subst (λ d. LagsByItsStore o.launch d answer_now) (sym idle-now) tt;
+          ends = no-end (lag-fencing f.made.doing) (log_of s.machine t).underway own.ends answer_now;
+        }))
+
+    fence-runs : Runs o first fenced_now es (slice_set threads t answer_now)
+    fence-runs = goes-on laws o first set s es threads t fs request due fenced_now es (slice_set threads t answer_now)
+        (record {
+          kept = fence-keeps;
+          many = length-set threads t answer_now ∙ due.running.many;
+          lines = refl;
+          acts = ap (λ (xs : List Recorded). xs ++ fence_recorded ∷ []) due.running.acts;
+          limit = refl;
+          unnamed = due.running.unnamed;
+          room = same-room laws o first set s es threads t fs request due fenced_now es fence-keeps.keeps refl refl refl;
+          numbers = refl;
+          unfaulted = none-more o.launch s.machine.acts fence_recorded due.running.unfaulted (λ lines.
+              laws.ends.fences_meet o s.machine es threads due.running.keeps due.running.plain lines t
+              (inr f.made.doing) (few laws o first set s es threads t fs request due room));
+        })
+
+    -- a fence starts no thread
+    fence-begins : (begun : List ThreadFrames) → Begins o fenced_now.machine op.Fenced begun
+        → slice_set threads t answer_now ≡ answered_threads o.launch threads t fs reply.Done begun
+    fence-begins [] begins = sym (append-nil (slice_set threads t answer_now))
+    fence-begins (x ∷ xs) begins = absurd (let no = begins in cc)
 
     fenced-comes : (memory_of s.machine).faults ≤ f.twin.memory.faults
-        → Comes o first fs request (Did reply.Done) s fenced_now
-    fenced-comes later_now =
-        let now = happened laws o first set s es fs request due (event.fenced f.twin f.made) [] refl tt in let kept = now.keeps in
-        record {
-          goes = record {
-            es = es;
-            running = goes-on o first s es fs due.running fenced_now es _ (record {
-              keeps = kept;
-              plain = now.plain;
-              taken = now.taken;
-              unwritten = now.unwritten;
-              names = record {
-                once = due.running.names.once;
-                those = due.running.names.those;
-                alone = due.running.names.alone;
-                count = due.running.names.count;
-              };
-              about = about-idle o (with_fence s.machine f.twin 0) es kept (subst IsIdle (sym idle-now) tt);
-              lags = subst (λ d. LagsByItsStore o.launch d (answered o.launch fs reply.Done)) (sym
-                  idle-now) tt;
-              ends = no-end (lag-fencing f.made.doing) (log_of s.machine 0).underway due.running.ends _;
-              alone = due.running.alone;
-              lines = refl;
-              acts = ap (λ (xs : List Recorded). xs ++ fence_recorded ∷ []) due.running.acts;
-              limit = refl;
-              room = same-room o first s es fs due.running (with_fence s.machine f.twin 0) es kept refl;
-              numbers = refl;
-              unfaulted = none-more o.launch s.machine.acts fence_recorded due.running.unfaulted (λ lines.
-                  laws.ends.fences_meet o s.machine es (fs ∷ []) due.running.keeps due.running.plain lines 0
-                  (inr f.made.doing) (few laws o first set s es fs request due room));
-            });
-            idle = idle-now;
-          };
-          acts = record { act = fence_recorded; thread = refl; acts = refl };
-          calls = f.made.calls.count;
-          cause = later_now;
-          answers = whole (lag-fencing f.made.doing);
-          numbers = refl;
-          quiet = λ micro same. absurd (let no = micro in cc);
-        }
+        → Comes o first es threads t fs request (Did reply.Done) s fenced_now
+    fenced-comes later_now = record {
+      goes = record {
+        after = es;
+        act = fence_recorded;
+        acts = refl;
+        runs = λ begun begins. subst (Runs o first fenced_now es) (fence-begins begun begins) fence-runs;
+        others = λ begun begins. subst (SparesOthers o t s.machine fenced_now.machine es es threads)
+            (fence-begins begun begins) fence-keeps.others;
+        starts = λ none. refl;
+        started = λ n child is. absurd (let no : op.Fenced ≡ op.Start n child = is in cc);
+        idle = idle-now;
+      };
+      acts = record { act = fence_recorded; thread = refl; acts = refl };
+      calls = f.made.calls.count;
+      cause = later_now;
+      answers = whole (lag-fencing f.made.doing);
+      numbers = refl;
+      quiet = λ micro same. absurd (let no = micro in cc);
+      waits = λ on no. absurd (let e = no in cc);
+      asks = refl;
+      noted = refl;
+    }
 
-    pub fenced : Comes o first fs request (Did reply.Done) s new
-    fenced = subst (Comes o first fs request (Did reply.Done) s) (sym fenced-is)
+    pub fenced : Comes o first es threads t fs request (Did reply.Done) s new
+    fenced = subst (Comes o first es threads t fs request (Did reply.Done) s) (sym fenced-is)
         (fenced-comes (subst (λ (x : Shared). (memory_of s.machine).faults ≤ (memory_of x.machine).faults)
         fenced-is later))
 
@@ -200,58 +238,68 @@ module _ (laws : Laws) (o : Opening) (first : ℕ) (set : SetFacts) (s : Shared)
       machine = with_twin s.machine f.twin;
       history = s.history;
       lines = s.lines;
-      named = s.named;
+      notes = s.notes;
     }
 
     failed-is : new ≡ failed_now
-    failed-is = shared-is new _ _ _ _ f.machine f.history f.lines f.named
+    failed-is = shared-is new _ _ _ _ f.machine f.history f.lines f.notes
 
     failed-comes : Rose (memory_of s.machine).faults f.twin.memory.faults
-        → Comes o first fs request (Over (Met met.ImageFault)) s failed_now
-    failed-comes rose_now = let now = happened laws o first set s es fs request due (event.called f.twin f.calls) [] refl tt in record {
-      goes = record {
-        es = es;
-        keeps = now.keeps;
-        plain = now.plain;
-        history = refl;
-        acts = refl;
-        ends = laws.ends.image o s.machine es (fs ∷ []) due.running.keeps due.running.plain
-            (f.twin.memory.size - first) 0 fs (lives laws o first set s es fs request due) (few laws o
-            first set s es fs request due room);
-      };
-      acts = refl;
-      calls = f.calls.count;
-      cause = rose_now;
-      answers = tt;
-      numbers = refl;
-      quiet = λ micro same. absurd (let no = micro in cc);
-    }
+        → Comes o first es threads t fs request (Over (Met met.ImageFault)) s failed_now
+    failed-comes rose_now =
+        let now = happened laws o first set s es threads t fs request due (event.called f.twin f.calls) [] due.asks.frames
+        tt tt (as-they-were laws o first set s es threads t fs request due failed_now.machine
+        (record { lags = own.lags; ends = own.ends })) in record {
+          goes = record {
+            after = es;
+            keeps = now.keeps;
+            plain = now.plain;
+            history = refl;
+            acts = refl;
+            ends = laws.ends.image o s.machine es threads due.running.keeps due.running.plain
+                (f.twin.memory.size - first) t fs (lives laws o first set s es threads t fs request due)
+                (few laws o first set s es threads t fs request due room);
+          };
+          acts = refl;
+          calls = f.calls.count;
+          cause = rose_now;
+          answers = tt;
+          numbers = refl;
+          quiet = λ micro same. absurd (let no = micro in cc);
+          waits = λ on no. absurd (let e = no in cc);
+          asks = refl;
+          noted = refl;
+        }
 
-    pub call-failed : Comes o first fs request (Over (Met met.ImageFault)) s new
-    call-failed = subst (Comes o first fs request (Over (Met met.ImageFault)) s) (sym failed-is)
+    pub call-failed : Comes o first es threads t fs request (Over (Met met.ImageFault)) s new
+    call-failed = subst (Comes o first es threads t fs request (Over (Met met.ImageFault)) s) (sym failed-is)
         (failed-comes (subst (λ (x : Shared). Rose (memory_of s.machine).faults (memory_of x.machine).faults)
         failed-is rose))
 
 -- ---- of each run
 
-pub wrote-comes : Laws → (s new : Shared) → Writes 0 s new
-    → (memory_of s.machine).faults ≤ (memory_of new.machine).faults → ComesTo Micro s new
-wrote-comes laws s new w later = record {
-  comes = λ o first set es fs request due. wrote laws o first set s es fs request due new w later;
+pub wrote-comes : Laws → (s new : Shared) (t : ℕ) → Writes t s new
+    → (memory_of s.machine).faults ≤ (memory_of new.machine).faults → ComesTo t Micro s new
+wrote-comes laws s new t w later = record {
+  comes = λ o first set es threads fs request due.
+      wrote laws o first set s es threads t fs request due new w later;
   sink = record { acts = inl (ap (λ (h : History). h.acts) w.history); fault = tt };
 }
 
-pub fenced-comes-to : Laws → (s new : Shared) → TellsFence 0 s new → length s.history.acts < s.history.limit
-    → (memory_of s.machine).faults ≤ (memory_of new.machine).faults → ComesTo (Did reply.Done) s new
-fenced-comes-to laws s new f room later = record {
-  comes = λ o first set es fs request due. fenced laws o first set s es fs request due new f room later;
+pub fenced-comes-to : Laws → (s new : Shared) (t : ℕ) → TellsFence t s new
+    → length s.history.acts < s.history.limit
+    → (memory_of s.machine).faults ≤ (memory_of new.machine).faults → ComesTo t (Did reply.Done) s new
+fenced-comes-to laws s new t f room later = record {
+  comes = λ o first set es threads fs request due.
+      fenced laws o first set s es threads t fs request due new f room later;
   sink = record { acts = inr (_, ap (λ (h : History). h.acts) f.history, tt); fault = tt };
 }
 
-pub failed-comes-to : Laws → (s new : Shared) → Failed s new → length s.history.acts < s.history.limit
+pub failed-comes-to : Laws → (s new : Shared) (t : ℕ) → Failed s new → length s.history.acts < s.history.limit
     → Rose (memory_of s.machine).faults (memory_of new.machine).faults
-    → ComesTo (Over (Met met.ImageFault)) s new
-failed-comes-to laws s new f room rose = record {
-  comes = λ o first set es fs request due. call-failed laws o first set s es fs request due new f room rose;
+    → ComesTo t (Over (Met met.ImageFault)) s new
+failed-comes-to laws s new t f room rose = record {
+  comes = λ o first set es threads fs request due.
+      call-failed laws o first set s es threads t fs request due new f room rose;
   sink = record { acts = inl (ap (λ (h : History). h.acts) f.history); fault = tt };
 }

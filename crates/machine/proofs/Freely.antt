@@ -17,7 +17,7 @@ use Rattle.twin_forms.specs.Table.{Entry}
 use Rattle.twin_forms.proofs.Led.{same_or_not}
 use Rattle.machine_forms.specs.Machines.{Opening, known_in, log_of}
 use Rattle.machine_forms.specs.Events.{value_in}
-use Rattle.machine_ends.specs.Stores.{StoresFreely, beside, own, outside, volatile}
+use Rattle.machine_threads.specs.Passed.{StoresFreely, beside, own, outside, volatile}
 use Rattle.object_steps.specs.declared.storing.Store.{Store}
 use Rattle.object_steps.specs.Stores.{place_of}
 use Rattle.two_spaces.specs.declared.spaces.Static.{Static as Field}
@@ -50,9 +50,9 @@ word-below s (place.Static f) = static-below (static_at s f)
 word-below s (place.Slot n i) = omega arith
 
 module _ (laws : Laws) (o : Opening) (first : ℕ) (set : SetFacts) (s : Shared) (es : List Entry)
-    (fs : ThreadFrames) (request : Request Ref Item) (store : Store)
-    (h : HasPlanned o first set s es fs request store)
-    (apart : IsApart s.machine.spaces s.machine.logs 0 (place_of store.target)) where
+    (threads : List ThreadFrames) (t : ℕ) (fs : ThreadFrames) (request : Request Ref Item) (store : Store)
+    (h : HasPlanned o first set s es threads t fs request store)
+    (apart : IsApart s.machine.spaces s.machine.logs t (place_of store.target)) where
   abbrev goal : Place
   goal = place_of store.target
 
@@ -80,15 +80,15 @@ module _ (laws : Laws) (o : Opening) (first : ℕ) (set : SetFacts) (s : Shared)
       (laws.barriers.words o s.machine es h.due.running.keeps goal word at)
 
   -- no other thread has
-  guard-own : (t : ℕ) → durable_at (known_in o s.machine) goal ≡ true
-      → guard_of (known_in o s.machine).guards goal ≡ Some t → t ≡ 0
-  guard-own t durable is = elim (same_or_not t 0) [
+  guard-own : (u : ℕ) → durable_at (known_in o s.machine) goal ≡ true
+      → guard_of (known_in o s.machine).guards goal ≡ Some u → u ≡ t
+  guard-own u durable is = elim (same_or_not u t) [
     | inl same ↦ same
-    | inr other ↦ absurd (apart es t h.due.running.keeps.heap.whole (record {
+    | inr other ↦ absurd (apart es u h.due.running.keeps.heap.whole (record {
       spot = spot;
       place = spot-at (durable-place durable);
       differs = other;
-      guards = ((guarded-by (durable-place durable) spot (spot-at (durable-place durable))).by t).1 is;
+      guards = ((guarded-by (durable-place durable) spot (spot-at (durable-place durable))).by u).1 is;
     }))
   ]
 
@@ -96,14 +96,14 @@ module _ (laws : Laws) (o : Opening) (first : ℕ) (set : SetFacts) (s : Shared)
 
   abbrev IfUnguarded : Type 0
   IfUnguarded = durable_at (known_in o s.machine) goal ≡ true
-      → guard_of (known_in o s.machine).guards goal ≡ None → StoresFreely o s.machine 0 goal value
+      → guard_of (known_in o s.machine).guards goal ≡ None → StoresFreely o s.machine t goal value
 
   by-guard : (g : Option ℕ) → guard_of (known_in o s.machine).guards goal ≡ g
-      → durable_at (known_in o s.machine) goal ≡ true → IfUnguarded → StoresFreely o s.machine 0 goal value
+      → durable_at (known_in o s.machine) goal ≡ true → IfUnguarded → StoresFreely o s.machine t goal value
   by-guard None is durable free = free durable is
-  by-guard (Some t) is durable free = own (is ∙ ap (λ u. Some u) (guard-own t durable is))
+  by-guard (Some u) is durable free = own (is ∙ ap (λ n. Some n) (guard-own u durable is))
 
-  pub freely : IfUnguarded → StoresFreely o s.machine 0 goal value
+  pub freely : IfUnguarded → StoresFreely o s.machine t goal value
   freely free = elim (true-or-false (durable_at (known_in o s.machine) goal)) [
     | inl durable ↦ by-guard (guard_of (known_in o s.machine).guards goal) refl durable free
     | inr elsewhere ↦ beside elsewhere
@@ -119,10 +119,10 @@ module _ (laws : Laws) (o : Opening) (first : ℕ) (set : SetFacts) (s : Shared)
         (not-durable (has_number (known_in o s.machine).durable asks.object)
         (λ is. asks.volatile ((h.due.running.keeps.asked.durable asks.object).0 is)))
 
-    pub freely-volatile : StoresFreely o s.machine 0 goal value
+    pub freely-volatile : StoresFreely o s.machine t goal value
     freely-volatile = freely (λ durable none. volatile none value-volatile)
 
   -- ---- outside regions
 
-  pub freely-outside : (log_of s.machine 0).depth ≡ 0 → StoresFreely o s.machine 0 goal value
+  pub freely-outside : (log_of s.machine t).depth ≡ 0 → StoresFreely o s.machine t goal value
   freely-outside closed = freely (λ durable none. outside none closed)

@@ -1,39 +1,47 @@
 -- What the calls of a shared heap are given, where an event is due.
-use Rattle.std.proofs.Common.{◌≡◌, ℕ, ◌-◌, ◌<◌, ◌≤◌, ◌^◌, List, length, sym, ◌∙◌, ap, subst, arith}
+use Rattle.std.proofs.Common.{◌≡◌, ℕ, ◌-◌, ◌<◌, ◌≤◌, ◌^◌, true, Some, List, length, sym, ◌∙◌, ap, subst, arith}
 use Rattle.std.proofs.lemmas.List.Elements.{All-weaker}
 use Rattle.ap_base.specs.declared.reference.Ref.{Ref}
 use Rattle.ap_base.specs.declared.reference.Item.{Item}
+use Rattle.run_types.specs.declared.resolved.At.{At}
 use Rattle.natives.specs.declared.requests.Request.{Request}
+use Rattle.natives.specs.declared.requests.Request.TheVariants as ask
 use Rattle.monitors.specs.declared.monitor.Monitor.{Monitor}
 use Rattle.plain_model.specs.Facts.{SetFacts, classes_of}
 use Rattle.shared_objects.specs.declared.threads.ThreadState.{ThreadState}
 use Rattle.shared_objects.specs.Worlds.{HasCounts}
 use Rattle.step_forms.specs.Follows.{Agrees, IsHeapOf}
+use Rattle.frames.specs.Turns.{turn}
 use Rattle.run_forms.specs.Views.{ThreadFrames}
+use Rattle.run_forms.specs.Standing.{Launch, setting_of}
+use Rattle.region_log.specs.Readers.{is_ending}
+use Rattle.region_log.specs.declared.entry.Underway.{Underway}
+use Rattle.region_log.specs.declared.entry.Underway.TheVariants.{Nothing as Idle, Adding, Ending}
 use Rattle.twin_forms.specs.Table.{Entry}
 use Rattle.two_spaces.specs.Whole.{IsWhole}
 use Rattle.machine_forms.specs.declared.doing.Doing.TheVariants.{Writing}
-use Rattle.machine_forms.specs.Machines.{Opening, doing_of, known_in, layout_in, memory_of, shown_in}
+use Rattle.machine_forms.specs.Machines.{Opening, doing_of, known_in, layout_in, log_of, memory_of, shown_in}
 use Rattle.machine_forms.specs.Keeping.{IsDoing, KeepsRun}
-use Rattle.machine_laws.specs.Frames.{IsReady}
+use Rattle.machine_threads.specs.Passed.{Asks, IsReady}
 use Rattle.store_barrier.specs.Barriers.{AgreesWith}
 use Rattle.converter.specs.Stepping.{keys_of}
 use Rattle.shared_heap.specs.Shared.{Shared}
 use Rattle.shared_heap.specs.Requests.{MayRequest}
+use Rattle.machine_threads.specs.Keeping.{AsksItsEnd}
 use Rattle.machine.specs.Laws.{Laws}
-use Rattle.machine.specs.Running.{IsDue}
-use Rattle.machine.proofs.Leaving.{asked}
+use Rattle.machine.specs.Running.{IsDue, Runs}
+use Rattle.machine.proofs.Basics.{some-same}
 
-module _ (o : Opening) (s : Shared) (es : List Entry) (k : KeepsRun o s.machine es) where
+module _ (o : Opening) (s : Shared) (es : List Entry) (t : ℕ) (k : KeepsRun o s.machine es) where
   pub is-long : 33 ≤ (memory_of s.machine).size
   is-long = let size = k.heap.size in let long = k.heap.long in omega (arith, size, long)
 
   pub is-whole : IsWhole s.machine.spaces
   is-whole = (es, k.heap.whole)
 
-  pub line-inside : (line : ℕ) → doing_of s.machine 0 ≡ Writing line → line < (memory_of s.machine).size
+  pub line-inside : (line : ℕ) → doing_of s.machine t ≡ Writing line → line < (memory_of s.machine).size
   line-inside line is =
-      let doing = subst (IsDoing (known_in o s.machine) (layout_in o es) 0) is (k.asked.doing 0) in
+      let doing = subst (IsDoing (known_in o s.machine) (layout_in o es) t) is (k.asked.doing t) in
       subst (λ n. line < n) (sym k.heap.size) doing.2
 
   pub agrees-queue : AgreesWith s.machine.spaces s.machine.queue
@@ -56,21 +64,45 @@ module _ (o : Opening) (s : Shared) (es : List Entry) (k : KeepsRun o s.machine 
         s.machine.rest.threads k.world.counts.threads;
   }
 
-module _ (laws : Laws) (o : Opening) (first : ℕ) (set : SetFacts) (s : Shared) (es : List Entry)
-    (fs : ThreadFrames) (request : Request Ref Item) (due : IsDue o first set s es fs request) where
-  pub agrees-now : length s.history.acts < 2 ^ 32 → Agrees set (shown_in s.machine) s.machine.rest
-  agrees-now few = record {
-    heap = subst (λ (x : SetFacts). IsHeapOf x (shown_in s.machine)) (sym due.facts)
-        due.running.keeps.world.heap;
-    classes = due.running.keeps.world.classes
-        ∙ ap (λ (x : SetFacts). length (classes_of x)) (sym due.facts);
-    monitors = due.running.keeps.world.monitors;
-    counts = counts o s es due.running.keeps
-        (let same = ap length due.running.acts in omega (arith, few, same));
+-- ---- a run
+
+module _ (o : Opening) (first : ℕ) (set : SetFacts) (s : Shared) (es : List Entry) (threads : List ThreadFrames)
+    (running : Runs o first s es threads) (facts : set ≡ o.launch.set) where
+  pub agrees-then : length s.history.acts < 2 ^ 32 → Agrees set (shown_in s.machine) s.machine.rest
+  agrees-then few = record {
+    heap = subst (λ (x : SetFacts). IsHeapOf x (shown_in s.machine)) (sym facts) running.keeps.world.heap;
+    classes = running.keeps.world.classes ∙ ap (λ (x : SetFacts). length (classes_of x)) (sym facts);
+    monitors = running.keeps.world.monitors;
+    counts = counts o s es 0 running.keeps (let same = ap length running.acts in omega (arith, few, same));
   }
 
-  pub may-ask : IsReady (doing_of s.machine 0) → MayRequest set s.machine 0 request
-  may-ask ready =
-      let q = asked laws o first set s es fs request due ready in
-      subst (λ (x : SetFacts). MayRequest x s.machine 0 request) (sym due.facts)
+  pub may-then : Laws → (t : ℕ) (fs : ThreadFrames) (request : Request Ref Item) → IsReady (doing_of s.machine t)
+      → Asks o s.machine threads t fs request → MayRequest set s.machine t request
+  may-then laws t fs request ready asks =
+      let q = laws.alike o s.machine es threads running.keeps running.plain t fs request ready asks in
+      subst (λ (x : SetFacts). MayRequest x s.machine t request) (sym facts)
       (record { thread = q.thread; fit = q.fit; known = q.known })
+
+module _ (laws : Laws) (o : Opening) (first : ℕ) (set : SetFacts) (s : Shared) (es : List Entry)
+    (threads : List ThreadFrames) (t : ℕ) (fs : ThreadFrames) (request : Request Ref Item)
+    (due : IsDue o first set s es threads t fs request) where
+  pub agrees-now : length s.history.acts < 2 ^ 32 → Agrees set (shown_in s.machine) s.machine.rest
+  agrees-now = agrees-then o first set s es threads due.running due.facts
+
+  pub may-ask : IsReady (doing_of s.machine t) → MayRequest set s.machine t request
+  may-ask ready = may-then o first set s es threads due.running due.facts laws t fs request ready due.asks
+
+-- ---- the end of a region
+
+ends-by : (launch : Launch) (u : Underway) (fs : ThreadFrames) (request : Request Ref Item) → is_ending u ≡ true
+    → AsksItsEnd launch u fs → (turn (setting_of launch) fs).asks ≡ Some request → (from : At) × (request ≡ ask.End from)
+ends-by launch Idle fs request is asks now = absurd (let no = is in cc)
+ends-by launch (Adding e stage) fs request is asks now = absurd (let no = is in cc)
+ends-by launch (Ending stage) fs request is (from, asks) now = (from, some-same request (ask.End from) (sym now ∙ asks))
+
+-- while a region is being ended, its thread asks that
+pub end-asked : (o : Opening) (first : ℕ) (set : SetFacts) (s : Shared) (es : List Entry) (threads : List ThreadFrames)
+    (t : ℕ) (fs : ThreadFrames) (request : Request Ref Item) → IsDue o first set s es threads t fs request
+    → is_ending (log_of s.machine t).underway ≡ true → (from : At) × (request ≡ ask.End from)
+end-asked o first set s es threads t fs request due is = ends-by o.launch (log_of s.machine t).underway fs request is
+    (due.running.all.each t fs due.asks.frames).ends due.asks.asks

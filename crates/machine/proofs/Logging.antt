@@ -1,6 +1,6 @@
 -- The word that a region has guarded last is logged, a part with each call.
-use Rattle.std.proofs.Common.{◌≡◌, ◌⊎◌, inl, inr, ℕ, ◌-◌, ◌<◌, ◌≤◌, true, false, List, [], ◌∷◌, length, refl, sym, ◌∙◌, ap}
-use Rattle.std.proofs.Common.{subst, arith, lit<}
+use Rattle.std.proofs.Common.{◌≡◌, ◌⊎◌, inl, inr, ℕ, ◌-◌, ◌<◌, ◌≤◌, true, false, List, [], length, refl, sym, ◌∙◌, ap}
+use Rattle.std.proofs.Common.{subst, arith}
 use Rattle.std.proofs.lemmas.Bool.{cases_lt}
 use Rattle.std.proofs.lemmas.List.{get_or-set_same}
 use Rattle.ap_base.specs.Causes.{Rose}
@@ -29,18 +29,19 @@ use Rattle.machine.specs.declared.events.Halt.TheVariants.{Met}
 use Rattle.machine.specs.Ended.{ComesTo, IsSomeDue}
 use Rattle.machine.specs.Events.{Comes}
 use Rattle.machine.specs.Laws.{Laws}
-use Rattle.machine.specs.Running.{AsksItsEnd, IsDue}
+use Rattle.machine.specs.Running.{IsDue}
 use Rattle.machine.proofs.Basics.{shared-is}
-use Rattle.machine.proofs.Leaving.{few, goes-on, lives, same-room, happened}
+use Rattle.machine.proofs.Leaving.{few, lives, happened, as-they-were, stays-on, AsksStill}
 use Rattle.machine_forms.specs.Happening as event
+use Rattle.machine_threads.specs.Keeping.{AsksItsEnd}
 
 -- the log of the thread is what it became
-pub log-now : (m : Machine) (twin : Twin) (log : Log) → length m.logs ≡ 64
-    → log_of (with_logged m twin 0 log) 0 ≡ log
-log-now m twin log many = get_or-set_same m.logs 0 log (empty_log 0) (omega (arith, many))
+pub log-now : (m : Machine) (twin : Twin) (t : ℕ) (log : Log) → t < 64 → length m.logs ≡ 64
+    → log_of (with_logged m twin t log) t ≡ log
+log-now m twin t log below many = get_or-set_same m.logs t log (empty_log t) (omega (arith, below, many))
 
 module _ (laws : Laws) (o : Opening) (first : ℕ) (set : SetFacts) (s : Shared) (es : List Entry)
-    (fs : ThreadFrames) (request : Request Ref Item) (due : IsDue o first set s es fs request) (new : Shared)
+    (threads : List ThreadFrames) (t : ℕ) (fs : ThreadFrames) (request : Request Ref Item) (due : IsDue o first set s es threads t fs request) (new : Shared)
   where
     -- ---- a part
 
@@ -48,25 +49,25 @@ module _ (laws : Laws) (o : Opening) (first : ℕ) (set : SetFacts) (s : Shared)
     record Part : Type 0 where
       twin : Twin
       log : Log
-      logs : LogsWord s.machine twin 0 log
-      made : TouchesFor logs.entry (log_of s.machine 0) log (memory_of s.machine) twin.memory
-          ⊎ (AddsOn logs.entry (log_of s.machine 0) log (memory_of s.machine) twin.memory
-          ⊎ AddsEntry logs.entry (log_of s.machine 0) log (memory_of s.machine) twin.memory)
-      left : IsLeft twin 0 log s new
+      logs : LogsWord s.machine twin t log
+      made : TouchesFor logs.entry (log_of s.machine t) log (memory_of s.machine) twin.memory
+          ⊎ (AddsOn logs.entry (log_of s.machine t) log (memory_of s.machine) twin.memory
+          ⊎ AddsEntry logs.entry (log_of s.machine t) log (memory_of s.machine) twin.memory)
+      left : IsLeft twin t log s new
 
     module _ (l : Part) where
       abbrev logged_now : Shared
       logged_now = record {
-        machine = with_logged s.machine l.twin 0 l.log;
+        machine = with_logged s.machine l.twin t l.log;
         history = s.history;
         lines = s.lines;
-        named = s.named;
+        notes = s.notes;
       }
 
       logged-is : new ≡ logged_now
-      logged-is = shared-is new _ _ _ _ l.left.machine l.left.history l.left.lines l.left.named
+      logged-is = shared-is new _ _ _ _ l.left.machine l.left.history l.left.lines l.left.notes
 
-      abbrev region-step : RegionStep o 0 s.machine es logged_now.machine
+      abbrev region-step : RegionStep o t s.machine es logged_now.machine
       region-step = region.logged l.twin l.log l.logs
 
       no-end : AsksItsEnd o.launch l.log.underway fs
@@ -79,36 +80,18 @@ module _ (laws : Laws) (o : Opening) (first : ℕ) (set : SetFacts) (s : Shared)
       ]
 
       logged-comes : (memory_of s.machine).faults ≤ l.twin.memory.faults
-          → Comes o first fs request Micro s logged_now
+          → Comes o first es threads t fs request Micro s logged_now
       logged-comes later =
-          let now = happened laws o first set s es fs request due (event.region _ region-step) [] refl tt in let kept = now.keeps in record {
-            goes = record {
-              es = es;
-              running = goes-on o first s es fs due.running logged_now es fs (record {
-                keeps = kept;
-                plain = now.plain;
-                taken = now.taken;
-                unwritten = now.unwritten;
-                names = record {
-                  once = due.running.names.once;
-                  those = due.running.names.those;
-                  alone = due.running.names.alone;
-                  count = due.running.names.count;
-                };
-                about = due.running.about;
-                lags = due.running.lags;
-                ends = subst (λ (log : Log). AsksItsEnd o.launch log.underway fs)
-                    (sym (log-now s.machine l.twin l.log due.running.keeps.asked.regions.many)) no-end;
-                alone = due.running.alone;
-                lines = refl;
-                acts = due.running.acts;
-                limit = refl;
-                room = same-room o first s es fs due.running logged_now.machine es kept refl;
-                numbers = refl;
-                unfaulted = due.running.unfaulted;
-              });
-              threads = refl;
-            };
+          let still : AsksStill o logged_now.machine t fs = record {
+            lags = (due.running.all.each t fs due.asks.frames).lags;
+            ends = subst (λ (log : Log). AsksItsEnd o.launch log.underway fs)
+                (sym (log-now s.machine l.twin t l.log due.thread due.running.keeps.asked.regions.many)) no-end;
+          } in
+          let now = happened laws o first set s es threads t fs request due (event.region _ region-step) []
+          due.asks.frames tt tt (as-they-were laws o first set s es threads t fs request due logged_now.machine still) in
+          record {
+            goes = stays-on laws o first set s es threads t fs request due logged_now es now refl refl refl
+                due.running.acts refl due.running.unnamed refl refl refl due.running.unfaulted;
             acts = inl refl;
             calls = inr l.logs.logs.call;
             cause = later;
@@ -116,20 +99,23 @@ module _ (laws : Laws) (o : Opening) (first : ℕ) (set : SetFacts) (s : Shared)
             numbers = refl;
             quiet = λ micro same. elim l.made [
               | inl touches ↦ absurd (laws.logging.untouched o s.machine es due.running.keeps
-                  due.running.unwritten l.twin 0 l.log l.logs touches)
+                  due.running.unwritten l.twin t l.log l.logs touches)
               | inr made ↦ (let less = laws.logging.made o s.machine es due.running.keeps
-                  due.running.unwritten l.twin 0 l.log l.logs made in omega (arith, less))
+                  due.running.unwritten l.twin t l.log l.logs made in omega (arith, less))
             ];
+            waits = λ on no. absurd (let e = no in cc);
+            asks = refl;
+            noted = refl;
           }
 
       part-comes : (memory_of s.machine).faults ≤ (memory_of new.machine).faults
-          → Comes o first fs request Micro s new
-      part-comes later = subst (Comes o first fs request Micro s) (sym logged-is)
+          → Comes o first es threads t fs request Micro s new
+      part-comes later = subst (Comes o first es threads t fs request Micro s) (sym logged-is)
           (logged-comes (subst (λ (x : Shared). (memory_of s.machine).faults ≤ (memory_of x.machine).faults)
           logged-is later))
 
-    pub logged : (step : LogStep) → LogsTo step 0 s new
-        → (memory_of s.machine).faults ≤ (memory_of new.machine).faults → Comes o first fs request Micro s new
+    pub logged : (step : LogStep) → LogsTo step t s new
+        → (memory_of s.machine).faults ≤ (memory_of new.machine).faults → Comes o first es threads t fs request Micro s new
     logged logging.More l = part-comes (record {
       twin = l.twin;
       log = l.log;
@@ -148,85 +134,100 @@ module _ (laws : Laws) (o : Opening) (first : ℕ) (set : SetFacts) (s : Shared)
 
     -- ---- the image failed
 
-    module _ (f : LoggingFailsTo 0 s new) (room : length s.history.acts < s.history.limit) where
+    module _ (f : LoggingFailsTo t s new) (room : length s.history.acts < s.history.limit) where
       abbrev failed_now : Shared
       failed_now = record {
-        machine = with_logged s.machine f.twin 0 f.log;
+        machine = with_logged s.machine f.twin t f.log;
         history = s.history;
         lines = s.lines;
-        named = s.named;
+        notes = s.notes;
       }
 
       failed-is : new ≡ failed_now
-      failed-is = shared-is new _ _ _ _ f.left.machine f.left.history f.left.lines f.left.named
+      failed-is = shared-is new _ _ _ _ f.left.machine f.left.history f.left.lines f.left.notes
 
       failed-comes : Rose (memory_of s.machine).faults f.twin.memory.faults
-          → Comes o first fs request (Over (Met met.ImageFault)) s failed_now
-      failed-comes rose = record {
-        goes = record {
-          es = es;
-          keeps = (happened laws o first set s es fs request due (event.region _ (region.logged f.twin f.log f.logs)) [] refl tt).keeps;
-          plain = (happened laws o first set s es fs request due (event.region _ (region.logged f.twin f.log f.logs)) [] refl tt).plain;
-          history = refl;
-          acts = refl;
-          ends = laws.ends.image o s.machine es (fs ∷ []) due.running.keeps due.running.plain
-              (f.twin.memory.size - first) 0 fs (lives laws o first set s es fs request due)
-              (few laws o first set s es fs request due room);
-        };
-        acts = refl;
-        calls = inr f.logs.logs.call;
-        cause = rose;
-        answers = tt;
-        numbers = refl;
-        quiet = λ micro same. absurd (let no = micro in cc);
-      }
+          → Comes o first es threads t fs request (Over (Met met.ImageFault)) s failed_now
+      failed-comes rose =
+          let now = happened laws o first set s es threads t fs request due
+          (event.region _ (region.logged f.twin f.log f.logs)) [] due.asks.frames tt tt
+          (as-they-were laws o first set s es threads t fs request due failed_now.machine (record {
+            lags = (due.running.all.each t fs due.asks.frames).lags;
+            ends = subst (λ (log : Log). AsksItsEnd o.launch log.underway fs)
+                (sym (log-now s.machine f.twin t f.log due.thread due.running.keeps.asked.regions.many))
+                (subst (λ (log : Log). AsksItsEnd o.launch log.underway fs) (sym f.fails.log) tt);
+          })) in record {
+            goes = record {
+              after = es;
+              keeps = now.keeps;
+              plain = now.plain;
+              history = refl;
+              acts = refl;
+              ends = laws.ends.image o s.machine es threads due.running.keeps due.running.plain
+                  (f.twin.memory.size - first) t fs (lives laws o first set s es threads t fs request due)
+                  (few laws o first set s es threads t fs request due room);
+            };
+            acts = refl;
+            calls = inr f.logs.logs.call;
+            cause = rose;
+            answers = tt;
+            numbers = refl;
+            quiet = λ micro same. absurd (let no = micro in cc);
+            waits = λ on no. absurd (let e = no in cc);
+            asks = refl;
+            noted = refl;
+          }
 
       pub logging-failed : Rose (memory_of s.machine).faults (memory_of new.machine).faults
-          → Comes o first fs request (Over (Met met.ImageFault)) s new
-      logging-failed rose = subst (Comes o first fs request (Over (Met met.ImageFault)) s) (sym failed-is)
+          → Comes o first es threads t fs request (Over (Met met.ImageFault)) s new
+      logging-failed rose = subst (Comes o first es threads t fs request (Over (Met met.ImageFault)) s) (sym failed-is)
           (failed-comes (subst (λ (x : Shared). Rose (memory_of s.machine).faults (memory_of x.machine).faults)
           failed-is rose))
 
 -- ---- of each run
 
-history-stays : (s new : Shared) (step : LogStep) → LogsTo step 0 s new → new.history.acts ≡ s.history.acts
-history-stays s new logging.More l = ap (λ (h : History). h.acts) l.left.history
-history-stays s new logging.Logged l = ap (λ (h : History). h.acts) l.left.history
-history-stays s new logging.Full l = absurd l
+history-stays : (s new : Shared) (t : ℕ) (step : LogStep) → LogsTo step t s new → new.history.acts ≡ s.history.acts
+history-stays s new t logging.More l = ap (λ (h : History). h.acts) l.left.history
+history-stays s new t logging.Logged l = ap (λ (h : History). h.acts) l.left.history
+history-stays s new t logging.Full l = absurd l
 
-pub logged-comes-to : Laws → (s new : Shared) (step : LogStep) → LogsTo step 0 s new
-    → (memory_of s.machine).faults ≤ (memory_of new.machine).faults → ComesTo Micro s new
-logged-comes-to laws s new step l later = record {
-  comes = λ o first set es fs request due. logged laws o first set s es fs request due new step l later;
-  sink = record { acts = inl (history-stays s new step l); fault = tt };
+pub logged-comes-to : Laws → (s new : Shared) (t : ℕ) (step : LogStep) → LogsTo step t s new
+    → (memory_of s.machine).faults ≤ (memory_of new.machine).faults → ComesTo t Micro s new
+logged-comes-to laws s new t step l later = record {
+  comes = λ o first set es threads fs request due.
+      logged laws o first set s es threads t fs request due new step l later;
+  sink = record { acts = inl (history-stays s new t step l); fault = tt };
 }
 
-pub logging-failed-comes-to : Laws → (s new : Shared) → LoggingFailsTo 0 s new
+pub logging-failed-comes-to : Laws → (s new : Shared) (t : ℕ) → LoggingFailsTo t s new
     → length s.history.acts < s.history.limit → Rose (memory_of s.machine).faults (memory_of new.machine).faults
-    → ComesTo (Over (Met met.ImageFault)) s new
-logging-failed-comes-to laws s new f room rose = record {
-  comes = λ o first set es fs request due. logging-failed laws o first set s es fs request due new f room rose;
+    → ComesTo t (Over (Met met.ImageFault)) s new
+logging-failed-comes-to laws s new t f room rose = record {
+  comes = λ o first set es threads fs request due.
+      logging-failed laws o first set s es threads t fs request due new f room rose;
   sink = record { acts = inl (ap (λ (h : History). h.acts) f.left.history); fault = tt };
 }
 
 -- ---- what a log's calls are given
 
-pub due-keeps-log : (s : Shared) → IsSomeDue s → KeepsLog (log_of s.machine 0) (memory_of s.machine)
-due-keeps-log s (o, first, set, es, fs, request, due) =
-    (due.running.keeps.asked.regions.each 0 (lit< tt)).keeps
+pub due-keeps-log : (s : Shared) (t : ℕ) → IsSomeDue s t → KeepsLog (log_of s.machine t) (memory_of s.machine)
+due-keeps-log s t (o, first, set, es, threads, fs, request, due) =
+    (due.running.keeps.asked.regions.each t due.thread).keeps
 
 -- outside regions nothing is under way
-pub due-is-open : (s : Shared) → IsSomeDue s → ((log_of s.machine 0).depth ≡ 0 → ⊥) → 0 < (log_of s.machine 0).depth
-due-is-open s due not = by (log_of s.machine 0).depth not
+pub due-is-open : (s : Shared) (t : ℕ) → IsSomeDue s t → ((log_of s.machine t).depth ≡ 0 → ⊥)
+    → 0 < (log_of s.machine t).depth
+due-is-open s t due not = by (log_of s.machine t).depth not
   where
     by : (n : ℕ) → (n ≡ 0 → ⊥) → 0 < n
     by n other = elim (cases_lt 0 n) [ inl below ↦ below | inr past ↦ absurd (other (omega (arith, past))) ]
 
-pub outside-idle : (s : Shared) → IsSomeDue s → (log_of s.machine 0).depth ≡ 0 → is_adding (log_of s.machine 0).underway ≡ false
-outside-idle s (o, first, set, es, fs, request, due) closed =
-    ap is_adding ((due.running.keeps.asked.regions.each 0 (lit< tt)).guards.outside closed).1
+pub outside-idle : (s : Shared) (t : ℕ) → IsSomeDue s t → (log_of s.machine t).depth ≡ 0
+    → is_adding (log_of s.machine t).underway ≡ false
+outside-idle s t (o, first, set, es, threads, fs, request, due) closed =
+    ap is_adding ((due.running.keeps.asked.regions.each t due.thread).guards.outside closed).1
 
-pub adding-is-open : (s : Shared) → IsSomeDue s → is_adding (log_of s.machine 0).underway ≡ true
-    → 0 < (log_of s.machine 0).depth
-adding-is-open s due adding = due-is-open s due
-    (λ closed. let no : true ≡ false = sym adding ∙ outside-idle s due closed in cc)
+pub adding-is-open : (s : Shared) (t : ℕ) → IsSomeDue s t → is_adding (log_of s.machine t).underway ≡ true
+    → 0 < (log_of s.machine t).depth
+adding-is-open s t due adding = due-is-open s t due
+    (λ closed. let no : true ≡ false = sym adding ∙ outside-idle s t due closed in cc)

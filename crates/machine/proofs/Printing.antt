@@ -37,7 +37,7 @@ use Rattle.step_forms.specs.Follows.{IsFullOf, IsLimit, IsStep}
 use Rattle.shared_steps.specs.Output.{FaultsGo, OutputGoes, SharesGo}
 use Rattle.run_forms.proofs.Visible.{is_print, prints}
 use Rattle.machine.specs.declared.events.Event.{Event}
-use Rattle.machine.specs.declared.events.Event.TheVariants.{Did, Micro, Over}
+use Rattle.machine.specs.declared.events.Event.TheVariants.{Did, Micro, WouldWait, Over}
 use Rattle.machine.specs.declared.events.Halt.TheVariants.{Met}
 use Rattle.machine.specs.Events.{HasSinkCause, IsNoPrint, IsNoSinkFault, IsShare, SparesSink, TakesOutput}
 use Rattle.machine.proofs.Basics.{no-some, not-longer}
@@ -90,6 +90,7 @@ spares-share result old new q takes spares act is = elim spares.acts [
 pub spares-cause : (result : Event) (before : ℕ) → IsNoSinkFault result → HasSinkCause result before before
 spares-cause (Did r) before none = omega arith
 spares-cause Micro before none = omega arith
+spares-cause (WouldWait on) before none = omega arith
 spares-cause (Over (Met fault.SinkFault)) before none = absurd none
 spares-cause (Over halt) before none = omega arith
 

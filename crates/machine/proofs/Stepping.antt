@@ -1,6 +1,7 @@
 -- Steps of requests that store nothing.
-use Rattle.std.proofs.Common.{◌≡◌, inl, inr, ℕ, zero, suc, ◌-◌, ◌<◌, true, false, List, [], ◌∷◌, ◌++◌, length, map, unwrap_or}
-use Rattle.std.proofs.Common.{Option, Some, refl, sym, ◌∙◌, ap, subst, arith, lit<}
+use Rattle.std.proofs.Common.{◌≡◌, inl, inr, ℕ, ◌-◌, ◌<◌, true, false, List, [], ◌∷◌, ◌++◌, length, unwrap_or}
+use Rattle.std.proofs.Common.{◌≢◌, ◌≤◌}
+use Rattle.std.proofs.Common.{Option, Some, refl, sym, ◌∙◌, ap, subst, arith}
 use Rattle.std.specs.Prelude.{slice_set}
 use Rattle.std.proofs.lemmas.List.{append-nil, length-map}
 use Rattle.ap_base.specs.Sinks.{with_bytes}
@@ -16,18 +17,18 @@ use Rattle.natives.specs.declared.requests.Reply.{Reply}
 use Rattle.run_history.specs.declared.act.Op.{Op}
 use Rattle.run_history.specs.declared.act.Op.TheVariants as op
 use Rattle.run_history.specs.Recorded.{History, Recorded, names_after, names_for}
-use Rattle.run_history.specs.Worlds.{Thread, World, at_thread, depth_of, threads_after_op}
+use Rattle.run_history.specs.Worlds.{World, depth_of}
 use Rattle.plain_model.specs.Facts.{SetFacts}
 use Rattle.plain_model.specs.Requests.{PlainRequest}
 use Rattle.plain_model.specs.Codes.{begun_by, is_persistent, taken_by}
-use Rattle.plain_model.specs.Ends.{Prints}
+use Rattle.plain_model.specs.Ends.{Prints, wait_of}
 use Rattle.plain_model.specs.Runs.{printed_by}
 use Rattle.plain_model.specs.Steps.{Does, step}
 use Rattle.shared_objects.specs.Plain.{plain_request, plain_reply}
 use Rattle.shared_objects.specs.Worlds.{KnowsMonitors, plain_thread, world_of}
 use Rattle.step_forms.specs.declared.stepped.Stepped.{Stepped}
 use Rattle.step_forms.specs.declared.stepped.Stepped.TheVariants as stepped
-use Rattle.step_forms.specs.Becomes.{IsNoStore}
+use Rattle.step_forms.specs.Becomes.{Becomes, IsNoStore}
 use Rattle.step_forms.specs.Follows.{IsStep, stored_as}
 use Rattle.shared_steps.specs.Output.{FaultsGo, OutputGoes, SharesGo}
 use Rattle.run_forms.specs.Views.{ThreadFrames}
@@ -35,35 +36,52 @@ use Rattle.run_forms.specs.Standing.{plain_code}
 use Rattle.run_forms.specs.Ends.{Ends, IsEndedBy, from_in}
 use Rattle.run_forms.proofs.Visible.{is_print, prints, step-inside, step-silent, step-visible}
 use Rattle.twin_forms.specs.Table.{Entry}
-use Rattle.convert_queue.specs.Queues.{Queues}
+use Rattle.convert_queue.specs.Queues.{Queues, total}
 use Rattle.two_spaces.specs.Seen.{Spaces, shown_of}
 use Rattle.machine_forms.specs.declared.doing.Doing.{Doing}
 use Rattle.machine_forms.specs.declared.doing.Doing.TheVariants.{Nothing, Converting}
 use Rattle.region_log.specs.declared.entry.Underway.TheVariants.{Nothing as Idle}
-use Rattle.machine_ends.specs.Stores.{IsFreeOp}
+use Rattle.machine_threads.specs.Passed.{IsFreeOp}
 use Rattle.machine_forms.specs.Machines.{Opening, Machine, doing_of, known_in, layout_in, log_of, memory_of, roots_in, shown_in}
 use Rattle.machine_forms.specs.Keeping.{IsDoing, KeepsRun}
 use Rattle.machine_forms.specs.Events.{ActsBeside, DoesRequest, IsFree, IsListed, LeavesRegions, MakesListed, NotesStore}
 use Rattle.machine_forms.specs.Events.{StoresBeside, act_in, left_by}
-use Rattle.machine_laws.specs.Frames.{IsReady, RunsAsPlain}
+use Rattle.machine_threads.specs.Passed.{IsReady, RunsAsPlain, Asks}
 use Rattle.shared_heap.specs.Shared.{Shared}
-use Rattle.shared_heap.specs.Requests.{StepsTo}
-use Rattle.machine.specs.declared.events.Event.TheVariants.{Did, Micro, Over}
-use Rattle.machine.specs.declared.events.Halt.{Halt}
-use Rattle.machine.specs.declared.events.Halt.TheVariants.{Met, Stuck}
-use Rattle.machine.specs.Halts.{fault_of_halt}
+use Rattle.shared_heap.specs.Requests.{StepsTo, noted_by}
+use Rattle.machine.proofs.Rows.{plain-rows}
+use Rattle.machine.proofs.Starting.{HasNotes, notes-start}
+use Rattle.two_spaces.specs.Whole.{MakesIn, StoresIn}
+use Rattle.machine.specs.declared.events.Event.TheVariants.{Did, Micro, Over, WouldWait}
+use Rattle.machine.specs.declared.events.Halt.TheVariants.{Met}
 use Rattle.machine.specs.Ended.{IsOutside, event_of, nowhere}
-use Rattle.machine.specs.Events.{Comes, HasImageCause, HasSinkCause, IsOver, IsShare, TakesOutput}
+use Rattle.machine.specs.Events.{Comes, KeepsRows, NotesStart, HasImageCause, HasSinkCause, IsShare, TakesOutput, AsksOn, IsBelow}
 use Rattle.machine.specs.Laws.{Laws}
-use Rattle.machine.specs.Running.{IsDue}
+use Rattle.machine.specs.Running.{IsDue, HadNoFault}
 use Rattle.machine.proofs.Aside.{keeps-aside, plain-aside}
-use Rattle.machine.proofs.Basics.{doing-same, not-longer}
+use Rattle.machine.proofs.Basics.{doing-same, not-longer, some-same}
 use Rattle.machine.proofs.Doing.{answers}
-use Rattle.machine.proofs.Leaving.{asked, few, fits}
-use Rattle.machine.proofs.Memory.{stays}
+use Rattle.machine.proofs.Leaving.{asked, few, fits, Kept, goes-on, same-room}
+use Rattle.machine.proofs.Memory.{stays, StaysPut}
 use Rattle.machine.proofs.Printing.{bytes-none, last-same, other-cause, over-cause, printed-not, printed-so, share-so}
-use Rattle.machine.proofs.Steps.{DoesFine, MayMake, broken-over, did-fine, may-make, stores-alone}
-use Rattle.machine_forms.specs.Happening as event
+use Rattle.machine.proofs.Steps.{DoesFine, MayMake, broken-over, did-fine, may-make, stores-alone, StartsNoneBy, starts-none}
+use Rattle.convert_waits.specs.Stuck.{IsPlain, HoldsWait}
+use Rattle.graph_model.specs.declared.types.Value.TheVariants.{Obj as Object}
+use Rattle.machine.proofs.Noting.{noted-asks, noted-waits, noted-wait, noted-wrong, noted-over}
+use Rattle.machine_threads.specs.Passed.{TakesLines}
+use Rattle.machine_threads.specs.Passed.{HasUnwritten}
+use Rattle.machine_threads.specs.Passed.{measure}
+use Rattle.machine_forms.specs.Machines.{scene_of}
+use Rattle.machine_threads.specs.Keeping.{KeepsThread, IsUnbegun}
+use Rattle.machine_threads.specs.Stuck.{plain_waits, requests_in}
+use Rattle.run_types.specs.Faults.{run_fault}
+use Rattle.run_types.specs.declared.wait.On.{On}
+use Rattle.run_types.specs.declared.wait.On.TheVariants as on
+use Rattle.shared_heap.specs.Notes.{ThreadNotes}
+use Rattle.machine_threads.proofs.Asking.{Lives, plain-get, plain-lives}
+use Rattle.shared_objects.specs.declared.threads.ThreadState.{ThreadState}
+use Rattle.run_history.specs.Worlds.{Thread}
+use Rattle.std.specs.Prelude.{map, slice_get}
 
 -- ---- operations that store nothing
 
@@ -91,129 +109,130 @@ notes-none es (op.Stored place value) r q q' none same = absurd none
 notes-none es o r q q' none same = same
 
 module _ (set : SetFacts) (Made : ℕ → Type 0) (may : MayMake set Made) where
-  fine-outside : (o : Op) → DoesFine set Made may o → LeavesRegions o
+  fine-outside : (o : Op) → DoesFine set Made (Unit {0}) may o → LeavesRegions o
   fine-outside op.Begin fine = absurd fine
   fine-outside op.End fine = absurd fine
   fine-outside o fine = tt
 
-free-op : (ope : Opening) (m : Machine) (o : Op) (r : Reply Ref Item) → IsNoStore (stepped.Did o r)
-    → IsFreeOp ope m 0 o
-free-op ope m (op.Stored place value) r none = absurd none
-free-op ope m o r none = tt
+free-op : (ope : Opening) (m : Machine) (t : ℕ) (o : Op) (r : Reply Ref Item) → IsNoStore (stepped.Did o r)
+    → IsFreeOp ope m t o
+free-op ope m t (op.Stored place value) r none = absurd none
+free-op ope m t o r none = tt
 
 fine-listed : (set : SetFacts) (o : Opening) (m : Machine) (may : MayMake set (IsListed o m)) (operation : Op)
-    → DoesFine set (IsListed o m) may operation → MakesListed o m operation
+    → DoesFine set (IsListed o m) (Unit {0}) may operation → MakesListed o m operation
 fine-listed set o m may (op.Alloc n class count) fine = fine
 fine-listed set o m may (op.Throw n class) fine = fine
 fine-listed set o m may operation fine = tt
 
+-- ---- who lives
+
+-- Where the world's threads are the same, whoever lives lives still.
+world-lives : (states now : List ThreadState) (u : ℕ) → map plain_thread now ≡ map plain_thread states
+    → Lives states u → Lives now u
+world-lives states now u same old = plain-lives now u (plain_thread old.state) old.lives
+    (ap (λ (ths : List Thread). slice_get ths u) same ∙ plain-get states u old.state old.there)
+
 -- ---- faults
 
-abbrev IsNoImageFault : Halt → Type 0
-IsNoImageFault (Met met.ImageFault) = ⊥
-IsNoImageFault halt = Unit {0}
+abbrev IsNoImageFault : StepFault → Type 0
+IsNoImageFault met.ImageFault = ⊥
+IsNoImageFault f = Unit {0}
 
-unfailed : (halt : Halt) (before after : ℕ) → IsNoImageFault halt → before ≡ after
-    → HasImageCause (Over halt) before after
-unfailed (Met met.ImageFault) before after other same = absurd other
-unfailed halt before after other same = omega (arith, same)
+unfailed : (f : StepFault) (before after : ℕ) → IsNoImageFault f → before ≡ after
+    → HasImageCause (Over (Met f)) before after
+unfailed met.ImageFault before after other same = absurd other
+unfailed f before after other same = omega (arith, same)
+
+-- ---- waits of the plain world
+
+plain-holds : (o : Opening) (m : Machine) (es : List Entry) (t : ℕ) (p : On) → IsPlain p → plain_waits o m t ≡ Some p
+    → HoldsWait (plain_waits o m) (scene_of m) es t p
+plain-holds o m es t (on.Conversion u) is held = absurd is
+plain-holds o m es t (on.Monitor u) is held = held
+plain-holds o m es t (on.Join u) is held = held
+plain-holds o m es t (on.Init u) is held = held
+
+below-plain : (p : On) → IsPlain p → IsBelow p
+below-plain (on.Conversion u) is = absurd is
+below-plain (on.Monitor u) is = tt
+below-plain (on.Join u) is = tt
+below-plain (on.Init u) is = tt
 
 no-image : true ≡ false → ⊥
 no-image e = let no = e in cc
 
--- ---- threads
-
-at-length : (f : Thread → Thread) (ths : List Thread) (t : ℕ) → length (at_thread f ths t) ≡ length ths
-at-length f [] t = refl
-at-length f (th ∷ ths) zero = refl
-at-length f (th ∷ ths) (suc t) = ap suc (at-length f ths t)
-
-abbrev pub StartsNone : Op → Type 0
-StartsNone (op.Start n child) = ⊥
-StartsNone o = Unit {0}
-
-pub threads-length : (ths : List Thread) (t : ℕ) (o : Op) → StartsNone o
-    → length (threads_after_op ths t o) ≡ length ths
-threads-length ths t (op.Start n child) none = absurd none
-threads-length ths t op.Begin none = at-length _ ths t
-threads-length ths t op.End none = at-length _ ths t
-threads-length ths t (op.Ended uncaught) none = at-length _ ths t
-threads-length ths t o none = refl
-
-fine-starts : (set : SetFacts) (Made : ℕ → Type 0) (may : MayMake set Made) (o : Op) → DoesFine set Made may o
-    → StartsNone o
-fine-starts set Made may (op.Start n child) fine = absurd fine
-fine-starts set Made may o fine = tt
-
 module _ (laws : Laws) (o : Opening) (first : ℕ) (set : SetFacts) (s : Shared) (es : List Entry)
-    (fs : ThreadFrames) (request : Request Ref Item) (due : IsDue o first set s es fs request)
-    (room : length s.history.acts < s.history.limit) (ready : IsReady (doing_of s.machine 0)) (new : Shared)
+    (threads : List ThreadFrames) (t : ℕ) (fs : ThreadFrames) (request : Request Ref Item) (due : IsDue o first set s es threads t fs request)
+    (room : length s.history.acts < s.history.limit) (ready : IsReady (doing_of s.machine t)) (new : Shared)
   where
     abbrev plain : PlainRequest
     plain = plain_request (shown_in s.machine).number request
 
     -- the log counts the regions that the acts have opened
-    pub depth-is : (log_of s.machine 0).depth ≡ depth_of (world_of [] (shown_in s.machine) s.machine.rest) 0
+    pub depth-is : (log_of s.machine t).depth ≡ depth_of (world_of [] (shown_in s.machine) s.machine.rest) t
     depth-is =
-        let own = due.running.keeps.asked.regions.each 0 (lit< tt) in
+        let own = due.running.keeps.asked.regions.each t due.thread in
         own.guards.depth ∙ ap (depth_of (known_in o s.machine).world) own.thread
-        ∙ ap (λ (w : World). depth_of w 0) due.running.keeps.world.world
+        ∙ ap (λ (w : World). depth_of w t) due.running.keeps.world.world
 
     may : MayMake o.launch.set (IsListed o s.machine)
     may = may-make o.launch.set (IsListed o s.machine) due.running.listed
 
-    module _ (result : Stepped) (x : StepsTo set 0 request result s new) (none : IsNoStore result) where
-      pub is-step : IsStep o.launch.set 0 request (shown_in s.machine) s.machine.rest result (shown_in
+    module _ (result : Stepped) (x : StepsTo set t request result s new) (none : IsNoStore result) where
+      pub is-step : IsStep o.launch.set t request (shown_in s.machine) s.machine.rest result (shown_in
           new.machine)
           new.machine.rest
-      is-step = subst (λ (y : SetFacts). IsStep y 0 request (shown_in s.machine) s.machine.rest result
+      is-step = subst (λ (y : SetFacts). IsStep y t request (shown_in s.machine) s.machine.rest result
           (shown_in new.machine) new.machine.rest) due.facts x.step
 
-      ends : (lines : ℕ) → Ends o.launch lines s.machine.acts s.machine.rest 0 request result
-      ends lines = laws.ends.steps o s.machine es (fs ∷ []) due.running.keeps due.running.plain lines 0 fs
+      ends : (lines : ℕ) → Ends o.launch lines s.machine.acts s.machine.rest t request result
+      ends lines = laws.ends.steps o s.machine es threads due.running.keeps due.running.plain lines t fs
           request
           result (shown_in new.machine) new.machine.rest ready due.asks is-step
-          (few laws o first set s es fs request due room)
+          (few laws o first set s es threads t fs request due room)
 
       -- a thread that converts asks a store
-      not-converting : doing_of s.machine 0 ≡ Converting → ⊥
+      not-converting : doing_of s.machine t ≡ Converting → ⊥
       not-converting converting =
-          let doing = subst (IsDoing (known_in o s.machine) (layout_in o es) 0) converting
-          (due.running.keeps.asked.doing 0) in
+          let doing = subst (IsDoing (known_in o s.machine) (layout_in o es) t) converting
+          (due.running.keeps.asked.doing t) in
           let p = doing.0.0 in
-          let stores : step o.launch.set (world_of (roots_in o s.machine) (shown_in s.machine)
-          s.machine.rest) 0 0
-          plain ≡ stored_as p.place p.value =
-          subst (λ w. step o.launch.set w 0 0 plain ≡ stored_as p.place p.value) due.running.keeps.world.world
-          (due.running.about.stores p plain doing.0.1 (asked laws o first set s es fs request due
-          ready).plain) in
-          stores-alone o.launch.set 0 request (shown_in s.machine) s.machine.rest (shown_in new.machine)
-          new.machine.rest p.place p.value (roots_in o s.machine) stores result is-step none
+          let its = (due.running.all.each t fs due.asks.frames).about p doing.0.1 in
+          let same : its.0 ≡ plain
+          = some-same its.0 plain (sym its.2 ∙ (asked laws o first set s es threads t fs request due ready).plain) in
+          let stores : step o.launch.set (world_of (roots_in o s.machine) (shown_in s.machine) s.machine.rest) t 1 plain
+          ≡ stored_as p.place (Object its.1)
+          = subst (λ w. step o.launch.set w t 1 plain ≡ stored_as p.place (Object its.1)) due.running.keeps.world.world
+          (subst (λ (q : PlainRequest). step o.launch.set (known_in o s.machine).world t 1 q
+          ≡ stored_as p.place (Object its.1)) same its.4.does) in
+          stores-alone o.launch.set t request (shown_in s.machine) s.machine.rest (shown_in new.machine)
+          new.machine.rest p.place (Object its.1) (roots_in o s.machine) stores result is-step none
 
-      pub nothing : doing_of s.machine 0 ≡ Nothing
+      pub nothing : doing_of s.machine t ≡ Nothing
       nothing = elim ready [ inl is ↦ is | inr converting ↦ absurd (not-converting converting) ]
 
     -- ---- it did something
 
-    module _ (operation : Op) (r : Reply Ref Item) (x : StepsTo set 0 request (stepped.Did operation r) s new)
+    module _ (operation : Op) (r : Reply Ref Item) (x : StepsTo set t request (stepped.Did operation r) s new)
         (none : IsNoStore (stepped.Did operation r)) where
-      pub is : IsStep o.launch.set 0 request (shown_in s.machine) s.machine.rest (stepped.Did operation r)
+      pub is : IsStep o.launch.set t request (shown_in s.machine) s.machine.rest (stepped.Did operation r)
           (shown_in new.machine) new.machine.rest
       is = is-step (stepped.Did operation r) x none
 
-      pub does-it : step o.launch.set (world_of [] (shown_in s.machine) s.machine.rest) 0 (taken_by operation)
+      pub does-it : step o.launch.set (world_of [] (shown_in s.machine) s.machine.rest) t (taken_by operation)
           plain
           ≡ Does operation (plain_reply (shown_in new.machine).number r)
       does-it = (is.follows []).0
 
       pub visible : is_persistent operation ≡ false
-      visible = step-visible o.launch.set (world_of [] (shown_in s.machine) s.machine.rest) 0 (taken_by
+      visible = step-visible o.launch.set (world_of [] (shown_in s.machine) s.machine.rest) t (taken_by
           operation)
           plain operation (plain_reply (shown_in new.machine).number r)
-          (asked laws o first set s es fs request due ready).fit does-it
+          (asked laws o first set s es threads t fs request due ready).fit does-it
 
       abbrev act : Recorded
-      act = act_in s.machine 0 operation []
+      act = act_in s.machine t operation []
 
       pub did-acts : new.history.acts ≡ s.history.acts ++ act ∷ []
       did-acts = ap (λ (y : History). y.acts) x.history
@@ -224,13 +243,13 @@ module _ (laws : Laws) (o : Opening) (first : ℕ) (set : SetFacts) (s : Shared)
       machine-acts = ap (λ (m : Machine). m.acts) x.machine ∙ did-acts
           ∙ ap (λ (xs : List Recorded). xs ++ act ∷ []) due.running.acts
 
-      free : IsFree o s.machine es 0 (doing_of s.machine 0)
-      free = subst (IsFree o s.machine es 0) (sym (nothing (stepped.Did operation r) x none)) tt
+      free : IsFree o s.machine es t (doing_of s.machine t)
+      free = subst (IsFree o s.machine es t) (sym (nothing (stepped.Did operation r) x none)) tt
 
-      pub does : DoesRequest o s.machine new.machine es 0 request operation r
+      pub does : DoesRequest o s.machine new.machine es t request operation r
       does = record {
-        thread = lit< tt;
-        fit = fits laws o first set s es fs request due ready;
+        thread = due.thread;
+        fit = fits laws o first set s es threads t fs request due ready;
         doing = free;
         step = is;
         heap = x.heap;
@@ -240,17 +259,17 @@ module _ (laws : Laws) (o : Opening) (first : ℕ) (set : SetFacts) (s : Shared)
       }
 
       -- the request neither begins nor ends a region
-      module _ (idle : (log_of s.machine 0).underway ≡ Idle)
-          (outside : IsOutside (log_of s.machine 0).depth request) where
-        fine : DoesFine o.launch.set (IsListed o s.machine) may operation
-        fine = did-fine o.launch.set (IsListed o s.machine) may
-            (world_of [] (shown_in s.machine) s.machine.rest) 0 (shown_in s.machine).number (taken_by
+      module _ (idle : (log_of s.machine t).underway ≡ Idle)
+          (outside : IsOutside (log_of s.machine t).depth request) where
+        fine : DoesFine o.launch.set (IsListed o s.machine) (Unit {0}) may operation
+        fine = did-fine o.launch.set (IsListed o s.machine) (Unit {0}) may
+            (world_of [] (shown_in s.machine) s.machine.rest) t (shown_in s.machine).number (taken_by
             operation) request
-            operation (plain_reply (shown_in new.machine).number r) due.built
+            operation (plain_reply (shown_in new.machine).number r) (inr tt)
             (subst (λ depth. IsOutside depth request) depth-is outside)
-            (asked laws o first set s es fs request due ready).fit due.made does-it
+            (asked laws o first set s es threads t fs request due ready).fit due.made does-it
 
-        acts-beside : ActsBeside o s.machine new.machine es 0 request operation r
+        acts-beside : ActsBeside o s.machine new.machine es t request operation r
         acts-beside = record {
           does = does;
           outside = fine-outside o.launch.set (IsListed o s.machine) may operation fine;
@@ -259,52 +278,60 @@ module _ (laws : Laws) (o : Opening) (first : ℕ) (set : SetFacts) (s : Shared)
           notes = notes-none es operation r s.machine.queue new.machine.queue none
               (ap (λ (m : Machine). m.queue) x.machine);
           listed = fine-listed o.launch.set o s.machine may operation fine;
-          doing = ap (λ (m : Machine). m.doing) x.machine ∙ sym (doing-same s.machine.doing)
-              ∙ ap (slice_set s.machine.doing 0) (sym (left-same operation r (doing_of s.machine 0) none));
+          doing = ap (λ (m : Machine). m.doing) x.machine ∙ sym (doing-same s.machine.doing t)
+              ∙ ap (slice_set s.machine.doing t) (sym (left-same operation r (doing_of s.machine t) none));
         }
 
-        begun-none : (operation' : Op) → DoesFine o.launch.set (IsListed o s.machine) may operation'
+        -- a request that isn't to start a thread starts none
+        begun-none : (operation' : Op) → StartsNoneBy operation'
             → [] ≡ begun_by o.launch.set o.launch.main o.launch.opening (plain_code o.launch) operation'
-        begun-none (op.Start n child) fine' = absurd fine'
-        begun-none operation' fine' = refl
+        begun-none (op.Start n child) none' = absurd none'
+        begun-none operation' none' = refl
 
-        alone-now : length new.machine.rest.threads ≡ 1
-        alone-now =
-            sym (length-map new.machine.rest.threads plain_thread)
-            ∙ ap (λ (w : World). length w.threads) (is.follows []).2
-            ∙ threads-length (map plain_thread s.machine.rest.threads) 0 operation
-            (fine-starts o.launch.set (IsListed o s.machine) may operation fine)
-            ∙ length-map s.machine.rest.threads plain_thread ∙ due.running.alone
+        did-start : HasNotes request new → (n child : ℕ) → operation ≡ op.Start n child
+            → NotesStart o operation child s new
+        did-start notes n child is = subst (λ (x : Op). NotesStart o x child s new) (sym is)
+            (notes-start o t s new n child r (plain_reply (shown_in new.machine).number r) (taken_by operation)
+            (subst (λ (x : Op). Becomes shown_of StoresIn MakesIn s.machine.spaces (stepped.Did x r) new.machine.spaces)
+            is x.heap) request (subst (λ depth. IsOutside depth request) depth-is outside)
+            (asked laws o first set s es threads t fs request due ready).fit
+            (subst (λ (x : Op). step o.launch.set (world_of [] (shown_in s.machine) s.machine.rest) t
+            (taken_by operation) plain ≡ Does x (plain_reply (shown_in new.machine).number r)) is does-it) notes
+            (x.notes ∙ ap (λ (x : Op). noted_by request (stepped.Did x r) s.notes) is))
 
-        did-comes : Comes o first fs request (Did r) s new
-        did-comes = answers laws o first set s es fs request due new operation r acts-beside (record {
-          ready = ready;
+        did-comes : HasNotes request new → Comes o first es threads t fs request (Did r) s new
+        did-comes notes = answers laws o first set s es threads t fs request due new operation r acts-beside (record {
           idle = idle;
-          left = left-same operation r (doing_of s.machine 0) none
+          left = left-same operation r (doing_of s.machine t) none
               ∙ nothing (stepped.Did operation r) x none;
-          begun = begun-none operation fine;
+          starts = λ it. begun-none operation (starts-none o.launch.set (world_of [] (shown_in s.machine) s.machine.rest)
+              t (shown_in s.machine).number (taken_by operation) request operation
+              (plain_reply (shown_in new.machine).number r) it (subst (λ depth. IsOutside depth request) depth-is outside)
+              (asked laws o first set s es threads t fs request due ready).fit does-it);
+          started = did-start notes;
           meets = λ lines.
-              laws.ends.steps_meet o s.machine es (fs ∷ []) due.running.keeps due.running.plain lines 0 fs
+              laws.ends.steps_meet o s.machine es threads due.running.keeps due.running.plain lines t fs
               request
               operation r (shown_in new.machine) new.machine.rest ready due.asks is
-              (free-op o s.machine operation r none) (few laws o first set s es fs request due room);
-          threads = alone-now;
+              (free-op o s.machine t operation r none) (few laws o first set s es threads t fs request due room);
           lines = x.lines;
           history = sym (ap (λ (m : Machine). m.acts) x.machine);
           named = ap (λ (y : History). y.named) x.history ∙ named-still operation s.history.named visible;
           limit = ap (λ (y : History). y.limit) x.history;
           room = ap (λ (y : History). y.room) x.history;
-          count = x.named;
-          whole = broken-over o.launch.set (world_of [] (shown_in s.machine) s.machine.rest) 0 (taken_by
+          queued = ap (λ (m : Machine). total m.queue.queues) x.machine;
+          asks = ap (λ (n : ThreadNotes). n.asks) x.notes ∙ noted-asks request operation r s.notes;
+          noted = ap (λ (n : ThreadNotes). n.waits) x.notes ∙ noted-waits request operation r s.notes;
+          whole = broken-over o.launch.set (world_of [] (shown_in s.machine) s.machine.rest) t (taken_by
               operation)
               (shown_in s.machine).number request operation (plain_reply (shown_in new.machine).number r)
               does-it;
         })
 
       silent-print : prints plain ≡ false → is_print operation ≡ false
-      silent-print quiet = (step-silent o.launch.set (world_of [] (shown_in s.machine) s.machine.rest) 0
+      silent-print quiet = (step-silent o.launch.set (world_of [] (shown_in s.machine) s.machine.rest) t
           (taken_by operation) plain operation (plain_reply (shown_in new.machine).number r)
-          (asked laws o first set s es fs request due ready).fit quiet does-it).1
+          (asked laws o first set s es threads t fs request due ready).fit quiet does-it).1
 
       did-told : (takes takes' : Option (List ℕ)) → OutputGoes request takes (stepped.Did operation r) takes'
           → TakesOutput s.history.acts new.history.acts takes takes'
@@ -324,7 +351,7 @@ module _ (laws : Laws) (o : Opening) (first : ℕ) (set : SetFacts) (s : Shared)
 
     -- the heap and the history are as they were, and the world
     pub record Stops (result : Stepped) : Type 0 where
-      pub step : IsStep o.launch.set 0 request (shown_in s.machine) s.machine.rest result (shown_in
+      pub step : IsStep o.launch.set t request (shown_in s.machine) s.machine.rest result (shown_in
           new.machine)
           new.machine.rest
       pub spaces : new.machine.spaces ≡ s.machine.spaces
@@ -334,7 +361,7 @@ module _ (laws : Laws) (o : Opening) (first : ℕ) (set : SetFacts) (s : Shared)
       pub world : (roots : List Root) → world_of roots (shown_in s.machine) new.machine.rest
           ≡ world_of roots (shown_in s.machine) s.machine.rest
 
-    stops : (result : Stepped) → StepsTo set 0 request result s new → IsNoStore result
+    stops : (result : Stepped) → StepsTo set t request result s new → IsNoStore result
         → new.machine.spaces ≡ s.machine.spaces → new.history ≡ s.history
         → ((roots : List Root) → world_of roots (shown_in new.machine) new.machine.rest
         ≡ world_of roots (shown_in s.machine) s.machine.rest) → Stops result
@@ -355,69 +382,196 @@ module _ (laws : Laws) (o : Opening) (first : ℕ) (set : SetFacts) (s : Shared)
               ≡ world_of roots (shown_in s.machine) s.machine.rest) spaces (world roots);
         }
 
-    module _ (result : Stepped) (x : StepsTo set 0 request result s new) (st : Stops result)
-        (halt : Halt) (ended : (lines : ℕ) → IsEndedBy o.launch lines s.machine.acts 0 (fault_of_halt halt))
-        (other : IsNoImageFault halt) where
-      aside-keeps : IsOver o first (fault_of_halt halt) s new fs
-      aside-keeps = record {
-        es = es;
-        keeps = subst (λ (m : Machine). KeepsRun o m es) (sym st.machine)
-            (keeps-aside o s.machine es due.running.keeps new.machine.rest x.sound st.known st.world);
-        plain = subst (λ (m : Machine). RunsAsPlain o m (fs ∷ [])) (sym st.machine)
-            (plain-aside o s.machine es due.running.keeps new.machine.rest x.sound st.known st.world (fs ∷ [])
-            due.running.plain);
-        history = st.history;
-        acts = ap (λ (m : Machine). m.acts) st.machine;
-        ends = subst (λ (xs : List Recorded). IsEndedBy o.launch ((memory_of new.machine).size - first) xs
-            0 (fault_of_halt halt))
-            (sym (ap (λ (m : Machine). m.acts) st.machine)) (ended _);
+    module _ (result : Stepped) (x : StepsTo set t request result s new) (st : Stops result) where
+      aside-now : KeepsRun o new.machine es
+      aside-now = subst (λ (m : Machine). KeepsRun o m es) (sym st.machine)
+          (keeps-aside o s.machine es due.running.keeps new.machine.rest x.sound st.known st.world)
+
+      aside-plain : RunsAsPlain o new.machine threads
+      aside-plain = subst (λ (m : Machine). RunsAsPlain o m threads) (sym st.machine)
+          (plain-aside o s.machine es due.running.keeps new.machine.rest x.sound st.known st.world threads
+          due.running.plain)
+
+      same-acts : new.machine.acts ≡ s.machine.acts
+      same-acts = ap (λ (m : Machine). m.acts) st.machine
+
+      put : StaysPut s.machine.spaces new.machine.spaces
+      put = stays s.machine.spaces new.machine.spaces st.spaces
+
+      -- ---- the run is over
+
+      module _ (f : StepFault) (ended : (lines : ℕ) → IsEndedBy o.launch lines s.machine.acts t (run_fault f))
+          (other : IsNoImageFault f) (noted : new.notes ≡ s.notes) where
+        stops-comes : Comes o first es threads t fs request (Over (Met f)) s new
+        stops-comes = record {
+          goes = record {
+            after = es;
+            keeps = aside-now;
+            plain = aside-plain;
+            history = st.history;
+            acts = same-acts;
+            ends = subst (λ (xs : List Recorded). IsEndedBy o.launch ((memory_of new.machine).size - first) xs
+                t (run_fault f)) (sym same-acts) (ended _);
+          };
+          acts = ap (λ (y : History). y.acts) st.history;
+          calls = inl put.image;
+          cause = unfailed f _ _ other (sym put.image.faults);
+          answers = tt;
+          numbers = put.numbers;
+          quiet = λ micro same. absurd (let no = micro in cc);
+          waits = λ on no. absurd (let e = no in cc);
+          asks = ap (λ (n : ThreadNotes). n.asks) noted;
+          noted = ap (λ (n : ThreadNotes). n.waits) noted;
+        }
+
+      -- ---- the thread waits
+
+      aside-lives : (u : ℕ) (gs : ThreadFrames) (q : Request Ref Item) → Asks o s.machine threads u gs q
+          → Asks o new.machine threads u gs q
+      aside-lives u gs q asks =
+          let lives = world-lives s.machine.rest.threads new.machine.rest.threads u
+          (ap (λ (w : World). w.threads) (st.world []))
+          (record { state = asks.state; there = asks.thread; lives = asks.lives }) in record {
+            state = lives.state;
+            thread = lives.there;
+            lives = lives.lives;
+            frames = asks.frames;
+            asks = asks.asks;
+          }
+
+      aside-keeps : (u : ℕ) (gs : ThreadFrames) → KeepsThread o s.machine es u gs → KeepsThread o new.machine es u gs
+      aside-keeps u gs own = subst (λ (m : Machine). KeepsThread o m es u gs) (sym st.machine) (record {
+        about = own.about;
+        holds = own.holds;
+        lags = own.lags;
+        ends = own.ends;
+      })
+
+      aside-unbegun : (u : ℕ) → IsUnbegun s.machine u → IsUnbegun new.machine u
+      aside-unbegun u none = subst (λ (m : Machine). IsUnbegun m u) (sym st.machine)
+          (record { doing = none.doing; log = none.log })
+
+      same-many : length new.machine.rest.threads ≡ length s.machine.rest.threads
+      same-many = sym (length-map new.machine.rest.threads plain_thread)
+          ∙ ap (λ (w : World). length w.threads) (st.world [])
+          ∙ length-map s.machine.rest.threads plain_thread
+
+      aside-kept : Kept o first t s.machine new.machine es es threads threads
+      aside-kept = record {
+        keeps = aside-now;
+        plain = aside-plain;
+        taken = subst (λ (m : Machine). TakesLines o first m es) (sym st.machine) due.running.taken;
+        unwritten = subst (λ (m : Machine). HasUnwritten m es) (sym st.machine) due.running.unwritten;
+        all = record {
+          each = λ u gs is. aside-keeps u gs (due.running.all.each u gs is);
+          unbegun = λ u past. aside-unbegun u (due.running.all.unbegun u past);
+        };
+        others = record {
+          ask = λ u gs q other asks. aside-lives u gs q asks;
+          doing = λ u other. ap (λ (m : Machine). doing_of m u) st.machine;
+          forwarded = λ u other old. old;
+        };
       }
 
-      stops-comes : Comes o first fs request (Over halt) s new
-      stops-comes =
-          let put = stays s.machine.spaces new.machine.spaces st.spaces in record {
-            goes = aside-keeps;
-            acts = ap (λ (y : History). y.acts) st.history;
-            calls = inl put.image;
-            cause = unfailed halt _ _ other (sym put.image.faults);
-            answers = tt;
-            numbers = put.numbers;
-            quiet = λ micro same. absurd (let no = micro in cc);
-          }
+      asks-aside : AsksOn o first s new es threads t
+      asks-aside = record {
+        after = es;
+        runs = goes-on laws o first set s es threads t fs request due new es threads (record {
+          kept = aside-kept;
+          many = due.running.many ∙ sym same-many;
+          lines = x.lines;
+          acts = ap (λ (y : History). y.acts) st.history ∙ due.running.acts ∙ sym same-acts;
+          limit = ap (λ (y : History). y.limit) st.history;
+          unnamed = ap (λ (y : History). y.named) st.history ∙ due.running.unnamed;
+          room = same-room laws o first set s es threads t fs request due new es aside-now
+              (ap (λ (m : Machine). m.free) st.machine) (ap (λ (m : Machine). total m.queue.queues) st.machine)
+              (ap (λ (y : History). y.room) st.history);
+          numbers = put.numbers;
+          unfaulted = subst (HadNoFault o.launch) (sym same-acts) due.running.unfaulted;
+        });
+        own = λ gs q asks. aside-lives t gs q asks;
+        others = aside-kept.others;
+      }
+
+    -- ---- a step that waits
+
+    module _ (on : On) (x : StepsTo set t request (stepped.Waits on) s new) where
+      st : Stops (stepped.Waits on)
+      st = stops (stepped.Waits on) x tt x.heap x.history (λ roots. (x.step.follows roots).1)
+
+      waits-now : plain_waits o s.machine t ≡ Some on
+      waits-now = laws.threads.wait o s.machine es threads due.running.keeps due.running.plain t fs request ready due.asks
+          ∙ ap (λ w. wait_of (step o.launch.set w t 1 plain)) due.running.keeps.world.world
+          ∙ ap wait_of (((is-step (stepped.Waits on) x tt).follows (roots_in o s.machine)).0 1)
+
+      is-plain : IsPlain on
+      is-plain = laws.threads.plain o.launch.set (known_in o s.machine) (requests_in o s.machine) t on waits-now
+
+      not-converting-now : doing_of s.machine t ≢ Converting
+      not-converting-now = not-converting (stepped.Waits on) x tt
+
+      pub waits-comes : Comes o first es threads t fs request (WouldWait on) s new
+      unfolding asks-aside
+      waits-comes = record {
+        goes = record {
+          asks = asks-aside (stepped.Waits on) x st;
+          table = es;
+          agrees = (aside-now (stepped.Waits on) x st).heap.agrees;
+          holds = plain-holds o new.machine es t on is-plain
+              (subst (λ (m : Machine). plain_waits o m t ≡ Some on) (sym st.machine) waits-now);
+          forwarded = λ n claimed. absurd (laws.threads.nothing o s.machine es t due.running.keeps not-converting-now n
+              claimed);
+          ready = inl (ap (λ (m : Machine). doing_of m t) st.machine ∙ nothing (stepped.Waits on) x tt);
+          below = below-plain on is-plain;
+          rows = subst (λ (m : Machine). KeepsRows o t on s.machine m) (sym st.machine)
+              (plain-rows o s.machine es due.running.keeps new.machine.rest x.sound st.known st.world t on waits-now
+              (laws.threads.nothing o s.machine es t due.running.keeps not-converting-now));
+          needing = λ converts. absurd (not-converting-now converts);
+          history = λ plain. st.history;
+        };
+        acts = ap (λ (y : History). y.acts) st.history;
+        calls = inl (put (stepped.Waits on) x st).image;
+        cause = (let same = (put (stepped.Waits on) x st).image.faults in omega (arith, same));
+        answers = tt;
+        numbers = (put (stepped.Waits on) x st).numbers;
+        quiet = λ micro same. absurd (let no = micro in cc);
+        waits = λ on2 is. subst (λ (m : Machine). measure m ≤ measure s.machine) (sym st.machine) (omega arith);
+        asks = ap (λ (n : ThreadNotes). n.asks) (x.notes ∙ noted-wait request on s.notes);
+        noted = ap (λ (n : ThreadNotes). n.waits) (x.notes ∙ noted-wait request on s.notes);
+      }
 
     -- ---- all steps
 
-    pub stepped-comes : (log_of s.machine 0).underway ≡ Idle → IsOutside (log_of s.machine 0).depth request
-        → (result : Stepped) → StepsTo set 0 request result s new → IsNoStore result
-        → Comes o first fs request (event_of request result) s new
-    stepped-comes idle outside (stepped.Did operation r) x none = did-comes operation r x none idle outside
-    stepped-comes idle outside (stepped.Waits on) x none =
-        stops-comes (stepped.Waits on) x
-        (stops (stepped.Waits on) x none x.heap x.history (λ roots. (x.step.follows roots).1)) (Stuck on)
-        (λ lines. ends (stepped.Waits on) x none lines due.running.alone refl) tt
-    stepped-comes idle outside stepped.Wrong x none =
+    pub stepped-comes : (log_of s.machine t).underway ≡ Idle → IsOutside (log_of s.machine t).depth request
+        → HasNotes request new → (result : Stepped) → StepsTo set t request result s new → IsNoStore result
+        → Comes o first es threads t fs request (event_of request result) s new
+    stepped-comes idle outside notes (stepped.Did operation r) x none = did-comes operation r x none idle outside notes
+    stepped-comes idle outside notes (stepped.Waits on) x none = waits-comes on x
+    stepped-comes idle outside notes stepped.Wrong x none =
         stops-comes stepped.Wrong x
         (stops stepped.Wrong x none x.heap x.history (λ roots. (x.step.follows roots).1))
-        (Met (met.BadCode (unwrap_or (from_in request) nowhere))) (λ lines. wrong lines (ends stepped.Wrong x none lines)) tt
+        (met.BadCode (unwrap_or (from_in request) nowhere)) (λ lines. wrong lines (ends stepped.Wrong x none lines)) tt
+        (x.notes ∙ noted-wrong request s.notes)
       where
         wrong : (lines : ℕ) → ((from : At) × (from_in request ≡ Some from)
-            × IsEndedBy o.launch lines s.machine.acts 0 (fault.BadCode from))
-            → IsEndedBy o.launch lines s.machine.acts 0 (fault.BadCode (unwrap_or (from_in request) nowhere))
+            × IsEndedBy o.launch lines s.machine.acts t (fault.BadCode from))
+            → IsEndedBy o.launch lines s.machine.acts t (fault.BadCode (unwrap_or (from_in request) nowhere))
         wrong lines (from, is_from, ended) =
-            subst (λ (a : At). IsEndedBy o.launch lines s.machine.acts 0 (fault.BadCode a))
+            subst (λ (a : At). IsEndedBy o.launch lines s.machine.acts t (fault.BadCode a))
             (sym (ap (λ (a : Option At). unwrap_or a nowhere) is_from)) ended
-    stepped-comes idle outside (stepped.Over f) x none =
+    stepped-comes idle outside notes (stepped.Over f) x none =
         stops-comes (stepped.Over f) x
-        (stops (stepped.Over f) x none x.heap x.history (λ roots. (x.step.follows roots).1)) (Met f)
+        (stops (stepped.Over f) x none x.heap x.history (λ roots. (x.step.follows roots).1)) f
         (λ lines. ends (stepped.Over f) x none lines) (inside f x none)
+        (x.notes ∙ noted-over request f s.notes)
       where
-        inside : (g : StepFault) → StepsTo set 0 request (stepped.Over g) s new → IsNoStore (stepped.Over g)
-            → IsNoImageFault (Met g)
+        inside : (g : StepFault) → StepsTo set t request (stepped.Over g) s new → IsNoStore (stepped.Over g)
+            → IsNoImageFault g
         inside met.ImageFault y none2 = elim ((is-step (stepped.Over met.ImageFault) y none2).follows
             []).0 [
               | inl limit ↦ limit
               | inr over ↦ no-image (step-inside o.launch.set
-                  (world_of [] (shown_in s.machine) s.machine.rest) 0 1 plain met.ImageFault (asked laws o first set s es fs request due ready).fit (over 1))
+                  (world_of [] (shown_in s.machine) s.machine.rest) t 1 plain met.ImageFault (asked laws o first set s es threads t fs request due ready).fit (over 1))
             ]
         inside g y none2 = tt
 
@@ -431,7 +585,7 @@ module _ (laws : Laws) (o : Opening) (first : ℕ) (set : SetFacts) (s : Shared)
       output = put ∙ bytes-none takes;
     }
 
-    pub stepped-told : (result : Stepped) → StepsTo set 0 request result s new → IsNoStore result
+    pub stepped-told : (result : Stepped) → StepsTo set t request result s new → IsNoStore result
         → (takes takes' : Option (List ℕ)) → OutputGoes request takes result takes'
         → TakesOutput s.history.acts new.history.acts takes takes'
     stepped-told (stepped.Did operation r) x none takes takes' put = did-told operation r x none takes
@@ -449,7 +603,7 @@ module _ (laws : Laws) (o : Opening) (first : ℕ) (set : SetFacts) (s : Shared)
         → new.history.acts ≡ s.history.acts ++ a ∷ [] → P
     no-more same a more = not-longer s.history.acts a (sym more ∙ ap (λ (y : History). y.acts) same)
 
-    pub stepped-share : (result : Stepped) → StepsTo set 0 request result s new → IsNoStore result
+    pub stepped-share : (result : Stepped) → StepsTo set t request result s new → IsNoStore result
         → (takes : ℕ → Option ℕ) → SharesGo request takes result → (a : Recorded)
         → new.history.acts ≡ s.history.acts ++ a ∷ [] → IsShare request takes a.act.op
     stepped-share (stepped.Did operation r) x none takes share a more = did-share operation r x none takes
@@ -458,7 +612,7 @@ module _ (laws : Laws) (o : Opening) (first : ℕ) (set : SetFacts) (s : Shared)
     stepped-share stepped.Wrong x none takes share a more = no-more x.history a more
     stepped-share (stepped.Over f) x none takes share a more = no-more x.history a more
 
-    pub stepped-cause : (result : Stepped) → StepsTo set 0 request result s new → IsNoStore result
+    pub stepped-cause : (result : Stepped) → StepsTo set t request result s new → IsNoStore result
         → (before after : ℕ) → FaultsGo request before result after
         → HasSinkCause (event_of request result) before after
     stepped-cause (stepped.Did operation r) x none before after go =
@@ -467,10 +621,10 @@ module _ (laws : Laws) (o : Opening) (first : ℕ) (set : SetFacts) (s : Shared)
         other-cause request (stepped.Waits on) before after tt go
     stepped-cause stepped.Wrong x none before after go = other-cause request stepped.Wrong before after tt go
     stepped-cause (stepped.Over f) x none before after go =
-        over-cause o.launch.set 0 request (shown_in s.machine) s.machine.rest f (shown_in new.machine)
+        over-cause o.launch.set t request (shown_in s.machine) s.machine.rest f (shown_in new.machine)
         new.machine.rest (is-step (stepped.Over f) x none)
-        (λ sink. subst Prints (asked laws o first set s es fs request due ready).plain
-        (subst (λ (g : StepFault). Ends o.launch 0 s.machine.acts s.machine.rest 0 request (stepped.Over g))
+        (λ sink. subst Prints (asked laws o first set s es threads t fs request due ready).plain
+        (subst (λ (g : StepFault). Ends o.launch 0 s.machine.acts s.machine.rest t request (stepped.Over g))
         sink
         (ends (stepped.Over f) x none 0)).0)
         before after go

@@ -1,7 +1,8 @@
 -- What the steps of requests do that aren't stores, and neither begin nor end a region: they start no thread,
 -- and make objects of listed classes alone.
-use Rattle.std.proofs.Common.{◌≡◌, inl, inr, ℕ, ◌+◌, ◌-◌, ◌<◌, ℤ, pos, negsuc, ◌&&◌, ◌||◌, Bool, true, false, not, List, length}
-use Rattle.std.proofs.Common.{take, nat_eq, nat_lt, nat_le, Option, Some, None, refl, sym, ◌∙◌, ap, subst, if◌then◌else◌, arith}
+use Rattle.std.proofs.Common.{◌≡◌, inl, inr, ℕ, ◌+◌, ◌-◌, ◌<◌, pos, negsuc, ◌&&◌, ◌||◌, Bool, true, false, not, List, length}
+use Rattle.std.proofs.Common.{◌⊎◌, ℤ, if◌then◌else◌}
+use Rattle.std.proofs.Common.{take, nat_eq, nat_lt, nat_le, Option, Some, None, refl, sym, ◌∙◌, ap, subst, arith}
 use Rattle.std.proofs.Common.{lit<}
 use Rattle.std.specs.Prelude.{slice_get, slice_index_or, IsSome}
 use Rattle.std.proofs.lemmas.Bool.{cases_lt}
@@ -52,9 +53,10 @@ use Rattle.step_forms.specs.declared.stepped.Stepped.TheVariants as stepped
 use Rattle.step_forms.specs.Becomes.{IsNoStore, given}
 use Rattle.step_forms.specs.Follows.{IsFullOf, IsLimit, IsStep, stored_as}
 use Rattle.machine.specs.Ended.{IsOutside}
-use Rattle.machine.specs.Running.{IsBuilt, asked_class}
-use Rattle.machine.specs.Events.{IsBroken}
+use Rattle.machine.specs.Running.{asked_class}
+use Rattle.machine.specs.Events.{IsBroken, StartsNone}
 use Rattle.machine.proofs.Basics.{no-some}
+use Rattle.plain_model.specs.Limits.{most_threads}
 
 -- ---- classes of which objects are made
 
@@ -123,11 +125,12 @@ module _ (set : SetFacts) where
 
 -- ---- what a step does
 
-module _ (set : SetFacts) (Made : ℕ → Type 0) (may : MayMake set Made) where
+-- A thread may be started where `Begun` is so.
+module _ (set : SetFacts) (Made : ℕ → Type 0) (Begun : Type 0) (may : MayMake set Made) where
   abbrev pub DoesFine : Op → Type 0
   DoesFine (op.Alloc n class count) = Made class
   DoesFine (op.Throw n class) = Made class
-  DoesFine (op.Start n child) = ⊥
+  DoesFine (op.Start n child) = Begun
   DoesFine op.Begin = ⊥
   DoesFine op.End = ⊥
   DoesFine o = Unit {0}
@@ -188,6 +191,10 @@ module _ (set : SetFacts) (Made : ℕ → Type 0) (may : MayMake set Made) where
     fine-exits k None = may.thrown IllegalMonitorState
     fine-exits k (Some m) = fine-if (nat_eq m.owner t) _ _ tt (may.thrown IllegalMonitorState)
 
+    fine-starts : Begun → (n : ℕ) (thread : Option (ℕ × Thread)) → IsFine (Steps.starts_thread set world n thread)
+    fine-starts begun n None = fine-if (nat_lt (length world.threads) most_threads) _ _ begun tt
+    fine-starts begun n (Some started) = may.thrown IllegalThreadState
+
     fine-joins : (n : ℕ) (thread : Option (ℕ × Thread)) → IsFine (Steps.joins_thread set world n thread)
     fine-joins n None = tt
     fine-joins n (Some started) = fine-if started.1.ended _ _ tt tt
@@ -208,60 +215,78 @@ module _ (set : SetFacts) (Made : ℕ → Type 0) (may : MayMake set Made) where
     fine-prints taken piece = fine-if (nat_lt 0 taken && nat_le taken (length piece))
         (Does (op.Print (take taken piece)) (reply.Printed taken)) WrongOperand tt tt
 
-    fine : (number : Numbers) (taken : ℕ) (q : Request Ref Item) → IsBuilt q → IsOutside (depth_of world t) q
+    fine : (number : Numbers) (taken : ℕ) (q : Request Ref Item) → StartsNone q ⊎ Begun → IsOutside (depth_of world t) q
         → IsFit set world t (plain_request number q)
         → ((class : ℕ) → asked_class q ≡ Some class → Made class)
         → IsFine (step set world t taken (plain_request number q))
     unfolding step
-    fine number taken ask.Pause built outside fit asked = tt
-    fine number taken (ask.Broken f) built outside fit asked = tt
-    fine number taken (ask.New from class) built outside fit asked =
+    fine number taken ask.Pause begins outside fit asked = tt
+    fine number taken (ask.Broken f) begins outside fit asked = tt
+    fine number taken (ask.New from class) begins outside fit asked =
         fine-class class _ (may.new class fit.0 fit.1)
-    fine number taken (ask.NewArray from shape count) built outside fit asked =
+    fine number taken (ask.NewArray from shape count) begins outside fit asked =
         fine-array shape count (asked shape refl)
-    fine number taken (ask.NewText from count) built outside fit asked = fine-array _ count may.text
-    fine number taken (ask.GetStatic from field) built outside fit asked = fine-class field.class _ tt
-    fine number taken (ask.PutStatic from field value) built outside fit asked = fine-class field.class _ tt
-    fine number taken (ask.GetField from holder field) built outside fit asked = fine-object _ _ _ (λ n. tt)
-    fine number taken (ask.PutField from holder field value) built outside fit asked = fine-object _ _ _ (λ n. tt)
-    fine number taken (ask.GetElement from array index kind) built outside fit asked =
+    fine number taken (ask.NewText from count) begins outside fit asked = fine-array _ count may.text
+    fine number taken (ask.GetStatic from field) begins outside fit asked = fine-class field.class _ tt
+    fine number taken (ask.PutStatic from field value) begins outside fit asked = fine-class field.class _ tt
+    fine number taken (ask.GetField from holder field) begins outside fit asked = fine-object _ _ _ (λ n. tt)
+    fine number taken (ask.PutField from holder field value) begins outside fit asked = fine-object _ _ _ (λ n. tt)
+    fine number taken (ask.GetElement from array index kind) begins outside fit asked =
         fine-object _ _ _ (λ n. fine-index n index _ _ (λ i. tt))
-    fine number taken (ask.PutElement from array index kind value) built outside fit asked =
+    fine number taken (ask.PutElement from array index kind value) begins outside fit asked =
         fine-object _ _ _ (λ n. fine-index n index _ _ (λ i. fine-puts n kind i _))
-    fine number taken (ask.Length from array) built outside fit asked = fine-object _ _ _ (λ n. tt)
-    fine number taken (ask.ClassOf from object within) built outside fit asked = fine-object _ _ _ (λ n. tt)
-    fine number taken (ask.Cast from object target) built outside fit asked =
+    fine number taken (ask.Length from array) begins outside fit asked = fine-object _ _ _ (λ n. tt)
+    fine number taken (ask.ClassOf from object within) begins outside fit asked = fine-object _ _ _ (λ n. tt)
+    fine number taken (ask.Cast from object target) begins outside fit asked =
         fine-reference (ref_value number object) (Does (Steps.null_class set world) reply.Done)
         (Steps.casts set world target) tt (fine-casts target)
-    fine number taken (ask.IsA from object target) built outside fit asked =
+    fine number taken (ask.IsA from object target) begins outside fit asked =
         fine-reference (ref_value number object)
         (Does (Steps.null_class set world) (reply.Item (Steps.bool_value false)))
         (Steps.tests set world target) tt (λ n. tt)
-    fine number taken (ask.Same from left right) built outside fit asked = fine-compares _
-    fine number taken (ask.Enter from (key.Object object)) built outside fit asked =
+    fine number taken (ask.Same from left right) begins outside fit asked = fine-compares _
+    fine number taken (ask.Enter from (key.Object object)) begins outside fit asked =
         fine-object _ _ _ (λ n. fine-enters _ _)
-    fine number taken (ask.Enter from (key.Class class)) built outside fit asked = fine-enters _ _
-    fine number taken (ask.Exit from (key.Object object)) built outside fit asked =
+    fine number taken (ask.Enter from (key.Class class)) begins outside fit asked = fine-enters _ _
+    fine number taken (ask.Exit from (key.Object object)) begins outside fit asked =
         fine-object _ _ _ (λ n. fine-exits _ _)
-    fine number taken (ask.Exit from (key.Class class)) built outside fit asked = fine-exits _ _
-    fine number taken (ask.Start from thread) built outside fit asked = absurd built
-    fine number taken (ask.Join from thread) built outside fit asked = fine-object _ _ _ (λ n. fine-joins n _)
-    fine number taken (ask.Init from class) built outside fit asked = fine-class class _ tt
-    fine number taken (ask.InitDone from class) built outside fit asked = tt
-    fine number taken (ask.Print from piece) built outside fit asked = fine-prints taken piece
-    fine number taken (ask.Raise from class) built outside fit asked = asked class refl
-    fine number taken (ask.Begin from) built outside fit asked = absurd outside
-    fine number taken (ask.End from) built outside fit asked =
+    fine number taken (ask.Exit from (key.Class class)) begins outside fit asked = fine-exits _ _
+    fine number taken (ask.Start from thread) begins outside fit asked =
+        fine-object _ _ _ (λ n. fine-starts (elim begins [ inl none ↦ absurd none | inr begun ↦ begun ]) n _)
+    fine number taken (ask.Join from thread) begins outside fit asked = fine-object _ _ _ (λ n. fine-joins n _)
+    fine number taken (ask.Init from class) begins outside fit asked = fine-class class _ tt
+    fine number taken (ask.InitDone from class) begins outside fit asked = tt
+    fine number taken (ask.Print from piece) begins outside fit asked = fine-prints taken piece
+    fine number taken (ask.Raise from class) begins outside fit asked = asked class refl
+    fine number taken (ask.Begin from) begins outside fit asked = absurd outside
+    fine number taken (ask.End from) begins outside fit asked =
         subst (λ depth. IsFine (Steps.ends_region set world depth)) (sym outside) (may.thrown IllegalState)
-    fine number taken (ask.Leave uncaught) built outside fit asked = tt
+    fine number taken (ask.Leave uncaught) begins outside fit asked = tt
 
     -- What the step of such a request does is fine.
-    pub did-fine : (number : Numbers) (taken : ℕ) (q : Request Ref Item) (o : Op) (r : PlainReply) → IsBuilt q
-        → IsOutside (depth_of world t) q → IsFit set world t (plain_request number q)
+    pub did-fine : (number : Numbers) (taken : ℕ) (q : Request Ref Item) (o : Op) (r : PlainReply)
+        → StartsNone q ⊎ Begun → IsOutside (depth_of world t) q → IsFit set world t (plain_request number q)
         → ((class : ℕ) → asked_class q ≡ Some class → Made class)
         → step set world t taken (plain_request number q) ≡ Does o r → DoesFine o
-    did-fine number taken q o r built outside fit asked does =
-        subst IsFine does (fine number taken q built outside fit asked)
+    did-fine number taken q o r begins outside fit asked does =
+        subst IsFine does (fine number taken q begins outside fit asked)
+
+-- no thread is started
+abbrev pub StartsNoneBy : Op → Type 0
+StartsNoneBy (op.Start n child) = ⊥
+StartsNoneBy o = Unit {0}
+
+-- a request that isn't to start a thread starts none
+pub starts-none : (set : SetFacts) (world : World) (t : ℕ) (number : Numbers) (taken : ℕ) (q : Request Ref Item) (o : Op)
+    (r : PlainReply) → StartsNone q → IsOutside (depth_of world t) q → IsFit set world t (plain_request number q)
+    → step set world t taken (plain_request number q) ≡ Does o r → StartsNoneBy o
+starts-none set world t number taken q o r none outside fit does = by o
+    (did-fine set (λ n. Unit {0}) ⊥ (may-make set (λ n. Unit {0}) (λ n below is. tt)) world t number taken q o r
+    (inl none) outside fit (λ class is. tt) does)
+  where
+    by : (p : Op) → DoesFine set (λ n. Unit {0}) ⊥ (may-make set (λ n. Unit {0}) (λ n below is. tt)) p → StartsNoneBy p
+    by (op.Start n child) fine = fine
+    by p fine = tt
 
 -- ---- a request that stores does nothing else
 
@@ -284,10 +309,10 @@ no-print bytes taken false place value e = let no = e in cc
 
 stores-whatever : (set : SetFacts) (world : World) (t taken : ℕ) (q : PlainRequest) (place : Place) (value
     : Value)
-    → step set world t 0 q ≡ stored_as place value → step set world t taken q ≡ stored_as place value
+    → step set world t 1 q ≡ stored_as place value → step set world t taken q ≡ stored_as place value
 unfolding step
 stores-whatever set world t taken (ask.Print from piece) place value e =
-    absurd (no-print (take 0 piece) 0 (nat_lt 0 0 && nat_le 0 (length piece)) place value e)
+    absurd (no-print (take 1 piece) 1 (nat_lt 0 1 && nat_le 1 (length piece)) place value e)
 stores-whatever set world t taken (ask.Enter from (key.Object object)) place value e = e
 stores-whatever set world t taken (ask.Enter from (key.Class class)) place value e = e
 stores-whatever set world t taken (ask.Exit from (key.Object object)) place value e = e
@@ -296,7 +321,7 @@ stores-whatever set world t taken q place value e = e
 
 module _ (set : SetFacts) (t : ℕ) (request : Request Ref Item) (before : Shown) (rest : Rest) (now : Shown)
     (rest_now : Rest) (place : Place) (value : Value) (roots : List Root)
-    (stores : step set (world_of roots before rest) t 0 (plain_request before.number request)
+    (stores : step set (world_of roots before rest) t 1 (plain_request before.number request)
     ≡ stored_as place value) where
   always : (taken : ℕ) → step set (world_of roots before rest) t taken (plain_request before.number request)
       ≡ stored_as place value

@@ -5,6 +5,7 @@ use Rattle.ap_base.specs.declared.reference.Item.{Item}
 use Rattle.run_types.specs.declared.fault.StepFault.TheVariants as met
 use Rattle.run_types.specs.declared.fault.Which.TheVariants as which
 use Rattle.run_types.specs.declared.resolved.At.{At}
+use Rattle.run_types.specs.declared.wait.On.TheVariants as on
 use Rattle.natives.specs.declared.requests.Request.{Request}
 use Rattle.natives.specs.declared.requests.Request.TheVariants as ask
 use Rattle.run_history.specs.Recorded.{Recorded}
@@ -17,15 +18,15 @@ use Rattle.run_forms.specs.Ends.{from_in}
 use Rattle.twin_forms.specs.Table.{Entry}
 use Rattle.region_log.specs.declared.entry.Underway.TheVariants.{Nothing as Idle}
 use Rattle.machine_forms.specs.Machines.{Opening, doing_of, log_of}
-use Rattle.machine_laws.specs.Frames.{IsReady}
+use Rattle.machine_threads.specs.Passed.{IsReady}
 use Rattle.object_steps.specs.declared.storing.Store.{Store}
 use Rattle.shared_heap.specs.declared.conversions.Conversion.{Conversion}
 use Rattle.shared_heap.specs.declared.conversions.Conversion.TheVariants as did
 use Rattle.shared_heap.specs.Shared.{Shared}
 use Rattle.shared_heap.specs.Requests.{IsPlannedFor}
 use Rattle.machine.specs.declared.events.Event.{Event}
-use Rattle.machine.specs.declared.events.Event.TheVariants.{Did, Micro, Over}
-use Rattle.machine.specs.declared.events.Halt.TheVariants.{Met, Stuck}
+use Rattle.machine.specs.declared.events.Event.TheVariants.{Did, Micro, WouldWait, Over}
+use Rattle.machine.specs.declared.events.Halt.TheVariants.{Met}
 use Rattle.machine.specs.Halts.{lacks}
 use Rattle.machine.specs.Events.{Comes, HasSinkCause, IsShare, SparesSink, TakesOutput}
 use Rattle.machine.specs.Running.{IsDue}
@@ -33,16 +34,18 @@ use Rattle.machine.specs.Running.{IsDue}
 abbrev pub nowhere : At
 nowhere = record { class = 0; method = 0; pc = 0 }
 
--- A reply answers; a wrong operand names the instruction that asks; a thread alone that waits is stuck.
+-- A reply answers; a wrong operand names the instruction that asks.
 abbrev pub event_of : Request Ref Item → Stepped → Event
 event_of request (stepped.Did operation r) = Did r
-event_of request (stepped.Waits on) = Over (Stuck on)
+event_of request (stepped.Waits on) = WouldWait on
 event_of request stepped.Wrong = Over (Met (met.BadCode (unwrap_or (from_in request) nowhere)))
 event_of request (stepped.Over f) = Over (Met f)
 
--- A conversion that needs more lines than are left ends the run; any other event of it goes on.
+-- A conversion that needs more lines than are left ends the run; one that waits for a thread's conversion tells it; any
+-- other event of it goes on.
 abbrev pub went_event : Conversion → Event
 went_event (did.Full need left) = Over (Met (lacks which.ImageLines need left))
+went_event (did.Waits u) = WouldWait (on.Conversion u)
 went_event other = Micro
 
 -- the thread that is waited for is one of the 64
@@ -52,11 +55,12 @@ IsThread other = Unit {0}
 
 -- The tests of the request's store are passed. Nothing is under way in the thread's log.
 pub record HasPlanned (o : Opening) (first : ℕ) (set : SetFacts) (s : Shared) (es : List Entry)
-    (fs : ThreadFrames) (request : Request Ref Item) (store : Store) : Type 0 where
-  pub due : IsDue o first set s es fs request
-  pub ready : IsReady (doing_of s.machine 0)
-  pub idle : (log_of s.machine 0).underway ≡ Idle
-  pub planned : IsPlannedFor set 0 request store s
+    (threads : List ThreadFrames) (t : ℕ) (fs : ThreadFrames) (request : Request Ref Item) (store : Store)
+    : Type 0 where
+  pub due : IsDue o first set s es threads t fs request
+  pub ready : IsReady (doing_of s.machine t)
+  pub idle : (log_of s.machine t).underway ≡ Idle
+  pub planned : IsPlannedFor set t request store s
   pub gives : IsSome (given request)
 
 -- ---- regions
@@ -69,37 +73,38 @@ IsOutside depth request = Unit {0}
 
 -- ---- of whatever run
 
--- an event is due, of some run
-abbrev pub IsSomeDue : Shared → Type 0
-IsSomeDue s = (o : Opening) × (first : ℕ) × (set : SetFacts) × (es : List Entry) × (fs : ThreadFrames)
-    × (request : Request Ref Item) × IsDue o first set s es fs request
+-- an event of thread t is due, of some run
+abbrev pub IsSomeDue : Shared → ℕ → Type 0
+IsSomeDue s t = (o : Opening) × (first : ℕ) × (set : SetFacts) × (es : List Entry) × (threads : List ThreadFrames)
+    × (fs : ThreadFrames) × (request : Request Ref Item) × IsDue o first set s es threads t fs request
 
 -- Of each run of which one is due, the event comes to this. It has no part in the sink.
-pub record ComesTo (result : Event) (old new : Shared) : Type 0 where
-  pub comes : (o : Opening) (first : ℕ) (set : SetFacts) (es : List Entry) (fs : ThreadFrames)
-      (request : Request Ref Item) → IsDue o first set old es fs request
-      → Comes o first fs request result old new
+pub record ComesTo (t : ℕ) (result : Event) (old new : Shared) : Type 0 where
+  pub comes : (o : Opening) (first : ℕ) (set : SetFacts) (es : List Entry) (threads : List ThreadFrames)
+      (fs : ThreadFrames) (request : Request Ref Item) → IsDue o first set old es threads t fs request
+      → Comes o first es threads t fs request result old new
   pub sink : SparesSink result old.history.acts new.history.acts
 
 -- the same where the tests of a store are passed
-abbrev pub HasSomePlanned : Shared → Store → Type 0
-HasSomePlanned s store = (o : Opening) × (first : ℕ) × (set : SetFacts) × (es : List Entry)
-    × (fs : ThreadFrames) × (request : Request Ref Item) × HasPlanned o first set s es fs request store
+abbrev pub HasSomePlanned : Shared → ℕ → Store → Type 0
+HasSomePlanned s t store = (o : Opening) × (first : ℕ) × (set : SetFacts) × (es : List Entry)
+    × (threads : List ThreadFrames) × (fs : ThreadFrames) × (request : Request Ref Item)
+    × HasPlanned o first set s es threads t fs request store
 
-pub record StoreComesTo (store : Store) (result : Event) (old new : Shared) : Type 0 where
-  pub comes : (o : Opening) (first : ℕ) (set : SetFacts) (es : List Entry) (fs : ThreadFrames)
-      (request : Request Ref Item) → HasPlanned o first set old es fs request store
-      → Comes o first fs request result old new
+pub record StoreComesTo (t : ℕ) (store : Store) (result : Event) (old new : Shared) : Type 0 where
+  pub comes : (o : Opening) (first : ℕ) (set : SetFacts) (es : List Entry) (threads : List ThreadFrames)
+      (fs : ThreadFrames) (request : Request Ref Item) → HasPlanned o first set old es threads t fs request store
+      → Comes o first es threads t fs request result old new
   pub sink : SparesSink result old.history.acts new.history.acts
 
 -- ---- of a set's request
 
 -- What an event comes to for each run of the set of which one is due with this request, and what the sink was
 -- given in it.
-pub record Serves (set : SetFacts) (request : Request Ref Item) (result : Event) (old new : Shared)
+pub record Serves (set : SetFacts) (t : ℕ) (request : Request Ref Item) (result : Event) (old new : Shared)
     (takes : ℕ → Option ℕ) (taken taken' : Option (List ℕ)) (faults faults' : ℕ) : Type 0 where
-  pub comes : (o : Opening) (first : ℕ) (es : List Entry) (fs : ThreadFrames)
-      → IsDue o first set old es fs request → Comes o first fs request result old new
+  pub comes : (o : Opening) (first : ℕ) (es : List Entry) (threads : List ThreadFrames) (fs : ThreadFrames)
+      → IsDue o first set old es threads t fs request → Comes o first es threads t fs request result old new
   pub told : TakesOutput old.history.acts new.history.acts taken taken'
   pub share : (act : Recorded) → new.history.acts ≡ old.history.acts ++ act ∷ []
       → IsShare request takes act.act.op

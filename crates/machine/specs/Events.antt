@@ -1,11 +1,14 @@
--- What an event of a thread that runs alone over a shared heap comes to.
-use Rattle.std.specs.Prelude.{◌≡◌, ◌⊎◌, ℕ, ◌-◌, ◌<◌, ◌≤◌, List, [], ◌∷◌, ◌++◌, length, Option, IfSome}
+-- What an event of a thread over a shared heap comes to.
+use Rattle.std.specs.Prelude.{◌≡◌, ◌≢◌, ◌⊎◌, ℕ, ◌-◌, ◌<◌, ◌≤◌, List, [], ◌∷◌, ◌++◌, length, Option, Some, IfSome}
 use Rattle.ap_base.specs.Causes.{Rose}
 use Rattle.ap_base.specs.Sinks.{with_bytes}
 use Rattle.ap_base.specs.declared.reference.Ref.{Ref}
 use Rattle.ap_base.specs.declared.reference.Item.{Item}
 use Rattle.run_types.specs.declared.fault.RunFault.{RunFault}
 use Rattle.run_types.specs.declared.fault.StepFault.TheVariants as met
+use Rattle.run_types.specs.declared.wait.On.{On}
+use Rattle.run_types.specs.declared.wait.On.TheVariants as on
+use Rattle.run_types.specs.Faults.{run_fault}
 use Rattle.natives.specs.declared.requests.Request.{Request}
 use Rattle.natives.specs.declared.requests.Request.TheVariants as ask
 use Rattle.natives.specs.declared.requests.Reply.{Reply}
@@ -13,72 +16,143 @@ use Rattle.run_history.specs.declared.act.Op.{Op}
 use Rattle.run_history.specs.declared.act.Op.TheVariants as op
 use Rattle.run_history.specs.Recorded.{Recorded}
 use Rattle.plain_model.specs.Runs.{output_of}
-use Rattle.frames.specs.Turns.{answer, turn}
+use Rattle.frames.specs.Turns.{begun_thread}
 use Rattle.line_memory.specs.Memory.{SameImage, OneCall}
+use Rattle.run_forms.specs.Laws.{answered_threads}
 use Rattle.run_forms.specs.Views.{ThreadFrames}
-use Rattle.run_forms.specs.Standing.{Launch, setting_of}
 use Rattle.run_forms.specs.Ends.{IsEndedBy}
+use Rattle.convert_words.specs.Scenes.{Scene, AgreesAt}
+use Rattle.converter.specs.Laws.{AreUnwritten}
+use Rattle.convert_waits.specs.Rows.{BeginsToNeed, Why, InRow, on_of, with_wait}
+use Rattle.convert_waits.specs.Stuck.{HoldsWait, IsPlain}
 use Rattle.twin_forms.specs.Table.{Entry}
-use Rattle.machine_forms.specs.declared.doing.Doing.TheVariants.{Nothing}
-use Rattle.machine_forms.specs.Machines.{Opening, doing_of, memory_of}
+use Rattle.machine_forms.specs.declared.doing.Doing.TheVariants.{Nothing, Converting}
+use Rattle.machine_forms.specs.Machines.{Opening, Machine, doing_of, memory_of, scene_of}
 use Rattle.machine_forms.specs.Keeping.{KeepsRun}
-use Rattle.machine_laws.specs.Frames.{RunsAsPlain}
-use Rattle.machine_ends.specs.Work.{measure}
+use Rattle.machine_threads.specs.Passed.{Asks, Begins, IsReady, RunsAsPlain}
+use Rattle.machine_threads.specs.Passed.{measure}
+use Rattle.machine_threads.specs.Claiming.{HasForwarded}
+use Rattle.machine_threads.specs.Stuck.{plain_waits}
+use Rattle.shared_heap.specs.Conversions.{HasBegun}
+use Rattle.shared_heap.specs.Notes.{started_as}
 use Rattle.shared_heap.specs.Shared.{Shared}
 use Rattle.machine.specs.declared.events.Event.{Event}
-use Rattle.machine.specs.declared.events.Event.TheVariants.{Did, Micro, Over}
-use Rattle.machine.specs.declared.events.Halt.TheVariants.{Met}
-use Rattle.machine.specs.Halts.{fault_of_halt}
-use Rattle.machine.specs.Running.{IsRunning}
+use Rattle.machine.specs.declared.events.Event.TheVariants.{Did, Micro, WouldWait, Over}
+use Rattle.machine.specs.declared.events.Halt.TheVariants.{Met, Stuck}
+use Rattle.machine.specs.Running.{Runs}
 
 -- ---- what an event comes to
 
--- the frames of a thread once its request is answered
-abbrev pub answered : Launch → ThreadFrames → Reply Ref Item → ThreadFrames
-answered launch fs r = answer (setting_of launch) (turn (setting_of launch) fs).frames r
+-- What thread t's event leaves to all others: each asks what it asked, is about the same, and what it has claimed is
+-- forwarded still.
+pub record SparesOthers (o : Opening) (t : ℕ) (old new : Machine) (es after : List Entry)
+    (threads threads' : List ThreadFrames) : Type 0 where
+  pub ask : (u : ℕ) (gs : ThreadFrames) (request : Request Ref Item) → u ≢ t → Asks o old threads u gs request
+      → Asks o new threads' u gs request
+  pub doing : (u : ℕ) → u ≢ t → doing_of new u ≡ doing_of old u
+  pub forwarded : (u : ℕ) → u ≢ t → HasForwarded es u → HasForwarded after u
 
--- The request is answered, and the thread is about nothing.
-pub record GoesOn (o : Opening) (first : ℕ) (r : Reply Ref Item) (new : Shared) (fs : ThreadFrames)
-    : Type 0 where
-  pub es : List Entry
-  pub running : IsRunning o first new es (answered o.launch fs r)
-  pub idle : doing_of new.machine 0 ≡ Nothing
+-- a request that starts no thread
+abbrev pub StartsNone : Request Ref Item → Type 0
+StartsNone (ask.Start from thread) = ⊥
+StartsNone request = Unit {0}
+
+-- A thread that an act starts is the next one; it is noted with the reference to its object with which it begins.
+pub record NotesStart (o : Opening) (operation : Op) (child : ℕ) (old new : Shared) : Type 0 where
+  pub next : child ≡ length old.machine.rest.threads
+  pub thread : Ref
+  pub noted : started_as new.notes child ≡ Some thread
+  pub begins : Begins o new.machine operation (begun_thread thread ∷ [])
+
+-- The request is answered by an act, and the thread is about nothing. A thread that the act starts has frames that begin
+-- so.
+pub record GoesOn (o : Opening) (first : ℕ) (r : Reply Ref Item) (old new : Shared) (es : List Entry)
+    (threads : List ThreadFrames) (t : ℕ) (fs : ThreadFrames) (request : Request Ref Item) : Type 0 where
+  pub after : List Entry
+  pub act : Recorded
+  pub acts : new.machine.acts ≡ old.machine.acts ++ act ∷ []
+  pub runs : (begun : List ThreadFrames) → Begins o new.machine act.act.op begun
+      → Runs o first new after (answered_threads o.launch threads t fs r begun)
+  pub others : (begun : List ThreadFrames) → Begins o new.machine act.act.op begun
+      → SparesOthers o t old.machine new.machine es after threads (answered_threads o.launch threads t fs r begun)
+  pub starts : StartsNone request → Begins o new.machine act.act.op []
+  pub started : (n child : ℕ) → act.act.op ≡ op.Start n child → NotesStart o act.act.op child old new
+  pub idle : doing_of new.machine t ≡ Nothing
 
 -- The thread asks the same still.
-pub record AsksOn (o : Opening) (first : ℕ) (old new : Shared) (fs : ThreadFrames) : Type 0 where
-  pub es : List Entry
-  pub running : IsRunning o first new es fs
-  pub threads : new.machine.rest.threads ≡ old.machine.rest.threads
+pub record AsksOn (o : Opening) (first : ℕ) (old new : Shared) (es : List Entry) (threads : List ThreadFrames)
+    (t : ℕ) : Type 0 where
+  pub after : List Entry
+  pub runs : Runs o first new after threads
+  pub own : (gs : ThreadFrames) (request : Request Ref Item) → Asks o old.machine threads t gs request
+      → Asks o new.machine threads t gs request
+  pub others : SparesOthers o t old.machine new.machine es after threads threads
+
+-- a thread that is waited for is one of the 64
+abbrev pub IsBelow : On → Type 0
+IsBelow (on.Conversion u) = u < 64
+IsBelow on = Unit {0}
+
+-- A row of waits goes on with the wait of thread t for this, over whatever table of the heap's objects.
+abbrev pub KeepsRows : Opening → ℕ → On → Machine → Machine → Type 0
+KeepsRows o t on old new = (es : List Entry) (waited : ℕ → Option Why)
+    → InRow (plain_waits o old) (scene_of old) es waited
+    → (why : Why) × (on_of why ≡ on) × InRow (plain_waits o new) (scene_of new) es (with_wait waited t why)
+
+-- The same from before the thread's conversion has begun, by a need, in the same event.
+abbrev pub KeepsRowsByNeed : Opening → ℕ → On → Machine → Machine → Type 0
+KeepsRowsByNeed o t on old new = doing_of old t ≡ Converting → HasBegun (scene_of old) t
+    → (before : Scene) (es : List Entry) (waited : ℕ → Option Why) → InRow (plain_waits o old) before es waited
+    → BeginsToNeed t before (scene_of old) es → AgreesAt (scene_of old) es → AreUnwritten old.queue es
+    → (why : Why) × (on_of why ≡ on) × InRow (plain_waits o new) (scene_of new) es (with_wait waited t why)
+
+-- It waits: by some table of the heap's objects the wait holds, and what it has claimed is forwarded.
+pub record WaitsOn (o : Opening) (first : ℕ) (on : On) (old new : Shared) (es : List Entry)
+    (threads : List ThreadFrames) (t : ℕ) : Type 0 where
+  pub asks : AsksOn o first old new es threads t
+  pub table : List Entry
+  pub agrees : AgreesAt (scene_of new.machine) table
+  pub holds : HoldsWait (plain_waits o new.machine) (scene_of new.machine) table t on
+  pub forwarded : HasForwarded asks.after t
+  pub ready : IsReady (doing_of new.machine t)
+  pub below : IsBelow on
+  pub rows : KeepsRows o t on old.machine new.machine
+  pub needing : KeepsRowsByNeed o t on old.machine new.machine
+  -- one that waits in the plain world has left the history as it was
+  pub history : IsPlain on → new.history ≡ old.history
 
 -- The run is over by this fault, which the event of the thread meets after the acts that were made; the machine
 -- keeps its run still.
-pub record IsOver (o : Opening) (first : ℕ) (f : RunFault) (old new : Shared) (fs : ThreadFrames)
+pub record IsOver (o : Opening) (first : ℕ) (f : RunFault) (old new : Shared) (threads : List ThreadFrames) (t : ℕ)
     : Type 0 where
-  pub es : List Entry
-  pub keeps : KeepsRun o new.machine es
-  pub plain : RunsAsPlain o new.machine (fs ∷ [])
+  pub after : List Entry
+  pub keeps : KeepsRun o new.machine after
+  pub plain : RunsAsPlain o new.machine threads
   pub history : new.history ≡ old.history
   pub acts : new.machine.acts ≡ old.machine.acts
-  pub ends : IsEndedBy o.launch ((memory_of new.machine).size - first) new.machine.acts 0 f
+  pub ends : IsEndedBy o.launch ((memory_of new.machine).size - first) new.machine.acts t f
 
-abbrev pub GoesTo : Opening → ℕ → Event → Shared → Shared → ThreadFrames → Type 0
-GoesTo o first (Did r) old new fs = GoesOn o first r new fs
-GoesTo o first Micro old new fs = AsksOn o first old new fs
-GoesTo o first (Over halt) old new fs = IsOver o first (fault_of_halt halt) old new fs
+abbrev pub GoesTo : Opening → ℕ → Event → Shared → Shared → List Entry → List ThreadFrames → ℕ → ThreadFrames
+    → Request Ref Item → Type 0
+GoesTo o first (Did r) old new es threads t fs request = GoesOn o first r old new es threads t fs request
+GoesTo o first Micro old new es threads t fs request = AsksOn o first old new es threads t
+GoesTo o first (WouldWait on) old new es threads t fs request = WaitsOn o first on old new es threads t
+GoesTo o first (Over (Met f)) old new es threads t fs request = IsOver o first (run_fault f) old new threads t
+GoesTo o first (Over Stuck) old new es threads t fs request = ⊥
 
 -- ---- acts
 
--- one act more, of thread 0
-pub record AddsOne (old new : List Recorded) : Type 0 where
+-- one act more, of the thread
+pub record AddsOne (t : ℕ) (old new : List Recorded) : Type 0 where
   pub act : Recorded
-  pub thread : act.act.thread ≡ 0
+  pub thread : act.act.thread ≡ t
   pub acts : new ≡ old ++ act ∷ []
 
--- One act where the request is answered, none where the run is over, and one or none otherwise.
-abbrev pub AddsActs : Event → List Recorded → List Recorded → Type 0
-AddsActs (Did r) old new = AddsOne old new
-AddsActs Micro old new = (new ≡ old) ⊎ AddsOne old new
-AddsActs (Over halt) old new = new ≡ old
+-- One act where the request is answered, none where the thread waits or the run is over, and one or none otherwise.
+abbrev pub AddsActs : Event → ℕ → List Recorded → List Recorded → Type 0
+AddsActs (Did r) t old new = AddsOne t old new
+AddsActs Micro t old new = (new ≡ old) ⊎ AddsOne t old new
+AddsActs other t old new = new ≡ old
 
 -- The sink took the output of the acts that were added, and nothing else.
 pub record TakesOutput (old new : List Recorded) (takes takes' : Option (List ℕ)) : Type 0 where
@@ -123,17 +197,21 @@ CallsAtMostOnce old new =
 
 -- ---- all of it
 
--- What an event does to the heap. One that makes neither an act nor a reply lowers the measure.
-pub record Comes (o : Opening) (first : ℕ) (fs : ThreadFrames) (request : Request Ref Item) (result : Event)
-    (old new : Shared) : Type 0 where
-  pub goes : GoesTo o first result old new fs
-  pub acts : AddsActs result old.history.acts new.history.acts
+-- What an event does to the heap. One that neither acts nor replies lowers the measure, unless the thread waits, which
+-- doesn't raise it. What is remembered of threads is as it was.
+pub record Comes (o : Opening) (first : ℕ) (es : List Entry) (threads : List ThreadFrames) (t : ℕ)
+    (fs : ThreadFrames) (request : Request Ref Item) (result : Event) (old new : Shared) : Type 0 where
+  pub goes : GoesTo o first result old new es threads t fs request
+  pub acts : AddsActs result t old.history.acts new.history.acts
   pub calls : CallsAtMostOnce old new
   pub cause : HasImageCause result (memory_of old.machine).faults (memory_of new.machine).faults
   pub answers : IsAnswerTo result request
   pub numbers : new.machine.spaces.numbers ≡ old.machine.spaces.numbers
   pub quiet : result ≡ Micro → new.history.acts ≡ old.history.acts
       → measure new.machine < measure old.machine
+  pub waits : (on : On) → result ≡ WouldWait on → measure new.machine ≤ measure old.machine
+  pub asks : new.notes.asks ≡ old.notes.asks
+  pub noted : new.notes.waits ≡ old.notes.waits
 
 abbrev pub IsNoPrint : Op → Type 0
 IsNoPrint (op.Print bytes) = ⊥

@@ -1,15 +1,22 @@
 -- The laws of machines by which events go on.
 use Rattle.std.specs.Prelude.{ℕ, ◌<◌}
 use Rattle.line_memory.specs.Memory.{Memory, IsResident}
-use Rattle.machine_laws.specs.Keeping.{EventsKeepRuns}
-use Rattle.machine_laws.specs.Frames.{EventsGoOnAsPlain, ReadyThreadsAskAlike}
-use Rattle.machine_ends.specs.LineLaws.{EventsKeepLines, RefusalsEndTheRun, RefusedBeginningsFillTheImage}
-use Rattle.machine_ends.specs.LineLaws.{RefusedStepsFillTheImage}
-use Rattle.machine_ends.specs.Regions.{EndingLowersTheMeasure, LoggingLowersTheMeasure}
-use Rattle.machine_ends.specs.Unwritten.{EventsLeaveUnwritten}
-use Rattle.machine_ends.specs.Work.{QuietEventsLowerTheMeasure}
-use Rattle.machine_ends.specs.Laws.{EndsMeetNoFault, FencesMeetNoFault, FullHistoriesEnd, FullLogsEnd, ImageFaultsEnd, RacesEnd}
-use Rattle.machine_ends.specs.Laws.{StepsEnd, StepsMeetNoFault, StoresMeetNoFault}
+use Rattle.machine_threads.specs.Passed.{EventsKeepRuns}
+use Rattle.plain_model.specs.LimitLaws.{RunsStayWithin}
+use Rattle.run_forms.specs.Views.{PlainFrames}
+use Rattle.machine_threads.specs.Passed.{ActsArePlainRuns, EventsGoOnAsPlain, ReadyThreadsAskAlike}
+use Rattle.machine_threads.specs.Passed.{EventsKeepLines, RefusalsEndTheRun, RefusedBeginningsFillTheImage}
+use Rattle.machine_threads.specs.Passed.{RefusedStepsFillTheImage}
+use Rattle.machine_threads.specs.Passed.{EndingLowersTheMeasure, LoggingLowersTheMeasure}
+use Rattle.machine_threads.specs.Passed.{EventsLeaveUnwritten}
+use Rattle.machine_threads.specs.Passed.{QuietEventsLowerTheMeasure}
+use Rattle.machine_threads.specs.Passed.{EndsMeetNoFault, FencesMeetNoFault, FullHistoriesEnd, FullLogsEnd, ImageFaultsEnd, RacesEnd}
+use Rattle.machine_threads.specs.Passed.{StepsEnd, StepsMeetNoFault, StoresMeetNoFault}
+use Rattle.machine_threads.specs.Keeping.{EventsKeepAll, OthersAskOn, OthersStayForwarded, OwnersKeepTheirs}
+use Rattle.machine_threads.specs.Claiming.{OthersHaveNothing}
+use Rattle.machine_threads.specs.Plain.{PlainWaitsAreNoConversions}
+use Rattle.machine_threads.specs.Stuck.{ReadyThreadsWaitAlike}
+use Rattle.machine_threads.specs.Testing.{LiveThreadsAsk, TestedWaitsAreStuck, TestedWaitsEnd}
 use Rattle.store_barrier.specs.Laws.{ConversionsAreAsked, DurableLinesAgree, DurablePlacesAgree, DurableWordsAgree, GuardsAgree}
 use Rattle.store_barrier.specs.Laws.{PlacesMayBeGuarded, StoredPlacesAreKept, StoresAreLogged, StoresAreOutside}
 use Rattle.store_barrier.specs.Laws.{StoresKeepDurable}
@@ -42,6 +49,19 @@ pub record BarriersServe : Type 0 where
   pub logged : StoresAreLogged
   pub may : PlacesMayBeGuarded
 
+-- what events leave of threads, and how a run ends of which all threads wait
+pub record ThreadsGoOn : Type 0 where
+  pub own : OwnersKeepTheirs
+  pub all : EventsKeepAll
+  pub ask : OthersAskOn
+  pub forwarded : OthersStayForwarded
+  pub nothing : OthersHaveNothing
+  pub plain : PlainWaitsAreNoConversions
+  pub wait : ReadyThreadsWaitAlike
+  pub live : LiveThreadsAsk
+  pub tested : TestedWaitsAreStuck
+  pub end : TestedWaitsEnd
+
 abbrev pub AreResident : Type 0
 AreResident = (m : Memory) (l : ℕ) → l < m.size → IsResident m l
 
@@ -49,6 +69,9 @@ pub record Laws : Type 0 where
   pub keep : EventsKeepRuns
   pub frames : EventsGoOnAsPlain
   pub alike : ReadyThreadsAskAlike
+  pub runs : ActsArePlainRuns
+  pub within : RunsStayWithin PlainFrames
+  pub threads : ThreadsGoOn
   pub lines : EventsKeepLines
   pub unwritten : EventsLeaveUnwritten
   pub ends : RunsEnd

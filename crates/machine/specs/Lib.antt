@@ -4,3 +4,4 @@ pub mod Halts
 pub mod Laws
 pub mod Running
 pub mod Passed
+pub mod Remembering

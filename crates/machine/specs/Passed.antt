@@ -1,11 +1,22 @@
 -- What crates above name of the crates below this one: they stand on this one alone.
-pub use Rattle.machine_ends.specs.Laws.{SingleThreadsFinish, ending_of}
-pub use Rattle.machine_ends.specs.LineLaws.{StartsTakeNoLines}
-pub use Rattle.machine_ends.specs.Lines.{TakesLines, lines_from}
-pub use Rattle.machine_ends.specs.Unwritten.{StartsHaveUnwritten}
-pub use Rattle.machine_ends.specs.Work.{measure}
-pub use Rattle.machine_laws.specs.Frames.{Asks, IdleMachinesStand, RunsAsPlain}
-pub use Rattle.machine_laws.specs.Keeping.{EachStopIsAllowed}
-pub use Rattle.shared_heap.specs.Conversions.{NamesClaimed}
+pub use Rattle.convert_waits.specs.Passes.{HaveWaited, PassesBegin, PassesFill, PassesGoOn, PassesSkip}
+pub use Rattle.convert_waits.specs.Rows.{InRow, Why, none_waited, on_of, with_wait}
+pub use Rattle.convert_waits.specs.Rows.Why.{Plain}
+pub use Rattle.convert_waits.specs.Stuck.{FullRowsWaitPlainly, HoldsWait, IsFull, IsPlain, IsStuckAt}
+pub use Rattle.convert_words.specs.Agreeing.{Is, Queueing}
+pub use Rattle.convert_words.specs.Scenes.{AgreesAt}
+pub use Rattle.machine_threads.specs.Passed.{RunsFinish}
+pub use Rattle.machine_threads.specs.Passed.{StartsTakeNoLines}
+pub use Rattle.machine_threads.specs.Passed.{TakesLines, lines_from}
+pub use Rattle.machine_threads.specs.Passed.{StartsHaveUnwritten}
+pub use Rattle.machine_threads.specs.Passed.{measure}
+pub use Rattle.machine_threads.specs.Passed.{Asks, Begins, IsReady, RunsAsPlain, all_acted}
+pub use Rattle.machine_threads.specs.Passed.{EachStopIsAllowed}
+pub use Rattle.machine_threads.specs.Keeping.{AllKeep, AsksSomeStore, BeginnersKeepTheirs, IsUnbegun, KeepsThread, LagsByItsStore}
+pub use Rattle.machine_threads.specs.Plain.{PlainWaitsAreNoConversions, asks_some}
+pub use Rattle.machine_threads.specs.Stuck.{AllAskStores, ClaimersLive, MachinesBeginRows, plain_waits, requests_in}
+pub use Rattle.machine_threads.specs.Testing.{AreNoted, IsLive, LiveThreadsAsk}
 pub use Rattle.shared_heap.specs.First.{first_shared}
+pub use Rattle.shared_heap.specs.Notes.{AreOf64, ThreadNotes, answered, asked_by, no_notes, started_as, taken, waits_on}
 pub use Rattle.shared_heap.specs.Shared.{Shared}
+pub use Rattle.step_forms.specs.Becomes.{given}

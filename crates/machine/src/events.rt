@@ -1,39 +1,14 @@
 // What events come to.
-ghost use Rattle.std.specs.Prelude.{◌≡◌, Some, None, replicate, slice_set};
-ghost use Rattle.machine.specs.Halts.{fault_of_halt};
-
-use ap_base::ThreadNo;
 use natives::Reply;
-use run_types::{On, RunFault, StepFault, Waits};
+use run_types::{On, StepFault};
 
 /// By what an event ends its run.
 #[derive(Clone, Copy)]
 pub enum Halt {
     /// The thread met a fault.
     Met(StepFault),
-    /// The thread waits for this, and no other is there that could go on.
-    Stuck(On),
-}
-
-impl Halt {
-    /// The fault of the run that it ends.
-    pub fn of_run(self) -> RunFault
-        ensures { result ≡ fault_of_halt self }
-    {
-        match self {
-            Halt::Met(fault) => fault.of_run(),
-            Halt::Stuck(on) => stuck(on),
-        }
-    }
-}
-
-// Thread 0 alone waits, so that the run is stuck.
-fn stuck(on: On) -> RunFault
-    ensures { result ≡ RunFault.Stuck (slice_set (replicate 64 None) 0 (Some on)) }
-{
-    let mut waits = Waits::none();
-    waits.set(ThreadNo::main(), on);
-    RunFault::Stuck(waits)
+    /// It waits, and so does each thread that lives: what each waits for is noted.
+    Stuck,
 }
 
 /// What an event came to.
@@ -43,6 +18,8 @@ pub enum Event {
     Did(Reply),
     /// A step of persistence was made: the thread asks the same still.
     Micro,
+    /// The thread waits for this, and asks the same still.
+    WouldWait(On),
     /// The run is over.
     Over(Halt),
 }

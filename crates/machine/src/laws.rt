@@ -6,15 +6,20 @@ pub(crate) fn laws()
     ensures { Laws }
 {
     line_memory::every_line_is_resident();
-    machine_ends::acts_meet_no_fault();
-    machine_ends::machines_end_by_their_faults();
-    machine_ends::calls_of_regions_lower_the_measure();
-    machine_ends::events_keep_lines();
-    machine_ends::lines_stay_unwritten();
-    machine_ends::quiet_events_lower_the_measure();
-    machine_ends::refusals_fill_the_image();
-    machine_laws::events_go_on_as_plain_runs();
-    machine_laws::events_keep_runs();
-    machine_laws::machines_ask_as_plain_runs();
+    machine_threads::acts_meet_no_fault();
+    machine_threads::machines_end_by_their_faults();
+    machine_threads::calls_of_regions_lower_the_measure();
+    machine_threads::events_keep_lines();
+    machine_threads::lines_stay_unwritten();
+    machine_threads::quiet_events_lower_the_measure();
+    machine_threads::refusals_fill_the_image();
+    machine_threads::events_go_on_as_plain_runs();
+    machine_threads::events_keep_runs();
+    machine_threads::machines_ask_as_plain_runs();
+    machine_threads::others_keep_theirs();
+    machine_threads::claimers_convert();
+    machine_threads::full_rows_end_runs();
+    machine_threads::threads_wait_as_they_ask();
+    machine_threads::tested_waits_are_stuck();
     store_barrier::answers_serve_machines();
 }

@@ -1,5 +1,5 @@
-//! One event of a thread that runs alone over a shared heap: the step of its request, and what
-//! makes durable what it stores. Whatever happens, a stop leaves what its acts allow.
+//! One event of a thread over a shared heap: the step of its request, and what makes durable what it
+//! stores; or what it waits for. Whatever happens, a stop leaves what the acts allow.
 #![tactic(auto)]
 
 mod converting;
@@ -8,14 +8,17 @@ mod laws;
 mod parts;
 mod quick;
 mod regions;
+mod remembering;
 mod running;
 mod storing;
 
+pub use convert_waits::{passes_fill_rows, rows_begin_and_end};
 pub use events::{Event, Halt};
-pub use machine_ends::{
-    events_keep_lines, lines_stay_unwritten, machines_finish_with_their_threads,
+pub use machine_threads::{
+    each_stop_is_allowed, events_keep_lines, full_rows_end_runs, lines_stay_unwritten,
+    machines_ask_as_plain_runs, machines_end_stuck, machines_finish_with_their_threads,
+    others_keep_theirs, tested_waits_are_stuck,
 };
-pub use machine_laws::{each_stop_is_allowed, machines_ask_as_plain_runs};
 pub use quick::read_field;
 pub use running::event;
 pub use shared_heap::SharedHeap;

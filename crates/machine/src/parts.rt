@@ -41,13 +41,13 @@ fn from_in(request: &Request) -> Option<At>
     }
 }
 
-/// What the step of a request comes to: its reply, or that by which the run is over.
+/// What the step of a request comes to: its reply, what it waits for, or that by which the run is over.
 pub(crate) fn ended(request: &Request, step: Stepped) -> Event
     ensures { result ≡ event_of request.now step }
 {
     match step {
         Stepped::Did { reply, .. } => Event::Did(reply),
-        Stepped::Waits(on) => Event::Over(Halt::Stuck(on)),
+        Stepped::Waits(on) => Event::WouldWait(on),
         Stepped::Wrong => {
             // a request that finds a wrong operand is an instruction's
             let nowhere = At {

@@ -8,7 +8,7 @@ ghost use Rattle.region_log.specs.Stages.{CanEnd};
 ghost use Rattle.run_forms.specs.Views.{ThreadFrames};
 ghost use Rattle.twin_forms.specs.Table.{Entry};
 ghost use Rattle.machine_forms.specs.Machines.{Opening, doing_of, log_of};
-ghost use Rattle.machine_laws.specs.Frames.{IsReady};
+ghost use Rattle.machine_threads.specs.Passed.{IsReady};
 ghost use Rattle.machine.specs.Ended.{ComesTo, IsSomeDue, Serves};
 ghost use Rattle.machine.specs.Running.{IsDue};
 
@@ -24,14 +24,14 @@ use shared_heap::SharedHeap;
 use shared_objects::Types;
 
 /// A part of the logging of the word that the thread has guarded last.
-pub(crate) fn log<I: Image>(heap: &mut SharedHeap<I>) -> Event
-    requires due { IsSomeDue heap.old }
+pub(crate) fn log<I: Image>(heap: &mut SharedHeap<I>, t: ThreadNo) -> Event
+    requires due { IsSomeDue heap.old t }
     requires room { length heap.old.history.acts < heap.old.history.limit }
-    requires named { is_adding (log_of heap.old.machine 0).underway ≡ true }
-    ensures { ComesTo result heap.old heap.new }
+    requires named { is_adding (log_of heap.old.machine t).underway ≡ true }
+    ensures { ComesTo t result heap.old heap.new }
 {
     laws();
-    match heap.log_next(ThreadNo::main()) {
+    match heap.log_next(t) {
         Ok(_) => Event::Micro,
         Err(_) => Event::Over(Halt::Met(StepFault::ImageFault)),
     }
@@ -42,24 +42,25 @@ pub(crate) fn begin<C: Types, I: Image, S: Sink>(
     heap: &mut SharedHeap<I>,
     set: &C,
     sink: &mut S,
+    t: ThreadNo,
     request: &Request,
 ) -> Event
-    requires due { (o : Opening) × (first : ℕ) × (es : List Entry) × (fs : ThreadFrames)
-        × IsDue o first (C.facts set.now) heap.old es fs request.now }
+    requires due { (o : Opening) × (first : ℕ) × (es : List Entry) × (threads : List ThreadFrames)
+        × (fs : ThreadFrames) × IsDue o first (C.facts set.now) heap.old es threads t fs request.now }
     requires room { length heap.old.history.acts < heap.old.history.limit }
     requires counted { heap.old.history.limit < 2 ^ 32 }
-    requires ready { IsReady (doing_of heap.old.machine 0) }
-    requires idle { (log_of heap.old.machine 0).underway ≡ underway.Nothing }
+    requires ready { IsReady (doing_of heap.old.machine t) }
+    requires idle { (log_of heap.old.machine t).underway ≡ underway.Nothing }
     requires is_begin { (from : At) × (request.now ≡ ask.Begin from) }
-    ensures serves { Serves (C.facts set.now) request.now result heap.old heap.new (S.takes sink.old)
+    ensures serves { Serves (C.facts set.now) t request.now result heap.old heap.new (S.takes sink.old)
         (S.taken sink.old) (S.taken sink.new) (S.faults sink.old) (S.faults sink.new) }
     ensures sink { result ≡ Event.Micro → sink.new ≡ sink.old }
 {
     laws();
     // that so many acts can be counted
     let _count = heap.acts().len();
-    let step = heap.take(set, sink, ThreadNo::main(), request);
-    heap.open_region(ThreadNo::main());
+    let step = heap.take(set, sink, t, request);
+    heap.open_region(t);
     ended(request, step)
 }
 
@@ -68,25 +69,26 @@ pub(crate) fn end<C: Types, I: Image, S: Sink>(
     heap: &mut SharedHeap<I>,
     set: &C,
     sink: &mut S,
+    t: ThreadNo,
     request: &Request,
 ) -> Event
-    requires due { (o : Opening) × (first : ℕ) × (es : List Entry) × (fs : ThreadFrames)
-        × IsDue o first (C.facts set.now) heap.old es fs request.now }
+    requires due { (o : Opening) × (first : ℕ) × (es : List Entry) × (threads : List ThreadFrames)
+        × (fs : ThreadFrames) × IsDue o first (C.facts set.now) heap.old es threads t fs request.now }
     requires room { length heap.old.history.acts < heap.old.history.limit }
-    requires ready { IsReady (doing_of heap.old.machine 0) }
-    requires can { CanEnd (log_of heap.old.machine 0).underway }
-    requires open { 0 < (log_of heap.old.machine 0).depth }
+    requires ready { IsReady (doing_of heap.old.machine t) }
+    requires can { CanEnd (log_of heap.old.machine t).underway }
+    requires open { 0 < (log_of heap.old.machine t).depth }
     requires is_end { (from : At) × (request.now ≡ ask.End from) }
-    ensures serves { Serves (C.facts set.now) request.now result heap.old heap.new (S.takes sink.old)
+    ensures serves { Serves (C.facts set.now) t request.now result heap.old heap.new (S.takes sink.old)
         (S.taken sink.old) (S.taken sink.new) (S.faults sink.old) (S.faults sink.new) }
     ensures sink { result ≡ Event.Micro → sink.new ≡ sink.old }
 {
     laws();
-    match heap.end_next(ThreadNo::main()) {
+    match heap.end_next(t) {
         Ok(EndStep::Ended) => {
             // that so many acts can be counted
             let _count = heap.acts().len();
-            let step = heap.take(set, sink, ThreadNo::main(), request);
+            let step = heap.take(set, sink, t, request);
             ended(request, step)
         }
         Ok(EndStep::More) => Event::Micro,

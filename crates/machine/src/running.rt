@@ -7,18 +7,21 @@ ghost use Rattle.twin_forms.specs.Table.{Entry};
 ghost use Rattle.machine_forms.specs.declared.doing.Doing.TheVariants.{Fencing, Writing};
 ghost use Rattle.region_log.specs.declared.entry.Underway.TheVariants as underway;
 ghost use Rattle.machine_forms.specs.Machines.{Opening, doing_of, log_of, memory_of};
-ghost use Rattle.machine_laws.specs.Frames.{IsReady};
-ghost use Rattle.machine_ends.specs.Work.{measure};
+ghost use Rattle.machine_threads.specs.Passed.{IsReady};
+ghost use Rattle.machine_threads.specs.Passed.{measure};
 ghost use Rattle.machine.specs.declared.events.Halt.TheVariants.{Met};
 ghost use Rattle.machine.specs.Halts.{lacks};
 ghost use Rattle.machine.specs.Ended.{ComesTo, IsOutside, IsSomeDue, Serves};
-ghost use Rattle.machine.specs.Events.{AddsActs, CallsAtMostOnce, GoesTo, HasImageCause, HasSinkCause, IsAnswerTo, IsShare};
+ghost use Rattle.machine.specs.Remembering.{IsNext, LeadsTo, Remembers};
+ghost use Rattle.run_types.specs.declared.wait.On.{On as OnOf};
+ghost use Rattle.machine.specs.Events.{AddsActs, CallsAtMostOnce, HasImageCause, HasSinkCause, IsAnswerTo, IsShare};
 ghost use Rattle.machine.specs.Events.{TakesOutput};
 ghost use Rattle.machine.specs.Running.{IsDue};
 
 use crate::laws::laws;
 use crate::parts::ended;
 use crate::regions::{begin, end, log};
+use crate::remembering::remember;
 use crate::storing::store;
 use crate::{Event, Halt};
 use ap_base::{Sink, ThreadNo};
@@ -29,27 +32,30 @@ use run_types::{Full, StepFault, Which};
 use shared_heap::{Plan, SharedHeap};
 use shared_objects::Types;
 
-/// One event of the thread, which runs alone, for the request that it asks: at most one call of
-/// the image or of the sink, and at most one act. A durable store is asked where its value isn't
-/// durable, converted, made, written back and fenced, each in events of its own; in a failure-atomic
-/// region it is logged before it is made, and its line is written back as the region ends (Shull,
-/// Huang and Torrellas, "AutoPersist", PLDI 2019).
+/// One event of thread `t`, for the request that its turn asks: at most one call of the image or of the sink, and at most
+/// one act. A durable store is asked where its value isn't durable, converted, made, written back and fenced, each in events
+/// of its own; in a failure-atomic region it is logged before it is made, and its line is written back as the region ends
+/// (Shull, Huang and Torrellas, "AutoPersist", PLDI 2019). An event waits for a monitor that another thread holds (JVMS
+/// 2.11.10), for the end of a thread, for a class that another thread initialises (JVMS 5.5), or for another thread's
+/// conversion; a run of which all threads wait is over. A request that isn't answered is noted until it is.
 pub fn event<C: Types, I: Image, S: Sink>(
     heap: &mut SharedHeap<I>,
     set: &C,
     sink: &mut S,
-    request: &Request,
+    t: ThreadNo,
+    request: Request,
 ) -> Event
-    requires due { (o : Opening) × (first : ℕ) × (es : List Entry) × (fs : ThreadFrames)
-        × IsDue o first (C.facts set.now) heap.old es fs request.now }
-    ensures goes { (o : Opening) (first : ℕ) (es : List Entry) (fs : ThreadFrames)
-        → IsDue o first (C.facts set.now) heap.old es fs request.now
-        → GoesTo o first result heap.old heap.new fs }
-    ensures acts { AddsActs result heap.old.history.acts heap.new.history.acts }
+    requires next { (o : Opening) × (first : ℕ) × (es : List Entry) × (threads : List ThreadFrames)
+        × (fs : ThreadFrames) × IsNext o first (C.facts set.now) heap.old es threads t fs request }
+    ensures leads { (o : Opening) (first : ℕ) (es : List Entry) (threads : List ThreadFrames) (fs : ThreadFrames)
+        → IsNext o first (C.facts set.now) heap.old es threads t fs request
+        → LeadsTo o first result heap.old heap.new threads t fs request }
+    ensures remembers { Remembers result t request heap.old heap.new }
+    ensures acts { AddsActs result t heap.old.history.acts heap.new.history.acts }
     ensures told { TakesOutput heap.old.history.acts heap.new.history.acts (S.taken sink.old)
         (S.taken sink.new) }
     ensures share { (act : Recorded) → heap.new.history.acts ≡ heap.old.history.acts ++ act ∷ []
-        → IsShare request.now (S.takes sink.old) act.act.op }
+        → IsShare request (S.takes sink.old) act.act.op }
     // Only an event that answers or ends may call the sink.
     ensures sink { result ≡ Event.Micro → sink.new ≡ sink.old }
     ensures sink_cause { HasSinkCause result (S.faults sink.old) (S.faults sink.new) }
@@ -59,11 +65,12 @@ pub fn event<C: Types, I: Image, S: Sink>(
     // A history without room for an act ends the run before all else.
     ensures full { heap.old.history.limit ≤ length heap.old.history.acts
         → result ≡ Event.Over (Met (lacks which.Acts 1 0)) }
-    ensures answers { IsAnswerTo result request.now }
+    ensures answers { IsAnswerTo result request }
     ensures numbers { heap.new.machine.spaces.numbers ≡ heap.old.machine.spaces.numbers }
     // So a loop over events of one request ends, within the acts that the history may have.
     ensures quiet { result ≡ Event.Micro → heap.new.history.acts ≡ heap.old.history.acts
         → measure heap.new.machine < measure heap.old.machine }
+    ensures waits { (on : OnOf) → result ≡ Event.WouldWait on → measure heap.new.machine ≤ measure heap.old.machine }
 {
     laws();
     if heap.is_full() {
@@ -73,36 +80,56 @@ pub fn event<C: Types, I: Image, S: Sink>(
             left: 0,
         })));
     }
-    match heap.doing(ThreadNo::main()) {
-        Doing::Writing(line) => write_back(heap, line),
-        Doing::Fencing => fence(heap),
-        Doing::Nothing | Doing::Converting => go_on(heap, set, sink, request),
+    let came = attempt(heap, set, sink, t, &request);
+    remember(heap, set, t, request, came)
+}
+
+// What the thread's event comes to, before it is noted: it is never told there that the run is stuck.
+fn attempt<C: Types, I: Image, S: Sink>(
+    heap: &mut SharedHeap<I>,
+    set: &C,
+    sink: &mut S,
+    t: ThreadNo,
+    request: &Request,
+) -> Event
+    requires due { (o : Opening) × (first : ℕ) × (es : List Entry) × (threads : List ThreadFrames)
+        × (fs : ThreadFrames) × IsDue o first (C.facts set.now) heap.old es threads t fs request.now }
+    requires room { length heap.old.history.acts < heap.old.history.limit }
+    requires counted { heap.old.history.limit < 2 ^ 32 }
+    ensures serves { Serves (C.facts set.now) t request.now result heap.old heap.new (S.takes sink.old)
+        (S.taken sink.old) (S.taken sink.new) (S.faults sink.old) (S.faults sink.new) }
+    ensures sink { result ≡ Event.Micro → sink.new ≡ sink.old }
+{
+    match heap.doing(t) {
+        Doing::Writing(line) => write_back(heap, t, line),
+        Doing::Fencing => fence(heap, t),
+        Doing::Nothing | Doing::Converting => go_on(heap, set, sink, t, request),
     }
 }
 
 // The line of the thread's durable store is written back.
-fn write_back<I: Image>(heap: &mut SharedHeap<I>, line: u32) -> Event
-    requires due { IsSomeDue heap.old }
+fn write_back<I: Image>(heap: &mut SharedHeap<I>, t: ThreadNo, line: u32) -> Event
+    requires due { IsSomeDue heap.old t }
     requires room { length heap.old.history.acts < heap.old.history.limit }
-    requires doing { doing_of heap.old.machine 0 ≡ Writing line }
-    ensures { ComesTo result heap.old heap.new }
+    requires doing { doing_of heap.old.machine t ≡ Writing line }
+    ensures { ComesTo t result heap.old heap.new }
 {
     laws();
-    match heap.write_back(ThreadNo::main(), line) {
+    match heap.write_back(t, line) {
         Ok(()) => Event::Micro,
         Err(_) => Event::Over(Halt::Met(StepFault::ImageFault)),
     }
 }
 
 // The thread's durable store is fenced, and with that done.
-fn fence<I: Image>(heap: &mut SharedHeap<I>) -> Event
-    requires due { IsSomeDue heap.old }
+fn fence<I: Image>(heap: &mut SharedHeap<I>, t: ThreadNo) -> Event
+    requires due { IsSomeDue heap.old t }
     requires room { length heap.old.history.acts < heap.old.history.limit }
-    requires doing { doing_of heap.old.machine 0 ≡ Fencing }
-    ensures { ComesTo result heap.old heap.new }
+    requires doing { doing_of heap.old.machine t ≡ Fencing }
+    ensures { ComesTo t result heap.old heap.new }
 {
     laws();
-    match heap.fence(ThreadNo::main()) {
+    match heap.fence(t) {
         Ok(()) => Event::Did(Reply::Done),
         Err(_) => Event::Over(Halt::Met(StepFault::ImageFault)),
     }
@@ -113,35 +140,36 @@ fn go_on<C: Types, I: Image, S: Sink>(
     heap: &mut SharedHeap<I>,
     set: &C,
     sink: &mut S,
+    t: ThreadNo,
     request: &Request,
 ) -> Event
-    requires due { (o : Opening) × (first : ℕ) × (es : List Entry) × (fs : ThreadFrames)
-        × IsDue o first (C.facts set.now) heap.old es fs request.now }
+    requires due { (o : Opening) × (first : ℕ) × (es : List Entry) × (threads : List ThreadFrames)
+        × (fs : ThreadFrames) × IsDue o first (C.facts set.now) heap.old es threads t fs request.now }
     requires room { length heap.old.history.acts < heap.old.history.limit }
     requires counted { heap.old.history.limit < 2 ^ 32 }
-    requires ready { IsReady (doing_of heap.old.machine 0) }
-    ensures serves { Serves (C.facts set.now) request.now result heap.old heap.new (S.takes sink.old)
+    requires ready { IsReady (doing_of heap.old.machine t) }
+    ensures serves { Serves (C.facts set.now) t request.now result heap.old heap.new (S.takes sink.old)
         (S.taken sink.old) (S.taken sink.new) (S.faults sink.old) (S.faults sink.new) }
     ensures sink { result ≡ Event.Micro → sink.new ≡ sink.old }
 {
     laws();
-    if heap.is_logging(ThreadNo::main()) {
-        return log(heap);
+    if heap.is_logging(t) {
+        return log(heap, t);
     }
-    if heap.is_ending(ThreadNo::main()) {
-        return end(heap, set, sink, request);
+    if heap.is_ending(t) {
+        return end(heap, set, sink, t, request);
     }
-    let is_open = heap.depth(ThreadNo::main()) > 0;
+    let is_open = heap.depth(t) > 0;
     match *request {
-        Request::Begin { .. } => begin(heap, set, sink, request),
+        Request::Begin { .. } => begin(heap, set, sink, t, request),
         Request::End { .. } => {
             if is_open {
-                end(heap, set, sink, request)
+                end(heap, set, sink, t, request)
             } else {
-                answer(heap, set, sink, request)
+                answer(heap, set, sink, t, request)
             }
         }
-        _ => answer(heap, set, sink, request),
+        _ => answer(heap, set, sink, t, request),
     }
 }
 
@@ -150,27 +178,28 @@ fn answer<C: Types, I: Image, S: Sink>(
     heap: &mut SharedHeap<I>,
     set: &C,
     sink: &mut S,
+    t: ThreadNo,
     request: &Request,
 ) -> Event
-    requires due { (o : Opening) × (first : ℕ) × (es : List Entry) × (fs : ThreadFrames)
-        × IsDue o first (C.facts set.now) heap.old es fs request.now }
+    requires due { (o : Opening) × (first : ℕ) × (es : List Entry) × (threads : List ThreadFrames)
+        × (fs : ThreadFrames) × IsDue o first (C.facts set.now) heap.old es threads t fs request.now }
     requires room { length heap.old.history.acts < heap.old.history.limit }
-    requires ready { IsReady (doing_of heap.old.machine 0) }
-    requires idle { (log_of heap.old.machine 0).underway ≡ underway.Nothing }
-    requires outside { IsOutside (log_of heap.old.machine 0).depth request.now }
-    ensures serves { Serves (C.facts set.now) request.now result heap.old heap.new (S.takes sink.old)
+    requires ready { IsReady (doing_of heap.old.machine t) }
+    requires idle { (log_of heap.old.machine t).underway ≡ underway.Nothing }
+    requires outside { IsOutside (log_of heap.old.machine t).depth request.now }
+    ensures serves { Serves (C.facts set.now) t request.now result heap.old heap.new (S.takes sink.old)
         (S.taken sink.old) (S.taken sink.new) (S.faults sink.old) (S.faults sink.new) }
     ensures sink { result ≡ Event.Micro → sink.new ≡ sink.old }
 {
     laws();
     // that so many acts can be counted
     let _count = heap.acts().len();
-    match heap.plan(set, ThreadNo::main(), request) {
+    match heap.plan(set, t, request) {
         Plan::NoStore => {
-            let step = heap.take(set, sink, ThreadNo::main(), request);
+            let step = heap.take(set, sink, t, request);
             ended(request, step)
         }
         Plan::Ends(step) => ended(request, step),
-        Plan::Stores(planned) => store(heap, planned),
+        Plan::Stores(planned) => store(heap, t, planned),
     }
 }

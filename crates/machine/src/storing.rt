@@ -19,60 +19,60 @@ use shared_heap::{SharedHeap, place_of};
 use store_barrier::Barrier;
 
 /// The store is made, where nothing is to be converted or logged before it.
-pub(crate) fn store<I: Image>(heap: &mut SharedHeap<I>, store: Store) -> Event
-    requires planned { HasSomePlanned heap.old store }
+pub(crate) fn store<I: Image>(heap: &mut SharedHeap<I>, t: ThreadNo, store: Store) -> Event
+    requires planned { HasSomePlanned heap.old t store }
     requires room { length heap.old.history.acts < heap.old.history.limit }
-    ensures { StoreComesTo store result heap.old heap.new }
+    ensures { StoreComesTo t store result heap.old heap.new }
 {
     laws();
-    match heap.barrier(ThreadNo::main(), &store) {
+    match heap.barrier(t, &store) {
         Barrier::Race(other) => Event::Over(Halt::Met(StepFault::RegionRace {
-            thread: ThreadNo::main(),
+            thread: t,
             other,
             place: place_of(store.target),
         })),
-        Barrier::ConvertFirst(object) => convert(heap, &store, object),
-        Barrier::LogFirst(spot) => guard(heap, &store, spot),
-        Barrier::Store(line) => make(heap, store, line),
+        Barrier::ConvertFirst(object) => convert(heap, t, &store, object),
+        Barrier::LogFirst(spot) => guard(heap, t, &store, spot),
+        Barrier::Store(line) => make(heap, t, store, line),
     }
 }
 
 // The place of the store is guarded: its word is logged next. Where the log is full, the run is over.
-fn guard<I: Image>(heap: &mut SharedHeap<I>, store: &Store, spot: Spot) -> Event
-    requires planned { HasSomePlanned heap.old store.now }
+fn guard<I: Image>(heap: &mut SharedHeap<I>, t: ThreadNo, store: &Store, spot: Spot) -> Event
+    requires planned { HasSomePlanned heap.old t store.now }
     requires room { length heap.old.history.acts < heap.old.history.limit }
-    requires apart { IsApart heap.old.machine.spaces heap.old.machine.logs 0 (place_of store.now.target) }
+    requires apart { IsApart heap.old.machine.spaces heap.old.machine.logs t (place_of store.now.target) }
     requires follows { MayFollow heap.old.machine.spaces store.now }
     requires first { (es : List Entry) → Stands heap.old.machine.spaces es
-        → LogsFirst heap.old.machine.spaces es heap.old.machine.logs 0 (place_of store.now.target) spot }
-    ensures { StoreComesTo store.now result heap.old heap.new }
+        → LogsFirst heap.old.machine.spaces es heap.old.machine.logs t (place_of store.now.target) spot }
+    ensures { StoreComesTo t store.now result heap.old heap.new }
 {
     laws();
-    if heap.log_is_full(ThreadNo::main()) {
+    if heap.log_is_full(t) {
         return Event::Over(Halt::Met(StepFault::Full(Full {
             which: Which::LogEntries,
             need: 1,
             left: 0,
         })));
     }
-    heap.guard(ThreadNo::main(), store, spot);
+    heap.guard(t, store, spot);
     Event::Micro
 }
 
 // Makes a store. That to a durable place outside regions is answered once it is fenced.
-fn make<I: Image>(heap: &mut SharedHeap<I>, store: Store, line: Option<u32>) -> Event
-    requires planned { HasSomePlanned heap.old store }
+fn make<I: Image>(heap: &mut SharedHeap<I>, t: ThreadNo, store: Store, line: Option<u32>) -> Event
+    requires planned { HasSomePlanned heap.old t store }
     requires room { length heap.old.history.acts < heap.old.history.limit }
-    requires apart { IsApart heap.old.machine.spaces heap.old.machine.logs 0 (place_of store.target) }
+    requires apart { IsApart heap.old.machine.spaces heap.old.machine.logs t (place_of store.target) }
     requires follows { MayFollow heap.old.machine.spaces store }
     requires logged { (es : List Entry) → Stands heap.old.machine.spaces es
-        → HasLogged heap.old.machine.spaces es heap.old.machine.logs 0 (place_of store.target) }
+        → HasLogged heap.old.machine.spaces es heap.old.machine.logs t (place_of store.target) }
     requires line { (es : List Entry) → Stands heap.old.machine.spaces es
-        → IsLineLeft heap.old.machine.spaces es heap.old.machine.logs 0 (place_of store.target) line }
-    ensures { StoreComesTo store result heap.old heap.new }
+        → IsLineLeft heap.old.machine.spaces es heap.old.machine.logs t (place_of store.target) line }
+    ensures { StoreComesTo t store result heap.old heap.new }
 {
     laws();
-    heap.store(ThreadNo::main(), store, line);
+    heap.store(t, store, line);
     match line {
         Some(_) => Event::Micro,
         None => Event::Did(Reply::Done),

@@ -18,3 +18,4 @@ pub mod Taken
 pub mod Telling
 pub mod Unwritten
 pub mod Working
+pub mod Passed

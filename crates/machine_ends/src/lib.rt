@@ -12,3 +12,7 @@ pub use line_laws::{
     calls_of_regions_lower_the_measure, events_keep_lines, events_take_work, lines_stay_unwritten,
     quiet_events_lower_the_measure, refusals_fill_the_image,
 };
+// what crates above name of the laws below
+pub use machine_laws::{
+    each_stop_is_allowed, events_go_on_as_plain_runs, events_keep_runs, machines_ask_as_plain_runs,
+};

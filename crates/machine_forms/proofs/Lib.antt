@@ -1,2 +1,4 @@
 pub mod Happening
 pub mod Layouts
+pub mod Naming
+pub mod Taking

@@ -1,4 +1,5 @@
 pub mod Events
 pub mod Keeping
 pub mod Machines
+pub mod Naming
 pub mod Happening

@@ -6,4 +6,4 @@ mod doing;
 mod laws;
 
 pub use doing::Doing;
-pub use laws::durable_objects_lie_in_the_layout;
+pub use laws::{durable_objects_lie_in_the_layout, groups_name_theirs};

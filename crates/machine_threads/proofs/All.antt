@@ -21,7 +21,7 @@ use Rattle.machine_forms.specs.Events as step
 use Rattle.machine_forms.specs.Happening.{Happens}
 use Rattle.machine_forms.specs.Happening.{called, written, fenced, converted, failed, begun, sealed, asked, acted, stored}
 use Rattle.machine_forms.specs.Happening.{region}
-use Rattle.machine_laws.specs.Frames.{frames_by, region_frames}
+use Rattle.machine_ends.specs.Passed.{frames_by, region_frames}
 use Rattle.machine_threads.specs.Keeping.{AllKeep, EventsKeepAll, IsUnbegun, KeepsThread}
 use Rattle.machine_threads.proofs.Asking.{event-there}
 use Rattle.machine_threads.proofs.Beginning.{beginners_keep_theirs}

@@ -22,7 +22,7 @@ use Rattle.machine_forms.specs.Happening.{Happens}
 use Rattle.machine_forms.specs.Happening.{called, written, fenced, converted, failed, begun, sealed, asked, acted}
 use Rattle.machine_forms.specs.Happening.{stored}
 use Rattle.machine_forms.specs.Happening.{region}
-use Rattle.machine_laws.specs.Frames.{frames_by, region_frames}
+use Rattle.machine_ends.specs.Passed.{frames_by, region_frames}
 use Rattle.machine_threads.specs.Keeping.{OthersAskOn}
 
 -- ---- lists

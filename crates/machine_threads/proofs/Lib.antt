@@ -11,5 +11,6 @@ pub mod Plainly
 pub mod Stuck
 pub mod Tables
 pub mod Testing
-pub mod Naming
 pub mod Numbers
+pub mod Own
+pub mod Passed

@@ -12,11 +12,11 @@ use Rattle.machine_forms.specs.Events.{CallsImage, RegionStep, with_logged, with
 use Rattle.machine_forms.specs.Events as step
 use Rattle.machine_forms.specs.Happening.{called, written, fenced, converted, failed, begun, sealed, asked, acted, stored}
 use Rattle.machine_forms.specs.Happening.{region}
-use Rattle.machine_laws.proofs.Called.{quiet}
-use Rattle.machine_laws.proofs.HeapBeginning.{failed_move, move_begun}
-use Rattle.machine_laws.proofs.HeapConverting.{move}
-use Rattle.machine_laws.proofs.HeapRegions.{closing_goes_on, ending_goes_on, left_goes_on, logged_goes_on}
-use Rattle.machine_laws.proofs.Logging.{LogGoesOn}
+use Rattle.machine_ends.proofs.Passed.{quiet}
+use Rattle.machine_ends.proofs.Passed.{failed_move, move_begun}
+use Rattle.machine_ends.proofs.Passed.{move}
+use Rattle.machine_ends.proofs.Passed.{closing_goes_on, ending_goes_on, left_goes_on, logged_goes_on}
+use Rattle.machine_ends.proofs.Passed.{LogGoesOn}
 use Rattle.machine_threads.specs.Keeping.{ReferencesStandStill}
 
 chained : (one two three : Numbers) → Keeps one two → Keeps two three → Keeps one three

@@ -20,7 +20,7 @@ use Rattle.machine_forms.specs.declared.doing.Doing.{Doing}
 use Rattle.machine_forms.specs.Machines.{Opening, Machine}
 use Rattle.machine_forms.specs.Keeping.{KeepsRun}
 use Rattle.machine_forms.specs.Happening.{Happens, act_of}
-use Rattle.machine_laws.proofs.Acts.{durable-kept, pending-kept}
+use Rattle.machine_ends.proofs.Passed.{durable-kept, pending-kept}
 use Rattle.machine_threads.specs.Claiming.{HasForwarded}
 use Rattle.machine_threads.specs.Keeping.{AsksItsEnd, IsToHoldDurable, IsUnbegun, KeepsThread}
 use Rattle.machine_threads.specs.Keeping.{LagsByItsStore}
@@ -32,13 +32,13 @@ use Rattle.machine_threads.proofs.Tables.{Goes}
 
 -- ---- places that are to hold what is durable
 
-holds-more : (known : Knowledge) (a : Recorded) (t : ℕ) (es es' : List Entry) (p : Place) → Goes t es es'
+pub holds-more : (known : Knowledge) (a : Recorded) (t : ℕ) (es es' : List Entry) (p : Place) → Goes t es es'
     → IsToHoldDurable known es p → IsToHoldDurable (next_known known a) es' p
 holds-more known a t es es' (Static f) goes is = durable-kept known a (Static f) is
 holds-more known a t es es' (Slot n i) goes (inl is) = inl (durable_stays known (a ∷ []) n is)
 holds-more known a t es es' (Slot n i) goes (inr has) = inr (has.0, goes.copied n has.0 has.1)
 
-holds-still : (known : Knowledge) (t : ℕ) (es es' : List Entry) (p : Place) → Goes t es es'
+pub holds-still : (known : Knowledge) (t : ℕ) (es es' : List Entry) (p : Place) → Goes t es es'
     → IsToHoldDurable known es p → IsToHoldDurable known es' p
 holds-still known t es es' (Static f) goes is = is
 holds-still known t es es' (Slot n i) goes (inl is) = inl is
@@ -46,10 +46,10 @@ holds-still known t es es' (Slot n i) goes (inr has) = inr (has.0, goes.copied n
 
 -- ---- what is asked, after these acts
 
-record AsksSo (launch : Launch) (acts : List Recorded) (es : List Entry) (u : ℕ) : Type 0 where
-  about : AsksItsStore launch.set (known_at launch acts)
+pub record AsksSo (launch : Launch) (acts : List Recorded) (es : List Entry) (u : ℕ) : Type 0 where
+  pub about : AsksItsStore launch.set (known_at launch acts)
       (request_after launch.set launch.main launch.opening (plain_code launch) acts u) u
-  holds : (p : Pending) → pending_of (known_at launch acts).asked u ≡ Some p
+  pub holds : (p : Pending) → pending_of (known_at launch acts).asked u ≡ Some p
       → IsToHoldDurable (known_at launch acts) es p.place
 
 module _ (launch : Launch) (acts : List Recorded) (t u : ℕ) (es es' : List Entry) (goes : Goes t es es')

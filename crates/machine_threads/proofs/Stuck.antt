@@ -18,8 +18,8 @@ use Rattle.machine_forms.specs.declared.doing.Doing.{Doing}
 use Rattle.machine_forms.specs.Machines.{doing_of, known_in, layout_in, scene_of}
 use Rattle.machine_forms.specs.Keeping.{IsDoing}
 use Rattle.stop_theorem.specs.Layouts.{Layout}
-use Rattle.machine_laws.specs.Frames.{IsReady, ReadyThreadsAskAlike}
-use Rattle.machine_laws.proofs.Acts.{owes_some}
+use Rattle.machine_ends.specs.Passed.{IsReady, ReadyThreadsAskAlike}
+use Rattle.machine_ends.proofs.Passed.{owes_some}
 use Rattle.machine_ends.specs.Laws.{OwesFence}
 use Rattle.machine_ends.proofs.Rooms.{fault_so, paid-steps}
 use Rattle.convert_waits.proofs.Rows.{rows_begin}

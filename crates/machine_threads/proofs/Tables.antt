@@ -22,7 +22,7 @@ use Rattle.convert_words.specs.Converting.{Converts}
 use Rattle.converter.specs.declared.begin.Begun.{Begun}
 use Rattle.converter.specs.declared.begin.Begun.TheVariants as begun
 use Rattle.converter.specs.Beginning.{Begins}
-use Rattle.machine_laws.proofs.Beside.{OnlyAdds, claimed-was}
+use Rattle.machine_ends.proofs.Passed.{OnlyAdds, claimed-was}
 
 pub record Goes (t : ℕ) (es es' : List Entry) : Type 0 where
   pub copied : (n c : ℕ) → HasCopied (entry es n) c → HasCopied (entry es' n) c

@@ -33,7 +33,7 @@ use Rattle.machine_forms.specs.declared.doing.Doing.{Doing}
 use Rattle.machine_forms.specs.declared.doing.Doing.TheVariants.{Nothing}
 use Rattle.machine_forms.specs.Machines.{Opening, Machine, doing_of, known_in, layout_in, roots_in, scene_of, shown_in}
 use Rattle.machine_forms.specs.Keeping.{IsDoing, KeepsRun}
-use Rattle.machine_laws.specs.Frames.{ReadyThreadsAskAlike, RunsAsPlain, all_acted}
+use Rattle.machine_ends.specs.Passed.{ReadyThreadsAskAlike, RunsAsPlain, all_acted}
 use Rattle.machine_threads.specs.Keeping.{AllKeep}
 use Rattle.machine_threads.specs.Plain.{asks_some}
 use Rattle.machine_threads.specs.Stuck.{AllAskStores, plain_waits, requests_in}

@@ -23,8 +23,8 @@ use Rattle.machine_forms.specs.declared.doing.Doing.{Doing}
 use Rattle.machine_forms.specs.declared.doing.Doing.TheVariants.{Nothing, Converting, Writing, Fencing}
 use Rattle.machine_forms.specs.Machines.{Opening, Machine, known_in, shown_in, doing_of, log_of}
 use Rattle.machine_forms.specs.Keeping.{KeepsRun}
-use Rattle.machine_forms.specs.Happening.{Happens}
-use Rattle.machine_laws.specs.Frames.{Asks, frames_by}
+use Rattle.machine_forms.specs.Happening.{Happens, asked}
+use Rattle.machine_ends.specs.Passed.{Asks, frames_by}
 use Rattle.machine_threads.specs.Claiming.{HasForwarded}
 use Rattle.machine_threads.specs.Stuck.{requests_in}
 
@@ -97,6 +97,22 @@ OthersAskOn = (o : Opening) (t u : ℕ) (m m' : Machine) (es es' : List Entry) (
 abbrev pub ReferencesStandStill : Type 0
 ReferencesStandStill = (o : Opening) (t : ℕ) (m m' : Machine) (es es' : List Entry) → KeepsRun o m es
     → Happens o t m es m' es' → Keeps (shown_in m).number (shown_in m').number
+
+-- ---- the event's own thread
+
+-- what the thread asks is to be stored where what is stored is to be durable
+abbrev pub AsksToHold : {o : Opening} {t : ℕ} {m : Machine} {es : List Entry} {m' : Machine} {es' : List Entry}
+    → Happens o t m es m' es' → Type 0
+AsksToHold {o} {t} {m} {es} (asked request place item e) = IsToHoldDurable (known_in o m) es place
+AsksToHold other = Unit {0}
+
+-- What it has asked it asks still, until that is stored: whoever shows that these frames ask the durable store that isn't
+-- fenced yet, and the end of the region that is being ended, has shown that the thread keeps its own.
+abbrev pub OwnersKeepTheirs : Type 0
+OwnersKeepTheirs = (o : Opening) (t : ℕ) (m m' : Machine) (es es' : List Entry) (fs gs : ThreadFrames)
+    → KeepsRun o m es → IsRun o.launch m'.acts → (e : Happens o t m es m' es') → AsksToHold e
+    → KeepsThread o m es t fs → LagsByItsStore o.launch (doing_of m' t) gs
+    → AsksItsEnd o.launch (log_of m' t).underway gs → KeepsThread o m' es' t gs
 
 -- ---- threads that begin
 

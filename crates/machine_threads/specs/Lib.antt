@@ -2,5 +2,5 @@ pub mod Claiming
 pub mod Keeping
 pub mod Plain
 pub mod Stuck
-pub mod Naming
 pub mod Testing
+pub mod Passed

@@ -20,7 +20,7 @@ use Rattle.converter.specs.Laws.{AreUnwritten}
 use Rattle.lasting_steps.specs.Asking.{AsksItsStore}
 use Rattle.machine_forms.specs.Machines.{Opening, Machine, known_in, scene_of, shown_in, doing_of}
 use Rattle.machine_forms.specs.Keeping.{KeepsRun}
-use Rattle.machine_laws.specs.Frames.{Asks, IsReady, OfPlain}
+use Rattle.machine_ends.specs.Passed.{Asks, IsReady, OfPlain}
 use Rattle.machine_ends.specs.Laws.{OwesFence}
 use Rattle.convert_waits.specs.Rows.{Why, InRow, none_waited}
 use Rattle.convert_waits.specs.Stuck.{IsRecord, IsStuckAt}

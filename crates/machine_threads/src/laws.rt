@@ -3,9 +3,8 @@
 
 ghost use Rattle.machine_threads.specs.Claiming.{ClaimersConvert, ClaimersHaveAsked, OthersHaveNothing};
 ghost use Rattle.machine_threads.specs.Keeping.{BeginnersKeepTheirs, EventsKeepAll, OthersAskOn, OthersKeepTheirs};
-ghost use Rattle.machine_threads.specs.Keeping.{OthersStayForwarded, OthersStayUnbegun};
+ghost use Rattle.machine_threads.specs.Keeping.{OthersStayForwarded, OthersStayUnbegun, OwnersKeepTheirs};
 ghost use Rattle.machine_threads.specs.Keeping.{ReferencesStandStill};
-ghost use Rattle.machine_threads.specs.Naming.{GroupsNameTheirs};
 ghost use Rattle.machine_threads.specs.Plain.{FullRowsEndRuns, FullRowsTellWaits};
 ghost use Rattle.machine_threads.specs.Plain.{PlainWaitsAreNoConversions, StuckRunsEnd};
 ghost use Rattle.machine_threads.specs.Plain.{StuckRunsTellWaits};
@@ -16,10 +15,12 @@ ghost use Rattle.machine_threads.specs.Testing.{LiveThreadsAsk, TestedWaitsAreSt
 
 /// An event of one thread leaves each other what the machine keeps of it: it asks its store still,
 /// what it is about and its log are as they were, what it has claimed is as far, it lives, and its own
-/// frames ask what they asked, by references that stand for what they stood for. A thread that begins has all of that. So all threads keep theirs where
+/// frames ask what they asked, by references that stand for what they stood for. What the thread of the
+/// event has asked it asks still, too. A thread that begins has all of that. So all threads keep theirs where
 /// the event's own does.
 pub fn others_keep_theirs()
     ensures keep { OthersKeepTheirs }
+    ensures own { OwnersKeepTheirs }
     ensures unbegun { OthersStayUnbegun }
     ensures forwarded { OthersStayForwarded }
     ensures ask { OthersAskOn }
@@ -55,7 +56,7 @@ pub fn threads_wait_as_they_ask()
     ensures ready { ReadyThreadsWaitAlike }
     ensures fences { FencesDontWait }
 {
-    machine_laws::machines_ask_as_plain_runs();
+    machine_ends::machines_ask_as_plain_runs();
 }
 
 /// Where a thread waits in the plain world and each that lives does, its event ends the run stuck, with
@@ -77,12 +78,5 @@ pub fn tested_waits_are_stuck()
     ensures stuck { TestedWaitsAreStuck }
     ensures end { TestedWaitsEnd }
 {
-    machine_laws::machines_ask_as_plain_runs();
+    machine_ends::machines_ask_as_plain_runs();
 }
-
-/// What the threads of a group have queued, named in the order of the threads and of their queues, is
-/// what they have claimed, each object once: what the act of the group's seal is to name. There is
-/// something to name where the sealing thread has queued an object, or needs a thread.
-pub fn groups_name_theirs()
-    ensures { GroupsNameTheirs }
-{}

@@ -5,6 +5,13 @@
 mod laws;
 
 pub use laws::{
-    claimers_convert, full_rows_end_runs, groups_name_theirs, machines_end_stuck,
-    others_keep_theirs, stuck_runs_end, tested_waits_are_stuck, threads_wait_as_they_ask,
+    claimers_convert, full_rows_end_runs, machines_end_stuck, others_keep_theirs, stuck_runs_end,
+    tested_waits_are_stuck, threads_wait_as_they_ask,
+};
+// what crates above name of the laws below
+pub use machine_ends::{
+    acts_meet_no_fault, calls_of_regions_lower_the_measure, each_stop_is_allowed,
+    events_go_on_as_plain_runs, events_keep_lines, events_keep_runs, lines_stay_unwritten,
+    machines_ask_as_plain_runs, machines_end_by_their_faults, machines_finish_with_their_threads,
+    quiet_events_lower_the_measure, refusals_fill_the_image,
 };

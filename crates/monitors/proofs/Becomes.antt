@@ -9,7 +9,7 @@ use Rattle.ap_base.specs.Causes.{next_count}
 use Rattle.monitors.specs.declared.monitor.Monitor.{Monitor}
 use Rattle.monitors.specs.declared.monitor.Enter.TheVariants.{Taken, Held}
 use Rattle.monitors.specs.Keys.{RefKey, bucket_of}
-use Rattle.monitors.specs.Held.{monitor_of, entry_of, enter_answer, entered, exited, rekeyed, IsAt, IsFree, IsHeldBy}
+use Rattle.monitors.specs.Held.{monitor_of, entry_of, enter_answer, entered, exited, owner_of, rekeyed, IsAt, IsFree, IsHeldBy}
 use Rattle.monitors.specs.Indexed.{IsIndex, AreSound, AreHeld, bucket_at, nobody}
 use Rattle.monitors.proofs.Firsts.{held_first, held_free, entered_first, entered_free, exited_last, exited_once, rekeyed_first}
 use Rattle.monitors.proofs.Indexing.{index_same}
@@ -17,6 +17,10 @@ use Rattle.monitors.proofs.Sound.{is_first, none_head, none_tail, sound_entered,
 
 pub found_is : (ms : List Monitor) (key : RefKey) (i : ℕ) (h : Monitor) → AreSound ms → IsAt ms key i → h ≡ get_or ms i h → monitor_of ms key ≡ Some h
 found_is ms key i h sound at e = held_first ms key i h (is_first ms key i sound at) ∙ ap Some (sym e)
+
+pub owner_found : (ms : List Monitor) (key : RefKey) (i : ℕ) (h : Monitor) → AreSound ms → IsAt ms key i → h ≡ get_or ms i h
+    → Some h.owner ≡ owner_of (monitor_of ms key)
+owner_found ms key i h sound at e = sym (ap owner_of (found_is ms key i h sound at e))
 
 pub answer_held : (ms : List Monitor) (key : RefKey) (t i : ℕ) (h : Monitor) → AreSound ms → IsAt ms key i → h ≡ get_or ms i h → h.owner ≢ t
     → Held h.owner ≡ enter_answer t ms key

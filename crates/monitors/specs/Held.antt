@@ -12,6 +12,11 @@ abbrev pub monitor_of : List Monitor → RefKey → Option Monitor
 monitor_of [] key = None
 monitor_of (m ∷ ms) key = if is_key m.key key then Some m else monitor_of ms key
 
+-- the thread that holds it
+abbrev pub owner_of : Option Monitor → Option ℕ
+owner_of None = None
+owner_of (Some m) = Some m.owner
+
 abbrev pub IsHeldBy : ℕ → Option Monitor → Type 0
 IsHeldBy t None = ⊥
 IsHeldBy t (Some m) = m.owner ≡ t

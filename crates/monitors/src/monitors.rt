@@ -1,6 +1,6 @@
 // The monitors that threads hold.
 ghost use Rattle.std.specs.Prelude.{◌≡◌, ◌≢◌, ◌≤◌, ◌↔◌, [], length, IfOk, IsOk, IsErr, None};
-ghost use Rattle.monitors.specs.Held.{enter_answer, entered, exited, monitor_of, rekeyed, IsHeldBy};
+ghost use Rattle.monitors.specs.Held.{enter_answer, entered, exited, monitor_of, owner_of, rekeyed, IsHeldBy};
 
 use crate::index::Index;
 use crate::{Enter, Monitor, NotOwner};
@@ -62,6 +62,16 @@ impl Monitors {
         }
         self.held[at].count = found.count.saturating_add(1);
         Enter::Taken
+    }
+
+    /// The thread that holds the monitor of a key. None exactly where nobody does.
+    pub fn holder(&self, key: Key) -> Option<ThreadNo>
+        ensures holder { result ≡ owner_of (monitor_of self.now key) }
+    {
+        match self.index.find(&self.held, key) {
+            Some(at) => Some(self.held[at].owner),
+            None => None,
+        }
     }
 
     // A monitor that nobody holds.

@@ -200,8 +200,6 @@ const IN_PACKAGE: &str = ".class p/Main\n.super java/lang/Object\n\
     getstatic java/lang/System out Ljava/io/PrintStream;\nbipush 7\n\
     invokevirtual java/io/PrintStream println (I)V\nreturn\n.end\n";
 
-const NOT_BUILT: &str = "autopersist: not built\n";
-
 const ONE_NAME: &str = "autopersist: class A.class RootNotReference 1\n";
 
 const NO_CLASS: &str = "autopersist: link MissingClass Main\n";
@@ -594,13 +592,12 @@ fn a_sink_may_take_one_byte_or_fail(rt: HostRuntime) -> Result<(), Fail> {
 }
 
 /// The numbers of the statuses without names, and their lines.
-static STATUSES: [(u8, &str); 6] = [
+static STATUSES: [(u8, &str); 5] = [
     (0, ""),
     (2, USAGE),
     (10, FAULT),
     (12, "autopersist: sink fault\n"),
     (13, "autopersist: no memory\n"),
-    (17, NOT_BUILT),
 ];
 
 /// The status of a number in the table.
@@ -610,8 +607,7 @@ fn status_of(number: u8) -> Status {
         2 => Status::Usage,
         10 => Status::SourceFault,
         12 => Status::SinkFault,
-        13 => Status::OutOfMemory,
-        _ => Status::NotBuilt,
+        _ => Status::OutOfMemory,
     }
 }
 

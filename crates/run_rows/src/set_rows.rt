@@ -5,7 +5,7 @@ use std::test::Fail;
 /// The main class, a listing of which each class is a file, and what is printed with the status line behind it.
 type Row = (&'static str, &'static str, &'static str);
 
-static ROWS: [Row; 24] = [
+static ROWS: [Row; 26] = [
     // arithmetic at its edges (JVMS 6.5)
     (
         "Main",
@@ -206,21 +206,40 @@ static ROWS: [Row; 24] = [
          .method <clinit> ()V 2 0 static\niconst_1\niconst_0\nidiv\nputstatic Bad x I\nreturn\n.end\n",
         "autopersist: link InitFailed Bad\n",
     ),
-    // what isn't built yet: threads, by what code calls
+    // a thread that does nothing, and none that is joined
     (
         "Main",
         ".class Main\n.super java/lang/Object\n\
          .method main ([Ljava/lang/String;)V 6 4 static\nnew Worker\ninvokevirtual Worker start ()V\n\
          return\n.end\n\
          .class Worker\n.super java/lang/Thread\n",
-        "autopersist: not built\n",
+        "",
     ),
     (
         "Main",
         ".class Main\n.super java/lang/Object\n\
          .method main ([Ljava/lang/String;)V 6 4 static\naconst_null\n\
          invokevirtual java/lang/Thread join ()V\nreturn\n.end\n",
-        "autopersist: not built\n",
+        "autopersist: uncaught 0 java/lang/NullPointerException\n",
+    ),
+    // a throwable that ends another thread, and a thread that waits for its own end
+    (
+        "Main",
+        ".class Main\n.super java/lang/Object\n\
+         .method main ([Ljava/lang/String;)V 6 4 static\nnew Worker\ninvokevirtual Worker start ()V\n\
+         return\n.end\n\
+         .class Worker\n.super java/lang/Thread\n\
+         .method run ()V 2 1\niconst_1\niconst_0\nidiv\npop\nreturn\n.end\n",
+        "autopersist: uncaught 1 java/lang/ArithmeticException\n",
+    ),
+    (
+        "Main",
+        ".class Main\n.super java/lang/Object\n\
+         .method main ([Ljava/lang/String;)V 6 4 static\nnew Worker\ninvokevirtual Worker start ()V\n\
+         return\n.end\n\
+         .class Worker\n.super java/lang/Thread\n\
+         .method run ()V 2 1\naload_0\ninvokevirtual Worker join ()V\nreturn\n.end\n",
+        "autopersist: stuck 1 join 1\n",
     ),
     // a region that is ended and wasn't begun, and one that is begun and never ended
     (

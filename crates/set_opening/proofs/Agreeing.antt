@@ -74,7 +74,7 @@ same_test [] (y ∷ ys) = refl
 same_test (x ∷ xs) [] = refl
 same_test (x ∷ xs) (y ∷ ys) = ap (λ b. nat_eq x y && b) (same_test xs ys)
 
-abbrev class_from : List ClassFacts → List ℕ → ClassFacts
+abbrev pub class_from : List ClassFacts → List ℕ → ClassFacts
 class_from cs name = slice_index_or cs (class_named cs name) no_class
 
 named_so : (cs : List ClassFacts) (name : List ℕ) → class_named cs name < length cs
@@ -91,7 +91,7 @@ named_so (c ∷ cs) name below =
     told : bytes_eq c.shape.name name ≡ true → c.shape.name ≡ name
     told is = (bytes_eq-Decides c.shape.name name).0 is
 
-found_first : (cs more : List ClassFacts) (name : List ℕ) (class : Shape) → class_in cs name ≡ Some class
+pub found_first : (cs more : List ClassFacts) (name : List ℕ) (class : Shape) → class_in cs name ≡ Some class
     → (class_from (cs ++ more) name).shape ≡ class
 found_first [] more name class is = absurd (let no : ◌≡◌ {A = Option Shape} None (Some class) = is in cc)
 found_first (c ∷ cs) more name class is =

@@ -21,7 +21,7 @@ use Rattle.word_changes.proofs.Going.{goes_more}
 use Rattle.class_set.specs.Linked.{Linked, names_of}
 use Rattle.class_set.specs.Facts.{facts_of}
 use Rattle.class_set.specs.Sets.{made_of}
-use Rattle.directories.specs.ClassSets.{IsPlannedFor}
+use Rattle.directories.specs.ClassSets.{Agrees, IsPlannedFor}
 use Rattle.directories.specs.Growing.{HasAppended, HasDurable}
 use Rattle.directories.specs.Kept.{Continues, Kept, SameEntries}
 use Rattle.directories.specs.Planning.{lacking}
@@ -36,7 +36,7 @@ use Rattle.set_opening.proofs.Arrays.{arrays_files, arrays_named}
 use Rattle.set_opening.proofs.Names.{roots_added}
 use Rattle.set_opening.proofs.Openings.{opened_names}
 use Rattle.set_opening.proofs.Ready.{are_added, directory_is, ready, roots_apart, shapes_apart, shapes_are, stops_behind}
-use Rattle.set_opening.proofs.Suits.{agrees_on, suits}
+use Rattle.set_opening.proofs.Suits.{agrees_on, all_agree, suits}
 
 same_graph : {A : Type 0} (given : Result A checks.Bad) (x y : A) → given ≡ Ok x → given ≡ Ok y → x ≡ y
 same_graph {A} given x y a b = let left : Result A checks.Bad = Ok x in let e : left ≡ Ok y = sym a ∙ b in cc
@@ -171,6 +171,12 @@ module _ (start : Told) (before m n : Memory) (found directory now : Kept) (stoo
           (shapes_apart m found is.opens is.unplanned is.begins is.used)
           (roots_apart m found is.opens is.unplanned is.begins is.used)
 
+      all_agree_now : AllAgree (facts_of set) now.shapes
+      all_agree_now n below =
+          subst (λ (d : Directory). All (Agrees (facts_of set)) d.shapes) (sym is_whole)
+          (all_agree set fitted.linked (entries_in found) plan.entries
+          (found_shapes start before m found stood lines free is) agree numbered plan.are_its) n no_shape below
+
       pub is_opened_for : now.left ≡ [] → AllKnown n → IsOpenedFor start old set n now lines graph free
       is_opened_for nothing_left known = record {
         before = before;
@@ -192,5 +198,6 @@ module _ (start : Told) (before m n : Memory) (found directory now : Kept) (stoo
             is.durable nothing_left graph (subst (λ (d : Directory). IsOpened m d lines graph)
             (sym is_whole) opened) known;
         suits = subst (λ (d : Directory). SuitsSet set d graph) (sym is_whole) suited;
+        agree = all_agree_now;
         goes_on = goes_more before m n is.goes_on goes;
       }

@@ -47,6 +47,7 @@ use Rattle.set_opening.specs.Opened.{SuitsSet, shape_names}
 use Rattle.first_spaces.specs.Opened.{IsOpened}
 use Rattle.set_opening.specs.Opened.{IsOfClass}
 use Rattle.set_opening.proofs.Agreeing.{CanBeInDirectory, agreeing_is_of_class}
+use Rattle.set_opening.proofs.Belonging.{entry_agrees}
 use Rattle.set_opening.proofs.Classes.{IsOwn, NamesDiffer, entry_own, name_equal, name_same}
 use Rattle.set_opening.proofs.Literals.{literals_few}
 use Rattle.set_opening.proofs.Names.{Differ, OfShape, each_there, entries_all, lacking_all, roots_differ, shapes_differ}
@@ -256,6 +257,15 @@ module _ (set : Linked) (linked : IsLinked set) where
         → All P whole.shapes
     each_shape P old own =
         shapes_with P found added old (lacking_all (OfShape P) found entries (its_all P own))
+
+    -- each shape agrees with the set
+    pub all_agree : All (Agrees facts) whole.shapes
+    all_agree =
+        shapes_with (Agrees facts) found added (All-from_get_or (Agrees facts) found.shapes no_shape agree)
+        (lacking_all (OfShape (Agrees facts)) found entries
+        (subst (All (OfShape (Agrees facts))) (sym its.are) (entries_all (Agrees facts) its.shapes its.roots
+        (λ k d below. entry_agrees set linked (made_of set) (slice_index_or its.shapes k d)
+        ((its.all_shapes (slice_index_or its.shapes k d)).0 (Contains-get_or its.shapes k d below))))))
 
     pub all_known : All (λ (s : Shape). class_named (classes_of facts) s.name < length (classes_of facts))
         whole.shapes

@@ -10,6 +10,7 @@ use Rattle.image_layout.specs.Places.{directory_line, directory_word, first_obje
 use Rattle.image_layout.specs.Places.{slot_line, slot_word}
 use Rattle.line_memory.specs.Moments.{CountsFrom}
 use Rattle.image_meaning.specs.Appending.{with_all_too}
+use Rattle.image_meaning.specs.Checks.{Words}
 use Rattle.image_meaning.specs.Directories.{Directory, with_all}
 use Rattle.image_meaning.specs.Entries.{DirectoryEntry}
 use Rattle.image_meaning.specs.Laws.{Opens}
@@ -30,13 +31,22 @@ use Rattle.image_recovery.specs.Recovered.{entries_in}
 use Rattle.first_spaces.specs.Opened.{IsOpened}
 use Rattle.set_opening.specs.Arrays.{with_arrays_of}
 use Rattle.set_opening.specs.Attached.{IsAttached}
-use Rattle.set_opening.specs.Fitted.{IsFitted}
+use Rattle.set_opening.specs.Fitted.{AllAgree, IsFitted}
 use Rattle.set_opening.specs.Found.{IsDirectoryIn, IsFound}
 
 -- the image stands for the graph with the first of these entries: the roots among these are null
 abbrev pub StandsWithFirst : ℕ → Graph → List DirectoryEntry → Outcome → Type 0
 StandsWithFirst size graph entries c =
     (k : ℕ) × (k ≤ length entries) × StandsFor size c (with_all_too graph (take k entries))
+
+-- The image stands for the graph with the first of the entries that the directory, which these words spelled, lacked of the set once its
+-- array types had numbers: in order, and the roots among these are null.
+pub record StandsWithNew (set : Linked) (size : ℕ) (before : Words) (graph : Graph) (c : Outcome) : Type 0 where
+  pub found : Directory
+  pub found_is : IsDirectoryIn before found
+  pub entries : List DirectoryEntry
+  pub are_its : AreEntriesOf (facts_of (with_arrays_of set found.shapes)) (made_of (with_arrays_of set found.shapes)) entries
+  pub first : StandsWithFirst size graph (lacking found entries) c
 
 -- What says something of an image is durable: the superblock, the directory as far as it is in use, the
 -- root slots, the lines of objects and the logs' counts.
@@ -121,4 +131,6 @@ pub record IsOpenedFor (start : Told) (old set : Linked) (m : Memory) (directory
       → StopsLeave before m (StandsWithFirst before.size stood (lacking found entries))
   pub ready : IsReadyImage start m (entries_in directory) lines graph free
   pub suits : SuitsSet set (entries_in directory) graph
+  -- each shape of the directory agrees with the set
+  pub agree : AllAgree (facts_of set) directory.shapes
   pub goes_on : GoesOn before m

@@ -22,9 +22,10 @@ use Rattle.directories.specs.Kept.{Kept}
 use Rattle.directories.specs.Planning.{lacking}
 use Rattle.set_opening.specs.declared.unopened.Unopened.{Unopened}
 use Rattle.set_opening.specs.declared.unopened.Unopened.TheVariants.{BadImage, ShapeChanged, Full, ImageFailed, OutOfMemory}
+use Rattle.set_opening.specs.Arrays.{with_arrays_of}
 use Rattle.set_opening.specs.Attached.{IsAttached}
 use Rattle.set_opening.specs.Found.{IsDirectoryIn, IsFound}
-use Rattle.set_opening.specs.Fitted.{HasMoreArrays, IsFitted, IsUnfit}
+use Rattle.set_opening.specs.Fitted.{IsFitted, IsUnfit}
 use Rattle.set_opening.specs.Opened.{StandsWithFirst}
 
 -- ---- faults, as they are passed on
@@ -128,4 +129,4 @@ pub record IsUnappended (start after : Told) (old set : Linked) : Type 0 where
   pub added : List DirectoryEntry
   pub added_is : added ≡ lacking found entries
   pub left : IsLeft start after before memory added
-  pub set_is : HasMoreArrays old set
+  pub set_is : set ≡ with_arrays_of old found.shapes

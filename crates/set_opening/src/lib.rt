@@ -2,11 +2,13 @@
 #![tactic(auto)]
 
 mod appending;
+mod laws;
 mod numbering;
 mod opening;
 mod preparing;
 mod recovering;
 mod unopened;
 
+pub use laws::opened_images_open_again;
 pub use opening::{FoundImage, OpenedImage, complete, find_for};
 pub use unopened::Unopened;

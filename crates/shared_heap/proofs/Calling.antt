@@ -59,7 +59,7 @@ failed_call old after c = record {
   history = refl;
   lines =
       refl;
-  named = refl;
+  notes = refl;
 }
 
 pub written_call : (old : Shared) (after : Memory) (t n line : ℕ) → Called old after → n ≡ t
@@ -80,7 +80,7 @@ written_call old after t n line c number doing inside written = record {
   machine = ap (λ k. with_doing (with_twin old.machine (over old.machine after)) k Fencing) number;
   history = refl;
   lines = refl;
-  named = refl;
+  notes = refl;
 }
 
 -- what is told after a fence
@@ -92,7 +92,7 @@ pub record Told (before after : Shared) (act : Act) : Type 0 where
   pub told : after.history ≡ with_act before.history act
   pub machine : after.machine ≡ record before.machine { acts = after.history.acts }
   pub lines : after.lines ≡ before.lines
-  pub named : after.named ≡ before.named
+  pub notes : after.notes ≡ before.notes
 
 -- the shared heap after its fence, of which the queue was told
 abbrev pub fenced_in : Shared → Memory → Queues → Shared
@@ -129,7 +129,7 @@ fenced_call old then after q t n c number doing made durable same noted x = reco
       }) t Nothing) noted;
   history = x.told;
   lines = x.lines;
-  named = x.named;
+  notes = x.notes;
 }
 
 pub on_err : {T E : Type 0} (r : Result T E) (P : Type 0) → P → OnErr r P

@@ -1,81 +1,50 @@
--- What the events of a conversion are, for a thread that alone converts.
-use Rattle.std.proofs.Common.{◌≡◌, ◌≢◌, inl, ℕ, ◌+◌, ◌*◌, ◌<◌, ◌≤◌, true, List, [], ◌∷◌, ◌++◌, length, refl, sym, ◌∙◌, ap}
-use Rattle.std.proofs.Common.{subst, arith}
-use Rattle.std.specs.Prelude.{◌↔◌, AllPairs, Ok, Some, slice_get}
-use Rattle.std.proofs.lemmas.Bool.{false≢true, false_from_ne_true}
-use Rattle.std.proofs.lemmas.Option.{get_or_from_slice_get}
-use Rattle.ap_base.specs.References.{reference_word}
-use Rattle.ap_base.specs.declared.reference.Ref.TheVariants.{Volatile}
+-- What the events of a thread's conversion are.
+use Rattle.std.proofs.Common.{◌≡◌, ◌≢◌, inl, inr, ℕ, ◌+◌, ◌<◌, ◌≤◌, true, false, List, [], ◌∷◌, ◌++◌, length, refl, sym}
+use Rattle.std.proofs.Common.{◌∙◌, ap, subst, arith, ◌^◌, Bool}
+use Rattle.std.specs.Prelude.{◌↔◌, Ok, Option, Some, None, slice_get}
+use Rattle.std.proofs.lemmas.Bool.{false≢true}
 use Rattle.ap_base.specs.Causes.{HasCause}
 use Rattle.line_memory.specs.Memory.{Memory}
-use Rattle.persist_space.specs.Lines.{Lines}
 use Rattle.monitors.specs.declared.monitor.Monitor.{Monitor}
 use Rattle.monitors.specs.Indexed.{AreSound}
 use Rattle.shared_objects.specs.declared.rest.Rest.{Rest}
 use Rattle.run_history.specs.declared.act.Act.{Act}
 use Rattle.run_history.specs.declared.act.Op.TheVariants as op
 use Rattle.run_history.specs.Recorded.{Recorded, History, with_act}
-use Rattle.graph_model.specs.Heaps.{has_number}
 use Rattle.twin_forms.specs.Table.{Entry, entry, IsClaimed}
-use Rattle.twin_forms.specs.Moves.{SameHeap}
-use Rattle.twin_forms.specs.Sights.{Twin, AllKnown, view_of}
-use Rattle.twin_heap.specs.Here.{Says as SaysOf}
-use Rattle.convert_queue.specs.Queues.{Queued, Queues, queue_in, queue_of}
-use Rattle.convert_queue.specs.Threads.{has}
+use Rattle.twin_forms.specs.Sights.{Twin, AllKnown}
+use Rattle.twin_forms.proofs.Led.{below_or_not, same_or_not}
+use Rattle.convert_queue.specs.declared.phase.Phase.{Phase}
+use Rattle.convert_queue.specs.declared.phase.Phase.TheVariants.{Flush}
+use Rattle.convert_queue.specs.Marks.{Mark, IsClean}
+use Rattle.convert_queue.specs.Queues.{Queued, Queues, IsSettled, phase_of, place_of, queue_of, total}
+use Rattle.convert_queue.specs.Threads.{InGroup, IsGroupOf, has, itself, needed, needs_of}
+use Rattle.convert_queue.proofs.Sets.{above_none}
 use Rattle.convert_words.specs.declared.step.ConvertStep.{ConvertStep}
 use Rattle.convert_words.specs.declared.step.ConvertStep.TheVariants as step
-use Rattle.convert_words.specs.Agreeing.{Is}
-use Rattle.convert_words.specs.Converting.{Says, SealsGroup}
+use Rattle.convert_words.specs.Agreeing.{Far}
+use Rattle.convert_words.specs.Converting.{SealsGroup, WaitsFor}
 use Rattle.convert_words.specs.Scenes.{Scene, AgreesAt}
-use Rattle.convert_words.proofs.Basics.{young, few_threads}
+use Rattle.convert_words.proofs.StepKinds.{wait_converts}
 use Rattle.converter.specs.declared.begin.Begun.{Begun}
-use Rattle.converter.specs.declared.begin.Begun.TheVariants as begun
-use Rattle.converter.specs.Beginning.{Begins, IsAsked, begun_at}
-use Rattle.converter.specs.Stepping.{Event, FailedEvent}
+use Rattle.converter.specs.Beginning.{Begins, IsAsked}
+use Rattle.converter.specs.Laws.{AreUnwritten}
+use Rattle.converter.specs.Stepping.{Event, FailedEvent, keys_of}
+use Rattle.converter.specs.Working.{SomeScene}
+use Rattle.converter.proofs.Events.{event_of}
+use Rattle.converter.proofs.Goings.{stays}
+use Rattle.converter.proofs.Unwritten.{beginnings_stay_unwritten, events_stay_unwritten, going_unwritten}
 use Rattle.machine_forms.specs.declared.doing.Doing.TheVariants.{Converting}
 use Rattle.machine_forms.specs.Machines.{Machine, memory_of, scene_of, doing_of}
-use Rattle.machine_forms.specs.Events.{Converted, ConvertsOn, IsNoSeal, NamesSet, StaysSound, with_joined}
+use Rattle.machine_forms.specs.Events.{Converted, ConvertsOn, IsNoSeal, StaysSound, with_joined}
+use Rattle.machine_forms.specs.Naming.{HasToSeal, group_names}
+use Rattle.machine_forms.proofs.Naming.{groups_name_theirs}
+use Rattle.machine_forms.proofs.Taking.{seals_take_queues}
 use Rattle.shared_heap.specs.Shared.{Shared}
-use Rattle.shared_heap.specs.Conversions.{NamesClaimed, ConvertsAlone, BeginsOnce, BeginsTo, NamesOne, IsLast, NamesNext}
-use Rattle.shared_heap.specs.Conversions.{GoesOnce, GoesTo, JoinsOnce, FailsTo, MovesOn, with_name}
+use Rattle.shared_heap.specs.Conversions.{BeginsOnce, Converts, FailsTo, GoesOnce, GoesTo, HasBegun, JoinsOnce}
+use Rattle.shared_heap.specs.Conversions.{came_to, with_names}
 use Rattle.shared_heap.specs.declared.conversions.Conversion.{Conversion}
-use Rattle.shared_heap.proofs.Calling.{Told}
-use Rattle.shared_heap.proofs.Claimed.{SameObjects, names_still, claimed_own, names_more, stands_last}
-
--- ---- the object that is named
-
--- the number of the object that stands last
-pub last_number : (t : ℕ) (s : Shared) (es : List Entry) (n object line number : ℕ) → IsLast t s es n
-    → slice_get (queue_of s.machine.queue t) s.named ≡ Some (object, line)
-    → SaysOf (view_of (scene_of s.machine).heap) (reference_word (Volatile object)) (λ _ k. number ≡ k)
-    → number ≡ n
-last_number t s es n object line number x item says =
-    let at : object ≡ (entry es n).at =
-    sym (ap (λ (k : Queued). k.0)
-    (get_or_from_slice_get (queue_of s.machine.queue t) s.named (object, line) (0, 0) item))
-    ∙ x.is.object in
-    says es n x.agrees.lies x.is.claimed.0
-    (inl (
-      young (view_of (scene_of s.machine).heap) es t n x.agrees.lies x.is.claimed,
-      ap (λ k. 2 * k + 1)
-          at,
-    ))
-
--- It is named, and that is all.
-pub names_one : (n k : ℕ) (old now : Shared) (h : History) → old ≡ now → old.machine.acts ≡ old.history.acts
-    → h ≡ with_name old.history k → k ≡ n
-    → NamesOne n now (record old
-    { machine = record old.machine { acts = h.acts }; history = h; named = old.named + 1 })
-names_one n k old now h e acts named number =
-    subst (λ (s : Shared). NamesOne n s
-    (record old { machine = record old.machine { acts = h.acts }; history = h; named = old.named + 1 })) e
-    record {
-      history = named ∙ ap (with_name old.history) number;
-      machine = ap (λ (a : List Recorded). record old.machine { acts = a })
-          (ap (λ (x : History). x.acts) named ∙ sym acts);
-      lines = refl;
-      named = refl;
-    }
+use Rattle.shared_heap.specs.declared.conversions.Conversion.TheVariants.{Joined}
 
 -- ---- a step
 
@@ -89,35 +58,20 @@ pub record Stepped (t : ℕ) (answer : ConvertStep) (old now : Shared) (es : Lis
   pub sound : AreSound now.machine.rest.monitors
   pub known : AllKnown (memory_of now.machine)
   pub history : now.history ≡ old.history
-  pub named : now.named ≡ old.named
+  pub notes : now.notes ≡ old.notes
 
--- The shared heap once heap, queues, lines and monitors are these.
-abbrev pub next_of : Shared → Twin → Queues → Lines → List Monitor → Shared
-next_of s twin q l ms = record s {
-  machine = record s.machine {
-    spaces = record s.machine.spaces { twin = twin };
-    queue = q;
-    free = l.free;
-    rest = record s.machine.rest { monitors = ms };
-  };
-  lines = l.lines;
+-- The shared heap once its words and queues are these.
+abbrev pub sealed_of : Shared → Twin → Queues → Shared
+sealed_of s twin q = record s {
+  machine = record s.machine { spaces = record s.machine.spaces { twin = twin }; queue = q };
 }
 
--- the thread converts, and has claimed an object
+-- the thread converts, and its conversion has begun
 pub record IsUnderWay (t : ℕ) (old : Shared) (es : List Entry) : Type 0 where
+  pub thread : t < 64
   pub doing : doing_of old.machine t ≡ Converting
-  pub some : 0 < old.named
-  pub alone : ConvertsAlone t old es
-
--- its first object
-pub first_object : (t : ℕ) (old : Shared) (es : List Entry) → IsUnderWay t old es
-    → (n : ℕ) × Is old.machine.queue es t 0 n
-first_object t old es u = u.alone.agrees.queued.there t 0
-    (let some = u.some in let count = u.alone.names.count in omega (arith, some, count))
-
-pub thread_of : (t : ℕ) (old : Shared) (es : List Entry) → IsUnderWay t old es → t < 64
-thread_of t old es u = let first = first_object t old es u in
-    few_threads (view_of (scene_of old.machine).heap) es t first.0 u.alone.agrees.lies first.1.claimed
+  pub begun : HasBegun (scene_of old.machine) t
+  pub converts : Converts old es
 
 pub stays_sound : (t : ℕ) (answer : ConvertStep) (old now : Shared) (es : List Entry)
     → Stepped t answer old now es → StaysSound now.machine
@@ -131,7 +85,7 @@ pub converts_on : (t : ℕ) (answer : ConvertStep) (old now : Shared) (es : List
     → Stepped t answer old now es
     → ConvertsOn t answer old.machine now.machine es
 converts_on t answer old now es u s = record {
-  thread = thread_of t old es u;
+  thread = u.thread;
   doing = u.doing;
   event = s.event;
   same = s.same;
@@ -143,174 +97,108 @@ pub stepped_as : (t : ℕ) (answer other : ConvertStep) (old now : Shared) (es :
     → Stepped t other old now es
 stepped_as t answer other old now es is s = subst (λ a. Stepped t a old now es) is s
 
--- neither a claim nor a seal
-abbrev pub LeavesQueues : ConvertStep → Type 0
-LeavesQueues step.Claimed = ⊥
-LeavesQueues (step.Sealed set) = ⊥
-LeavesQueues answer = Unit {0}
-
-same_queues : (answer : ConvertStep) (t : ℕ) (s s' : Scene) (es es' : List Entry) → LeavesQueues answer
-    → Says answer t s s' es es'
-    → s'.queue.queues ≡ s.queue.queues
-same_queues step.Claimed t s s' es es' other says = absurd other
-same_queues (step.Sealed set) t s s' es es' other says = absurd other
-same_queues step.CopiedLine t s s' es es' other says = ap (λ (q : Queues). q.queues) says.0.queue
-same_queues step.Forwarded t s s' es es' other says = says.0.goes.queues
-same_queues step.Repaired t s s' es es' other says = says.0.goes.queues
-same_queues step.WroteBack t s s' es es' other says = ap (λ (q : Queues). q.queues) says.0.queue
-same_queues step.Fenced t s s' es es' other says = ap (λ (q : Queues). q.queues) says.0.queue
-same_queues step.Touched t s s' es es' other says = ap (λ (q : Queues). q.queues) says.0.queue
-same_queues (step.Wait u) t s s' es es' other says = ap (λ (x : Scene). x.queue.queues) says.1
-same_queues (step.Full need left) t s s' es es' other says = ap (λ (x : Scene). x.queue.queues) says.1
-
-pub leaves_queues : (answer : ConvertStep) → (answer ≡ step.Claimed → ⊥)
-    → ((set : ℕ) → answer ≡ step.Sealed set → ⊥) → LeavesQueues answer
-leaves_queues step.Claimed no_claim no_set = no_claim refl
-leaves_queues (step.Sealed set) no_claim no_set = no_set set refl
-leaves_queues step.CopiedLine no_claim no_set = tt
-leaves_queues step.Forwarded no_claim no_set = tt
-leaves_queues step.Repaired no_claim no_set = tt
-leaves_queues step.WroteBack no_claim no_set = tt
-leaves_queues step.Fenced no_claim no_set = tt
-leaves_queues step.Touched no_claim no_set = tt
-leaves_queues (step.Wait u) no_claim no_set = tt
-leaves_queues (step.Full need left) no_claim no_set = tt
-
-pub moves_on : (answer : ConvertStep) → ((set : ℕ) → answer ≡ step.Sealed set → ⊥)
-    → ((u : ℕ) → answer ≡ step.Wait u → ⊥)
-    → ((need left : ℕ) → answer ≡ step.Full need left → ⊥) → MovesOn answer
-moves_on (step.Sealed set) no_set no_wait no_full = no_set set refl
-moves_on (step.Wait u) no_set no_wait no_full = no_wait u refl
-moves_on (step.Full need left) no_set no_wait no_full = no_full need left refl
-moves_on answer no_set no_wait no_full = tt
-
-no_seal : (answer : ConvertStep) → LeavesQueues answer → IsNoSeal answer
-no_seal step.Claimed other = tt
-no_seal (step.Sealed set) other = other
-no_seal step.CopiedLine other = tt
-no_seal step.Forwarded other = tt
-no_seal step.Repaired other = tt
-no_seal step.WroteBack other = tt
-no_seal step.Fenced other = tt
-no_seal step.Touched other = tt
-no_seal (step.Wait u) other = tt
-no_seal (step.Full need left) other = tt
-
-names_next : (answer : ConvertStep) (h h' : History) → LeavesQueues answer → h' ≡ h → NamesNext answer h h'
-names_next step.Claimed h h' other same = absurd other
-names_next (step.Sealed set) h h' other same = same
-names_next step.CopiedLine h h' other same = same
-names_next step.Forwarded h h' other same = same
-names_next step.Repaired h h' other same = same
-names_next step.WroteBack h h' other same = same
-names_next step.Fenced h h' other same = same
-names_next step.Touched h h' other same = same
-names_next (step.Wait u) h h' other same = same
-names_next (step.Full need left) h h' other same = same
-
-pub goes_once : (t : ℕ) (answer : ConvertStep) (old now : Shared) (es : List Entry) → LeavesQueues answer
+goes_once : (t : ℕ) (answer : ConvertStep) (old now : Shared) (es : List Entry) → IsNoSeal answer
     → IsUnderWay t old es
     → Stepped t answer old now es → GoesOnce t answer old now es
 unfolding converts_on
-goes_once t answer old now es other u s =
-    let e = s.event in
-    let done = e.converts in
-    let same : SameObjects (view_of (scene_of old.machine).heap)
-    (view_of (scene_of now.machine).heap) old.machine.queue now.machine.queue es e.after = record {
-      lies = u.alone.agrees.lies;
-      lies_after = done.agrees.lies;
-      shows = subst (λ (h : Twin). SameHeap (view_of h) es (view_of (scene_of now.machine).heap) e.after)
-          e.goes_on.heap done.shows;
-      queued = u.alone.agrees.queued;
-      queued_after = done.agrees.queued;
-      queues = same_queues answer t e.at (scene_of now.machine) es e.after other done.says ∙ e.goes_on.queues;
-    } in
-    record {
-      converts = converts_on t answer old now es u s;
-      other = no_seal answer other;
-      history = names_next answer old.history now.history other s.history;
-      alone = record {
-        agrees = done.agrees;
-        lines = s.lines;
-        within = s.within;
-        sound = s.sound;
-        names = names_still t old now es e.after same s.history s.named u.alone.names;
-      };
+goes_once t answer old now es other u s = record {
+  on = converts_on t answer old now es u s;
+  other = other;
+  history = s.history;
+  notes = s.notes;
+  converts = record {
+    agrees = s.event.converts.agrees;
+    unwritten = events_stay_unwritten t answer (scene_of old.machine) (scene_of now.machine) es
+        old.machine.rest.monitors now.machine.rest.monitors u.converts.agrees s.event u.converts.unwritten;
+    unnamed = ap (λ (h : History). h.named) s.history ∙ u.converts.unnamed;
+    lines = s.lines;
+    within = s.within;
+    sound = s.sound;
+  };
+}
+
+-- ---- no seal before all is settled
+
+some_there : (q : List Queued) → q ≢ [] → 0 < length q
+some_there [] some = absurd (some refl)
+some_there (x ∷ q) some = omega arith
+
+module _ (t set : ℕ) (s s' : Scene) (es : List Entry) (ms ms' : List Monitor) (few : t < 64) (agrees : AgreesAt s es)
+    (unwritten : AreUnwritten s.queue es) (unsettled : IsSettled s.queue t → ⊥)
+    (e : Event t (step.Sealed set) s s' es ms ms') where
+  settled : IsSettled e.at.queue t
+  settled = let says : SealsGroup e.at s' es e.after t set = e.converts.says in says.settled t few says.group.member
+
+  clean : IsClean s.queue.marks t
+  clean = subst (λ (marks : List Mark). IsClean marks t) e.goes_on.marks settled.clean
+
+  not_flushing : phase_of s.queue t ≢ Flush
+  not_flushing is = unsettled (record { phase = is; clean = clean })
+
+  -- all that it has claimed is forwarded when it is settled
+  done : (n : ℕ) → IsClaimed es t n → (entry es n).stage ≡ 2
+  done n claimed =
+      let i = e.goes_on.agrees.queued.all t n claimed in
+      let far = (e.goes_on.agrees.on_way t i.0 n i.1).reaches.far in
+      subst (λ (p : Phase). Far p (place_of e.at.queue t).0 (place_of e.at.queue t).1 i.0 (entry es n)) settled.phase far
+
+  -- but then its first line was stored to, and not written
+  none_claimed : (n : ℕ) → IsClaimed es t n → ⊥
+  none_claimed n claimed =
+      let forwarded = done n claimed in
+      clean.written ((entry es n).line + 0)
+      (unwritten t n 0 claimed not_flushing (omega arith) (inl (omega (arith, forwarded))))
+
+  -- A thread that isn't settled makes no seal, once its conversion has begun.
+  pub seals_settled : HasBegun s t → ⊥
+  seals_settled (inl some) =
+      let first = agrees.queued.there t 0 (some_there (queue_of s.queue t) some) in
+      none_claimed first.0 first.1.claimed
+  seals_settled (inr flush) = not_flushing flush.0
+
+never_seals : (t set : ℕ) (answer : ConvertStep) (old now : Shared) (es : List Entry)
+    → (IsSettled old.machine.queue t → ⊥) → IsUnderWay t old es → Stepped t answer old now es
+    → answer ≡ step.Sealed set → ⊥
+never_seals t set answer old now es unsettled u s0 is =
+    let s : Stepped t (step.Sealed set) old now es = stepped_as t answer (step.Sealed set) old now es is s0 in
+    seals_settled t set (scene_of old.machine) (scene_of now.machine) es old.machine.rest.monitors
+    now.machine.rest.monitors u.thread u.converts.agrees u.converts.unwritten unsettled s.event u.begun
+
+-- What a step comes to that was made for a thread that isn't settled.
+goes_so : (t : ℕ) (answer : ConvertStep) (old now : Shared) (es : List Entry)
+    → (IsSettled old.machine.queue t → ⊥) → IsUnderWay t old es → Stepped t answer old now es
+    → GoesTo t (came_to answer) old now es
+goes_so t (step.Sealed set) old now es unsettled u s =
+    absurd (never_seals t set (step.Sealed set) old now es unsettled u s refl)
+goes_so t (step.Wait v) old now es unsettled u s = goes_once t (step.Wait v) old now es tt u s
+goes_so t (step.Full need left) old now es unsettled u s = goes_once t (step.Full need left) old now es tt u s
+goes_so t answer old now es unsettled u s = (answer, tt, goes_once t answer old now es tt u s)
+
+pub goes_to : (t : ℕ) (answer : ConvertStep) (came : Conversion) (old now : Shared) (es : List Entry)
+    → came ≡ came_to answer → (IsSettled old.machine.queue t → ⊥) → IsUnderWay t old es
+    → Stepped t answer old now es → GoesTo t came old now es
+goes_to t answer came old now es is unsettled u s =
+    subst (λ (c : Conversion). GoesTo t c old now es) (sym is) (goes_so t answer old now es unsettled u s)
+
+-- ---- a wait of a settled thread
+
+-- It makes no step, and nothing changes.
+pub waits_settled : (t u : ℕ) (old : Shared) (es : List Entry) → IsUnderWay t old es → AllKnown (memory_of old.machine)
+    → WaitsFor (scene_of old.machine) t u → GoesOnce t (step.Wait u) old old es
+waits_settled t u old es way known for =
+    let s = scene_of old.machine in
+    let ms = old.machine.rest.monitors in
+    goes_once t (step.Wait u) old old es tt way record {
+      event = event_of t (step.Wait u) s s s es es ms ms (stays s es t way.converts.agrees)
+          (wait_converts s es t u (inl for) way.converts.agrees) tt refl;
+      same = refl;
+      lines = way.converts.lines;
+      within = way.converts.within;
+      sound = way.converts.sound;
+      known = known;
+      history = refl;
+      notes = refl;
     }
-
--- ---- a claim
-
--- the claimed object stands last
-pub claimed_last : (t : ℕ) (old now : Shared) (es : List Entry) → IsUnderWay t old es
-    → (s : Stepped t step.Claimed old now es)
-    → (length (queue_of now.machine.queue t) ≡ length (queue_of old.machine.queue t) + 1)
-    × IsLast t now s.event.after s.event.converts.says.0.m
-claimed_last t old now es u s =
-    let e = s.event in
-    let x = e.converts.says.0 in
-    let few = thread_of t old es u in
-    let sizes = e.goes_on.agrees.sizes.queues in
-    let before : queue_of e.at.queue t ≡ queue_of old.machine.queue t =
-    ap (λ (qs : List (List Queued)). queue_in qs t) e.goes_on.queues in
-    let last = stands_last t x.m e.at.free es e.after x.asked.refers_to.there x.asked.nobody x.becomes
-    e.at.queue now.machine.queue
-    (omega (arith, few, sizes)) x.queue in
-    let count : length (queue_of e.at.queue t) ≡ now.named = ap length before ∙ sym u.alone.names.count
-    ∙ sym s.named in (
-      last.0 ∙ ap (λ (k : List Queued). length k + 1) before,
-      record {
-        agrees = e.converts.agrees;
-        within = (stays_sound t step.Claimed old now es s).within;
-        is = subst (λ i. Is now.machine.queue e.after t i x.m) count last.1;
-      },
-    )
-
-claims_named : (t : ℕ) (old now final : Shared) (es : List Entry) → IsUnderWay t old es
-    → (s : Stepped t step.Claimed old now es)
-    → NamesOne s.event.converts.says.0.m now final
-    → GoesOnce t step.Claimed old (record final { machine = now.machine }) es
-unfolding converts_on
-claims_named t old now final es u s one =
-    let e = s.event in
-    let x = e.converts.says.0 in
-    let history : final.history ≡ with_name old.history x.m = one.history
-    ∙ ap (λ (h : History). with_name h x.m) s.history in
-    record {
-      converts = converts_on t step.Claimed old now es u s;
-      other = tt;
-      history = (x.m, history);
-      alone = record {
-        agrees = e.converts.agrees;
-        lines = one.lines ∙ s.lines;
-        within = subst (λ k. now.machine.free ≤ k) (sym one.lines) s.within;
-        sound = s.sound;
-        names = names_more t x.m e.at.free es e.after x.asked.refers_to.there x.asked.nobody x.becomes old
-            (record final { machine = now.machine }) u.alone.names history
-            (one.named ∙ ap (λ k. k + 1) s.named) (claimed_last t old now es u s).0;
-      };
-    }
-
-pub claims_once : (t : ℕ) (answer : ConvertStep) (old now final : Shared) (es : List Entry)
-    → answer ≡ step.Claimed
-    → ((es' : List Entry) (n : ℕ) → IsLast t now es' n → NamesOne n now final)
-    → IsUnderWay t old es → Stepped t answer old now es → GoesOnce t step.Claimed old final es
-claims_once t answer old now final es is names u s0 =
-    let s : Stepped t step.Claimed old now es = stepped_as t answer step.Claimed old now es is s0 in
-    let one = names s.event.after s.event.converts.says.0.m (claimed_last t old now es u s).1 in
-    subst (λ (m : Machine). GoesOnce t step.Claimed old (record final { machine = m }) es) (sym one.machine)
-    (claims_named t old now final es u s one)
-
-pub last_of : (t : ℕ) (answer : ConvertStep) (old now : Shared) (es : List Entry) → answer ≡ step.Claimed
-    → IsUnderWay t old es
-    → Stepped t answer old now es → (es' : List Entry) × (n : ℕ) × IsLast t now es' n
-last_of t answer old now es is u s0 =
-    let s : Stepped t step.Claimed old now es = stepped_as t answer step.Claimed old now es is s0 in
-    (s.event.after, s.event.converts.says.0.m, (claimed_last t old now es u s).1)
-
-pub named_machine : (t : ℕ) (now final : Shared)
-    → ((es' : List Entry) (n : ℕ) → IsLast t now es' n → NamesOne n now final)
-    → (es' : List Entry) × (n : ℕ) × IsLast t now es' n → final.machine ≡ now.machine
-named_machine t now final names last = (names last.0 last.1 last.2).machine
 
 -- ---- a seal
 
@@ -318,112 +206,74 @@ named_machine t now final names last = (names last.0 last.1 last.2).machine
 abbrev pub join_act : ℕ → Machine → Act
 join_act t m = record { thread = t; at = (memory_of m).calls; op = op.Joined }
 
-names_set : (t set : ℕ) (old : Shared) (es : List Entry) → IsUnderWay t old es → has set t ≡ true
-    → NamesSet old.history.named es set
-names_set t set old es u member =
-    let x = u.alone.names in
-    let first = first_object t old es u in
-    record {
-      some = λ none. false≢true
-          (subst (λ ns. has_number ns first.0 ≡ true) none ((x.those first.0).1 first.1.claimed));
-      once = x.once;
-      those = λ n. (
-        λ is. (t, member, (x.those n).0 is),
-        λ of. (x.those n).1 (subst (λ w. IsClaimed es w n) (x.alone of.0 n of.2) of.2),
-      );
-    }
+-- what its group has queued can be named
+to_seal : (s : Scene) (t : ℕ) → HasBegun s t → HasToSeal s t
+to_seal s t (inl some) = inl some
+to_seal s t (inr (flush, u, few, other, needs)) = inr (u, few, needs)
 
-module _ (t set : ℕ) (old now final : Shared) (es : List Entry) (u : IsUnderWay t old es)
-    (s : Stepped t (step.Sealed set) old now es)
-    (history : final.history ≡ with_act old.history (join_act t now.machine))
-    (queue : final.machine.queue ≡ now.machine.queue)
-    (named : final.named ≡ 0) where
-  done : SealsGroup s.event.at (scene_of now.machine) es s.event.after t set
-  done = s.event.converts.says
+-- A seal that was made, and its act told behind the names.
+record Joining (t set : ℕ) (old now told : Shared) (es : List Entry) : Type 0 where
+  pub group : IsGroupOf old.machine.queue.needs t set
+  pub stepped : Stepped t (step.Sealed set) old now es
+  pub acts : old.machine.acts ≡ old.history.acts
+  pub history : told.history
+      ≡ with_act (with_names old.history (group_names (scene_of old.machine) set)) (join_act t now.machine)
+  pub machine : told.machine ≡ record now.machine { acts = told.history.acts }
+  pub lines : told.lines ≡ now.lines
+  pub notes : told.notes ≡ now.notes
 
-  empty_of : (w : ℕ) → has set w ≡ true → queue_of now.machine.queue w ≡ []
-  empty_of w member = done.released.empty w member
-
-  -- what is claimed after the seal was claimed
-  none_new : (w n : ℕ) → IsClaimed s.event.after w n → (has set w ≡ true → ⊥) × (w ≡ t)
-  none_new w n c =
-      let o = s.event.converts.agrees.queued.all w n c in
-      let outside : has set w ≡ true → ⊥ = λ member.
-      let lt = subst (λ (l : List Queued). o.0 < length l) (empty_of w member) o.1.within in
-      omega (arith, lt) in
-      let kept : queue_of now.machine.queue w ≡ queue_of old.machine.queue w =
-      done.released.kept w (false_from_ne_true (has set w) outside)
-      ∙ ap (λ (qs : List (List Queued)). queue_in qs w) s.event.goes_on.queues in
-      let x = u.alone.agrees.queued.there w o.0
-      (subst (λ (l : List Queued). o.0 < length l) kept o.1.within) in
-      (outside, u.alone.names.alone w x.0 x.1.claimed)
-
-  none_claimed : (w n : ℕ) → IsClaimed s.event.after w n → ⊥
-  none_claimed w n c = (none_new w n c).0
-      (subst (λ k. has set k ≡ true) (sym (none_new w n c).1) done.group.member)
-
-  -- nothing is named then, for nothing is claimed
-  pub names_none : NamesClaimed t final s.event.after
-  names_none = record {
-    once = subst (λ (h : History). AllPairs (λ m n. m ≢ n) h.named) (sym history)
-        (λ i j d less within. absurd (omega (arith, within)));
-    those = λ n. subst (λ (h : History). (has_number h.named n ≡ true) ↔ IsClaimed s.event.after t n)
-        (sym history)
-        (λ is. absurd (false≢true is), λ c. absurd (none_claimed t n c));
-    alone = λ w n c. absurd (none_claimed w n c);
-    count = named ∙ sym (ap length (ap (λ (q : Queues). queue_of q t) queue ∙ empty_of t done.group.member));
-  }
-
-pub joins_once : (t set : ℕ) (answer : ConvertStep) (old now told final : Shared) (es : List Entry)
-    → answer ≡ step.Sealed set → IsUnderWay t old es
-    → Stepped t answer old now es → now.machine.acts ≡ now.history.acts
-    → Told now told (join_act t now.machine) → final ≡ record told { named = 0 }
-    → JoinsOnce t old final es
+joins_once : (t set : ℕ) (old now told : Shared) (es : List Entry) → IsUnderWay t old es
+    → Joining t set old now told es → JoinsOnce t old told es
 unfolding converts_on
-joins_once t set answer old now told final es answer_is u s0 acts x is =
-    let s : Stepped t (step.Sealed set) old now es = stepped_as t answer
-    (step.Sealed set) old now es answer_is s0 in
+joins_once t set old now told es u x =
+    let s = x.stepped in
     let e = s.event in
-    let group : SealsGroup e.at (scene_of now.machine) es e.after t set = e.converts.says in
-    let history : told.history ≡ with_act old.history (join_act t now.machine) =
-    x.told ∙ ap (λ (h : History). with_act h (join_act t now.machine)) s.history in
-    let recorded : List Recorded = record { act = join_act t now.machine; named = old.history.named } ∷ [] in
+    let before = u.converts in
+    let names = group_names (scene_of old.machine) set in
+    let says : SealsGroup e.at (scene_of now.machine) es e.after t set = e.converts.says in
+    let recorded : List Recorded = record { act = join_act t now.machine; named = names } ∷ [] in
+    -- nothing else was named
+    let named : with_act (with_names old.history names) (join_act t now.machine)
+    ≡ record old.history { acts = old.history.acts ++ recorded; named = []; room = (with_names old.history names).room } =
+    ap (λ (ns : List ℕ). record old.history {
+      acts = old.history.acts ++ record { act = join_act t now.machine; named = ns ++ names } ∷ [];
+      named = [];
+      room = (with_names old.history names).room;
+    }) before.unnamed in
+    let history = x.history ∙ named in
+    let now_acts : now.machine.acts ≡ old.machine.acts = ap (λ (m : Machine). m.acts) s.same in
     let more : told.history.acts ≡ now.machine.acts ++ recorded =
-    ap (λ (h : History). h.acts) history ∙ ap (λ (h : History). h.acts ++ recorded) (sym s.history)
-    ∙ ap (λ (a : List Recorded). a ++ recorded) (sym acts) in
-    let machine : told.machine ≡ with_joined now.machine t old.history.named =
+    ap (λ (h : History). h.acts) history ∙ ap (λ (a : List Recorded). a ++ recorded) (sym x.acts)
+    ∙ ap (λ (a : List Recorded). a ++ recorded) (sym now_acts) in
+    let machine : told.machine ≡ with_joined now.machine t names =
     x.machine ∙ ap (λ (a : List Recorded). record now.machine { acts = a }) more in
-    subst (λ (k : Shared). JoinsOnce t old k es) (sym is) record {
+    let queue : told.machine.queue ≡ now.machine.queue = ap (λ (m : Machine). m.queue) machine in
+    record {
       set = set;
       between = now.machine;
       seals = record {
-        converts = converts_on t
-            (step.Sealed set) old now es u s;
-        names = names_set t set old es u group.group.member;
+        converts = converts_on t (step.Sealed set) old now es u s;
+        names = groups_name_theirs (scene_of old.machine) es t set u.thread before.agrees x.group
+            (to_seal (scene_of old.machine) t u.begun);
       };
       machine = machine;
-      history = history;
-      alone = record {
+      history = x.history;
+      left = ap (λ (q : Queues). total q.queues + length names) queue
+          ∙ seals_take_queues t set (scene_of old.machine) (scene_of now.machine) es old.machine.rest.monitors
+          now.machine.rest.monitors before.agrees e;
+      notes = x.notes ∙ s.notes;
+      converts = record {
         agrees = subst (λ (m : Machine). AgreesAt (scene_of m) e.after) (sym machine) e.converts.agrees;
+        unwritten = subst (λ (q : Queues). AreUnwritten q e.after) (sym queue)
+            (events_stay_unwritten t (step.Sealed set) (scene_of old.machine) (scene_of now.machine) es
+            old.machine.rest.monitors now.machine.rest.monitors before.agrees e before.unwritten);
+        unnamed = ap (λ (h : History). h.named) history;
         lines = x.lines ∙ s.lines ∙ ap (λ (m : Machine). (memory_of m).size) (sym machine);
         within = subst (λ (m : Machine). m.free ≤ told.lines) (sym machine)
             (subst (λ k. now.machine.free ≤ k) (sym x.lines) s.within);
         sound = subst (λ (m : Machine). AreSound m.rest.monitors) (sym machine) s.sound;
-        names = names_none t set old now (record told { named = 0 }) es u s history
-            (ap (λ (m : Machine). m.queue) machine) refl;
       };
     }
-
--- the same after these words, queues, lines and monitors
-pub joins_next : (t set : ℕ) (answer : ConvertStep) (old told final : Shared) (twin : Twin) (q : Queues)
-    (l : Lines) (ms : List Monitor) (es : List Entry)
-    → answer ≡ step.Sealed set → IsUnderWay t old es → Stepped t answer old (next_of old twin q l ms) es
-    → old.machine.acts ≡ old.history.acts
-    → Told (next_of old twin q l ms) told (join_act t (next_of old twin q l ms).machine)
-    → final ≡ record told { named = 0 }
-    → JoinsOnce t old final es
-joins_next t set answer old told final twin q l ms es is u s acts x final_is =
-    joins_once t set answer old (next_of old twin q l ms) told final es is u s acts x final_is
 
 -- ---- a step whose call of the image failed
 
@@ -436,25 +286,15 @@ pub record SteppedNot (t : ℕ) (old now : Shared) (es : List Entry) : Type 0 wh
   pub sound : AreSound now.machine.rest.monitors
   pub known : AllKnown (memory_of now.machine)
   pub history : now.history ≡ old.history
-  pub named : now.named ≡ old.named
+  pub notes : now.notes ≡ old.notes
 
 pub fails_to : (t : ℕ) (old now : Shared) (es : List Entry) → IsUnderWay t old es → SteppedNot t old now es
     → FailsTo t old now es
 fails_to t old now es u s =
     let e = s.event in
-    let same : SameObjects (view_of (scene_of old.machine).heap)
-    (view_of (scene_of now.machine).heap) old.machine.queue now.machine.queue es es = record {
-      lies = u.alone.agrees.lies;
-      lies_after = e.fails.agrees.lies;
-      shows = subst (λ (h : Twin). SameHeap (view_of h) es (view_of (scene_of now.machine).heap) es)
-          e.goes_on.heap e.fails.shows;
-      queued = u.alone.agrees.queued;
-      queued_after = e.fails.agrees.queued;
-      queues = ap (λ (q : Queues). q.queues) e.fails.queue ∙ e.goes_on.queues;
-    } in
     record {
       fails = record {
-        thread = thread_of t old es u;
+        thread = u.thread;
         doing = u.doing;
         event = e;
         same = s.same;
@@ -465,18 +305,21 @@ fails_to t old now es u s =
         };
       };
       history = s.history;
-      alone = record {
+      notes = s.notes;
+      converts = record {
         agrees = e.fails.agrees;
+        unwritten = subst (λ (q : Queues). AreUnwritten q es) (sym e.fails.queue)
+            (going_unwritten (scene_of old.machine) e.at es t e.goes_on u.converts.unwritten);
+        unnamed = ap (λ (h : History). h.named) s.history ∙ u.converts.unnamed;
         lines = s.lines;
         within = s.within;
         sound = s.sound;
-        names = names_still t old now es es same s.history s.named u.alone.names;
       };
     }
 
 -- ---- the beginning
 
--- How it began, as the converter tells it, before the object is named.
+-- How it began, as the converter tells it.
 pub record Started (t n : ℕ) (answer : Begun) (old now : Shared) (es : List Entry) : Type 0 where
   pub after : List Entry
   pub begins : Begins t n answer (scene_of old.machine) (scene_of now.machine) es after
@@ -486,133 +329,221 @@ pub record Started (t n : ℕ) (answer : Begun) (old now : Shared) (es : List En
   pub within : now.machine.free ≤ now.lines
   pub known : AllKnown (memory_of now.machine)
   pub history : now.history ≡ old.history
-  pub named : now.named ≡ old.named
+  pub notes : now.notes ≡ old.notes
 
-module _ (t n : ℕ) (answer : Begun) (old now : Shared) (es : List Entry) (alone : ConvertsAlone t old es)
-    (s : Started t n answer old now es) where
-  pub started_lines : now.lines ≡ (memory_of now.machine).size
-  started_lines = s.lines ∙ alone.lines ∙ sym (ap (λ (m : Memory). m.size) s.begins.memory)
-
-  pub started_monitors : AreSound now.machine.rest.monitors
-  started_monitors = subst (λ (r : Rest). AreSound r.monitors) (sym s.rest) alone.sound
-
-  pub started_sound : StaysSound now.machine
-  started_sound = record {
-    within = let lines = started_lines in let within = s.within in omega (arith, lines, within);
-    sound = started_monitors;
-    known = s.known;
-  }
-
--- the object is named, and the history is this
-abbrev pub named_first : Shared → History → Shared
-named_first s h = record s { machine = record s.machine { acts = h.acts }; history = h; named = 1 }
-
-pub begins_claimed : (t n k : ℕ) (old now : Shared) (h : History) (es : List Entry) → ConvertsAlone t old es
-    → n < length es
-    → queue_of old.machine.queue t ≡ [] → old.machine.acts ≡ old.history.acts → h ≡ with_name old.history k
-    → k ≡ n
-    → Started t n begun.Claimed old now es → BeginsOnce t n begun.Claimed old (named_first now h) es
-begins_claimed t n k old now h es alone inside empty acts naming number s =
-    let x = s.begins.says in
-    let history : h ≡ with_name old.history n = naming ∙ ap (with_name old.history) number in
-    let few : t < 64 = few_threads (view_of (scene_of now.machine).heap) s.after t n s.begins.agrees.lies
-    (claimed_own t n old.machine.free es s.after inside x.nobody x.becomes) in
-    let sizes = alone.agrees.sizes.queues in
-    let last = stands_last t n old.machine.free es s.after inside x.nobody x.becomes
-    (begun_at old.machine.queue t) now.machine.queue
-    (omega (arith, few, sizes)) x.queue in
-    let none : old.named ≡ 0 = alone.names.count ∙ ap length empty in
-    record {
-      after = s.after;
-      begins = s.begins;
-      same = ap (λ (m : Machine). record m { acts = h.acts }) s.same
-          ∙ ap (λ (a : List Recorded). record (record old.machine {
-            spaces = record old.machine.spaces { twin = now.machine.spaces.twin };
-            queue = now.machine.queue;
-            free = now.machine.free;
-            rest = record old.machine.rest { monitors = now.machine.rest.monitors };
-          }) { acts = a }) (ap (λ (y : History). y.acts) history ∙ sym acts);
-      monitors = s.rest;
-      sound = (let z = started_sound t n begun.Claimed old now es alone s in
-          record { within = z.within; sound = z.sound; known = z.known });
-      history = history;
-      alone = record {
-        agrees = s.begins.agrees;
-        lines = started_lines t n begun.Claimed old now es alone s;
-        within = s.within;
-        sound = started_monitors t n begun.Claimed old now es alone s;
-        names = names_more t n old.machine.free es s.after inside x.nobody x.becomes old
-            (named_first now h) alone.names history
-            (omega (arith, none)) last.0;
-      };
-    }
-
-pub begins_not : (t n need left : ℕ) (old now : Shared) (es : List Entry) → ConvertsAlone t old es
-    → Started t n (begun.Full need left) old now es → BeginsOnce t n (begun.Full need left) old now es
-begins_not t n need left old now es alone s =
-    let x = s.begins.says in
-    let same : SameObjects (view_of (scene_of old.machine).heap)
-    (view_of (scene_of now.machine).heap) old.machine.queue now.machine.queue es s.after = record {
-      lies = alone.agrees.lies;
-      lies_after = s.begins.agrees.lies;
-      shows = s.begins.shows;
-      queued = alone.agrees.queued;
-      queued_after = s.begins.agrees.queued;
-      queues = ap (λ (k : Scene). k.queue.queues) x.same;
-    } in
+pub begins_once : (t n : ℕ) (answer : Begun) (old now : Shared) (es : List Entry) → Converts old es
+    → queue_of old.machine.queue t ≡ [] → Started t n answer old now es → BeginsOnce t n answer old now es
+begins_once t n answer old now es before empty s =
+    let lines : now.lines ≡ (memory_of now.machine).size =
+    s.lines ∙ before.lines ∙ sym (ap (λ (m : Memory). m.size) s.begins.memory) in
+    let sound : AreSound now.machine.rest.monitors =
+    subst (λ (r : Rest). AreSound r.monitors) (sym s.rest) before.sound in
     record {
       after = s.after;
       begins = s.begins;
       same = s.same;
       monitors = s.rest;
-      sound = started_sound t n (begun.Full need left) old now es alone s;
+      sound = record {
+        within = let within = s.within in omega (arith, lines, within);
+        sound = sound;
+        known = s.known;
+      };
       history = s.history;
-      alone = record {
+      notes = s.notes;
+      converts = record {
         agrees = s.begins.agrees;
-        lines = started_lines t n (begun.Full need left) old now es alone s;
+        unwritten = beginnings_stay_unwritten t n answer (scene_of old.machine) (scene_of now.machine) es s.after
+            before.agrees empty s.begins before.unwritten;
+        unnamed = ap (λ (h : History). h.named) s.history ∙ before.unnamed;
+        lines = lines;
         within = s.within;
-        sound = started_monitors t n (begun.Full need left) old now es alone s;
-        names = names_still t old now es s.after same s.history s.named alone.names;
+        sound = sound;
       };
     }
 
+-- ---- whether a conversion has begun
+
+-- a thread in whose group there is another needs one
+needs_first : (needs : ℕ → ℕ → Bool) (t u : ℕ) → InGroup needs t u → u ≢ t → (w : ℕ) × (w ≢ t) × (needs t w ≡ true)
+needs_first needs t u itself other = absurd (other refl)
+needs_first needs t u (needed w v group is) other = elim (same_or_not w t) [
+  | inl same ↦ (v, other, subst (λ k. needs k v ≡ true) same is)
+  | inr apart ↦ needs_first needs t w group apart
+]
+
+below_64 : (set u : ℕ) → set < 2 ^ 64 → has set u ≡ true → u < 64
+below_64 set u small member = elim (below_or_not u 64) [
+  | inl few ↦ few
+  | inr past ↦ absurd (false≢true (sym (above_none set u small past) ∙ member))
+]
+
+-- another member, and a need of another
+pub other_needed : (s : Scene) (t set : ℕ) → IsGroupOf s.queue.needs t set → set < 2 ^ 64
+    → (u : ℕ) × (u < 64) × (u ≢ t) × (has set u ≡ true)
+    → (u : ℕ) × (u < 64) × (u ≢ t) × (needs_of s.queue.needs t u ≡ true)
+other_needed s t set group small (u, few, other, member) =
+    let first = needs_first (needs_of s.queue.needs) t u (group.least u member) other in
+    (first.0, below_64 set first.0 small (group.closed t first.0 group.member first.2), first.1, first.2)
+
+pub needed_other : (s : Scene) (t set : ℕ) → IsGroupOf s.queue.needs t set
+    → (u : ℕ) × (u < 64) × (u ≢ t) × (needs_of s.queue.needs t u ≡ true)
+    → (u : ℕ) × (u < 64) × (u ≢ t) × (has set u ≡ true)
+needed_other s t set group (u, few, other, needs) = (u, few, other, group.closed t u group.member needs)
+
+pub queued_some : (q : List Queued) (x : Queued) → slice_get q 0 ≡ Some x → q ≢ []
+queued_some [] x is = absurd (let no : ◌≡◌ {A = Option Queued} None (Some x) = is in cc)
+queued_some (y ∷ q) x is = λ no. let e : y ∷ q ≡ [] = no in cc
+
+pub queued_none : (q : List Queued) → slice_get q 0 ≡ None → q ≡ []
+queued_none [] is = refl
+queued_none (y ∷ q) is = absurd (let no : ◌≡◌ {A = Option Queued} (Some y) None = is in cc)
+
+-- with an object queued, the conversion has begun
+pub begun_queued : (s : Scene) (t : ℕ) (x : Queued) → slice_get (queue_of s.queue t) 0 ≡ Some x → HasBegun s t
+begun_queued s t x is = inl (queued_some (queue_of s.queue t) x is)
+
+-- with none, exactly in the flush and with another member
+pub begun_by_group : (s : Scene) (t set : ℕ) → slice_get (queue_of s.queue t) 0 ≡ None
+    → IsGroupOf s.queue.needs t set → set < 2 ^ 64 → phase_of s.queue t ≡ Flush
+    → HasBegun s t ↔ ((u : ℕ) × (u < 64) × (u ≢ t) × (has set u ≡ true))
+begun_by_group s t set none group small flush = (there, back)
+  where
+    there : HasBegun s t → (u : ℕ) × (u < 64) × (u ≢ t) × (has set u ≡ true)
+    there (inl some) = absurd (some (queued_none (queue_of s.queue t) none))
+    there (inr (is, u, few, other, needs)) = needed_other s t set group (u, few, other, needs)
+
+    back : (u : ℕ) × (u < 64) × (u ≢ t) × (has set u ≡ true) → HasBegun s t
+    back member = let (u, few, apart, needs) = other_needed s t set group small member in inr (flush, u, few, apart, needs)
+
+not_begun : (s : Scene) (t : ℕ) → slice_get (queue_of s.queue t) 0 ≡ None → phase_of s.queue t ≢ Flush
+    → HasBegun s t → ⊥
+not_begun s t none other (inl some) = some (queued_none (queue_of s.queue t) none)
+not_begun s t none other (inr flush) = other flush.0
+
+-- as a reader tells it that read the value with which it began
+pub begun_now : (old now : Shared) (t set : ℕ) (b : Bool) → old ≡ now
+    → slice_get (queue_of old.machine.queue t) 0 ≡ None → IsGroupOf old.machine.queue.needs t set → set < 2 ^ 64
+    → phase_of old.machine.queue t ≡ Flush
+    → (b ≡ true) ↔ ((u : ℕ) × (u < 64) × (u ≢ t) × (has set u ≡ true))
+    → (b ≡ true) ↔ HasBegun (scene_of now.machine) t
+begun_now old now t set b e none group small flush tells =
+    let begun = begun_by_group (scene_of old.machine) t set none group small flush in
+    subst (λ (s : Shared). (b ≡ true) ↔ HasBegun (scene_of s.machine) t) e
+    (λ is. begun.1 (tells.0 is), λ has_begun. tells.1 (begun.0 has_begun))
+
+pub not_begun_now : (old now : Shared) (t : ℕ) (b : Bool) → old ≡ now
+    → slice_get (queue_of old.machine.queue t) 0 ≡ None → phase_of old.machine.queue t ≢ Flush → b ≡ false
+    → (b ≡ true) ↔ HasBegun (scene_of now.machine) t
+not_begun_now old now t b e none other is =
+    subst (λ (s : Shared). (b ≡ true) ↔ HasBegun (scene_of s.machine) t) e (
+      (λ yes. absurd (false≢true (sym is ∙ yes))),
+      λ begun. absurd (not_begun (scene_of old.machine) t none other begun),
+    )
+
+pub begun_first : (old now : Shared) (t : ℕ) (x : Queued) → old ≡ now
+    → slice_get (queue_of old.machine.queue t) 0 ≡ Some x → HasBegun (scene_of now.machine) t
+begun_first old now t x e is =
+    subst (λ (s : Shared). HasBegun (scene_of s.machine) t) e (begun_queued (scene_of old.machine) t x is)
+
 -- ---- from the value that a call began with
 
-pub begins_all : (t : ℕ) (went : Conversion) (w : ℕ) (old now new : Shared) → old ≡ now
-    → ((es : List Entry) (n : ℕ) → ConvertsAlone t old es → queue_of old.machine.queue t ≡ [] → IsAsked es w n
-    → BeginsTo t n went old new es)
-    → queue_of now.machine.queue t ≡ [] → (es : List Entry) (n : ℕ) → ConvertsAlone t now es → IsAsked es w n
-    → BeginsTo t n went now new es
-begins_all t went w old now new e each = subst
-    (λ (s : Shared). queue_of s.machine.queue t ≡ [] → (es : List Entry) (n : ℕ) → ConvertsAlone t s es
+pub begins_all : (t : ℕ) (answer : Begun) (w : ℕ) (old now new : Shared) → old ≡ now
+    → ((es : List Entry) (n : ℕ) → Converts old es → queue_of old.machine.queue t ≡ [] → IsAsked es w n
+    → BeginsOnce t n answer old new es)
+    → queue_of now.machine.queue t ≡ [] → (es : List Entry) (n : ℕ) → Converts now es → IsAsked es w n
+    → BeginsOnce t n answer now new es
+begins_all t answer w old now new e each = subst
+    (λ (s : Shared). queue_of s.machine.queue t ≡ [] → (es : List Entry) (n : ℕ) → Converts s es
     → IsAsked es w n
-    → BeginsTo t n went s new es) e (λ empty es n alone asked. each es n alone empty asked)
+    → BeginsOnce t n answer s new es) e (λ empty es n before asked. each es n before empty asked)
 
-pub goes_all : (t : ℕ) (went : Conversion) (old now new : Shared) → old ≡ now
+pub goes_all : (t : ℕ) (went : Conversion) (old now new : Shared) → old ≡ now → t < 64
     → ((es : List Entry) → IsUnderWay t old es → GoesTo t went old new es)
-    → doing_of now.machine t ≡ Converting → 0 < now.named → (es : List Entry) → ConvertsAlone t now es
+    → doing_of now.machine t ≡ Converting → HasBegun (scene_of now.machine) t → (es : List Entry) → Converts now es
     → GoesTo t went now new es
-goes_all t went old now new e each = subst
-    (λ (s : Shared). doing_of s.machine t ≡ Converting → 0 < s.named → (es : List Entry)
-    → ConvertsAlone t s es
+goes_all t went old now new e few each = subst
+    (λ (s : Shared). doing_of s.machine t ≡ Converting → HasBegun (scene_of s.machine) t → (es : List Entry)
+    → Converts s es
     → GoesTo t went s new es) e
-    (λ doing some es alone. each es (record { doing = doing; some = some; alone = alone }))
+    (λ doing begun es before. each es (record { thread = few; doing = doing; begun = begun; converts = before }))
 
-pub fails_all : (t : ℕ) (old now new : Shared) → old ≡ now
+joins_all : (t : ℕ) (old now new : Shared) → old ≡ now → t < 64
+    → ((es : List Entry) → IsUnderWay t old es → JoinsOnce t old new es)
+    → doing_of now.machine t ≡ Converting → HasBegun (scene_of now.machine) t → (es : List Entry) → Converts now es
+    → JoinsOnce t now new es
+joins_all t old now new e few each = goes_all t Joined old now new e few each
+
+-- What was sealed over the value that a call began with, and its act told behind the names.
+pub record Joins (t set : ℕ) (old : Shared) (twin : Twin) (q : Queues) (naming : History) (told : Shared)
+    (es : List Entry) : Type 0 where
+  pub group : IsGroupOf old.machine.queue.needs t set
+  pub event : Event t (step.Sealed set) (scene_of old.machine) (scene_of (sealed_of old twin q).machine) es
+      old.machine.rest.monitors old.machine.rest.monitors
+  pub memory : twin.memory ≡ memory_of old.machine
+  pub known : AllKnown twin.memory
+  pub acts : old.machine.acts ≡ old.history.acts
+  pub named : naming ≡ with_names old.history (group_names (scene_of old.machine) set)
+  pub history : told.history ≡ with_act naming (join_act t (sealed_of old twin q).machine)
+  pub machine : told.machine ≡ record (sealed_of old twin q).machine { acts = told.history.acts }
+  pub lines : told.lines ≡ old.lines
+  pub notes : told.notes ≡ old.notes
+
+joining : (t set : ℕ) (old : Shared) (twin : Twin) (q : Queues) (naming : History) (told : Shared) (es : List Entry)
+    → IsUnderWay t old es → Joins t set old twin q naming told es
+    → Joining t set old (sealed_of old twin q) told es
+joining t set old twin q naming told es u x = record {
+  group = x.group;
+  stepped = record {
+    event = x.event;
+    same = refl;
+    lines = u.converts.lines ∙ sym (ap (λ (m : Memory). m.size) x.memory);
+    within = u.converts.within;
+    sound = u.converts.sound;
+    known = x.known;
+    history = refl;
+    notes = refl;
+  };
+  acts = x.acts;
+  history = x.history
+      ∙ ap (λ (h : History). with_act h (join_act t (sealed_of old twin q).machine)) x.named;
+  machine = x.machine;
+  lines = x.lines;
+  notes = x.notes;
+}
+
+pub joins_from : (t set : ℕ) (old now told : Shared) (twin : Twin) (q : Queues) (naming : History) → old ≡ now → t < 64
+    → ((es : List Entry) → IsUnderWay t old es → Joins t set old twin q naming told es)
+    → doing_of now.machine t ≡ Converting → HasBegun (scene_of now.machine) t → (es : List Entry) → Converts now es
+    → JoinsOnce t now told es
+joins_from t set old now told twin q naming e few each = joins_all t old now told e few
+    (λ es u. joins_once t set old (sealed_of old twin q) told es u
+    (joining t set old twin q naming told es u (each es u)))
+
+pub fails_all : (t : ℕ) (old now new : Shared) → old ≡ now → t < 64
     → ((es : List Entry) → IsUnderWay t old es → FailsTo t old new es)
-    → doing_of now.machine t ≡ Converting → 0 < now.named → (es : List Entry) → ConvertsAlone t now es
+    → doing_of now.machine t ≡ Converting → HasBegun (scene_of now.machine) t → (es : List Entry) → Converts now es
     → FailsTo t now new es
-fails_all t old now new e each = subst
-    (λ (s : Shared). doing_of s.machine t ≡ Converting → 0 < s.named → (es : List Entry)
-    → ConvertsAlone t s es
-    → FailsTo t s new es) e (λ doing some es alone. each es
-    (record { doing = doing; some = some; alone = alone }))
+fails_all t old now new e few each = subst
+    (λ (s : Shared). doing_of s.machine t ≡ Converting → HasBegun (scene_of s.machine) t → (es : List Entry)
+    → Converts s es
+    → FailsTo t s new es) e
+    (λ doing begun es before. each es (record { thread = few; doing = doing; begun = begun; converts = before }))
 
-pub under_way : (t : ℕ) (old now : Shared) (es : List Entry) → old ≡ now → doing_of now.machine t ≡ Converting
-    → 0 < now.named → ConvertsAlone t now es
+pub under_way : (t : ℕ) (old now : Shared) (es : List Entry) → old ≡ now → t < 64
+    → doing_of now.machine t ≡ Converting
+    → HasBegun (scene_of now.machine) t → Converts now es
     → IsUnderWay t old es
-under_way t old now es e doing some alone = subst (λ (s : Shared). IsUnderWay t s es) (sym e)
-    (record { doing = doing; some = some; alone = alone })
+under_way t old now es e few doing begun before = subst (λ (s : Shared). IsUnderWay t s es) (sym e)
+    (record { thread = few; doing = doing; begun = begun; converts = before })
+
+-- its parts agree, whatever the table
+pub some_scene : (old now : Shared) (es : List Entry) → old ≡ now → Converts now es
+    → let k = old.machine in let t = k.spaces.twin in SomeScene t.space t.memory t.marks k.queue
+some_scene old now es e before =
+    let b = subst (λ (s : Shared). Converts s es) (sym e) before in
+    let within = b.within in
+    let lines = b.lines in
+    (old.machine.free, keys_of old.machine.rest.monitors, es, omega (arith, within, lines), b.agrees)
 
 -- a call that succeeds needs no cause
 pub cause_same : {T E : Type 0} (old now : Shared) (faults : ℕ) (x : T) → old ≡ now
@@ -620,9 +551,3 @@ pub cause_same : {T E : Type 0} (old now : Shared) (faults : ℕ) (x : T) → ol
     → HasCause {T = T} {E = E} (memory_of now.machine).faults faults (Ok x)
 cause_same old now faults x e later = record
     { later = subst (λ (s : Shared). (memory_of s.machine).faults ≤ faults) e later; failed = tt }
-
-pub cause_of : {T E : Type 0} (old now : Shared) (middle final : Machine) (x : T) → old ≡ now → final ≡ middle
-    → (memory_of old.machine).faults ≤ (memory_of middle).faults
-    → HasCause {T = T} {E = E} (memory_of now.machine).faults (memory_of final).faults (Ok x)
-cause_of old now middle final x e same later = cause_same old now (memory_of final).faults x e
-    (subst (λ (m : Machine). (memory_of old.machine).faults ≤ (memory_of m).faults) (sym same) later)

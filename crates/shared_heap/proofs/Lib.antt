@@ -1,7 +1,7 @@
 pub mod Calling
-pub mod Claimed
 pub mod Converting
 pub mod Here
+pub mod Naming
 pub mod Logging
 pub mod Planned
 pub mod Regioning

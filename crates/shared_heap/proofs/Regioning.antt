@@ -150,7 +150,7 @@ is_left old t log after logs q done c seen = record {
   machine = machine_called old t log after logs q done c seen;
   history = refl;
   lines = refl;
-  named = refl;
+  notes = refl;
 }
 
 -- what the call does to the word, and what it says of the entry that is under way
@@ -423,7 +423,7 @@ closes_to t old between new acts f told =
           }) (sym acts);
       history = history;
       lines = told.lines ∙ f.left.lines;
-      named = told.named ∙ f.left.named;
+      notes = told.notes ∙ f.left.notes;
     }
 
 -- any other part

@@ -1,11 +1,12 @@
 -- What steps of requests, stores and what is asked before them make of a shared heap.
-use Rattle.std.proofs.Common.{◌≡◌, ℕ, ◌≤◌, List, [], ◌∷◌, ◌++◌, Option, refl, sym, ◌∙◌, ap, subst}
+use Rattle.std.proofs.Common.{◌≡◌, ℕ, ◌≤◌, List, [], ◌∷◌, ◌++◌, Option, None, Some, refl, sym, ◌∙◌, ap, subst}
 use Rattle.std.specs.Prelude.{slice_set}
 use Rattle.ap_base.specs.declared.reference.Ref.{Ref}
 use Rattle.ap_base.specs.declared.reference.Item.{Item}
 use Rattle.monitors.specs.Indexed.{AreSound}
 use Rattle.line_memory.specs.Memory.{Memory}
 use Rattle.natives.specs.declared.requests.Request.{Request}
+use Rattle.natives.specs.declared.requests.Request.TheVariants as ask
 use Rattle.natives.specs.declared.requests.Reply.{Reply}
 use Rattle.run_history.specs.declared.act.Op.{Op}
 use Rattle.run_history.specs.declared.act.Act.{Act}
@@ -17,7 +18,7 @@ use Rattle.shared_objects.specs.Shown.{item_value}
 use Rattle.shared_objects.specs.Worlds.{KnowsMonitors}
 use Rattle.step_forms.specs.declared.stepped.Stepped.{Stepped}
 use Rattle.step_forms.specs.declared.stepped.Stepped.TheVariants as stepped
-use Rattle.step_forms.specs.Becomes.{Becomes}
+use Rattle.step_forms.specs.Becomes.{Becomes, given}
 use Rattle.step_forms.specs.Follows.{Agrees, HeapGoes, IsStep, stored_as}
 use Rattle.step_forms.specs.Needs.{IsAskable, ItemIsHere}
 use Rattle.step_forms.proofs.Going.{same_goes}
@@ -34,8 +35,9 @@ use Rattle.machine_forms.specs.declared.doing.Doing.{Doing}
 use Rattle.machine_forms.specs.Machines.{Machine, memory_of, shown_in}
 use Rattle.machine_forms.specs.Events.{NotesStore, act_in}
 use Rattle.store_barrier.specs.Barriers.{IsDurablePlace, spaces_of}
+use Rattle.shared_heap.specs.Notes.{ThreadNotes}
 use Rattle.shared_heap.specs.Shared.{Shared}
-use Rattle.shared_heap.specs.Requests.{IsPlannedFor, MayRequest, StepsTo, StoresTo, doing_stored, told_at, told_by}
+use Rattle.shared_heap.specs.Requests.{IsPlannedFor, MayRequest, StepsTo, StoresTo, doing_stored, noted_by, told_at, told_by}
 use Rattle.shared_heap.specs.Requests.{value_stored}
 use Rattle.shared_heap.proofs.Here.{is_askable, value_here}
 use Rattle.shared_heap.proofs.Sounding.{stays_sound}
@@ -74,25 +76,27 @@ asks_from set old now t request e whole long agrees may = subst (λ (s : Shared)
 
 -- What a step leaves, before what it did is seen as a machine's.
 pub record Stepping (set : SetFacts) (t : ℕ) (request : Request Ref Item) (result : Stepped) (old : Shared)
-    (spaces : Spaces) (rest : Rest) (h : History) : Type 0 where
+    (spaces : Spaces) (rest : Rest) (h : History) (notes : ThreadNotes) : Type 0 where
   pub agrees : Agrees set (shown_in old.machine) old.machine.rest
   pub sound : AreSound old.machine.rest.monitors
   pub step : IsStep set t request (shown_in old.machine) old.machine.rest result (shown_of spaces) rest
   pub heap : Becomes shown_of StoresIn MakesIn old.machine.spaces result spaces
   pub told : h ≡ told_by t (memory_of old.machine) old.history result
+  pub noted : notes ≡ noted_by request result old.notes
 
-abbrev pub stepped_in : Shared → Spaces → Rest → History → Shared
-stepped_in old spaces rest h = record old {
+abbrev pub stepped_in : Shared → Spaces → Rest → History → ThreadNotes → Shared
+stepped_in old spaces rest h notes = record old {
   machine = record old.machine { acts = h.acts; spaces = spaces; rest = rest };
   history = h;
+  notes = notes;
 }
 
 pub steps_to : (set : SetFacts) (t : ℕ) (request : Request Ref Item) (result : Stepped) (old now : Shared)
-    (spaces : Spaces) (rest : Rest) (h : History) → old ≡ now
-    → Stepping set t request result old spaces rest h
-    → StepsTo set t request result now (stepped_in old spaces rest h)
-steps_to set t request result old now spaces rest h e x =
-    subst (λ (s : Shared). StepsTo set t request result s (stepped_in old spaces rest h)) e record {
+    (spaces : Spaces) (rest : Rest) (h : History) (notes : ThreadNotes) → old ≡ now
+    → Stepping set t request result old spaces rest h notes
+    → StepsTo set t request result now (stepped_in old spaces rest h notes)
+steps_to set t request result old now spaces rest h notes e x =
+    subst (λ (s : Shared). StepsTo set t request result s (stepped_in old spaces rest h notes)) e record {
       step = x.step;
       heap = x.heap;
       sound = stays_sound set t request (shown_in old.machine) old.machine.rest result (shown_of spaces) rest
@@ -101,8 +105,14 @@ steps_to set t request result old now spaces rest h e x =
       history = x.told;
       machine = refl;
       lines = refl;
-      named = refl;
+      notes = x.noted;
     }
+
+-- A request that stores starts no thread, so that nothing is noted.
+pub stores_note_nothing : (request : Request Ref Item) (result : Stepped) (notes : ThreadNotes)
+    → (given request ≡ None → ⊥) → notes ≡ noted_by request result notes
+stores_note_nothing (ask.Start from thread) result notes stores = absurd (stores refl)
+stores_note_nothing request result notes stores = refl
 
 -- The act of a step stands behind all others, and names nothing.
 pub acts_added : (set : SetFacts) (t : ℕ) (request : Request Ref Item) (old new : Shared) (o : Op)
@@ -124,6 +134,11 @@ pub told_after : (t calls : ℕ) (memory : Memory) (before h : History) (result 
     → calls ≡ memory.calls
     → h ≡ told_at t calls before result → h ≡ told_by t memory before result
 told_after t calls memory before h result is told = told ∙ ap (λ n. told_at t n before result) is
+
+-- ---- what is noted
+
+pub same_request : (a b : Request Ref Item) → ◌≡◌ {A = Option (Request Ref Item)} (Some a) (Some b) → a ≡ b
+same_request a b is = cc
 
 -- ---- plans
 
@@ -213,5 +228,5 @@ stores_to t n calls store line result old now doing spaces queue h e x =
           ap (λ k. (stored_in old k doing spaces queue h).machine) x.number
           ∙ ap (λ (d : Doing). (stored_in old t d spaces queue h).machine) x.doing;
       lines = refl;
-      named = refl;
+      noted = refl;
     }

@@ -6,6 +6,7 @@ use Rattle.first_spaces.specs.Laws.{first_queues}
 use Rattle.region_log.specs.Log.{Log}
 use Rattle.machine_forms.specs.declared.doing.Doing.TheVariants.{Nothing}
 use Rattle.machine_forms.specs.Machines.{empty_log}
+use Rattle.shared_heap.specs.Notes.{no_notes}
 use Rattle.shared_heap.specs.Shared.{Shared}
 
 -- the empty logs of the first n threads
@@ -17,7 +18,7 @@ logs_to (suc n) = logs_to n ++ empty_log n ∷ []
 abbrev pub empty_logs : List Log
 empty_logs = logs_to 64
 
--- No act was made, nothing asked or claimed, and nothing logged. There is room for so many acts, and to name an
+-- No act was made, nothing asked or claimed, nothing logged, and nothing noted. There is room for so many acts, and to name an
 -- object for each line; the first line that is left is this one.
 abbrev pub first_shared : Spaces → (free : ℕ) → Rest → (acts : ℕ) → Shared
 first_shared spaces free rest acts =
@@ -33,5 +34,5 @@ first_shared spaces free rest acts =
       };
       history = record { acts = []; named = []; limit = acts; room = lines };
       lines = lines;
-      named = 0;
+      notes = no_notes;
     }

@@ -1,6 +1,7 @@
 pub mod Conversions
 pub mod First
 pub mod Laws
+pub mod Notes
 pub mod Plans
 pub mod Regions
 pub mod Requests

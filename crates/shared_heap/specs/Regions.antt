@@ -50,7 +50,7 @@ pub record GuardsTo (t : ℕ) (place : Place) (spot : Spot) (old new : Shared) :
     op = op.Guarded place;
   })
   pub lines : new.lines ≡ old.lines
-  pub named : new.named ≡ old.named
+  pub notes : new.notes ≡ old.notes
 
 -- ---- its word is logged
 
@@ -60,7 +60,7 @@ pub record IsLeft (twin : Twin) (t : ℕ) (log : Log) (old new : Shared) : Type 
   pub machine : new.machine ≡ with_logged old.machine twin t log
   pub history : new.history ≡ old.history
   pub lines : new.lines ≡ old.lines
-  pub named : new.named ≡ old.named
+  pub notes : new.notes ≡ old.notes
 
 -- a part of that, behind which more are left
 pub record LogsOnTo (t : ℕ) (old new : Shared) : Type 0 where
@@ -136,7 +136,7 @@ pub record ClosesTo (t : ℕ) (old new : Shared) : Type 0 where
   pub history : new.history
       ≡ with_act old.history (record { thread = t; at = twin.memory.calls; op = op.Closing })
   pub lines : new.lines ≡ old.lines
-  pub named : new.named ≡ old.named
+  pub notes : new.notes ≡ old.notes
 
 -- the last call of a region that logged something
 pub record IsEmptied (m : Machine) (twin : Twin) (t : ℕ) (log : Log) : Type 0 where

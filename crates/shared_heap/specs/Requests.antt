@@ -8,6 +8,7 @@ use Rattle.graph_model.specs.declared.types.Value.{Value}
 use Rattle.monitors.specs.Indexed.{AreSound}
 use Rattle.line_memory.specs.Memory.{Memory}
 use Rattle.natives.specs.declared.requests.Request.{Request}
+use Rattle.natives.specs.declared.requests.Request.TheVariants as ask
 use Rattle.natives.specs.declared.requests.Reply.TheVariants as reply
 use Rattle.run_history.specs.declared.act.Op.TheVariants as op
 use Rattle.run_history.specs.Recorded.{History, with_act}
@@ -29,6 +30,7 @@ use Rattle.machine_forms.specs.declared.doing.Doing.TheVariants.{Nothing, Writin
 use Rattle.machine_forms.specs.Machines.{Machine, memory_of, shown_in}
 use Rattle.machine_forms.specs.Events.{NotesStore, value_in, with_asked}
 use Rattle.store_barrier.specs.Barriers.{IsDurablePlace, IsReady}
+use Rattle.shared_heap.specs.Notes.{ThreadNotes, starting}
 use Rattle.shared_heap.specs.Shared.{Shared}
 
 -- Thread t was started, the request names what it may, and its references are null or stand for objects.
@@ -47,6 +49,16 @@ told_at t calls h other = h
 abbrev pub told_by : ℕ → Memory → History → Stepped → History
 told_by t memory h result = told_at t memory.calls h result
 
+-- the thread that was started, if one was, is noted with this reference
+abbrev pub noted_start : Ref → Stepped → ThreadNotes → ThreadNotes
+noted_start thread (stepped.Did (op.Start object child) r) notes = starting notes child thread
+noted_start thread result notes = notes
+
+-- A thread that was started is noted with the reference to its Thread object that the request gave.
+abbrev pub noted_by : Request Ref Item → Stepped → ThreadNotes → ThreadNotes
+noted_by (ask.Start from thread) result notes = noted_start thread result notes
+noted_by request result notes = notes
+
 -- The request's step comes to this. The heap becomes what the step says, the act is told if it did something,
 -- and what stands beside the heap may change; nothing else does.
 pub record StepsTo (set : SetFacts) (t : ℕ) (request : Request Ref Item) (result : Stepped) (old new : Shared)
@@ -62,7 +74,7 @@ pub record StepsTo (set : SetFacts) (t : ℕ) (request : Request Ref Item) (resu
     rest = new.machine.rest;
   }
   pub lines : new.lines ≡ old.lines
-  pub named : new.named ≡ old.named
+  pub notes : new.notes ≡ noted_by request result old.notes
 
 -- ---- stores
 
@@ -105,7 +117,7 @@ pub record StoresTo (t : ℕ) (store : Store) (line : Option ℕ) (old new : Sha
     doing = slice_set old.machine.doing t (doing_stored line);
   }
   pub lines : new.lines ≡ old.lines
-  pub named : new.named ≡ old.named
+  pub noted : new.notes ≡ old.notes
 
 -- ---- what is asked
 
@@ -118,4 +130,4 @@ pub record AsksTo (t : ℕ) (place : Place) (value : Value) (old new : Shared) :
     op = op.Asked place value;
   })
   pub lines : new.lines ≡ old.lines
-  pub named : new.named ≡ old.named
+  pub notes : new.notes ≡ old.notes

@@ -4,15 +4,16 @@ use Rattle.run_history.specs.declared.act.Op.TheVariants as op
 use Rattle.run_history.specs.Recorded.{History, with_act}
 use Rattle.twin_forms.specs.Sights.{Twin}
 use Rattle.machine_forms.specs.Machines.{Machine}
+use Rattle.shared_heap.specs.Notes.{ThreadNotes}
 use Rattle.machine_forms.specs.Events.{CallsImage, with_twin, WritesBack, with_write, MakesFence, with_fence}
 
 -- The machine; its history, with the objects that are named for the next act that makes objects durable; how
--- many lines the image has; and how many objects are named.
+-- many lines the image has; and what is noted for threads.
 pub record Shared : Type 0 where
   pub machine : Machine
   pub history : History
   pub lines : ℕ
-  pub named : ℕ
+  pub notes : ThreadNotes
 
 -- a call of the image was made that failed: all but the memory is as it was
 pub record Failed (old new : Shared) : Type 0 where
@@ -21,7 +22,7 @@ pub record Failed (old new : Shared) : Type 0 where
   pub machine : new.machine ≡ with_twin old.machine twin
   pub history : new.history ≡ old.history
   pub lines : new.lines ≡ old.lines
-  pub named : new.named ≡ old.named
+  pub notes : new.notes ≡ old.notes
 
 -- the line of the thread's store was written back
 pub record Writes (t : ℕ) (old new : Shared) : Type 0 where
@@ -30,7 +31,7 @@ pub record Writes (t : ℕ) (old new : Shared) : Type 0 where
   pub machine : new.machine ≡ with_write old.machine twin t
   pub history : new.history ≡ old.history
   pub lines : new.lines ≡ old.lines
-  pub named : new.named ≡ old.named
+  pub notes : new.notes ≡ old.notes
 
 -- a fence was made, and its act told
 pub record TellsFence (t : ℕ) (old new : Shared) : Type 0 where
@@ -40,4 +41,4 @@ pub record TellsFence (t : ℕ) (old new : Shared) : Type 0 where
   pub history : new.history
       ≡ with_act old.history (record { thread = t; at = twin.memory.calls; op = op.Fenced })
   pub lines : new.lines ≡ old.lines
-  pub named : new.named ≡ old.named
+  pub notes : new.notes ≡ old.notes

@@ -74,7 +74,7 @@ impl<I: Image> SharedHeap<I> {
         ensures machine { self.new.machine
             ≡ record self.old.machine { acts = self.new.history.acts } }
         ensures lines { self.new.lines ≡ self.old.lines }
-        ensures named { self.new.named ≡ self.old.named }
+        ensures notes { self.new.notes ≡ self.old.notes }
     {
         let at = self.spaces.heap.memory.calls();
         let _ = self.acts.push(Act { thread, at, op });

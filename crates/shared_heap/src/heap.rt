@@ -1,6 +1,7 @@
 // The heap.
 ghost use Rattle.std.specs.Prelude.{◌≡◌, ◌↔◌, ◌≤◌, ◌<◌, ◌^◌, length, IsTrue};
 
+use crate::notes::Notes;
 use convert_queue::Conversions;
 use line_image::Image;
 use machine_forms::Doing;
@@ -12,8 +13,8 @@ use std::marker::Model;
 use two_spaces::TwoSpaces;
 
 /// A heap of two spaces with what threads share beside it: the conversions that go on, the lines of
-/// the image that are left, monitors, classes and threads, what each thread is about, the logs of their
-/// regions, and the history.
+/// the image that are left, monitors, classes and threads, what each thread is about, asks and waits for,
+/// the logs of their regions, and the history.
 #[derive(Drop)]
 pub struct SharedHeap<I: Image> {
     pub(crate) spaces: TwoSpaces<I>,
@@ -23,8 +24,7 @@ pub struct SharedHeap<I: Image> {
     pub(crate) doing: Vec<Doing>,
     pub(crate) logs: Logs,
     pub(crate) acts: Acts,
-    /// how many objects are named for the next act that makes objects durable
-    pub(crate) named: u32,
+    pub(crate) notes: Notes,
     /// how many acts the history may have
     pub(crate) limit: u32,
 }
@@ -57,7 +57,7 @@ impl<I: Image> Model for SharedHeap<I> {
       };
       history = h.acts;
       lines = h.lines.lines;
-      named = h.named;
+      notes = h.notes;
     } };
 
     ghost invariant = { λ h. (length h.doing.items ≡ 64) × (h.limit ≡ h.acts.limit)

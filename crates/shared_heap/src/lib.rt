@@ -2,16 +2,19 @@
 //! being made durable, and the history. Each of its calls is an event of a machine.
 #![tactic(auto)]
 
+mod asking;
 mod calls;
 mod conversions;
 mod field_reads;
 mod heap;
 mod laws;
 mod making;
+mod notes;
 mod planning;
 mod quick;
 mod regions;
 mod requests;
+mod sealing;
 mod telling;
 
 pub use conversions::Conversion;

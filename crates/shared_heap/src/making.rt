@@ -1,15 +1,20 @@
 // How a shared heap is made, what it tells, and what is left of it.
-ghost use Rattle.std.specs.Prelude.{◌≡◌, ◌↔◌, ◌<◌, ◌≤◌, [], replicate, IfErr, IfOk, IsTrue};
+ghost use Rattle.std.specs.Prelude.{◌≡◌, ◌≢◌, ◌↔◌, ◌<◌, ◌≤◌, ◌^◌, ℕ, true, [], replicate, IfErr, IfOk, IsTrue};
+ghost use Rattle.convert_queue.specs.Threads.{has};
 ghost use Rattle.first_spaces.specs.Laws.{first_queues};
 ghost use Rattle.image_layout.specs.Places.{max_lines};
 ghost use Rattle.machine_forms.specs.declared.doing.Doing.TheVariants.{Nothing};
-ghost use Rattle.machine_forms.specs.Machines.{doing_of, memory_of};
+ghost use Rattle.machine_forms.specs.Machines.{doing_of, memory_of, scene_of};
 ghost use Rattle.store_barrier.specs.Barriers.{spaces_of};
+ghost use Rattle.shared_heap.specs.Conversions.{HasBegun};
 ghost use Rattle.shared_heap.specs.First.{empty_logs, first_shared};
+ghost use Rattle.shared_heap.specs.Notes.{no_notes};
 
 use crate::SharedHeap;
+use crate::notes::Notes;
 use ap_base::ThreadNo;
-use convert_queue::Conversions;
+use convert_queue::{Conversions, Phase};
+use converter::is_member;
 use line_image::Image;
 use line_memory::LineMemory;
 use machine_forms::Doing;
@@ -20,8 +25,8 @@ use shared_objects::{Rest, Threads};
 use std::alloc::{AllocError, Global};
 use two_spaces::TwoSpaces;
 
-// The queues of conversions, what each thread is about, the history, and the logs of regions.
-type Reserved = (Conversions, Vec<Doing>, Acts, Logs);
+// The queues of conversions, what each thread is about, the history, the logs of regions, and what is noted for threads.
+type Reserved = (Conversions, Vec<Doing>, Acts, Logs, Notes);
 
 // All memory that a shared heap takes, for an image of so many lines and a history of so many acts.
 fn reserve(alloc: Global, lines: u32, limit: u32) -> Result<Reserved, AllocError>
@@ -32,6 +37,7 @@ fn reserve(alloc: Global, lines: u32, limit: u32) -> Result<Reserved, AllocError
         ≡ record { acts = []; named = []; limit = limit; room = lines }) }
     ensures logs { IfOk result (λ it. it.3.logs ≡ empty_logs) }
     ensures guardable { IfOk result (λ it. it.3.lines ≡ lines) }
+    ensures notes { IfOk result (λ it. it.4 ≡ no_notes) }
 {
     let queue = Conversions::reserve(alloc, lines)?;
     let doing = vec![in alloc; Doing::Nothing; 64]?;
@@ -39,7 +45,21 @@ fn reserve(alloc: Global, lines: u32, limit: u32) -> Result<Reserved, AllocError
     acts.reserve(limit, lines)?;
     let logs = Logs::reserve(alloc, lines)?;
     logs.stand_apart();
-    Ok((queue, doing, acts, logs))
+    let notes = Notes::reserve(alloc)?;
+    Ok((queue, doing, acts, logs, notes))
+}
+
+// Whether a set of threads, which a number of 64 bits can be, has another than this one.
+fn has_other(set: u64, t: ThreadNo) -> bool
+    ensures other { IsTrue result ↔ ((u : ℕ) × (u < 64) × (u ≢ t) × (has set u ≡ true)) }
+    ensures small { set < 2 ^ 64 }
+{
+    for u in 0..64u8 {
+        if u != t.number() && is_member(set, u) {
+            return true;
+        }
+    }
+    false
 }
 
 impl<I: Image> SharedHeap<I> {
@@ -62,7 +82,7 @@ impl<I: Image> SharedHeap<I> {
         ensures given_back { IfErr result (λ back. back ≡ spaces) }
     {
         let lines = spaces.heap.memory.lines() as u32;
-        let Ok((queue, doing, history, logs)) = reserve(alloc, lines, acts) else {
+        let Ok((queue, doing, history, logs, notes)) = reserve(alloc, lines, acts) else {
             return Err(spaces);
         };
         Ok(SharedHeap {
@@ -73,7 +93,7 @@ impl<I: Image> SharedHeap<I> {
             doing,
             logs,
             acts: history,
-            named: 0,
+            notes,
             limit: acts,
         })
     }
@@ -85,11 +105,15 @@ impl<I: Image> SharedHeap<I> {
         self.doing[t.number() as usize]
     }
 
-    /// Whether an object is named, as it is while one is claimed and not durable yet.
-    pub fn is_converting(&self) -> bool
-        ensures { IsTrue result ↔ (0 < self.now.named) }
+    /// Whether the conversion of a thread has begun and isn't sealed: the thread has queued an object, or it is in its
+    /// flush and needs another.
+    pub fn is_converting(&self, t: ThreadNo) -> bool
+        ensures { IsTrue result ↔ HasBegun (scene_of self.now.machine) t }
     {
-        self.named > 0
+        if self.queue.queued(t, 0).is_some() {
+            return true;
+        }
+        self.queue.phase(t) == Phase::Flush && has_other(self.queue.group(t), t)
     }
 
     /// How many calls of the image were made.

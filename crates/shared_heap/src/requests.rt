@@ -13,12 +13,13 @@ ghost use Rattle.machine_forms.specs.Machines.{memory_of, shown_in};
 ghost use Rattle.store_barrier.specs.Barriers.{AgreesWith, ConvertsFirst, IfConverts, IfFollows, IfLogs, IfNoRace, IfRaces};
 ghost use Rattle.store_barrier.specs.Barriers.{IfStores, IsReady, MayFollow};
 ghost use Rattle.store_barrier.specs.Regions.{HasLogged, IsApart, IsLineLeft, LogsFirst, Races};
+ghost use Rattle.shared_heap.specs.Notes.{AreOf64};
 ghost use Rattle.shared_heap.specs.Plans.{IfEnded, IfPlanned};
 ghost use Rattle.shared_heap.specs.Requests.{AsksTo, IsPlannedFor, MayRequest, StepsTo, StoresTo, value_stored};
 
 use crate::SharedHeap;
 use crate::planning::plan_store;
-use crate::telling::{doing_stored, place_of, tell_step};
+use crate::telling::{doing_stored, note_start, place_of, tell_step};
 use ap_base::{Sink, ThreadNo};
 use line_image::Image;
 use machine_forms::Doing;
@@ -88,6 +89,7 @@ impl<I: Image> SharedHeap<I> {
         requires room { length self.old.history.acts < self.old.history.limit }
         requires no_store { given request.now ≡ None }
         ensures steps { StepsTo (C.facts set.now) t request.now result self.old self.new }
+        ensures threads { AreOf64 self.new.notes }
         ensures no_store { IsNoStore result }
         ensures share { SharesGo request.now (S.takes sink.old) result }
         ensures output { OutputGoes request.now (S.taken sink.old) result (S.taken sink.new) }
@@ -96,6 +98,8 @@ impl<I: Image> SharedHeap<I> {
         let at = self.spaces.heap.memory.calls();
         let step = take_step(set, &mut self.spaces, &mut self.rest, sink, t, request);
         tell_step(&mut self.acts, t, at, &step);
+        note_start(&mut self.notes, request, &step);
+        self.notes.are_of_64();
         step
     }
 

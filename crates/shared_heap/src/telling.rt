@@ -3,11 +3,13 @@ ghost use Rattle.std.specs.Prelude.{◌≡◌, ◌<◌, ◌&&◌, length, if◌t
 ghost use Rattle.convert_queue.specs.Marks.{with_fence};
 ghost use Rattle.run_history.specs.Recorded.{with_act};
 ghost use Rattle.object_steps.specs.Stores.{place_of};
-ghost use Rattle.shared_heap.specs.Requests.{doing_stored, told_at};
+ghost use Rattle.shared_heap.specs.Requests.{doing_stored, noted_by, told_at};
 
+use crate::notes::Notes;
 use ap_base::{Place, ThreadNo};
 use convert_queue::Conversions;
 use machine_forms::Doing;
+use natives::Request;
 use object_steps::Target;
 use run_history::{Act, Acts, Op};
 use step_forms::Stepped;
@@ -19,6 +21,21 @@ pub(crate) fn tell_step(acts: &mut Acts, thread: ThreadNo, at: u64, step: &Stepp
 {
     if let Stepped::Did { op, .. } = *step {
         let _ = acts.push(Act { thread, at, op });
+    }
+}
+
+// Notes the thread that a step has started, if it has, with the reference that its request gave.
+pub(crate) fn note_start(notes: &mut Notes, request: &Request, step: &Stepped)
+    ensures noted { notes.new ≡ noted_by request.now step.now notes.old }
+{
+    if let Request::Start { thread, .. } = *request {
+        if let Stepped::Did {
+            op: Op::Start { child, .. },
+            ..
+        } = *step
+        {
+            notes.start(child, thread);
+        }
     }
 }
 

@@ -15,7 +15,7 @@ use Rattle.parsing.specs.Results.{◌>>=◌}
 use Rattle.source_classes.specs.Files.{most_files, class_of, classes_in, classes_among}
 use Rattle.source_classes.specs.Reading.{HadLeft, FilesComeTo, HasNoCause, IsOfFiles, FailsUnrefused, StopsAtRefused}
 use Rattle.source_classes.specs.Reading.{StopsAnywhere, IsLeft, LeavesAt}
-use Rattle.statuses.specs.Stages.{Stage, OfWords, OfSource, OfMemory, OfFile, OfListing, OfLinking, OfForm, OfOpening, OfRoom, OfNames}
+use Rattle.statuses.specs.Stages.{Stage, OfWords, OfSource, OfMemory, OfFile, OfListing, OfLinking, OfOpening, OfRoom, OfNames}
 use Rattle.statuses.specs.Stages.{OfImage, OfTurns, OfOthers, stage_of, IsFreeStage, IsFilesStage}
 
 -- these files were read of a source, and this is left
@@ -271,7 +271,6 @@ failed_at first left room before s OfWords has free files some = absurd free
 failed_at first left room before s OfFile has free files some = absurd free
 failed_at first left room before s OfListing has free files some = absurd free
 failed_at first left room before s OfLinking has free files some = absurd free
-failed_at first left room before s OfForm has free files some = absurd free
 failed_at first left room before s OfOpening has free files some = absurd free
 failed_at first left room before s OfRoom has free files some = absurd free
 failed_at first left room before s OfNames has free files some = absurd free
@@ -307,7 +306,6 @@ refused_at OfSource files s after of other refused anywhere = absurd (other refl
 refused_at OfWords files s after of other refused anywhere = absurd of
 refused_at OfListing files s after of other refused anywhere = absurd of
 refused_at OfLinking files s after of other refused anywhere = absurd of
-refused_at OfForm files s after of other refused anywhere = absurd of
 refused_at OfOpening files s after of other refused anywhere = absurd of
 refused_at OfNames files s after of other refused anywhere = absurd of
 refused_at OfImage files s after of other refused anywhere = absurd of
@@ -331,7 +329,6 @@ source_only status.SinkFault is = absurd cc
 source_only status.OutOfMemory is = absurd cc
 source_only (status.Stuck waits) is = absurd cc
 source_only (status.LinkFault kind name) is = absurd cc
-source_only status.NotBuilt is = absurd cc
 source_only (status.NewImage reason) is = absurd cc
 source_only (status.BadHistory word) is = absurd cc
 source_only status.Refuted is = absurd cc

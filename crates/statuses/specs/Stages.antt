@@ -25,8 +25,6 @@ pub data Stage : Type 0 where
   OfListing : Stage
   -- the classes don't link
   OfLinking : Stage
-  -- the classes are of no form that is built
-  OfForm : Stage
   -- the image is refused
   OfOpening : Stage
   -- more was needed than there is: of files, of the image's directory, of words for the first objects, or in the run
@@ -47,7 +45,6 @@ stage_of status.OutOfMemory = OfMemory
 stage_of (status.BadClass file refusal) = OfFile
 stage_of (status.BadListing line kind) = OfListing
 stage_of (status.LinkRefused refusal) = OfLinking
-stage_of status.NotBuilt = OfForm
 stage_of (status.BadImage line reason) = OfOpening
 stage_of (status.ShapeChanged shape) = OfOpening
 stage_of (status.Full full) = OfRoom
@@ -77,11 +74,10 @@ IsFilesStage OfMemory = Unit {0}
 IsFilesStage OfSource = Unit {0}
 IsFilesStage other = ⊥
 
--- those at which classes are linked and what they give is chosen
+-- those at which classes are linked
 abbrev pub IsClassesStage : Stage → Type 0
 IsClassesStage OfLinking = Unit {0}
 IsClassesStage OfMemory = Unit {0}
-IsClassesStage OfForm = Unit {0}
 IsClassesStage other = ⊥
 
 -- those before the image is opened
@@ -113,7 +109,6 @@ pub record StagesAre : Type 0 where
   pub file : (file : List ℕ) (refusal : ClassRefusal) → stage_of (status.BadClass file refusal) ≡ OfFile
   pub listing : (line : ℕ) (kind : ListingFault) → stage_of (status.BadListing line kind) ≡ OfListing
   pub linking : (refusal : LinkRefusal) → stage_of (status.LinkRefused refusal) ≡ OfLinking
-  pub form : stage_of status.NotBuilt ≡ OfForm
   pub refused : (line : ℕ) (reason : BadReason) → stage_of (status.BadImage line reason) ≡ OfOpening
   pub changed : (shape : List ℕ) → stage_of (status.ShapeChanged shape) ≡ OfOpening
   pub room : (full : Full) → stage_of (status.Full full) ≡ OfRoom

@@ -26,7 +26,7 @@ use Rattle.plain_model.specs.declared.throws.Throws.TheVariants as thrown
 use Rattle.statuses.specs.declared.status.Status.{Status}
 use Rattle.statuses.specs.declared.status.Status.TheVariants.{Ok, Uncaught, Usage, BadClass, BadListing, BadImage, LinkRefused}
 use Rattle.statuses.specs.declared.status.Status.TheVariants.{ShapeChanged, BadCode, RegionRace, Full as FullOf, SourceFault}
-use Rattle.statuses.specs.declared.status.Status.TheVariants.{ImageFault, SinkFault, OutOfMemory, Stuck, LinkFault, NotBuilt}
+use Rattle.statuses.specs.declared.status.Status.TheVariants.{ImageFault, SinkFault, OutOfMemory, Stuck, LinkFault}
 use Rattle.statuses.specs.declared.status.Status.TheVariants.{NewImage, BadHistory, Refuted}
 use Rattle.statuses.specs.declared.status.NewReason.{NewReason}
 use Rattle.statuses.specs.declared.status.NewReason.TheVariants as fresh
@@ -49,7 +49,6 @@ number_of OutOfMemory = 13
 number_of (Stuck waits) = 14
 number_of (LinkFault kind name) = 15
 number_of (BadListing line kind) = 16
-number_of NotBuilt = 17
 number_of (NewImage reason) = 18
 number_of (BadHistory word) = 19
 number_of Refuted = 20
@@ -215,7 +214,6 @@ what_of SinkFault = codes "sink fault"
 what_of OutOfMemory = codes "no memory"
 what_of (Stuck waits) = codes "stuck" ++ waits_text waits
 what_of (LinkFault kind name) = with_names (codes "link " ++ kind_text kind) (name ∷ [])
-what_of NotBuilt = codes "not built"
 what_of (NewImage reason) = codes "new " ++ new_text reason
 what_of (BadHistory word) = with_numbers (codes "history") (word ∷ [])
 what_of Refuted = codes "refuted"

@@ -73,8 +73,6 @@ pub enum Status {
         kind: LinkKind,
         name: Bytes,
     },
-    /// The classes, or the image, are of no form that is built yet.
-    NotBuilt,
     /// The image that is to be written can't be taken.
     NewImage {
         reason: NewReason,
@@ -119,7 +117,6 @@ impl Status {
             Status::Stuck(_) => 14,
             Status::LinkFault { .. } => 15,
             Status::BadListing { .. } => 16,
-            Status::NotBuilt => 17,
             Status::NewImage { .. } => 18,
             Status::BadHistory { .. } => 19,
             Status::Refuted => 20,

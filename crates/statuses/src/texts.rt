@@ -392,7 +392,6 @@ fn put_what(out: &mut Vec<u8>, status: &Status) -> Result<(), AllocError>
             put(out, b"link ")?;
             put_of_class(out, kind_name(*kind), name)
         }
-        Status::NotBuilt => put(out, b"not built"),
         Status::NewImage { reason } => {
             put(out, b"new ")?;
             put(out, new_name(*reason))

@@ -84,7 +84,7 @@ same_key_is shown one (key.Object r) (key.Class n) a b = refl
 same_key_is shown one (key.Class m) (key.Object s) a b = refl
 same_key_is shown one (key.Class m) (key.Class n) a b = refl
 
-abbrev plain_held : Shown → Option Monitor → Option PlainMonitor
+abbrev pub plain_held : Shown → Option Monitor → Option PlainMonitor
 plain_held shown None = None
 plain_held shown (Some m) = Some (plain_monitor shown.number m)
 
@@ -241,7 +241,7 @@ module _ (set : SetFacts) (t : ℕ) (shown : Shown) (rest : Rest) (k : Key Ref) 
     HasOneKey shown)
     (monitors : KnowsMonitors shown rest) (known : IsHeldKey shown k) (is : pk ≡ plain_key shown.number k)
   where
-    held_by_number : plain.held (map (plain_monitor shown.number) rest.monitors) pk ≡ plain_held shown
+    pub held_by_number : plain.held (map (plain_monitor shown.number) rest.monitors) pk ≡ plain_held shown
         (monitor_of rest.monitors k)
     held_by_number = ap (plain.held (map (plain_monitor shown.number) rest.monitors)) is
         ∙ held_plain shown one k known rest.monitors monitors

@@ -1,5 +1,4 @@
 use Rattle.std.proofs.Common.{◌≡◌, ◌⊎◌, ℕ, inl, inr, List, [], Option, Some, Result, Ok, Err}
-use Rattle.std.specs.Prelude.{◌≢◌}
 use Rattle.ap_base.specs.declared.source.NamedBytes.{NamedBytes}
 use Rattle.run_types.specs.declared.limits.Limits.{Limits}
 use Rattle.class_file.specs.declared.class.ClassFile.{ClassFile}

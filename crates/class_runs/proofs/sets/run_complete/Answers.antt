@@ -1,4 +1,3 @@
-use Rattle.std.proofs.Common.{sym}
 use Rattle.class_runs.proofs.Outside.{rose_since, tells_nothing}
 use Rattle.class_runs.proofs.SetRan.{unappended_ran}
 use Rattle.class_runs.proofs.sets.run_complete.Goals as goal

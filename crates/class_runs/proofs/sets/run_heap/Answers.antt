@@ -1,12 +1,9 @@
-use Rattle.std.proofs.Common.{inl, inr, refl, ap, sym, subst, ◌∙◌}
+use Rattle.std.proofs.Common.{ap, subst, ◌∙◌}
 use Rattle.ap_base.specs.Causes.{Rose}
 use Rattle.graph_model.specs.declared.types.Graph.{Graph}
 use Rattle.line_memory.specs.Memory.{Memory}
-use Rattle.run_types.specs.declared.fault.LinkKind.{LinkKind}
 use Rattle.image_recovery.specs.Recovered.{entries_in}
 use Rattle.durable_launch.specs.Launching.{launch_over, opening_over}
-use Rattle.statuses.specs.Names.{main_text, shortened}
-use Rattle.statuses.specs.declared.status.Status.TheVariants as status
 use Rattle.class_runs.specs.Began.{RanBy}
 use Rattle.class_runs.proofs.SetRan.{has_run_over, unstarted_ran}
 use Rattle.class_runs.proofs.sets.run_heap.Goals as goal

@@ -9,15 +9,15 @@ use Rattle.class_runs.proofs.sets.run_launched.Goals as goal
 
 pub returns-clause-ran : goal.returns-clause-ran
 returns-clause-ran g c = λ o first ready. record {
-  turned = c.run_thread-turned.result;
-  shared = c.run_thread-turned.new.run.heap;
-  ends = c.run_thread-turned.ensures.ends o first
+  end = c.run_threads-end.result;
+  shared = c.run_threads-end.new.run.heap;
+  ends = c.run_threads-end.ensures.ends o first
       (subst (λ (s : Linked). IsReady o first (facts_of s) (setting_in c.args.launched.host) c.args.launched.heap
-      c.args.launched.frames) (sym c.of.ensures.types) ready);
+      c.args.launched.frames.items) (sym c.of.ensures.types) ready);
   acts_are = ap (λ (h : History). h.acts) c.finish-acts.ensures.history;
   image = c.into_image.ensures.told ∙ ap (λ (m : Memory). m.image) c.finish-acts.ensures.memory;
   size = c.into_image.ensures.size ∙ ap (λ (m : Memory). m.size) c.finish-acts.ensures.memory;
-  is = c.of_turned.ensures;
+  is = c.of_end.ensures;
   none = c.opening_of.ensures.none;
   some = c.opening_of.ensures.some;
 }

@@ -2,7 +2,6 @@ use Rattle.std.proofs.Common.{inl, inr, ap, sym, ◌∙◌}
 use Rattle.run_types.specs.declared.fault.LinkKind.{LinkKind}
 use Rattle.statuses.specs.Names.{main_text, shortened}
 use Rattle.statuses.specs.declared.status.Status.TheVariants as status
-use Rattle.class_runs.proofs.Outside.{tells_nothing}
 use Rattle.class_runs.proofs.SetRan.{unbegun_ran}
 use Rattle.class_runs.proofs.sets.run_main.Goals as goal
 

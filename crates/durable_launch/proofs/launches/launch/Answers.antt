@@ -21,6 +21,7 @@ returns-in-Ok-new-clause-ready g c start old can =
       lines = c.events_keep_lines.ensures.starts;
       unwritten = c.lines_stay_unwritten.ensures.starts;
       arrays = c.asked_arrays_are_written.ensures.threads;
+      begin = c.others_keep_theirs.ensures.begin;
     })
     can
     (record {
@@ -30,8 +31,8 @@ returns-in-Ok-new-clause-ready g c start old can =
       class = c.requires.main;
       beside = c.in-Ok.ensures.rest;
     })
-    (setting_in c.in-Ok.field-0.host) c.in-Ok-new.heap c.in-Ok.field-0.frames c.in-Ok.ensures.host
-    c.in-Ok-new.ensures.made c.in-Ok.ensures.frames in record {
+    (setting_in c.in-Ok.field-0.host) c.in-Ok-new.heap c.in-Ok.field-0.frames.items c.in-Ok.ensures.host
+    c.in-Ok-new.ensures.made c.in-Ok.ensures.many c.in-Ok.ensures.main in record {
       literals = heap.literals.items;
       ready = ready;
       empty = ap (λ (s : Shared). s.history.acts) c.in-Ok-new.ensures.made;

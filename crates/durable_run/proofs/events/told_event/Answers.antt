@@ -1,28 +1,20 @@
 use Rattle.std.proofs.Common.{◌∙◌, ℕ, ap, arith, drop, length}
 use Rattle.run_history.specs.Recorded.{History}
 use Rattle.durable_run.specs.Telling.{with_all}
-use Rattle.durable_run.proofs.Going.{at-most-one, leads}
-use Rattle.durable_run.proofs.Telling.{tells-event}
+use Rattle.durable_run.proofs.Telling.{at-most-one, tells-event}
 use Rattle.durable_run.proofs.events.told_event.Goals as goal
 
 pub tell-requires : goal.tell-requires
 tell-requires g c =
-    let most = at-most-one c.event-went.result c.args.heap.now.history.acts c.event-went.new.heap.history.acts
+    let most = at-most-one c.event-went.result c.args.t c.args.heap.now.history.acts c.event-went.new.heap.history.acts
     c.event-went.ensures.acts in
     let now = ap (λ (h : History). length h.acts) c.acts-2.ensures in
     let before = ap (λ (h : History). length h.acts) c.acts.ensures in
     record { one = omega (arith, most, now, before, c.len-before.ensures.len) }
 
-pub returns-clause-leads : goal.returns-clause-leads
-returns-clause-leads g c o first fs due =
-    leads o first (g.C.Types.facts c.args.set.now) fs c.args.request.now c.args.heap.now c.event-went.new.heap
-    due.0
-    due.1 c.event-went.ensures.numbers c.event-went.result (c.event-went.ensures.goes o first due.0 fs due.1)
-    c.event-went.ensures.acts
-
 pub returns-clause-tells : goal.returns-clause-tells
 returns-clause-tells g c =
-    tells-event c.args.request.now c.event-went.result c.args.heap.now c.event-went.new.heap _ _ _ _ _ _ _ _
+    tells-event c.args.request c.event-went.result c.args.t c.args.heap.now c.event-went.new.heap _ _ _ _ _ _ _ _
     c.event-went.ensures.acts
     (c.tell.ensures.told ∙ ap (with_all (g.W.Watcher.seen c.args.watcher.now))
     (ap (λ (n : ℕ). drop n c.acts-2.result.now.acts)

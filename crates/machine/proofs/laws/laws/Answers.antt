@@ -1,3 +1,4 @@
+use Rattle.plain_model.proofs.Within.{runs_stay_within}
 use Rattle.machine.proofs.laws.laws.Goals as goal
 
 pub returns : goal.returns
@@ -5,6 +6,21 @@ returns c = record {
   keep = c.events_keep_runs.ensures;
   frames = c.events_go_on_as_plain_runs.ensures;
   alike = c.machines_ask_as_plain_runs.ensures.ready;
+  runs = c.machines_ask_as_plain_runs.ensures.acts;
+  within = λ set main opening code limits lines acts run quiet.
+      runs_stay_within set main opening code limits lines acts run quiet;
+  threads = record {
+    own = c.others_keep_theirs.ensures.own;
+    all = c.others_keep_theirs.ensures.all;
+    ask = c.others_keep_theirs.ensures.ask;
+    forwarded = c.others_keep_theirs.ensures.forwarded;
+    nothing = c.claimers_convert.ensures.others;
+    plain = c.full_rows_end_runs.ensures.no_conversion;
+    wait = c.threads_wait_as_they_ask.ensures.ready;
+    live = c.tested_waits_are_stuck.ensures.live;
+    tested = c.tested_waits_are_stuck.ensures.stuck;
+    end = c.tested_waits_are_stuck.ensures.end;
+  };
   lines = c.events_keep_lines.ensures.events;
   unwritten = c.lines_stay_unwritten.ensures.events;
   ends = record {

@@ -1,9 +1,5 @@
-use Rattle.std.proofs.Common.{ℕ, length, refl, ap, ◌∙◌, ◌≡◌, subst, sym}
+use Rattle.std.proofs.Common.{length, refl, ap, ◌∙◌, subst, sym}
 use Rattle.run_history.specs.Recorded.{History}
-use Rattle.region_events.specs.Laws.{one_deeper}
-use Rattle.machine_forms.specs.Machines.{log_of}
-use Rattle.shared_heap.specs.Regions.{with_log_of}
-use Rattle.shared_heap.specs.Requests.{StepsTo}
 use Rattle.machine.specs.Ended.{event_of}
 use Rattle.machine.proofs.Answering.{agrees-at, serves-as}
 use Rattle.machine.proofs.Beginning.{begun-serves}
@@ -12,7 +8,7 @@ use Rattle.machine.proofs.regions.begin.Goals as goal
 
 pub take-step-requires-clause-agrees : goal.take-step-requires-clause-agrees
 take-step-requires-clause-agrees g c =
-    agrees-at c.laws.ensures (g.C.Types.facts c.args.set.now) c.args.heap.now c.args.request.now
+    agrees-at c.laws.ensures (g.C.Types.facts c.args.set.now) c.args.heap.now c.args.t c.args.request.now
     c.requires.ready
     c.args.heap.now refl c.requires.due c.len-count.result c.len-count.type_inv
     (c.len-count.ensures.len ∙ ap (λ (h : History). length h.acts) c.acts.ensures)
@@ -21,17 +17,14 @@ pub returns-clause-serves : goal.returns-clause-serves
 returns-clause-serves g c =
     let facts = g.C.Types.facts c.args.set.now in
     let regional = subst IsRegional (sym c.requires.is_begin.1) tt in
-    serves-as facts c.args.heap.now c.open_region.new.self c.args.request.now
+    serves-as facts c.args.heap.now c.open_region.new.self c.args.t c.args.request.now
     (event_of c.args.request.now c.take-step.result) c.ended.result (g.S.Sink.takes c.args.sink.now) _ _ _ _
     (begun-serves c.laws.ensures facts c.args.heap.now c.take-step.new.self c.open_region.new.self
-    c.args.request.now c.requires.room c.requires.counted c.requires.ready c.requires.idle
+    c.args.t c.args.request.now c.requires.room c.requires.counted c.requires.ready c.requires.idle
     c.requires.is_begin.0 c.requires.is_begin.1 c.take-step.result
-    (subst (λ (t : ℕ). StepsTo facts t c.args.request.now c.take-step.result c.args.heap.now
-    c.take-step.new.self) c.main.ensures.zero c.take-step.ensures.steps)
+    c.take-step.ensures.steps
     c.take-step.ensures.no_store
-    (subst (λ (t : ℕ). c.open_region.new.self
-    ≡ with_log_of c.take-step.new.self t (one_deeper (log_of c.take-step.new.self.machine t)))
-    c.main-2.ensures.zero c.open_region.ensures.deeper) c.requires.due (g.S.Sink.takes c.args.sink.now) _ _)
+    c.open_region.ensures.deeper c.requires.due (g.S.Sink.takes c.args.sink.now) _ _)
     c.ended.ensures
     (regional-output c.args.request.now regional _ _ c.take-step.result c.take-step.ensures.output)
     (regional-faults c.args.request.now regional _ _ c.take-step.result c.take-step.ensures.cause)

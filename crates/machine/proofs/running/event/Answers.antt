@@ -1,74 +1,82 @@
-use Rattle.std.proofs.Common.{refl, sym, ◌∙◌}
-use Rattle.machine.proofs.Answering.{full-over}
-use Rattle.machine.proofs.Printing.{spares-cause, spares-output, spares-share}
+use Rattle.std.proofs.Common.{◌⊎◌, ◌<◌, ◌≤◌, length, sym, ◌∙◌, ap, subst}
+use Rattle.line_memory.specs.Memory.{OneCall, SameImage}
+use Rattle.run_history.specs.Recorded.{History}
+use Rattle.machine_forms.specs.Machines.{Machine, memory_of}
+use Rattle.machine_threads.specs.Passed.{measure}
+use Rattle.machine.specs.Events.{TakesOutput}
+use Rattle.machine.proofs.Leaving.{few}
+use Rattle.machine.proofs.Recalling.{came-micro, came-waiting, counted-then, event-leads, full-over, full-remembers}
+use Rattle.machine.proofs.Recalling.{notable, noted-acts, noted-answers, noted-history, noted-image, noted-machine, noted-sink}
+use Rattle.machine.proofs.Recalling.{room-of}
 use Rattle.machine.proofs.running.event.Goals as goal
 
-pub returns-then-is_full-clause-goes : goal.returns-then-is_full-clause-goes
-returns-then-is_full-clause-goes g c o first es fs due =
-    full-over c.laws.ensures o first (g.C.Types.facts c.args.set.now) c.args.heap.now es fs
-    c.args.request.now due
-    (c.is_full.ensures.full.0 c.if-is_full.true)
+pub returns-then-is_full-clause-leads : goal.returns-then-is_full-clause-leads
+returns-then-is_full-clause-leads g c o first es threads fs next =
+    full-over c.laws.ensures o first (g.C.Types.facts c.args.set.now) c.args.heap.now es threads c.args.t fs
+    c.args.request next.due (c.is_full.ensures.full.0 c.if-is_full.true)
 
-pub returns-in-Writing : goal.returns-in-Writing
-returns-in-Writing g c =
-    let due = c.requires.due in
-    let facts = g.C.Types.facts c.args.set.now in
-    let comes = c.write_back.ensures.comes due.0 due.1 facts due.2 due.3 c.args.request.now due.4 in record {
-      goes = λ o first es fs is. (c.write_back.ensures.comes o first facts es fs c.args.request.now is).goes;
-      acts = comes.acts;
-      told = spares-output c.write_back.result c.args.heap.now.history.acts c.write_back.new.heap.history.acts
-          (g.S.Sink.taken c.args.sink.now) c.write_back.ensures.sink;
-      share = spares-share c.write_back.result c.args.heap.now.history.acts
-          c.write_back.new.heap.history.acts c.args.request.now
-          (g.S.Sink.takes c.args.sink.now) c.write_back.ensures.sink;
-      sink = λ micro. refl;
-      sink_cause = spares-cause c.write_back.result (g.S.Sink.faults c.args.sink.now)
-          c.write_back.ensures.sink.fault;
-      image_cause = comes.cause;
-      calls = comes.calls;
-      full = λ enough. absurd (let no = sym c.if-is_full.false ∙ c.is_full.ensures.full.1 enough in cc);
-      answers = comes.answers;
-      numbers = comes.numbers;
-      quiet = comes.quiet;
-    }
+pub returns-then-is_full-clause-remembers : goal.returns-then-is_full-clause-remembers
+returns-then-is_full-clause-remembers g c = full-remembers c.args.heap.now c.args.t c.args.request
 
-pub returns-in-Fencing : goal.returns-in-Fencing
-returns-in-Fencing g c =
-    let due = c.requires.due in
-    let facts = g.C.Types.facts c.args.set.now in
-    let comes = c.fence.ensures.comes due.0 due.1 facts due.2 due.3 c.args.request.now due.4 in record {
-      goes = λ o first es fs is. (c.fence.ensures.comes o first facts es fs c.args.request.now is).goes;
-      acts = comes.acts;
-      told = spares-output c.fence.result c.args.heap.now.history.acts c.fence.new.heap.history.acts
-          (g.S.Sink.taken c.args.sink.now) c.fence.ensures.sink;
-      share = spares-share c.fence.result c.args.heap.now.history.acts c.fence.new.heap.history.acts
-          c.args.request.now
-          (g.S.Sink.takes c.args.sink.now) c.fence.ensures.sink;
-      sink = λ micro. refl;
-      sink_cause = spares-cause c.fence.result (g.S.Sink.faults c.args.sink.now) c.fence.ensures.sink.fault;
-      image_cause = comes.cause;
-      calls = comes.calls;
-      full = λ enough. absurd (let no = sym c.if-is_full.false ∙ c.is_full.ensures.full.1 enough in cc);
-      answers = comes.answers;
-      numbers = comes.numbers;
-      quiet = comes.quiet;
-    }
+pub attempt-came-requires-clause-due : goal.attempt-came-requires-clause-due
+attempt-came-requires-clause-due g c =
+    let (o, first, es, threads, fs, next) = c.requires.next in (o, first, es, threads, fs, next.due)
 
-pub returns-in-Nothing : goal.returns-in-Nothing
-returns-in-Nothing g c =
-    let due = c.requires.due in
-    let serves = c.go_on.ensures.serves in
-    let comes = serves.comes due.0 due.1 due.2 due.3 due.4 in record {
-      goes = λ o first es fs is. (serves.comes o first es fs is).goes;
-      acts = comes.acts;
-      told = serves.told;
-      share = serves.share;
-      sink = c.go_on.ensures.sink;
-      sink_cause = serves.cause;
-      image_cause = comes.cause;
-      calls = comes.calls;
+pub remember-requires-clause-notable : goal.remember-requires-clause-notable
+remember-requires-clause-notable g c w is sixty_four =
+    let (o, first, es, threads, fs, next) = c.requires.next in
+    notable c.laws.ensures o first (g.C.Types.facts c.args.set.now) c.args.heap.now c.attempt-came.new.heap es threads
+    c.args.t fs c.args.request c.attempt-came.result next (c.attempt-came.ensures.serves.comes o first es threads fs next.due) w is
+    sixty_four
+
+pub remember-requires-clause-counted : goal.remember-requires-clause-counted
+remember-requires-clause-counted g c =
+    let (o, first, es, threads, fs, next) = c.requires.next in
+    counted-then c.attempt-came.result c.args.t c.args.heap.now.history.limit 4294967296 c.args.heap.now.history.acts
+    c.attempt-came.new.heap.history.acts (c.attempt-came.ensures.serves.comes o first es threads fs next.due).acts
+    (room-of c.is_full.result c.args.heap.now.history.limit (length c.args.heap.now.history.acts)
+    c.is_full.ensures.full.1 c.if-is_full.false)
+    c.is_full.ensures.counted
+
+pub returns : goal.returns
+returns g c =
+    let set = g.C.Types.facts c.args.set.now in
+    let s = c.args.heap.now in
+    let mid = c.attempt-came.new.heap in
+    let new = c.remember.new.heap in
+    let t = c.args.t in
+    let request = c.args.request in
+    let came = c.attempt-came.result in
+    let result = c.remember.result in
+    let serves = c.attempt-came.ensures.serves in
+    let notes = c.remember.ensures in
+    let (o, first, es, threads, fs, next) = c.requires.next in
+    let comes = serves.comes o first es threads fs next.due in
+    let room = room-of c.is_full.result s.history.limit (length s.history.acts) c.is_full.ensures.full.1
+    c.if-is_full.false in
+    let machine = noted-machine set t request came result mid new notes in
+    let history = noted-history set t request came result mid new notes in
+    let acts = ap (λ (h : History). h.acts) history in record {
+      leads = λ o first es threads fs next. (event-leads c.laws.ensures o first set s mid new es threads t fs request came
+          result next (few c.laws.ensures o first set s es threads t fs request next.due room)
+          (serves.comes o first es threads fs next.due) notes).0;
+      remembers = (event-leads c.laws.ensures o first set s mid new es threads t fs request came result next
+          (few c.laws.ensures o first set s es threads t fs request next.due room) comes notes).1;
+      acts = noted-acts set t request came result mid new notes s.history.acts comes.acts;
+      told = subst (λ (h : History). TakesOutput s.history.acts h.acts (g.S.Sink.taken c.args.sink.now)
+          (g.S.Sink.taken c.attempt-came.new.sink)) (sym history) serves.told;
+      share = λ act is. serves.share act (sym acts ∙ is);
+      sink = λ micro. c.attempt-came.ensures.sink (came-micro set t request came result mid new notes micro);
+      sink_cause = noted-sink set t request came result mid new notes (g.S.Sink.faults c.args.sink.now)
+          (g.S.Sink.faults c.attempt-came.new.sink) serves.cause;
+      image_cause = noted-image set t request came result mid new notes (memory_of s.machine).faults comes.cause;
+      calls = subst (λ (m : Machine). SameImage (memory_of s.machine) (memory_of m)
+          ⊎ OneCall (memory_of s.machine) (memory_of m)) (sym machine) comes.calls;
       full = λ enough. absurd (let no = sym c.if-is_full.false ∙ c.is_full.ensures.full.1 enough in cc);
-      answers = comes.answers;
-      numbers = comes.numbers;
-      quiet = comes.quiet;
+      answers = noted-answers set t request came result mid new notes comes.answers;
+      numbers = ap (λ (m : Machine). m.spaces.numbers) machine ∙ comes.numbers;
+      quiet = λ micro same. subst (λ (m : Machine). measure m < measure s.machine) (sym machine)
+          (comes.quiet (came-micro set t request came result mid new notes micro) (sym acts ∙ same));
+      waits = λ w is. subst (λ (m : Machine). measure m ≤ measure s.machine) (sym machine)
+          (comes.waits w (came-waiting set t request came result mid new notes w is));
     }

@@ -1,13 +1,10 @@
-use Rattle.std.proofs.Common.{ℕ, subst}
-use Rattle.shared_heap.specs.Shared.{TellsFence}
 use Rattle.machine.proofs.Calling.{failed-comes-to, fenced-comes-to}
 use Rattle.machine.proofs.running.fence.Goals as goal
 
 pub returns-in-Ok : goal.returns-in-Ok
-returns-in-Ok g c = fenced-comes-to c.laws.ensures c.args.heap.now c.fence.new.self
-    (subst (λ (t : ℕ). TellsFence t c.args.heap.now c.fence.new.self) c.main.ensures.zero
-    c.in-Ok.ensures.fenced) c.requires.room c.fence.ensures.cause.later
+returns-in-Ok g c = fenced-comes-to c.laws.ensures c.args.heap.now c.fence.new.self c.args.t
+    c.in-Ok.ensures.fenced c.requires.room c.fence.ensures.cause.later
 
 pub returns-in-Err : goal.returns-in-Err
-returns-in-Err g c = failed-comes-to c.laws.ensures c.args.heap.now c.fence.new.self c.in-Err.ensures.failed
+returns-in-Err g c = failed-comes-to c.laws.ensures c.args.heap.now c.fence.new.self c.args.t c.in-Err.ensures.failed
     c.requires.room c.in-Err.ensures.cause.failed

@@ -3,6 +3,7 @@ use Rattle.machine_threads.proofs.Asking.{others_ask_on}
 use Rattle.machine_threads.proofs.Beginning.{beginners_keep_theirs}
 use Rattle.machine_threads.proofs.Numbers.{references_stand_still}
 use Rattle.machine_threads.proofs.Others.{others_keep_theirs, others_stay_forwarded, others_stay_unbegun}
+use Rattle.machine_threads.proofs.Own.{owners_keep_theirs}
 use Rattle.machine_threads.proofs.laws.others_keep_theirs.Goals as goal
 
 pub returns-clause-keep : goal.returns-clause-keep
@@ -25,3 +26,6 @@ returns-clause-all c = events_keep_all
 
 pub returns-clause-references : goal.returns-clause-references
 returns-clause-references c = references_stand_still
+
+pub returns-clause-own : goal.returns-clause-own
+returns-clause-own c = owners_keep_theirs

@@ -37,5 +37,5 @@ returns-in-Err-clause-unappended g c start old set is =
           c.append_all.new.directory is.stood f.graph f.lines f.free old set is.found_is is.fitted is.continues
           all.entries all.goes_on all.appended (g.I.Image.told c.into_image.result) c.into_image.ensures.size
           c.into_image.ensures.told;
-      set_is = (is.found.shapes, is.fitted.set_is);
+      set_is = is.fitted.set_is;
     }

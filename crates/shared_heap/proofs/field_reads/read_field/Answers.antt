@@ -1,12 +1,11 @@
-use Rattle.std.proofs.Common.{rules, refl, ◌≡◌, true, false, ap, sym, ◌∙◌}
+use Rattle.std.proofs.Common.{rules, ◌≡◌, true, ap, sym, ◌∙◌}
 use Rattle.ap_base.specs.declared.place.Place.TheVariants.{Slot}
 use Rattle.natives.specs.declared.requests.Request.TheVariants as ask
-use Rattle.plain_model.specs.declared.throws.Throws.TheVariants as exception
 use Rattle.plain_model.specs.Facts.{is_sub}
-use Rattle.plain_model.specs.Steps.{WrongOperand, throws, reads}
+use Rattle.plain_model.specs.Steps.{reads}
 use Rattle.shared_objects.specs.Worlds.{world_of}
-use Rattle.step_forms.proofs.Going.{heap_step, heap_wrong}
-use Rattle.object_steps.proofs.Fields.{get_field_none, get_field_wrong, get_field_right}
+use Rattle.step_forms.proofs.Going.{heap_step}
+use Rattle.object_steps.proofs.Fields.{get_field_right}
 use Rattle.object_steps.proofs.Places.{field_slot, HasItsSlot}
 use Rattle.shared_heap.proofs.field_reads.read_field.Goals as goal
 

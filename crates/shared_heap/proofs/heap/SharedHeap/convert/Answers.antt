@@ -1,162 +1,42 @@
-use Rattle.std.proofs.Common.{refl, ap}
-use Rattle.twin_forms.specs.Sights.{Twin}
-use Rattle.convert_words.specs.declared.step.ConvertStep.TheVariants as step
+use Rattle.std.proofs.Common.{◌<◌, false, inl, refl, sym, ◌∙◌, subst, arith}
+use Rattle.std.proofs.lemmas.Bool.{both_ways}
+use Rattle.convert_queue.specs.Queues.{AllSettled, IsSettled}
+use Rattle.convert_queue.specs.Threads.{IsGroupOf}
+use Rattle.convert_words.specs.Converting.{WaitsFor}
+use Rattle.machine_forms.specs.Machines.{memory_of, scene_of}
 use Rattle.shared_heap.specs.declared.conversions.Conversion.TheVariants as did
 use Rattle.shared_heap.specs.Shared.{Shared}
-use Rattle.shared_heap.proofs.Calling.{on_err}
-use Rattle.shared_heap.proofs.Converting.{under_way, stepped_as, leaves_queues, moves_on, goes_once, claims_once, last_of}
-use Rattle.shared_heap.proofs.Converting.{named_machine, joins_next, fails_to, goes_all, fails_all, cause_of, cause_same}
+use Rattle.shared_heap.proofs.Converting.{cause_same, goes_all, waits_settled}
 use Rattle.shared_heap.proofs.heap.SharedHeap.convert.Goals as goal
 
-pub returns-in_err-step-clause-failed : goal.returns-in_err-step-clause-failed
-returns-in_err-step-clause-failed g c = on_err c.from_residual.result _
-    (fails_all c.args.t _ c.args.self.now _ c.self.view_is
-    (λ es u. fails_to c.args.t _ _ es u record {
-      event = c.in_err-step.ensures.failed es u.alone.agrees;
-      same = refl;
-      lines = c.in_err-step.ensures.lines;
-      within = c.in_err-step.ensures.within;
-      sound = c.in_err-step.ensures.sound;
-      known = c.in_err-step.ensures.known;
-      history = refl;
-      named = refl;
-    })
-    c.requires.doing c.requires.some)
+pub go_on-requires-clause-unsettled : goal.go_on-requires-clause-unsettled
+go_on-requires-clause-unsettled g c settled =
+    both_ways false refl (sym c.if-not-is_settled.true ∙ c.is_settled.ensures.settled.1
+    (subst (λ (s : Shared). IsSettled s.machine.queue c.args.t) (sym c.self.view_is) settled))
 
-pub name_claimed-requires-clause-last : goal.name_claimed-requires-clause-last
-name_claimed-requires-clause-last g c =
-    let es = c.requires.alone.0 in
-    let u = under_way c.args.t _ c.args.self.now es c.self.view_is c.requires.doing c.requires.some
-    c.requires.alone.1 in
-    last_of c.args.t c.in_ok-step.step _ _ es c.in-Claimed.is u record {
-      event = c.in_ok-step.ensures.converts es u.alone.agrees;
-      same = refl;
-      lines = c.in_ok-step.ensures.lines;
-      within = c.in_ok-step.ensures.within;
-      sound = c.in_ok-step.ensures.sound;
-      known = c.in_ok-step.ensures.known;
-      history = refl;
-      named = refl;
-    }
+pub join-requires-clause-group : goal.join-requires-clause-group
+join-requires-clause-group g c =
+    subst (λ (s : Shared). IsGroupOf s.machine.queue.needs c.args.t c.in-Ok.set) c.self.view_is c.in-Ok.ensures.group
 
-pub returns-in-Claimed-clause-converts : goal.returns-in-Claimed-clause-converts
-returns-in-Claimed-clause-converts g c = goes_all c.args.t did.Went _ c.args.self.now c.name_claimed.new.self
-    c.self.view_is
-    (λ es u. (
-      step.Claimed,
-      tt,
-      claims_once c.args.t c.in_ok-step.step _ _ c.name_claimed.new.self es c.in-Claimed.is
-          c.name_claimed.ensures.names u record {
-            event = c.in_ok-step.ensures.converts es u.alone.agrees;
-            same = refl;
-            lines = c.in_ok-step.ensures.lines;
-            within = c.in_ok-step.ensures.within;
-            sound = c.in_ok-step.ensures.sound;
-            known = c.in_ok-step.ensures.known;
-            history = refl;
-            named = refl;
-          },
-    ))
-    c.requires.doing c.requires.some
+pub join-requires-clause-settled : goal.join-requires-clause-settled
+join-requires-clause-settled g c =
+    subst (λ (s : Shared). AllSettled s.machine.queue c.in-Ok.set) c.self.view_is c.in-Ok.ensures.settled
 
-pub returns-in-Claimed-clause-cause : goal.returns-in-Claimed-clause-cause
-returns-in-Claimed-clause-cause g c =
-    let es = c.requires.alone.0 in
-    let u = under_way c.args.t _ c.args.self.now es c.self.view_is c.requires.doing c.requires.some
-    c.requires.alone.1 in
-    cause_of _ c.args.self.now _ c.name_claimed.new.self.machine did.Went c.self.view_is
-    (named_machine c.args.t _ c.name_claimed.new.self c.name_claimed.ensures.names
-    (last_of c.args.t c.in_ok-step.step _ _ es c.in-Claimed.is u record {
-      event = c.in_ok-step.ensures.converts es u.alone.agrees;
-      same = refl;
-      lines = c.in_ok-step.ensures.lines;
-      within = c.in_ok-step.ensures.within;
-      sound = c.in_ok-step.ensures.sound;
-      known = c.in_ok-step.ensures.known;
-      history = refl;
-      named = refl;
-    }))
-    c.in_ok-step.ensures.cause.later
+pub returns-in-Ok-clause-cause : goal.returns-in-Ok-clause-cause
+returns-in-Ok-clause-cause g c = cause_same c.args.self.now c.args.self.now _ did.Joined refl
+    (let same = c.join.ensures.faults in omega (arith, same))
 
-pub returns-in-Sealed-clause-converts : goal.returns-in-Sealed-clause-converts
-returns-in-Sealed-clause-converts g c = goes_all c.args.t did.Joined _ c.args.self.now _ c.self.view_is
-    (λ es u.
-    let next = c.convert_next.new in
-    let twin : Twin = record { space = next.heap.space; memory = next.heap.memory; marks = next.heap.marks }
-    in
-    joins_next c.args.t c.in-Sealed.field-0 c.in_ok-step.step _ c.tell.new.self _ twin next.queue next.space
-    next.monitors es c.in-Sealed.is u record {
-      event = c.in_ok-step.ensures.converts es u.alone.agrees;
-      same = refl;
-      lines = c.in_ok-step.ensures.lines;
-      within = c.in_ok-step.ensures.within;
-      sound = c.in_ok-step.ensures.sound;
-      known = c.in_ok-step.ensures.known;
-      history = refl;
-      named = refl;
-    }
-    refl
-    record {
-      told = c.tell.ensures.told;
-      machine = c.tell.ensures.machine;
-      lines = c.tell.ensures.lines;
-      named = c.tell.ensures.named;
-    }
-    (ap (λ (s : Shared). record s { named = 0 }) c.self-in-Sealed.view_is))
-    c.requires.doing c.requires.some
-
-pub returns-in-Wait-clause-converts : goal.returns-in-Wait-clause-converts
-returns-in-Wait-clause-converts g c = goes_all c.args.t
-    (did.Waits c.in-Wait.u) _ c.args.self.now _ c.self.view_is
-    (λ es u. goes_once c.args.t (step.Wait c.in-Wait.u) _ _ es tt u
-    (stepped_as c.args.t c.in_ok-step.step (step.Wait c.in-Wait.u) _ _ es c.in-Wait.is record {
-      event = c.in_ok-step.ensures.converts es u.alone.agrees;
-      same = refl;
-      lines = c.in_ok-step.ensures.lines;
-      within = c.in_ok-step.ensures.within;
-      sound = c.in_ok-step.ensures.sound;
-      known = c.in_ok-step.ensures.known;
-      history = refl;
-      named = refl;
-    }))
-    c.requires.doing c.requires.some
-
-pub returns-in-Full-clause-converts : goal.returns-in-Full-clause-converts
-returns-in-Full-clause-converts g c = goes_all c.args.t
-    (did.Full c.in-Full.need c.in-Full.left) _ c.args.self.now _ c.self.view_is
-    (λ es u. goes_once c.args.t (step.Full c.in-Full.need c.in-Full.left) _ _ es tt u
-    (stepped_as c.args.t c.in_ok-step.step
-    (step.Full c.in-Full.need c.in-Full.left) _ _ es c.in-Full.is record {
-      event = c.in_ok-step.ensures.converts es u.alone.agrees;
-      same = refl;
-      lines = c.in_ok-step.ensures.lines;
-      within = c.in_ok-step.ensures.within;
-      sound = c.in_ok-step.ensures.sound;
-      known = c.in_ok-step.ensures.known;
-      history = refl;
-      named = refl;
-    }))
-    c.requires.doing c.requires.some
-
-pub returns-in_default : goal.returns-in_default
-returns-in_default g c = record {
-  converts = goes_all c.args.t did.Went _ c.args.self.now _ c.self.view_is
-      (λ es u. (
-        c.in_ok-step.step,
-        moves_on c.in_ok-step.step c.in_default.not-Sealed c.in_default.not-Wait c.in_default.not-Full,
-        goes_once c.args.t c.in_ok-step.step _ _ es
-            (leaves_queues c.in_ok-step.step c.in_default.not-Claimed c.in_default.not-Sealed) u record {
-              event = c.in_ok-step.ensures.converts es u.alone.agrees;
-              same = refl;
-              lines = c.in_ok-step.ensures.lines;
-              within = c.in_ok-step.ensures.within;
-              sound = c.in_ok-step.ensures.sound;
-              known = c.in_ok-step.ensures.known;
-              history = refl;
-              named = refl;
-            },
-      ))
-      c.requires.doing c.requires.some;
-  failed = tt;
-  cause = cause_same _ c.args.self.now _ did.Went c.self.view_is c.in_ok-step.ensures.cause.later;
-}
+pub returns-in-Err-clause-converts : goal.returns-in-Err-clause-converts
+returns-in-Err-clause-converts g c =
+    let below = c.number-number.ensures.below in
+    let same = c.number-number.ensures.same in
+    let few : c.args.t < 64 = omega (arith, below, same) in
+    let v = c.in-Err.unready.thread in
+    let for = subst (λ (s : Shared). WaitsFor (scene_of s.machine) c.args.t v) c.self.view_is (record {
+      settled = c.is_settled.ensures.settled.0 c.if-not-is_settled.false;
+      unsettled = c.in-Err.ensures.unready;
+    }) in
+    goes_all c.args.t (did.Waits v) c.args.self.now c.args.self.now c.args.self.now refl few
+    (λ es u. waits_settled c.args.t v c.args.self.now es u
+    (λ l lt. inl (c.every_line_is_resident.ensures (memory_of c.args.self.now.machine) l lt)) for)
+    c.requires.doing c.requires.begun

@@ -12,7 +12,7 @@ returns-in-AllFenced-clause-ends g c = closes_to c.args.t c.args.self.now c.end_
       told = c.tell.ensures.told;
       machine = c.tell.ensures.machine;
       lines = c.tell.ensures.lines;
-      named = c.tell.ensures.named;
+      notes = c.tell.ensures.notes;
     }
 
 pub returns-in_default-clause-ends : goal.returns-in_default-clause-ends

@@ -41,5 +41,5 @@ returns-clause-fenced g c =
       told = c.tell.ensures.told;
       machine = c.tell.ensures.machine;
       lines = c.tell.ensures.lines;
-      named = c.tell.ensures.named;
+      notes = c.tell.ensures.notes;
     }))

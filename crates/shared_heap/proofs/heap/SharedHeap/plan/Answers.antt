@@ -4,7 +4,7 @@ use Rattle.step_forms.specs.Follows.{Agrees}
 use Rattle.machine_forms.specs.Machines.{shown_in}
 use Rattle.store_barrier.specs.Barriers.{spaces_of}
 use Rattle.shared_heap.specs.Shared.{Shared}
-use Rattle.shared_heap.proofs.Requesting.{asks_from, becomes_of, steps_to, told_after}
+use Rattle.shared_heap.proofs.Requesting.{asks_from, becomes_of, steps_to, stores_note_nothing, told_after}
 use Rattle.shared_heap.proofs.heap.SharedHeap.plan.Goals as goal
 
 pub plan_store-requires-clause-asks : goal.plan_store-requires-clause-asks
@@ -19,7 +19,7 @@ returns-in-Some-Ends-clause-ends g c =
     let before = c.self.inside.spaces in
     let now = c.plan_store.new.objects in (
       steps_to facts c.args.t c.args.request.now result _ c.args.self.now (spaces_of now)
-          c.plan_store.new.rest c.tell_step.new.acts c.self.view_is record {
+          c.plan_store.new.rest c.tell_step.new.acts c.self.inside.notes c.self.view_is record {
             agrees = subst (λ (s : Shared). Agrees facts (shown_in s.machine) s.machine.rest)
                 (sym c.self.view_is) c.requires.agrees;
             sound = subst (λ (s : Shared). AreSound s.machine.rest.monitors) (sym c.self.view_is)
@@ -28,6 +28,8 @@ returns-in-Some-Ends-clause-ends g c =
             heap = becomes_of before now result stops.heap;
             told = told_after c.args.t c.calls-at.result before.heap.memory c.self.inside.acts
                 c.tell_step.new.acts result c.calls-at.ensures c.tell_step.ensures.told;
+            noted = stores_note_nothing c.args.request.now result c.self.inside.notes
+                (λ none. let no = c.in-Some-Ends.ensures.none.1 none in cc);
           },
       stops.no_store,
     )

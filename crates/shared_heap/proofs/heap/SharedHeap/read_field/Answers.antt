@@ -1,4 +1,4 @@
-use Rattle.std.proofs.Common.{◌≡◌, refl, sym, subst, ap}
+use Rattle.std.proofs.Common.{refl, sym, subst}
 use Rattle.ap_base.specs.declared.place.Place.TheVariants.{Slot}
 use Rattle.natives.specs.declared.requests.Request.TheVariants as ask
 use Rattle.natives.specs.declared.requests.Reply.TheVariants as reply
@@ -52,7 +52,7 @@ returns-clause-reads g c from =
     let result = stepped.Did (op.Read (Slot c.in-Some.got.object c.args.field.at) c.in-Some.got.value) (reply.Item c.in-Some.got.item) in (
       op.Read (Slot c.in-Some.got.object c.args.field.at) c.in-Some.got.value,
       steps_to facts c.args.t request result _ c.args.self.now (spaces_of before)
-          c.self.inside.rest c.tell_op.new.acts c.self.view_is record {
+          c.self.inside.rest c.tell_op.new.acts c.self.inside.notes c.self.view_is record {
             agrees = agrees;
             sound = subst (λ (s : Shared). AreSound s.machine.rest.monitors) (sym c.self.view_is)
                 c.requires.sound;
@@ -60,5 +60,6 @@ returns-clause-reads g c from =
             heap = refl;
             told = told_after c.args.t c.calls-at.result before.heap.memory c.self.inside.acts
                 c.tell_op.new.acts result c.calls-at.ensures c.tell_op.ensures.told;
+            noted = refl;
           },
     )

@@ -21,7 +21,7 @@ returns-clause-steps g c =
     let before = c.self.inside.spaces in
     let now = c.take_step-step.new.objects in
     steps_to facts c.args.t c.args.request.now result _ c.args.self.now (spaces_of now)
-    c.take_step-step.new.rest c.tell_step.new.acts c.self.view_is record {
+    c.take_step-step.new.rest c.tell_step.new.acts c.note_start.new.notes c.self.view_is record {
       agrees = subst (λ (s : Shared). Agrees facts (shown_in s.machine) s.machine.rest)
           (sym c.self.view_is) c.requires.agrees;
       sound = subst (λ (s : Shared). AreSound s.machine.rest.monitors) (sym c.self.view_is) c.requires.sound;
@@ -29,6 +29,7 @@ returns-clause-steps g c =
       heap = becomes_of before now result c.take_step-step.ensures.heap;
       told = told_after c.args.t c.calls-at.result before.heap.memory c.self.inside.acts c.tell_step.new.acts
           result c.calls-at.ensures c.tell_step.ensures.told;
+      noted = c.note_start.ensures.noted;
     }
 
 pub returns-clause-no_store : goal.returns-clause-no_store

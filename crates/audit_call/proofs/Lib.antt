@@ -1,0 +1,4 @@
+pub mod Ending
+pub mod Found
+pub mod Keeping
+pub mod MoreArrays

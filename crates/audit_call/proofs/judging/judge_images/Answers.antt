@@ -1,0 +1,56 @@
+use Rattle.std.proofs.Common.{inl, inr, refl, subst, sym}
+use Rattle.graph_model.specs.declared.types.Graph.{Graph}
+use Rattle.source_classes.specs.Names.{slashed}
+use Rattle.audit_call.specs.Audits.{AfterEnds}
+use Rattle.audit_call.proofs.Keeping.{same_kept, unbegun_kept, unopened_kept}
+use Rattle.audit_call.proofs.judging.judge_images.Goals as goal
+
+pub judge_after-judged-requires : goal.judge_after-judged-requires
+judge_after-judged-requires g c =
+    record { opening = c.give_back-opening.ensures.opening (g.I.Image.told c.args.before) c.args.set c.find_for.new.set c.in-Ok.ensures.found }
+
+pub returns-in-Ok-clause-ends : goal.returns-in-Ok-clause-ends
+returns-in-Ok-clause-ends g c =
+    let given = c.give_back-opening.ensures.given (g.I.Image.told c.args.before) c.args.set c.find_for.new.set c.in-Ok.ensures.found in
+    inr (record {
+      numbered = c.find_for.new.set;
+      found = given.0;
+      ends = subst (λ (graph : Graph). AfterEnds c.find_for.new.set (slashed c.args.class.now) graph c.args.records.now
+          (g.J.Image.told c.args.after) (g.J.Image.told c.judge_after-judged.result.image) c.judge_after-judged.result.status
+          (g.S.Sink.taken c.args.sink.now) (g.S.Sink.taken c.judge_after-judged.new.sink)) (sym given.1) c.judge_after-judged.ensures.ends;
+    })
+
+pub returns-in-Ok-clause-before_kept : goal.returns-in-Ok-clause-before_kept
+returns-in-Ok-clause-before_kept g c =
+    let start = g.I.Image.told c.args.before in
+    let given = c.give_back-opening.ensures.given start c.args.set c.find_for.new.set c.in-Ok.ensures.found in
+    unbegun_kept start (g.I.Image.told c.give_back-opening.result.1) c.args.set c.find_for.new.set given.0
+
+pub returns-clause-ends : goal.returns-clause-ends
+returns-clause-ends g c = inl (record {
+  unopened = record {
+    numbered = c.find_for.new.set;
+    why = c.in-Err.why;
+    unopened = c.in-Err.ensures.unopened;
+    is = c.of_unopened-status.ensures.is;
+    quiet = refl;
+  };
+  untouched = refl;
+})
+
+pub returns-clause-before_kept : goal.returns-clause-before_kept
+returns-clause-before_kept g c =
+    unopened_kept (g.I.Image.told c.args.before) (g.I.Image.told c.in-Err.before) c.args.set c.find_for.new.set c.in-Err.why
+    c.in-Err.ensures.unopened
+
+pub returns-clause-after_kept : goal.returns-clause-after_kept
+returns-clause-after_kept g c = same_kept (g.J.Image.told c.args.after)
+
+pub returns-in-Ok-clause-image_fault : goal.returns-in-Ok-clause-image_fault
+returns-in-Ok-clause-image_fault g c = λ is. inr (c.judge_after-judged.ensures.image_fault is)
+
+pub returns-clause-image_fault : goal.returns-clause-image_fault
+returns-clause-image_fault g c = λ is. inl (c.in-Err.ensures.cause (c.of_unopened-status.ensures.image_failed is))
+
+pub returns-clause-sink_fault : goal.returns-clause-sink_fault
+returns-clause-sink_fault g c = λ is. absurd (c.of_unopened-status.ensures.no_sink is)

@@ -1,0 +1,6 @@
+pub mod Audits
+pub mod Judged
+pub mod Late
+pub mod Linking
+pub mod Printing
+pub mod Records

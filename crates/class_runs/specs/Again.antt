@@ -1,0 +1,43 @@
+-- Images that a stop of a run left, under the next run of the same set.
+use Rattle.std.specs.Prelude.{◌≡◌, ◌⊎◌, ℕ, List}
+use Rattle.graph_model.specs.declared.types.Graph.{Graph}
+use Rattle.line_image.specs.Told.{Told}
+use Rattle.line_image.specs.Trace.{Outcome}
+use Rattle.line_memory.specs.Memory.{IsTelling}
+use Rattle.image_layout.specs.declared.superblock.BadReason.{BadReason}
+use Rattle.image_meaning.specs.Checks.{Words}
+use Rattle.image_meaning.specs.Meaning.{StandsFor}
+use Rattle.run_history.specs.Recorded.{Recorded}
+use Rattle.class_set.specs.Linked.{Linked}
+use Rattle.durable_launch.specs.Passed.{AreRead}
+use Rattle.run_types.specs.declared.limits.Limits.{Limits}
+use Rattle.statuses.specs.Stages.{OfOpening, stage_of}
+use Rattle.statuses.specs.declared.status.Status.{Status}
+use Rattle.statuses.specs.declared.status.Status.TheVariants as status
+use Rattle.class_runs.specs.Sets.{CannotOpen, IsOpenedSo, SetEnds, StandsAllowed, StandsRightly}
+
+-- The image has as many lines, tells what is done to it, and reads of it give what the stop left.
+pub record IsLeftBy (start : Told) (left : Outcome) (again : Told) : Type 0 where
+  pub size : again.size ≡ start.size
+  pub telling : IsTelling again.trace
+  pub read : AreRead again left
+
+-- What stops of a run of a set over an image left opens again.
+pub record StoppedRunsOpenAgain : Type 0 where
+  -- BadImage and ShapeChanged come where an image can't be opened, and nowhere else.
+  pub refusals : (set : Linked) (name : List ℕ) (limits : Limits) (start : Told) (opening : Graph) (acts : List Recorded) (after : Told)
+      (how : Status) → SetEnds set name limits start opening acts after how → stage_of how ≡ OfOpening → CannotOpen set start after how
+  -- For no set it is bad, where the image stood for a graph before.
+  pub not_bad : (set other : Linked) (start : Told) (opening : Graph) (all acts : List Recorded) (before : Words) (stood : Graph)
+      (left : Outcome) → StandsFor start.size before stood → StandsRightly set start opening all acts before left
+      → (again after : Told) → IsLeftBy start left again → (line : ℕ) (reason : BadReason)
+      → CannotOpen other again after (status.BadImage line reason) → ⊥
+  -- Once the image was opened for the set, what a stop leaves isn't refused for the set: opening ends by a fault of the image, or for want
+  -- of memory, alone.
+  pub unrefused : (set : Linked) (start : Told) (opening : Graph) (all acts : List Recorded) (left : Outcome)
+      → StandsAllowed set start opening all acts left → (again after : Told) → IsLeftBy start left again
+      → (how : Status) → CannotOpen set again after how → (how ≡ status.ImageFault) ⊎ (how ≡ status.OutOfMemory)
+  -- And the next run begins with the very graph that the stop left, which the acts allow.
+  pub goes_on : (set : Linked) (start : Told) (opening : Graph) (all acts : List Recorded) (left : Outcome)
+      (stands : StandsAllowed set start opening all acts left) (again : Told) → IsLeftBy start left again
+      → (graph : Graph) → IsOpenedSo set again graph → graph ≡ stands.allowed.graph

@@ -1,0 +1,139 @@
+-- What an event comes to for its run, as the thread's request was noted before.
+use Rattle.std.proofs.Common.{◌≡◌, ◌≢◌, ◌↔◌, ℕ, ◌<◌, Bool, true, false, List, length, Option, Some, None, refl, sym, ◌∙◌, ap, subst, get_or}
+use Rattle.std.specs.Prelude.{IsSome, IsTrue, slice_get, slice_index_or, slice_set}
+use Rattle.std.proofs.lemmas.List.{set-set}
+use Rattle.std.proofs.lemmas.Option.{get_or_from_slice_get, slice_get_within}
+use Rattle.ap_base.specs.declared.reference.Ref.{Ref}
+use Rattle.ap_base.specs.declared.reference.Item.{Item}
+use Rattle.run_types.specs.declared.wait.On.{On}
+use Rattle.natives.specs.declared.methods.Native.{Native}
+use Rattle.natives.specs.declared.requests.Request.{Request}
+use Rattle.natives.specs.declared.states.NativeState.{NativeState}
+use Rattle.plain_model.specs.Facts.{SetFacts}
+use Rattle.frames.specs.Settings.{Setting}
+use Rattle.frames.specs.Turns.{turn}
+use Rattle.frame_steps.specs.Sized.{AreOf}
+use Rattle.frame_thread.specs.declared.private.Stop.{Stop}
+use Rattle.private_steps.specs.Ahead.{HasCome}
+use Rattle.private_steps.specs.Waits.{WaitsAfter}
+use Rattle.run_forms.specs.Views.{ThreadFrames}
+use Rattle.machine_forms.specs.Machines.{Opening}
+use Rattle.machine.specs.Passed.{Shared, ThreadNotes, asked_by, waits_on}
+use Rattle.machine.specs.Remembering.{GoesOnWaiting}
+use Rattle.durable_run.specs.Events.{HasAsked, HasBegun, NotesWait, StepsTo}
+use Rattle.durable_run.specs.Turning.{IsReady, is_live}
+use Rattle.durable_run.specs.declared.steps.Stepped.{Stepped}
+use Rattle.durable_run.specs.declared.steps.Stepped.TheVariants.{Acted, Micro, WouldWait, Over}
+use Rattle.durable_run.proofs.Going.{asks-next, live-frames}
+use Rattle.durable_run.proofs.Places.{get-same}
+
+-- what is noted before doesn't count
+waits-from : (o : Opening) (first : ℕ) (on : On) (s new : Shared) (notes : ThreadNotes) (t : ℕ) (threads : List ThreadFrames)
+    → GoesOnWaiting o first on (record s { notes = notes }) new threads t → GoesOnWaiting o first on s new threads t
+waits-from o first on s new notes t threads w = record {
+  asks = record { after = w.asks.after; running = w.asks.running; asks = w.asks.asks };
+  table = w.table;
+  agrees = w.agrees;
+  holds = w.holds;
+  unstuck = w.unstuck;
+  rows = w.rows;
+}
+
+pub steps-from : (o : Opening) (first : ℕ) (set : SetFacts) (x : Setting Native Ref (NativeState Ref) Item) (t : ℕ)
+    (went : Stepped) (s new : Shared) (notes : ThreadNotes) (frames : List ThreadFrames)
+    → StepsTo o first set x t went (record s { notes = notes }) new frames → StepsTo o first set x t went s new frames
+steps-from o first set x t Acted s new notes frames goes = goes
+steps-from o first set x t Micro s new notes frames goes = goes
+steps-from o first set x t (WouldWait on) s new notes frames goes =
+    (goes.0, (goes.1.0, waits-from o first on s new notes t goes.1.0 goes.1.1))
+steps-from o first set x t (Over halt) s new notes frames goes = goes
+
+-- ---- what is noted of waits
+
+pub notes-still : (t : ℕ) (old new : Shared) → new.notes.waits ≡ old.notes.waits → NotesWait t Acted old new
+notes-still t old new same = record {
+  own = λ on e. absurd (let no : Acted ≡ WouldWait on = e in cc);
+  others = λ u other. ap (λ (xs : List (Option On)). slice_index_or xs u None) same;
+}
+
+-- ---- whether a thread has asked
+
+pub none-asked : {X : Type 0} (b : Bool) (at : Option X) → b ≡ false → (IsTrue b ↔ IsSome at) → at ≡ None
+none-asked b None e is = refl
+none-asked {X} b (Some x) e is = absurd (let no : false ≡ true = sym e ∙ is.1 refl in cc)
+
+-- ---- frames as the code finds them
+
+-- the element at a thread's place
+pub elem-is : (frames : List ThreadFrames) (t i : ℕ) (elem now : ThreadFrames) → i ≡ t → elem ≡ get_or frames i elem
+    → slice_get frames t ≡ Some now → elem ≡ now
+elem-is frames t i elem now at value there = value ∙ ap (λ (n : ℕ). get_or frames n elem) at
+    ∙ get_or_from_slice_get frames t now elem there
+
+pub set-twice : (frames : List ThreadFrames) (t i : ℕ) (one other : ThreadFrames) → i ≡ t
+    → slice_set (slice_set frames i one) i other ≡ slice_set frames t other
+set-twice frames t i one other at = set-set frames i one other ∙ ap (λ (n : ℕ). slice_set frames n other) at
+
+-- what stands there once it was put there
+pub elem-put : (frames : List ThreadFrames) (t i : ℕ) (now elem : ThreadFrames) → i ≡ t → t < length frames
+    → elem ≡ get_or (slice_set frames i now) i elem → elem ≡ now
+elem-put frames t i now elem at below value = value
+    ∙ ap (λ (n : ℕ). get_or (slice_set frames n now) n elem) at
+    ∙ get_or_from_slice_get (slice_set frames t now) t now elem (get-same frames t now below)
+
+module _ (o : Opening) (first : ℕ) (set : SetFacts) (x : Setting Native Ref (NativeState Ref) Item) (s : Shared)
+    (frames : List ThreadFrames) (t i : ℕ) (elem : ThreadFrames) (ready : IsReady o first set x s frames)
+    (live : is_live s.machine.rest.threads t ≡ true) (at : i ≡ t) (value : elem ≡ get_or frames i elem) where
+  abbrev fs : ThreadFrames
+  fs = (live-frames o first set x s frames t ready live).0
+
+  -- a live thread has frames, of the program
+  pub elem-there : slice_get frames t ≡ Some elem
+  elem-there =
+      let has = ready.own t fs (live-frames o first set x s frames t ready live).1 in
+      has.there ∙ ap (λ (gs : ThreadFrames). Some gs) (sym (elem-is frames t i elem has.now at value has.there))
+
+  pub elem-of : AreOf x.program elem.frames
+  elem-of =
+      let has = ready.own t fs (live-frames o first set x s frames t ready live).1 in
+      subst (λ (gs : ThreadFrames). AreOf x.program gs.frames)
+      (sym (elem-is frames t i elem has.now at value has.there)) has.of
+
+  pub begun-so : (stop : Option Stop) (now : ThreadFrames) → asked_by s.notes t ≡ None → HasCome x stop elem now
+      → AreOf x.program now.frames → HasBegun o first set x s frames t stop elem now
+  begun-so stop now unasked come of = record {
+    ready = ready;
+    there = elem-there;
+    unasked = unasked;
+    live = live;
+    come = come;
+    of = of;
+  }
+
+  -- the same, as the code finds its frames then
+  pub begun-at : (stop : Option Stop) (one now : ThreadFrames) → asked_by s.notes t ≡ None → HasCome x stop elem one
+      → AreOf x.program one.frames → now ≡ get_or (slice_set frames i one) i now
+      → HasBegun o first set x s frames t stop elem now
+  begun-at stop one now unasked come of put =
+      subst (λ (gs : ThreadFrames). HasBegun o first set x s frames t stop elem gs)
+      (sym (elem-put frames t i one now at (slice_get_within frames t elem elem-there) put))
+      (begun-so stop one unasked come of)
+
+-- ---- a turn asks
+
+pub asks-at : (o : Opening) (first : ℕ) (set : SetFacts) (x : Setting Native Ref (NativeState Ref) Item) (s : Shared)
+    (all : List ThreadFrames) (t : ℕ) (stop : Option Stop) (before now : ThreadFrames) (frames : List ThreadFrames) (i : ℕ)
+    (after : ThreadFrames) (request : Request Ref Item) → HasBegun o first set x s all t stop before now
+    → frames ≡ slice_set all t now → i ≡ t → after ≡ (turn x before).frames → Some request ≡ (turn x before).asks
+    → WaitsAfter request after → AreOf x.program after.frames
+    → HasAsked o first set x s (slice_set frames i after) t request
+asks-at o first set x s all t stop before now frames i after request b is at turned asks waits of =
+    subst (λ (gs : List ThreadFrames). HasAsked o first set x s gs t request)
+    (sym (ap (λ (gs : List ThreadFrames). slice_set gs i after) is
+    ∙ ap (λ (n : ℕ). slice_set (slice_set all t now) n after) at ∙ set-set all t now after))
+    (asks-next o first set x s all t before b.ready b.there b.unasked b.live after request turned asks waits of)
+
+pub put-there : (all frames : List ThreadFrames) (t : ℕ) (before now : ThreadFrames) → slice_get all t ≡ Some before
+    → frames ≡ slice_set all t now → slice_get frames t ≡ Some now
+put-there all frames t before now there is = ap (λ (gs : List ThreadFrames). slice_get gs t) is
+    ∙ get-same all t now (slice_get_within all t before there)

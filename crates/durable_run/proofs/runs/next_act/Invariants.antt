@@ -1,0 +1,25 @@
+use Rattle.std.proofs.Common.{◌≡◌, ℕ, None}
+use Rattle.machine_forms.specs.Machines.{Opening, memory_of}
+use Rattle.machine.specs.Passed.{measure}
+use Rattle.durable_run.specs.Telling.{HasTold, IsCaused}
+use Rattle.durable_run.specs.Turning.{IsReady}
+use Rattle.durable_run.proofs.runs.next_act.Given as goal
+
+-- No act was made yet, and an event may come still.
+abbrev pub invariant-passes : goal.invariant-passes
+invariant-passes g l = record {
+  ready : (o : Opening) (first : ℕ)
+      → IsReady o first (g.C.Types.facts l.set) (g.H.Host.setting l.host) l.initial.run.heap
+      l.initial.run.frames.items
+      → IsReady o first (g.C.Types.facts l.set) (g.H.Host.setting l.host) l.run.heap l.run.frames.items;
+  told : HasTold l.initial.run.heap.history.acts l.run.heap.history.acts
+      (g.W.Watcher.seen l.initial.run.watcher)
+      (g.W.Watcher.seen l.run.watcher) (g.S.Sink.taken l.initial.run.sink) (g.S.Sink.taken l.run.sink);
+  cause : IsCaused None (g.S.Sink.faults l.initial.run.sink) (g.S.Sink.faults l.run.sink)
+      (memory_of l.initial.run.heap.machine).faults (memory_of l.run.heap.machine).faults;
+  none : l.run.heap.history.acts ≡ l.initial.run.heap.history.acts;
+  limit : l.run.heap.history.limit ≡ l.initial.run.heap.history.limit;
+}
+
+abbrev pub decreases-passes : goal.decreases-passes
+decreases-passes g l = measure l.run.heap.machine

@@ -1,0 +1,23 @@
+use Rattle.std.proofs.Common.{◌-◌, ℕ, length, None}
+use Rattle.machine_forms.specs.Machines.{Opening, memory_of}
+use Rattle.durable_run.specs.Telling.{HasTold, IsCaused}
+use Rattle.durable_run.specs.Turning.{IsReady}
+use Rattle.durable_run.proofs.runs.run_threads.Given as goal
+
+-- What was ready at first is so still; the outside was told the acts since then; and no count of faults fell.
+abbrev pub invariant-acts : goal.invariant-acts
+invariant-acts g l = record {
+  ready : (o : Opening) (first : ℕ)
+      → IsReady o first (g.C.Types.facts l.set) (g.H.Host.setting l.host) l.initial.run.heap
+      l.initial.run.frames.items
+      → IsReady o first (g.C.Types.facts l.set) (g.H.Host.setting l.host) l.run.heap l.run.frames.items;
+  told : HasTold l.initial.run.heap.history.acts l.run.heap.history.acts
+      (g.W.Watcher.seen l.initial.run.watcher)
+      (g.W.Watcher.seen l.run.watcher) (g.S.Sink.taken l.initial.run.sink) (g.S.Sink.taken l.run.sink);
+  cause : IsCaused None (g.S.Sink.faults l.initial.run.sink) (g.S.Sink.faults l.run.sink)
+      (memory_of l.initial.run.heap.machine).faults (memory_of l.run.heap.machine).faults;
+}
+
+-- the acts for which there is room
+abbrev pub decreases-acts : goal.decreases-acts
+decreases-acts g l = l.run.heap.history.limit - length l.run.heap.history.acts

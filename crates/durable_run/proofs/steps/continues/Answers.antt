@@ -1,0 +1,50 @@
+use Rattle.std.proofs.Common.{◌≡◌, ℕ, Option, Some, sym, ◌∙◌, ap, subst}
+use Rattle.ap_base.specs.declared.reference.Ref.{Ref}
+use Rattle.ap_base.specs.declared.reference.Item.{Item}
+use Rattle.natives.specs.declared.requests.Request.{Request}
+use Rattle.machine.specs.Passed.{Shared, asked_by, taken}
+use Rattle.durable_run.specs.Events.{HasAsked, StepsTo}
+use Rattle.durable_run.specs.Telling.{AddsShare}
+use Rattle.durable_run.proofs.Going.{goes-still}
+use Rattle.durable_run.proofs.Places.{index-of-get}
+use Rattle.durable_run.proofs.Stepping.{steps-from}
+use Rattle.durable_run.proofs.steps.continues.Goals as goal
+
+pub goes_on-requires : goal.goes_on-requires
+goes_on-requires g c =
+    let r = c.requires.ready in
+    let asked = index-of-get c.args.run.now.heap.notes.asks c.args.t (Some c.in-Some.request) c.in-Some.ensures.asked in
+    record {
+      asked = (
+        r.0,
+        r.1,
+        subst (λ (s : Shared). HasAsked r.0 r.1 (g.C.Types.facts c.args.set.now) (g.H.Host.setting c.args.host.now) s
+            c.args.run.now.frames.items c.args.t c.in-Some.request) (sym c.take_asked.ensures.taken)
+            (goes-still r.0 r.1 (g.C.Types.facts c.args.set.now) (g.H.Host.setting c.args.host.now) c.args.run.now.heap
+            c.args.run.now.frames.items c.args.t r.2 c.in-Some.request asked),
+      );
+    }
+
+pub returns-clause-goes : goal.returns-clause-goes
+returns-clause-goes g c o first ready =
+    let set = g.C.Types.facts c.args.set.now in
+    let x = g.H.Host.setting c.args.host.now in
+    let s = c.args.run.now.heap in
+    let asked = index-of-get s.notes.asks c.args.t (Some c.in-Some.request) c.in-Some.ensures.asked in
+    steps-from o first set x c.args.t c.goes_on.result s c.goes_on.new.run.heap (taken s.notes c.args.t)
+    c.goes_on.new.run.frames.items
+    (subst (λ (y : Shared). StepsTo o first set x c.args.t c.goes_on.result y c.goes_on.new.run.heap
+    c.goes_on.new.run.frames.items) c.take_asked.ensures.taken
+    (c.goes_on.ensures.goes o first
+    (subst (λ (y : Shared). HasAsked o first set x y c.args.run.now.frames.items c.args.t c.in-Some.request)
+    (sym c.take_asked.ensures.taken)
+    (goes-still o first set x s c.args.run.now.frames.items c.args.t ready c.in-Some.request asked))))
+
+pub returns-clause-share : goal.returns-clause-share
+returns-clause-share g c =
+    let s = c.args.run.now.heap in
+    let asked = index-of-get s.notes.asks c.args.t (Some c.in-Some.request) c.in-Some.ensures.asked in
+    subst (λ (q : Option (Request Ref Item)).
+    AddsShare q (g.S.Sink.takes c.args.run.now.sink) s.history.acts c.goes_on.new.run.heap.history.acts) (sym asked)
+    (subst (λ (y : Shared). AddsShare (Some c.in-Some.request) (g.S.Sink.takes c.args.run.now.sink) y.history.acts
+    c.goes_on.new.run.heap.history.acts) c.take_asked.ensures.taken c.goes_on.ensures.share)

@@ -1,0 +1,214 @@
+use Rattle.std.proofs.Common.{◌∙◌, Option, ap, subst, sym}
+use Rattle.std.specs.Prelude.{slice_set}
+use Rattle.std.proofs.lemmas.Option.{slice_get_within}
+use Rattle.ap_base.specs.declared.reference.Ref.{Ref}
+use Rattle.ap_base.specs.declared.reference.Item.{Item}
+use Rattle.natives.specs.declared.requests.Request.{Request}
+use Rattle.frames.specs.Turns.{turn}
+use Rattle.run_forms.specs.Views.{ThreadFrames}
+use Rattle.machine.specs.Passed.{Shared, asked_by}
+use Rattle.durable_run.specs.Events.{HasBegun, StepsTo}
+use Rattle.durable_run.specs.Telling.{AddsShare}
+use Rattle.durable_run.specs.Turning.{IsReady, asks_next}
+use Rattle.durable_run.proofs.Places.{some-one}
+use Rattle.durable_run.proofs.Stepping.{begun-at, begun-so, elem-of, elem-put, none-asked, notes-still, put-there, set-twice}
+use Rattle.durable_run.proofs.steps.step.Goals as goal
+
+pub begun-stop-requires : goal.begun-stop-requires
+begun-stop-requires g c =
+    let r = c.requires.ready in
+    record {
+      of = elem-of r.0 r.1 (g.C.Types.facts c.args.set.now) (g.H.Host.setting c.args.host.now) c.args.run.now.heap
+          c.args.run.now.frames.items c.args.t c.number-at.result c.index_mut.result.now r.2 c.requires.live
+          c.number-at.ensures.same c.index_mut.ensures.value;
+    }
+
+pub reads_at_once-requires : goal.reads_at_once-requires
+reads_at_once-requires g c =
+    let x = g.H.Host.setting c.args.host.now in
+    let set = g.C.Types.facts c.args.set.now in
+    let s = c.args.run.now.heap in
+    let frames = c.args.run.now.frames.items in
+    let unasked = none-asked c.has_asked.result (asked_by s.notes c.args.t) c.if-has_asked.false c.has_asked.ensures in
+    let r = c.requires.ready in
+    record {
+      begun = (
+        r.0,
+        r.1,
+        frames,
+        c.index_mut.result.now,
+        begun-at r.0 r.1 set x s frames c.args.t c.number-at.result c.index_mut.result.now r.2 c.requires.live
+            c.number-at.ensures.same c.index_mut.ensures.value c.begun-stop.result c.begun-stop.new.frames
+            c.index_mut-2.result.now unasked c.begun-stop.ensures.come c.begun-stop.ensures.of c.index_mut-2.ensures.value,
+      );
+    }
+
+pub returns-then-reads_at_once-clause-goes : goal.returns-then-reads_at_once-clause-goes
+returns-then-reads_at_once-clause-goes g c o first ready =
+    let x = g.H.Host.setting c.args.host.now in
+    let set = g.C.Types.facts c.args.set.now in
+    let s = c.args.run.now.heap in
+    let frames = c.args.run.now.frames.items in
+    let unasked = none-asked c.has_asked.result (asked_by s.notes c.args.t) c.if-has_asked.false c.has_asked.ensures in
+    let b = begun-at o first set x s frames c.args.t c.number-at.result c.index_mut.result.now ready c.requires.live
+    c.number-at.ensures.same c.index_mut.ensures.value c.begun-stop.result c.begun-stop.new.frames
+    c.index_mut-2.result.now unasked c.begun-stop.ensures.come c.begun-stop.ensures.of c.index_mut-2.ensures.value in
+    subst (IsReady o first set x c.reads_at_once.new.heap)
+    (sym (set-twice frames c.args.t c.number-at.result c.begun-stop.new.frames c.reads_at_once.new.frames
+    c.number-at.ensures.same))
+    (c.reads_at_once.ensures.acted c.if-reads_at_once.true o first frames c.index_mut.result.now b).ready
+
+pub returns-then-reads_at_once-clause-acts : goal.returns-then-reads_at_once-clause-acts
+returns-then-reads_at_once-clause-acts g c =
+    let x = g.H.Host.setting c.args.host.now in
+    let set = g.C.Types.facts c.args.set.now in
+    let s = c.args.run.now.heap in
+    let frames = c.args.run.now.frames.items in
+    let unasked = none-asked c.has_asked.result (asked_by s.notes c.args.t) c.if-has_asked.false c.has_asked.ensures in
+    let r = c.requires.ready in
+    let b = begun-at r.0 r.1 set x s frames c.args.t c.number-at.result c.index_mut.result.now r.2 c.requires.live
+    c.number-at.ensures.same c.index_mut.ensures.value c.begun-stop.result c.begun-stop.new.frames
+    c.index_mut-2.result.now unasked c.begun-stop.ensures.come c.begun-stop.ensures.of c.index_mut-2.ensures.value in
+    let acted = c.reads_at_once.ensures.acted c.if-reads_at_once.true r.0 r.1 frames c.index_mut.result.now b in
+    acted.acts
+
+pub returns-then-reads_at_once-clause-told : goal.returns-then-reads_at_once-clause-told
+returns-then-reads_at_once-clause-told g c =
+    let x = g.H.Host.setting c.args.host.now in
+    let set = g.C.Types.facts c.args.set.now in
+    let s = c.args.run.now.heap in
+    let frames = c.args.run.now.frames.items in
+    let unasked = none-asked c.has_asked.result (asked_by s.notes c.args.t) c.if-has_asked.false c.has_asked.ensures in
+    let r = c.requires.ready in
+    let b = begun-at r.0 r.1 set x s frames c.args.t c.number-at.result c.index_mut.result.now r.2 c.requires.live
+    c.number-at.ensures.same c.index_mut.ensures.value c.begun-stop.result c.begun-stop.new.frames
+    c.index_mut-2.result.now unasked c.begun-stop.ensures.come c.begun-stop.ensures.of c.index_mut-2.ensures.value in
+    let acted = c.reads_at_once.ensures.acted c.if-reads_at_once.true r.0 r.1 frames c.index_mut.result.now b in
+    acted.told (g.S.Sink.taken c.args.run.now.sink)
+
+pub returns-then-reads_at_once-clause-share : goal.returns-then-reads_at_once-clause-share
+returns-then-reads_at_once-clause-share g c fs there =
+    let x = g.H.Host.setting c.args.host.now in
+    let set = g.C.Types.facts c.args.set.now in
+    let s = c.args.run.now.heap in
+    let frames = c.args.run.now.frames.items in
+    let unasked = none-asked c.has_asked.result (asked_by s.notes c.args.t) c.if-has_asked.false c.has_asked.ensures in
+    let r = c.requires.ready in
+    let b = begun-at r.0 r.1 set x s frames c.args.t c.number-at.result c.index_mut.result.now r.2 c.requires.live
+    c.number-at.ensures.same c.index_mut.ensures.value c.begun-stop.result c.begun-stop.new.frames
+    c.index_mut-2.result.now unasked c.begun-stop.ensures.come c.begun-stop.ensures.of c.index_mut-2.ensures.value in
+    let acted = c.reads_at_once.ensures.acted c.if-reads_at_once.true r.0 r.1 frames c.index_mut.result.now b in
+    let is = some-one fs c.index_mut.result.now (sym there ∙ b.there) in
+    subst (λ (q : Option (Request Ref Item)). AddsShare (asks_next x q fs) (g.S.Sink.takes c.args.run.now.sink)
+    s.history.acts c.reads_at_once.new.heap.history.acts) (sym unasked)
+    (subst (λ (gs : ThreadFrames). AddsShare (turn x gs).asks (g.S.Sink.takes c.args.run.now.sink) s.history.acts
+    c.reads_at_once.new.heap.history.acts) (sym is) (acted.share (g.S.Sink.takes c.args.run.now.sink)))
+
+pub returns-then-reads_at_once-clause-cause : goal.returns-then-reads_at_once-clause-cause
+returns-then-reads_at_once-clause-cause g c =
+    let x = g.H.Host.setting c.args.host.now in
+    let set = g.C.Types.facts c.args.set.now in
+    let s = c.args.run.now.heap in
+    let frames = c.args.run.now.frames.items in
+    let unasked = none-asked c.has_asked.result (asked_by s.notes c.args.t) c.if-has_asked.false c.has_asked.ensures in
+    let r = c.requires.ready in
+    let b = begun-at r.0 r.1 set x s frames c.args.t c.number-at.result c.index_mut.result.now r.2 c.requires.live
+    c.number-at.ensures.same c.index_mut.ensures.value c.begun-stop.result c.begun-stop.new.frames
+    c.index_mut-2.result.now unasked c.begun-stop.ensures.come c.begun-stop.ensures.of c.index_mut-2.ensures.value in
+    let acted = c.reads_at_once.ensures.acted c.if-reads_at_once.true r.0 r.1 frames c.index_mut.result.now b in
+    acted.cause (g.S.Sink.faults c.args.run.now.sink)
+
+pub returns-then-reads_at_once-clause-waits : goal.returns-then-reads_at_once-clause-waits
+returns-then-reads_at_once-clause-waits g c =
+    let x = g.H.Host.setting c.args.host.now in
+    let set = g.C.Types.facts c.args.set.now in
+    let s = c.args.run.now.heap in
+    let frames = c.args.run.now.frames.items in
+    let unasked = none-asked c.has_asked.result (asked_by s.notes c.args.t) c.if-has_asked.false c.has_asked.ensures in
+    let r = c.requires.ready in
+    let b = begun-at r.0 r.1 set x s frames c.args.t c.number-at.result c.index_mut.result.now r.2 c.requires.live
+    c.number-at.ensures.same c.index_mut.ensures.value c.begun-stop.result c.begun-stop.new.frames
+    c.index_mut-2.result.now unasked c.begun-stop.ensures.come c.begun-stop.ensures.of c.index_mut-2.ensures.value in
+    let acted = c.reads_at_once.ensures.acted c.if-reads_at_once.true r.0 r.1 frames c.index_mut.result.now b in
+    notes-still c.args.t s c.reads_at_once.new.heap acted.noted
+
+pub asks-requires : goal.asks-requires
+asks-requires g c =
+    let x = g.H.Host.setting c.args.host.now in
+    let set = g.C.Types.facts c.args.set.now in
+    let s = c.args.run.now.heap in
+    let frames = c.args.run.now.frames.items in
+    let unasked = none-asked c.has_asked.result (asked_by s.notes c.args.t) c.if-has_asked.false c.has_asked.ensures in
+    let r = c.requires.ready in
+    let none = c.reads_at_once.ensures.none c.if-reads_at_once.false in
+    let begun = begun-so r.0 r.1 set x s frames c.args.t c.number-at.result c.index_mut.result.now r.2 c.requires.live
+    c.number-at.ensures.same c.index_mut.ensures.value c.begun-stop.result c.begun-stop.new.frames unasked
+    c.begun-stop.ensures.come c.begun-stop.ensures.of in
+    record {
+      begun = (
+        r.0,
+        r.1,
+        frames,
+        c.index_mut.result.now,
+        c.begun-stop.new.frames,
+        subst (λ (y : Shared). HasBegun r.0 r.1 set x y frames c.args.t c.begun-stop.result c.index_mut.result.now
+            c.begun-stop.new.frames) (sym none.1) begun,
+        set-twice frames c.args.t c.number-at.result c.begun-stop.new.frames c.reads_at_once.new.frames
+            c.number-at.ensures.same
+            ∙ ap (slice_set frames c.args.t) (none.0
+            ∙ elem-put frames c.args.t c.number-at.result c.begun-stop.new.frames c.index_mut-2.result.now
+            c.number-at.ensures.same (slice_get_within frames c.args.t c.index_mut.result.now begun.there)
+            c.index_mut-2.ensures.value),
+      );
+    }
+
+pub returns-clause-goes : goal.returns-clause-goes
+returns-clause-goes g c o first ready =
+    let x = g.H.Host.setting c.args.host.now in
+    let set = g.C.Types.facts c.args.set.now in
+    let s = c.args.run.now.heap in
+    let frames = c.args.run.now.frames.items in
+    let unasked = none-asked c.has_asked.result (asked_by s.notes c.args.t) c.if-has_asked.false c.has_asked.ensures in
+    let none = c.reads_at_once.ensures.none c.if-reads_at_once.false in
+    let begun = begun-so o first set x s frames c.args.t c.number-at.result c.index_mut.result.now ready c.requires.live
+    c.number-at.ensures.same c.index_mut.ensures.value c.begun-stop.result c.begun-stop.new.frames unasked
+    c.begun-stop.ensures.come c.begun-stop.ensures.of in
+    subst (λ (y : Shared). StepsTo o first set x c.args.t c.asks.result y c.asks.new.run.heap c.asks.new.run.frames.items)
+    none.1
+    (c.asks.ensures.goes o first frames c.index_mut.result.now c.begun-stop.new.frames
+    (subst (λ (y : Shared). HasBegun o first set x y frames c.args.t c.begun-stop.result c.index_mut.result.now
+    c.begun-stop.new.frames) (sym none.1) begun)
+    (set-twice frames c.args.t c.number-at.result c.begun-stop.new.frames c.reads_at_once.new.frames
+    c.number-at.ensures.same
+    ∙ ap (slice_set frames c.args.t) (none.0
+    ∙ elem-put frames c.args.t c.number-at.result c.begun-stop.new.frames c.index_mut-2.result.now
+    c.number-at.ensures.same (slice_get_within frames c.args.t c.index_mut.result.now begun.there)
+    c.index_mut-2.ensures.value)))
+
+pub returns-clause-share : goal.returns-clause-share
+returns-clause-share g c fs there =
+    let x = g.H.Host.setting c.args.host.now in
+    let set = g.C.Types.facts c.args.set.now in
+    let s = c.args.run.now.heap in
+    let frames = c.args.run.now.frames.items in
+    let unasked = none-asked c.has_asked.result (asked_by s.notes c.args.t) c.if-has_asked.false c.has_asked.ensures in
+    let r = c.requires.ready in
+    let none = c.reads_at_once.ensures.none c.if-reads_at_once.false in
+    let begun = begun-so r.0 r.1 set x s frames c.args.t c.number-at.result c.index_mut.result.now r.2 c.requires.live
+    c.number-at.ensures.same c.index_mut.ensures.value c.begun-stop.result c.begun-stop.new.frames unasked
+    c.begun-stop.ensures.come c.begun-stop.ensures.of in
+    let is = some-one fs c.index_mut.result.now (sym there ∙ begun.there) in
+    let here = set-twice frames c.args.t c.number-at.result c.begun-stop.new.frames c.reads_at_once.new.frames
+    c.number-at.ensures.same
+    ∙ ap (slice_set frames c.args.t) (none.0
+    ∙ elem-put frames c.args.t c.number-at.result c.begun-stop.new.frames c.index_mut-2.result.now
+    c.number-at.ensures.same (slice_get_within frames c.args.t c.index_mut.result.now begun.there)
+    c.index_mut-2.ensures.value) in
+    subst (λ (q : Option (Request Ref Item)). AddsShare (asks_next x q fs) (g.S.Sink.takes c.args.run.now.sink)
+    s.history.acts c.asks.new.run.heap.history.acts) (sym unasked)
+    (subst (λ (gs : ThreadFrames). AddsShare (turn x gs).asks (g.S.Sink.takes c.args.run.now.sink) s.history.acts
+    c.asks.new.run.heap.history.acts) (sym is)
+    (subst (λ (y : Shared). AddsShare (turn x c.index_mut.result.now).asks (g.S.Sink.takes c.args.run.now.sink)
+    y.history.acts c.asks.new.run.heap.history.acts) none.1
+    (c.asks.ensures.share c.index_mut.result.now c.begun-stop.new.frames c.begun-stop.ensures.come
+    (put-there frames _ c.args.t c.index_mut.result.now c.begun-stop.new.frames begun.there here))))

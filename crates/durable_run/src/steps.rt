@@ -1,0 +1,246 @@
+// Events of threads.
+ghost use Rattle.std.specs.Prelude.{◌≡◌, ◌<◌, ◌≤◌, ℕ, List, length, slice_get, slice_set, Some, true, IsSome};
+ghost use Rattle.run_types.specs.declared.fault.Which.TheVariants as which;
+ghost use Rattle.frames.specs.Turns.{turn};
+ghost use Rattle.private_steps.specs.Ahead.{HasCome};
+ghost use Rattle.run_forms.specs.Views.{ThreadFrames};
+ghost use Rattle.machine_forms.specs.Machines.{Opening, memory_of};
+ghost use Rattle.machine.specs.declared.events.Halt.TheVariants.{Met};
+ghost use Rattle.machine.specs.Halts.{lacks};
+ghost use Rattle.machine.specs.Passed.{asked_by, started_as};
+ghost use Rattle.durable_run.specs.Events.{AddsBy, HasAsked, HasBegun, LeavesLess, NotesWait, StepsTo, fault_of};
+ghost use Rattle.durable_run.specs.Events.{with_begun};
+ghost use Rattle.durable_run.specs.Telling.{AddsShare, HasTold, IsCaused};
+ghost use Rattle.durable_run.specs.Turning.{IsReady, asks_next, is_live, turns_after};
+
+use crate::events::told_event;
+use crate::parts::{asked, begun};
+use crate::quick::reads_at_once;
+use crate::run::Run;
+use ap_base::{Gate, Item, Ref, Sink, ThreadNo};
+use frame_thread::{Host, Stop};
+use line_image::Image;
+use machine::{Event, Halt, SharedHeap};
+use natives::{Native, NativeState, Request};
+use private_steps::Frames;
+use run_history::Watcher;
+use run_types::On;
+use shared_objects::Types;
+
+/// How a thread's event went.
+#[derive(Drop)]
+pub enum Stepped {
+    /// What it asked is done, by an act.
+    Acted,
+    /// A step of persistence was made: the thread asks the same still.
+    Micro,
+    /// The thread waits for this, and asks the same still.
+    WouldWait(On),
+    /// The run is over.
+    Over(Halt),
+}
+
+// The frames of a thread that was started begin, if it is: by the reference to its Thread object.
+fn begin<I: Image>(
+    frames: &mut Vec<Frames<Ref, NativeState>>,
+    heap: &SharedHeap<I>,
+    child: ThreadNo,
+)
+    requires many { length frames.old.items ≡ 64 }
+    ensures begun { frames.new.items ≡ with_begun frames.old.items child (started_as heap.now.notes child) }
+{
+    if let Some(thread) = heap.begins(child) {
+        frames[child.number() as usize].begin_thread(thread);
+    }
+}
+
+// The frames begin of the thread that is behind so many, if it was started.
+fn begin_next<I: Image>(
+    frames: &mut Vec<Frames<Ref, NativeState>>,
+    heap: &SharedHeap<I>,
+    before: usize,
+)
+    requires many { length frames.old.items ≡ 64 }
+    ensures begun { before < length heap.now.machine.rest.threads → frames.new.items
+        ≡ with_begun frames.old.items before (started_as heap.now.notes before) }
+    ensures none { length heap.now.machine.rest.threads ≤ before → frames.new.items ≡ frames.old.items }
+{
+    if heap.threads().count() <= before {
+        return;
+    }
+    if let Some(child) = ThreadNo::new(before as u8) {
+        begin(frames, heap, child);
+    }
+}
+
+// The event of a thread whose turn has asked this: what it asks is done, or goes on, or waits.
+fn goes_on<C: Types, I: Image, H: Host<Native, Ref, NativeState, Item>, S: Sink, W: Watcher>(
+    run: &mut Run<I, S, W>,
+    set: &C,
+    host: &H,
+    t: ThreadNo,
+    request: Request,
+) -> Stepped
+    requires asked { (o : Opening) × (first : ℕ) × HasAsked o first (C.facts set.now) (H.setting host.now)
+        run.old.heap run.old.frames.items t request }
+    ensures goes { (o : Opening) (first : ℕ) → HasAsked o first (C.facts set.now) (H.setting host.now)
+        run.old.heap run.old.frames.items t request
+        → StepsTo o first (C.facts set.now) (H.setting host.now) t result run.old.heap run.new.heap
+        run.new.frames.items }
+    ensures acts { AddsBy result t run.old.heap.history.acts run.new.heap.history.acts }
+    ensures told { HasTold run.old.heap.history.acts run.new.heap.history.acts
+        (W.seen run.old.watcher) (W.seen run.new.watcher)
+        (S.taken run.old.sink) (S.taken run.new.sink) }
+    ensures share { AddsShare (Some request)
+        (S.takes run.old.sink) run.old.heap.history.acts run.new.heap.history.acts }
+    ensures cause { IsCaused (fault_of run.new.heap result) (S.faults run.old.sink) (S.faults run.new.sink)
+        (memory_of run.old.heap.machine).faults (memory_of run.new.heap.machine).faults }
+    ensures full { run.old.heap.history.limit ≤ length run.old.heap.history.acts
+        → result ≡ Stepped.Over (Met (lacks which.Acts 1 0)) }
+    ensures less { LeavesLess result run.old.heap run.new.heap }
+    ensures waits { NotesWait t result run.old.heap run.new.heap }
+    ensures turns { run.new.turns ≡ run.old.turns }
+{
+    let before = run.heap.threads().count();
+    let went = told_event(
+        &mut run.heap,
+        &mut run.sink,
+        &mut run.watcher,
+        set,
+        t,
+        request,
+    );
+    match went {
+        Event::Did(reply) => {
+            run.frames[t.number() as usize].answer(host, &reply);
+            begin_next(&mut run.frames, &run.heap, before);
+            Stepped::Acted
+        }
+        Event::Micro => Stepped::Micro,
+        Event::WouldWait(on) => Stepped::WouldWait(on),
+        Event::Over(halt) => Stepped::Over(halt),
+    }
+}
+
+// The request of the thread's turn that isn't answered goes on.
+fn continues<C: Types, I: Image, H: Host<Native, Ref, NativeState, Item>, S: Sink, W: Watcher>(
+    run: &mut Run<I, S, W>,
+    set: &C,
+    host: &H,
+    t: ThreadNo,
+) -> Stepped
+    requires ready { (o : Opening) × (first : ℕ)
+        × IsReady o first (C.facts set.now) (H.setting host.now) run.old.heap run.old.frames.items }
+    requires asked { IsSome (asked_by run.old.heap.notes t) }
+    ensures goes { (o : Opening) (first : ℕ)
+        → IsReady o first (C.facts set.now) (H.setting host.now) run.old.heap run.old.frames.items
+        → StepsTo o first (C.facts set.now) (H.setting host.now) t result run.old.heap run.new.heap
+        run.new.frames.items }
+    ensures acts { AddsBy result t run.old.heap.history.acts run.new.heap.history.acts }
+    ensures told { HasTold run.old.heap.history.acts run.new.heap.history.acts
+        (W.seen run.old.watcher) (W.seen run.new.watcher)
+        (S.taken run.old.sink) (S.taken run.new.sink) }
+    ensures share { AddsShare (asked_by run.old.heap.notes t)
+        (S.takes run.old.sink) run.old.heap.history.acts run.new.heap.history.acts }
+    ensures cause { IsCaused (fault_of run.new.heap result) (S.faults run.old.sink) (S.faults run.new.sink)
+        (memory_of run.old.heap.machine).faults (memory_of run.new.heap.machine).faults }
+    ensures full { run.old.heap.history.limit ≤ length run.old.heap.history.acts
+        → result ≡ Stepped.Over (Met (lacks which.Acts 1 0)) }
+    ensures less { LeavesLess result run.old.heap run.new.heap }
+    ensures waits { NotesWait t result run.old.heap run.new.heap }
+    ensures turns { run.new.turns ≡ run.old.turns }
+{
+    let Some(request) = run.heap.take_asked(t) else {
+        unreachable!()
+    };
+    goes_on(run, set, host, t, request)
+}
+
+// The turn that has begun so asks its request.
+fn asks<C: Types, I: Image, H: Host<Native, Ref, NativeState, Item>, S: Sink, W: Watcher>(
+    run: &mut Run<I, S, W>,
+    set: &C,
+    host: &H,
+    t: ThreadNo,
+    stop: Option<Stop>,
+) -> Stepped
+    requires begun { (o : Opening) × (first : ℕ) × (all : List ThreadFrames) × (before : ThreadFrames) × (now : ThreadFrames)
+        × HasBegun o first (C.facts set.now) (H.setting host.now) run.old.heap all t stop before now
+        × (run.old.frames.items ≡ slice_set all t now) }
+    ensures goes { (o : Opening) (first : ℕ) (all : List ThreadFrames) (before now : ThreadFrames)
+        → HasBegun o first (C.facts set.now) (H.setting host.now) run.old.heap all t stop before now
+        → run.old.frames.items ≡ slice_set all t now
+        → StepsTo o first (C.facts set.now) (H.setting host.now) t result run.old.heap run.new.heap
+        run.new.frames.items }
+    ensures acts { AddsBy result t run.old.heap.history.acts run.new.heap.history.acts }
+    ensures told { HasTold run.old.heap.history.acts run.new.heap.history.acts
+        (W.seen run.old.watcher) (W.seen run.new.watcher)
+        (S.taken run.old.sink) (S.taken run.new.sink) }
+    ensures share { (before now : ThreadFrames) → HasCome (H.setting host.now) stop before now
+        → slice_get run.old.frames.items t ≡ Some now → AddsShare (turn (H.setting host.now) before).asks
+        (S.takes run.old.sink) run.old.heap.history.acts run.new.heap.history.acts }
+    ensures cause { IsCaused (fault_of run.new.heap result) (S.faults run.old.sink) (S.faults run.new.sink)
+        (memory_of run.old.heap.machine).faults (memory_of run.new.heap.machine).faults }
+    ensures full { run.old.heap.history.limit ≤ length run.old.heap.history.acts
+        → result ≡ Stepped.Over (Met (lacks which.Acts 1 0)) }
+    ensures less { LeavesLess result run.old.heap run.new.heap }
+    ensures waits { NotesWait t result run.old.heap run.new.heap }
+    ensures turns { run.new.turns ≡ run.old.turns }
+{
+    machine::machines_ask_as_plain_runs();
+    let request = asked(&mut run.frames[t.number() as usize], host, stop);
+    goes_on(run, set, host, t, request)
+}
+
+/// One event of a live thread. Where no request of its turn waits for an answer, its next turn begins: the gate is
+/// called, the private instructions run, and the turn asks; so the gate is called once in a turn.
+pub fn step<
+    C: Types,
+    I: Image,
+    H: Host<Native, Ref, NativeState, Item>,
+    S: Sink,
+    G: Gate,
+    W: Watcher,
+>(run: &mut Run<I, S, W>, set: &C, host: &H, gate: &G, t: ThreadNo) -> Stepped
+    requires ready { (o : Opening) × (first : ℕ)
+        × IsReady o first (C.facts set.now) (H.setting host.now) run.old.heap run.old.frames.items }
+    requires live { is_live run.old.heap.machine.rest.threads t ≡ true }
+    ensures goes { (o : Opening) (first : ℕ)
+        → IsReady o first (C.facts set.now) (H.setting host.now) run.old.heap run.old.frames.items
+        → StepsTo o first (C.facts set.now) (H.setting host.now) t result run.old.heap run.new.heap
+        run.new.frames.items }
+    ensures acts { AddsBy result t run.old.heap.history.acts run.new.heap.history.acts }
+    ensures told { HasTold run.old.heap.history.acts run.new.heap.history.acts
+        (W.seen run.old.watcher) (W.seen run.new.watcher)
+        (S.taken run.old.sink) (S.taken run.new.sink) }
+    // A print isn't cut short, where the sink tells what it takes.
+    ensures share { (fs : ThreadFrames) → slice_get run.old.frames.items t ≡ Some fs
+        → AddsShare (asks_next (H.setting host.now) (asked_by run.old.heap.notes t) fs)
+        (S.takes run.old.sink) run.old.heap.history.acts run.new.heap.history.acts }
+    ensures cause { IsCaused (fault_of run.new.heap result) (S.faults run.old.sink) (S.faults run.new.sink)
+        (memory_of run.old.heap.machine).faults (memory_of run.new.heap.machine).faults }
+    // A history without room for an act has none.
+    ensures full { run.old.heap.history.limit ≤ length run.old.heap.history.acts
+        → result ≡ Stepped.Over (Met (lacks which.Acts 1 0)) }
+    ensures less { LeavesLess result run.old.heap run.new.heap }
+    ensures waits { NotesWait t result run.old.heap run.new.heap }
+    ensures turns { run.new.turns ≡ turns_after (asked_by run.old.heap.notes t) t run.old.turns }
+{
+    if run.heap.has_asked(t) {
+        return continues(run, set, host, t);
+    }
+    let at = t.number() as usize;
+    let stop = begun(&mut run.frames[at], &mut run.turns[at], host, gate, t);
+    if reads_at_once(
+        &mut run.frames[at],
+        &mut run.heap,
+        &mut run.watcher,
+        set,
+        host,
+        t,
+        stop,
+    ) {
+        return Stepped::Acted;
+    }
+    asks(run, set, host, t, stop)
+}

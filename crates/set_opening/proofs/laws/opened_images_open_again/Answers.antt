@@ -1,0 +1,12 @@
+use Rattle.set_opening.proofs.Again.{left_so, unrefused}
+use Rattle.set_opening.proofs.laws.opened_images_open_again.Goals as goal
+
+pub returns : goal.returns
+returns c = record {
+  again = record {
+    unrefused = λ start set numbered m directory lines graph free opened again after stood holds now why is.
+        unrefused start set numbered m directory lines graph free opened again stood holds after now why is;
+    as_left = λ start set numbered m directory lines graph free opened again stood holds now n found places opening behind reopened.
+        left_so start set numbered m directory lines graph free opened again stood holds now n found places opening behind reopened;
+  };
+}

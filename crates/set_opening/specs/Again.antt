@@ -1,0 +1,48 @@
+-- Images over which a run of a class set could begin, opened for the same set again.
+use Rattle.std.specs.Prelude.{◌≡◌, ℕ, List}
+use Rattle.graph_model.specs.declared.types.Graph.{Graph}
+use Rattle.line_image.specs.Told.{Told}
+use Rattle.line_memory.specs.Memory.{IsTelling, Memory}
+use Rattle.image_meaning.specs.Checks.{Words}
+use Rattle.image_meaning.specs.Directories.{Directory}
+use Rattle.image_meaning.specs.Laws.{Opens}
+use Rattle.image_meaning.specs.Meaning.{StandsFor}
+use Rattle.class_set.specs.Linked.{Linked}
+use Rattle.directories.specs.Kept.{Kept}
+use Rattle.image_recovery.specs.Recovered.{entries_in}
+use Rattle.set_opening.specs.declared.unopened.Unopened.{Unopened}
+use Rattle.set_opening.specs.declared.unopened.Unopened.TheVariants.{BadImage, ShapeChanged, Full, ImageFailed, OutOfMemory}
+use Rattle.set_opening.specs.Attached.{AreRead}
+use Rattle.set_opening.specs.Opened.{IsOpenedFor}
+use Rattle.set_opening.specs.Unopened.{IsUnopened}
+
+-- no word of the image, no shape and no want of room is why
+abbrev pub IsNoRefusal : Unopened → Type 0
+IsNoRefusal (BadImage line reason) = ⊥
+IsNoRefusal (ShapeChanged name) = ⊥
+IsNoRefusal (Full full) = ⊥
+IsNoRefusal ImageFailed = Unit {0}
+IsNoRefusal OutOfMemory = Unit {0}
+
+-- The image tells what is done to it, and what reads of it give opens with this directory and stands for this graph.
+pub record HoldsGraph (image : Told) (size : ℕ) (directory : Directory) (graph : Graph) : Type 0 where
+  pub size_is : image.size ≡ size
+  pub telling : IsTelling image.trace
+  pub words : Words
+  pub read : AreRead image words
+  pub opens : Opens size words directory
+  pub stands : StandsFor size words graph
+
+-- An image was opened for a set. One of as many lines that has the directory of then, and any graph, isn't refused for the set. Where
+-- it is opened for it, it has that very directory and that very graph, and each class of the set has the number of then.
+pub record OpenedImagesOpenAgain : Type 0 where
+  pub unrefused : (start : Told) (set numbered : Linked) (m : Memory) (directory : Kept) (lines : List ℕ) (graph : Graph) (free : ℕ)
+      → IsOpenedFor start set numbered m directory lines graph free
+      → (again after : Told) (stood : Graph) → HoldsGraph again start.size (entries_in directory) stood
+      → (now : Linked) (why : Unopened) → IsUnopened again after set now why → IsNoRefusal why
+  pub as_left : (start : Told) (set numbered : Linked) (m : Memory) (directory : Kept) (lines : List ℕ) (graph : Graph) (free : ℕ)
+      → IsOpenedFor start set numbered m directory lines graph free
+      → (again : Told) (stood : Graph) → HoldsGraph again start.size (entries_in directory) stood
+      → (now : Linked) (n : Memory) (found : Kept) (places : List ℕ) (opening : Graph) (behind : ℕ)
+      → IsOpenedFor again set now n found places opening behind
+      → (entries_in found ≡ entries_in directory) × (opening ≡ stood) × (now ≡ numbered)

@@ -1,0 +1,8 @@
+// Images that are opened for a class set again.
+ghost use Rattle.set_opening.specs.Again.{OpenedImagesOpenAgain};
+
+/// An image that was opened for a class set, and has its directory still, isn't refused for the set, whatever ran over it meanwhile: it
+/// opens with the graph for which it stands then. Does nothing.
+pub fn opened_images_open_again()
+    ensures again { OpenedImagesOpenAgain }
+{}
