@@ -1,6 +1,7 @@
 // The top call.
 ghost use Rattle.std.specs.Prelude.{◌≡◌};
-ghost use Rattle.command_words.specs.Commands.{texts};
+ghost use Rattle.command_words.specs.Commands.{command_of, texts};
+ghost use Rattle.autopersist.specs.Complete.{IsComplete};
 ghost use Rattle.autopersist.specs.Meets.{Meets};
 ghost use Rattle.autopersist.specs.Outside.{outside};
 
@@ -25,6 +26,41 @@ use std::thread::Threads;
 ///
 /// The gate is called in each turn before its first event, and the watcher is told each act.
 pub fn autopersist<R, C, I, S, G, W>(
+    rt: &R,
+    alloc: Global,
+    words: &Vec<String>,
+    source: C,
+    image: I,
+    sink: S,
+    gate: &G,
+    watcher: W,
+) -> Ended<C, I, S, W>
+where
+    R: Threads + Wait + Clone + Send + Sync + Drop,
+    C: ClassSource,
+    I: Image + Send,
+    S: Sink + Send,
+    G: Gate + Sync,
+    W: Watcher + Send,
+    // The promises, a field each: how it ends, what the command does, what a stop leaves, and what the outside is told.
+    ensures meets { Meets (texts words.now.items)
+        (outside (C.left source) (C.faults source) (I.told image) (I.faults image) (S.taken sink) (S.faults sink) (W.seen watcher))
+        (outside (C.left result.source) (C.faults result.source) (I.told result.image) (I.faults result.image)
+        (S.taken result.sink) (S.faults result.sink) (W.seen result.watcher))
+        (result.source ≡ source) (result.image ≡ image) result.status result.opening result.acts.acts }
+    // Where the inputs are as the command asks, nothing outside fails and no limit is met, it does its work, or memory runs out before any
+    // of it.
+    ensures complete { IsComplete (command_of (texts words.now.items))
+        (outside (C.left source) (C.faults source) (I.told image) (I.faults image) (S.taken sink) (S.faults sink) (W.seen watcher))
+        (outside (C.left result.source) (C.faults result.source) (I.told result.image) (I.faults result.image)
+        (S.taken result.sink) (S.faults result.sink) (W.seen result.watcher))
+        result.status result.opening result.acts.acts }
+{
+    do_command(rt, alloc, words, source, image, sink, gate, watcher)
+}
+
+// What the words ask for is done.
+fn do_command<R, C, I, S, G, W>(
     _rt: &R,
     alloc: Global,
     words: &Vec<String>,
@@ -41,7 +77,6 @@ where
     S: Sink + Send,
     G: Gate + Sync,
     W: Watcher + Send,
-    // The promises, a field each: how it ends, what the command does, what a stop leaves, and what the outside is told.
     ensures meets { Meets (texts words.now.items)
         (outside (C.left source) (C.faults source) (I.told image) (I.faults image) (S.taken sink) (S.faults sink) (W.seen watcher))
         (outside (C.left result.source) (C.faults result.source) (I.told result.image) (I.faults result.image)

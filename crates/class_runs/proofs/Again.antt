@@ -1,17 +1,15 @@
 -- What stops of a run left opens again.
-use Rattle.std.proofs.Common.{◌≡◌, ◌⊎◌, inl, inr, ⊎_elim, ℕ, ◌<◌, ◌≤◌, List, Option, Some, None, Result, Ok, Err, sym, refl, ◌∙◌, subst, arith}
-use Rattle.std.specs.Prelude.{true, nat_le, take}
-use Rattle.std.proofs.lemmas.Bool.{and_parts, leb-true}
+use Rattle.std.proofs.Common.{◌≡◌, ◌⊎◌, inl, inr, ⊎_elim, ℕ, ◌<◌, ◌≤◌, List, sym, refl, ◌∙◌, subst, arith}
+use Rattle.std.specs.Prelude.{take}
 use Rattle.graph_model.specs.declared.types.Graph.{Graph}
 use Rattle.line_image.specs.Told.{Told}
-use Rattle.line_image.specs.Trace.{Outcome, Trace}
-use Rattle.line_memory.specs.Memory.{IsTelling, Memory, ReadsWord, shown}
-use Rattle.image_layout.specs.Places.{has_size, max_lines, min_lines}
+use Rattle.line_image.specs.Trace.{Outcome}
+use Rattle.line_memory.specs.Memory.{Memory, shown}
+use Rattle.image_layout.specs.Places.{max_lines, min_lines}
 use Rattle.image_layout.specs.declared.superblock.BadReason.{BadReason}
 use Rattle.image_meaning.specs.Appending.{with_all_too}
-use Rattle.image_meaning.specs.Checks.{Bad, Words}
+use Rattle.image_meaning.specs.Checks.{Words}
 use Rattle.image_meaning.specs.Meaning.{StandsFor, meaning}
-use Rattle.image_meaning.proofs.Standing.{standing-sized}
 use Rattle.image_meaning.proofs.Standings.{stands-within}
 use Rattle.directories.specs.Planning.{lacking}
 use Rattle.image_recovery.specs.Recovered.{entries_in}
@@ -31,23 +29,9 @@ use Rattle.statuses.specs.declared.status.Status.TheVariants as status
 use Rattle.class_runs.specs.Again.{IsLeftBy}
 use Rattle.class_runs.specs.Sets.{CannotBegin, CannotOpen, HasEndedSo, IsOpenedSo, SetEnds, StandsAllowed, StandsAsBefore, StandsRightly}
 use Rattle.class_runs.specs.Sets.{status_of_ending, status_of_unopened}
+use Rattle.class_runs.proofs.Reading.{not_both, one_read, sized}
 
 -- ---- what stands is no bad image
-
-abbrev ok : Graph → Result Graph Bad
-ok graph = Ok graph
-
-not_both : (given : Result Graph Bad) (graph : Graph) (bad : Bad) → given ≡ Ok graph → given ≡ Err bad → ⊥
-not_both given graph bad a b = let e : ok graph ≡ Err bad = sym a ∙ b in cc
-
-one_read : (o : Option Trace) → IsTelling o → (l w u v : ℕ) → ReadsWord o l w u → ReadsWord o l w v → v ≡ u
-one_read None telling l w u v a b = absurd telling
-one_read (Some h) telling l w u v a b = b ∙ sym a
-
-both : (size : ℕ) → has_size size ≡ true → (min_lines ≤ size) × (size ≤ max_lines)
-both size is =
-    let parts = and_parts (nat_le min_lines size) (nat_le size max_lines) is in
-    (leb-true min_lines size parts.0, leb-true size max_lines parts.1)
 
 -- a graph for which the words stand
 abbrev StandsSome : ℕ → Words → Type 0
@@ -69,7 +53,7 @@ stands_rightly set start opening all acts before stood left stands (inr (none, a
 module _ (start : Told) (left : Outcome) (again : Told) (is : IsLeftBy start left again) (graph : Graph)
     (stands : StandsFor start.size left graph) where
   range : (min_lines ≤ start.size) × (start.size ≤ max_lines)
-  range = both start.size (standing-sized start.size left graph stands)
+  range = sized start.size left graph stands
 
   attached_stands : (before : Memory) → IsAttached again before → StandsFor before.size (shown before) graph
   attached_stands before at =
@@ -80,7 +64,7 @@ module _ (start : Told) (left : Outcome) (again : Told) (is : IsLeftBy start lef
       let here : l < again.size = omega (arith, below, size) in
       one_read again.trace is.telling l w (left l w) (shown before l w) (is.read l w here) (at.shows l w here)))
 
-  not_bad_so : (line : ℕ) (reason : BadReason) (set now : Linked) (after : Told)
+  pub not_bad_so : (line : ℕ) (reason : BadReason) (set now : Linked) (after : Told)
       → IsUnopened again after set now (unopened.BadImage line reason) → ⊥
   not_bad_so line reason set now after (inl (unattached, same)) =
       let size = is.size in

@@ -39,7 +39,6 @@ use Rattle.durable_launch.specs.Passed.{NoLaunch}
 use Rattle.durable_launch.specs.NoLaunches as no_launch
 use Rattle.one_space.specs.First.{LacksWords}
 use Rattle.durable_launch.specs.Passed.{Unopened}
-use Rattle.durable_launch.specs.Passed.{IsSettled}
 use Rattle.durable_launch.specs.Unopenings as unopened
 use Rattle.durable_launch.specs.Passed.{IsFoundFor, IsOpenedFor}
 use Rattle.durable_launch.specs.Passed.{IsAttachFault, IsLeft, IsLeftAsFound, IsRecoveryFault, IsUnappended, IsUnopened}
@@ -56,13 +55,13 @@ use Rattle.class_runs.proofs.SetStops.{AddsNew, adds_lacking, adds_none, stops_o
 
 module _ (set : Linked) (start after : Told) where
   left_stops : (before m : Memory) (added : _) → IsLeft start after before m added → AddsNew set before.size (shown before) added
-      → (opening : Graph) → IsSettled start → StandsAtStops set start opening [] after
-  left_stops before m added left adds opening settled =
+      → (opening : Graph) → IsTelling start.trace → StandsAtStops set start opening [] after
+  left_stops before m added left adds opening telling =
       subst (λ (t : Told). StandsAtStops set start opening [] t) (sym left.told)
-      (stops_without start settled set before left.attached opening m added adds (left.stops settled.0))
+      (stops_without start set before left.attached m added adds (left.stops telling) telling opening)
 
   -- nothing was appended
-  as_left : (before m : Memory) → IsLeft start after before m [] → (opening : Graph) → IsSettled start
+  as_left : (before m : Memory) → IsLeft start after before m [] → (opening : Graph) → IsTelling start.trace
       → StandsAtStops set start opening [] after
   as_left before m left = left_stops before m [] left (adds_none set before.size (shown before))
 
@@ -87,18 +86,18 @@ module _ (set numbered : Linked) (start after : Told) (why : Unopened) where
   unopened_size (inr (inl (unrecovered, same))) = unrecovered.left.size
   unopened_size (inr (inr unprepared)) = unprepared.left.left.size
 
-  unopened_stops : IsUnopened start after set numbered why → (opening : Graph) → IsSettled start
+  unopened_stops : IsUnopened start after set numbered why → (opening : Graph) → IsTelling start.trace
       → StandsAtStops set start opening [] after
-  unopened_stops (inl (unattached, same)) opening settled =
-      stops_unattached set start opening after settled.1 unattached.trace unattached.moments
-  unopened_stops (inr (inl (u, same))) opening settled = as_left set start after u.before u.memory u.left opening settled
-  unopened_stops (inr (inr u)) opening settled =
-      as_left set start after u.left.before u.left.memory u.left.left opening settled
+  unopened_stops (inl (unattached, same)) opening telling =
+      stops_unattached set start opening after unattached.trace unattached.moments
+  unopened_stops (inr (inl (u, same))) opening telling = as_left set start after u.before u.memory u.left opening telling
+  unopened_stops (inr (inr u)) opening telling =
+      as_left set start after u.left.before u.left.memory u.left.left opening telling
 
-  unopened_had : IsUnopened start after set numbered why → IsOfSet why → IsSettled start → HasItsDirectory start after
-  unopened_had (inl (unattached, same)) of settled = absurd (attached_without start why unattached.cause of)
-  unopened_had (inr (inl (u, same))) of settled = absurd (recovered_without u.before u.memory why u.cause of)
-  unopened_had (inr (inr u)) of settled = its_directory start settled after u.directory u.graph u.left
+  unopened_had : IsUnopened start after set numbered why → IsOfSet why → IsTelling start.trace → HasItsDirectory start after
+  unopened_had (inl (unattached, same)) of telling = absurd (attached_without start why unattached.cause of)
+  unopened_had (inr (inl (u, same))) of telling = absurd (recovered_without u.before u.memory why u.cause of)
+  unopened_had (inr (inr u)) of telling = its_directory start telling after u.directory u.graph u.left
 
   pub unopened_ran : (name : List ℕ) (limits : Limits) → IsUnopened start after set numbered why
       → SetRunsOver set name limits start empty_graph [] after (status_of_unopened why)
@@ -133,7 +132,7 @@ module _ (set numbered : Linked) (start : Told) (m : Memory) (directory : Kept) 
               fitted = is.fitted;
             };
             cause = cause;
-            unappended = λ settled. its_directory start settled after is.found is.stood left;
+            unappended = λ telling. its_directory start telling after is.found is.stood left;
           })),
         );
         unbegun = λ none. refl;
@@ -197,8 +196,8 @@ module _ (set numbered : Linked) (start : Told) (m : Memory) (directory : Kept) 
     size = size ∙ opened.ready.same_size;
     ends = inl (refl, inr (inr (inr (record { graph = graph; of = opened_so; is = refl }))));
     unbegun = λ none. refl;
-    stops = λ settled. subst (λ (t : Told). StandsAtStops set start empty_graph [] t) (sym same)
-        (stops_opened start settled set numbered m directory lines graph free opened empty_graph);
+    stops = λ telling. subst (λ (t : Told). StandsAtStops set start empty_graph [] t) (sym same)
+        (stops_opened start telling set numbered m directory lines graph free opened empty_graph);
   }
 
   -- nor is there one for the first heap, whose objects find room
@@ -278,21 +277,21 @@ module _ {I : Type 0} (set numbered : Linked) (name : List ℕ) (limits : Limits
     size_after : after.size ≡ start.size
     size_after = ran.size ∙ machine_size
 
-    telling : IsSettled start → IsTelling heap.spaces.heap.memory.image.trace
-    telling settled = can.opened.goes_on.telling (can.opened.attached.telling settled.0)
+    still_telling : IsTelling start.trace → IsTelling heap.spaces.heap.memory.image.trace
+    still_telling telling = can.opened.goes_on.telling (can.opened.attached.telling telling)
 
-    -- what a stop leaves, where nothing was unfenced at first
-    stops : EachStopIsAllowed → IsSettled start → StandsAtStops set start opening acts after
-    stops law settled =
+    -- what a stop leaves
+    stops : EachStopIsAllowed → IsTelling start.trace → StandsAtStops set start opening acts after
+    stops law telling =
         let m = heap.spaces.heap.memory in
         let s = ran.shared.machine in
         let known = first_known (facts_of numbered) heap.graph in
         let kept = entries_in can.directory in
-        let tells = telling settled in
+        let tells = still_telling telling in
         let runs = run.keeps.stops tells in
         let now = (law o s run.table run.keeps tells).now in
         subst (λ (t : Told). StandsAtStops set start opening acts t) (sym ran.image)
-        (stops_run start settled set numbered m can.directory can.lines heap.graph heap.free can.opened opening acts
+        (stops_run start telling set numbered m can.directory can.lines heap.graph heap.free can.opened opening acts
         (memory_of s)
         (subst (λ (made : List Recorded). IsSafeRun known m.size kept start.calls m made (memory_of s))
         machine_acts runs.safe)

@@ -1,7 +1,7 @@
 -- What a stop leaves of an image that is attached, opened for a class set, and then run on.
 use Rattle.std.proofs.Math.Path.{fun_ext}
-use Rattle.std.proofs.Common.{◌≡◌, ◌⊎◌, inl, inr, ⊎_elim, ℕ, ◌<◌, ◌≤◌, ◌+◌, ◌-◌, ◌^◌, List, [], ◌∷◌, Option, Some, None, Ok, Result}
-use Rattle.std.proofs.Common.{refl, sym, ◌∙◌, subst, arith}
+use Rattle.std.proofs.Common.{◌≡◌, ◌⊎◌, inl, inr, ⊎_elim, ℕ, ◌<◌, ◌≤◌, ◌+◌, ◌-◌, ◌^◌, List, [], ◌∷◌, Option, Some, None}
+use Rattle.std.proofs.Common.{refl, sym, subst, arith}
 use Rattle.std.specs.Prelude.{◌≢◌, All}
 use Rattle.std.proofs.Math.Seq.{take-nil}
 use Rattle.std.proofs.lemmas.Bool.{cases_lt, le-ltb}
@@ -13,7 +13,7 @@ use Rattle.line_memory.specs.Memory.{Memory, ReadsWord, IsTelling, CanLeaveAll, 
 use Rattle.line_memory.specs.Moments.{Goes, CountsFrom}
 use Rattle.line_memory.proofs.Chain.{goes_on}
 use Rattle.image_meaning.specs.Appending.{with_all_too}
-use Rattle.image_meaning.specs.Checks.{Words, Bad}
+use Rattle.image_meaning.specs.Checks.{Words}
 use Rattle.image_meaning.specs.Directories.{Directory}
 use Rattle.image_meaning.specs.Entries.{DirectoryEntry}
 use Rattle.image_meaning.specs.Laws.{Opens}
@@ -34,6 +34,7 @@ use Rattle.stop_theorem.specs.Laws.{IsSafeRun}
 use Rattle.durable_launch.specs.Passed.{AreRead, IsAttached, IsSettled}
 use Rattle.durable_launch.specs.Passed.{IsDirectoryIn, IsOpenedFor, StandsWithFirst, StandsWithNew, with_arrays_of}
 use Rattle.class_runs.specs.Sets.{IsOpenedSo, StandsAllowed, StandsAsBefore, StandsAtStops, StandsRightly}
+use Rattle.class_runs.proofs.Reading.{fenced_as_read, same_graph}
 
 pub none_before : (n : ℕ) (acts : List Recorded) → All (λ (a : Recorded). n ≤ a.act.at) acts → acts_before n acts ≡ []
 none_before n [] late = refl
@@ -41,19 +42,7 @@ none_before n (a ∷ acts) late =
     let here = All-head (λ (b : Recorded). n ≤ b.act.at) a acts late in
     rw (le-ltb a.act.at n here) (none_before n acts (All-tail (λ (b : Recorded). n ≤ b.act.at) a acts late))
 
-abbrev ok : Graph → Result Graph Bad
-ok graph = Ok graph
-
-same_graph : (r : Result Graph Bad) (a b : Graph) → r ≡ Ok a → r ≡ Ok b → a ≡ b
-same_graph r a b one other = let same : ok a ≡ ok b = sym one ∙ other in cc
-
 -- ---- images that were attached
-
--- what a stop leaves of an image with nothing unfenced is what reads give
-fenced_as_read : (o : Option Trace) → IsTelling o → IsAllFenced o → (c : Outcome) → LeavesNow o c
-    → (l w v : ℕ) → ReadsWord o l w v → c l w ≡ v
-fenced_as_read None telling settled c left l w v reads = absurd telling
-fenced_as_read (Some h) telling settled c left l w v reads = settled l w (c l w) (left l w) ∙ sym reads
 
 -- the words stand for the graph, or for it with the first of the set's new entries
 abbrev WithNew : Linked → ℕ → Words → Graph → Outcome → Type 0
@@ -128,25 +117,53 @@ module _ (start : Told) (settled : IsSettled start) (set : Linked) (before : Mem
       let there = stood graph stands in
       sized graph c ((goes_since m added adds graph there (stops graph there)).during (start.calls + n) (omega (arith, some)) le lt c left)
 
-  pub as_before_now : (m : Memory) (added : List DirectoryEntry) → Adds added → AllStop m added → (c : Outcome)
-      → LeavesNow m.image.trace c → StandsAsBefore set start.size (shown before) c
-  as_before_now m added adds stops c left graph stands =
-      let there = stood graph stands in
-      sized graph c (adds graph c ((stops graph there).after c (λ l w. inr (left l w))))
+-- behind the fence that the opening begins with, whatever was unfenced at the start
+module _ (start : Told) (set : Linked) (before : Memory) (attached : IsAttached start before) (m : Memory) (added : List DirectoryEntry)
+    (adds : AddsNew set before.size (shown before) added)
+    (stops : (graph : Graph) → StandsFor before.size (shown before) graph
+    → StopsLeave before m (StandsWithFirst before.size graph added)) where
+  sized_so : (graph : Graph) (c : Outcome) → WithNew set before.size (shown before) graph c
+      → WithNew set start.size (shown before) graph c
+  sized_so graph c some = subst (λ (n : ℕ). WithNew set n (shown before) graph c) attached.size some
+
+  stood_so : (graph : Graph) → StandsFor start.size (shown before) graph → StandsFor before.size (shown before) graph
+  stood_so graph stands = subst (λ (n : ℕ). StandsFor n (shown before) graph) (sym attached.size) stands
+
+  pub as_before_late : (n : ℕ) → start.size + 1 < n → start.calls + n ≤ m.image.calls → start.calls + n < 2 ^ 64 - 1
+      → (c : Outcome) → LeftWithin m.image.trace (start.calls + n) c → StandsAsBefore set start.size (shown before) c
+  as_before_late n late le lt c left graph stands =
+      let counts = attached.counts in
+      let calls = attached.calls in
+      sized_so graph c (adds graph c
+      ((stops graph (stood_so graph stands)).within.during (start.calls + n) (omega (arith, late, counts, calls)) le lt c left))
+
+  pub as_before_now : (c : Outcome) → LeavesNow m.image.trace c → StandsAsBefore set start.size (shown before) c
+  as_before_now c left graph stands =
+      sized_so graph c (adds graph c ((stops graph (stood_so graph stands)).after c (λ l w. inr (left l w))))
+
+  -- up to it, where nothing was
+  pub as_before_at : IsTelling start.trace → (n : ℕ) → 0 < n → start.calls + n ≤ m.image.calls → start.calls + n < 2 ^ 64 - 1
+      → (n ≤ start.size + 1 → IsAllFenced start.trace) → (c : Outcome) → LeftWithin m.image.trace (start.calls + n) c
+      → StandsAsBefore set start.size (shown before) c
+  as_before_at telling n some le lt fenced c left = ⊎_elim
+      (λ (late : start.size + 1 < n). as_before_late n late le lt c left)
+      (λ (first : n ≤ start.size + 1).
+      as_before_within start (telling, fenced first) set before attached m added adds stops n some le lt c left)
+      (cases_lt (start.size + 1) n)
 
   -- there was no first turn
-  pub stops_without : (opening : Graph) (m : Memory) (added : List DirectoryEntry) → Adds added → AllStop m added
-      → StandsAtStops set start opening [] m.image
-  stops_without opening m added adds stops = record {
+  pub stops_without : IsTelling start.trace → (opening : Graph) → StandsAtStops set start opening [] m.image
+  stops_without telling opening = record {
     words = shown before;
     read = attached.shows;
-    within = λ n some le lt c left. inr (refl, as_before_within m added adds stops n some le lt c left);
-    now = λ c left. inr (refl, as_before_now m added adds stops c left);
+    within = λ n some le lt fenced c left.
+        inr (refl, as_before_at telling n some le lt (λ first. fenced (inl first)) c left);
+    now = λ fenced c left. inr (refl, as_before_now c left);
   }
 
 -- ---- images that were opened
 
-module _ (start : Told) (settled : IsSettled start) (set numbered : Linked) (m : Memory) (directory : _) (lines : List ℕ) (graph : Graph)
+module _ (start : Told) (telling : IsTelling start.trace) (set numbered : Linked) (m : Memory) (directory : _) (lines : List ℕ) (graph : Graph)
     (free : ℕ) (opened : IsOpenedFor start set numbered m directory lines graph free) where
   abbrev pub added : List DirectoryEntry
   added = lacking opened.found opened.entries
@@ -155,7 +172,7 @@ module _ (start : Told) (settled : IsSettled start) (set numbered : Linked) (m :
       → StopsLeave opened.before m (StandsWithFirst opened.before.size other added)
   all_stop other stands =
       subst (λ (g : Graph). StopsLeave opened.before m (StandsWithFirst opened.before.size g added))
-      (same_graph (meaning opened.before.size (shown opened.before)) opened.stood other opened.stands stands) (opened.stops settled.0)
+      (same_graph (meaning opened.before.size (shown opened.before)) opened.stood other opened.stands stands) (opened.stops telling)
 
   -- what is appended are the set's entries that the directory lacked
   pub adds : AddsNew set opened.before.size (shown opened.before) added
@@ -164,7 +181,7 @@ module _ (start : Told) (settled : IsSettled start) (set numbered : Linked) (m :
       opened.are_its
 
   pub stops_opened : (opening : Graph) → StandsAtStops set start opening [] m.image
-  stops_opened opening = stops_without start settled set opened.before opened.attached opening m added adds all_stop
+  stops_opened opening = stops_without start set opened.before opened.attached m added adds all_stop telling opening
 
   -- ---- and on which a run went on
 
@@ -192,28 +209,28 @@ module _ (start : Told) (settled : IsSettled start) (set numbered : Linked) (m :
     all_late : (n : ℕ) → n ≤ m.calls → All (λ (a : Recorded). n ≤ a.act.at) acts
     all_late n le k d below = omega (arith, le, safe.late k d below)
 
-    early : (n : ℕ) → 0 < n → start.calls + n < 2 ^ 64 - 1 → n ≤ m.calls → (c : Outcome)
-        → LeftWithin end.image.trace (start.calls + n) c
+    early : (n : ℕ) → 0 < n → start.calls + n < 2 ^ 64 - 1 → n ≤ m.calls → (n ≤ start.size + 1 → IsAllFenced start.trace)
+        → (c : Outcome) → LeftWithin end.image.trace (start.calls + n) c
         → StandsRightly set start opening acts (acts_before n acts) (shown opened.before) c
-    early n some lt le c left =
+    early n some lt le fenced c left =
         let within : start.calls + n ≤ m.image.calls = omega (arith, counts, le, lt) in
         let there : LeftWithin m.image.trace (start.calls + n) c =
         subst (λ (o : Option Trace). LeavesNow o c) (safe.before (start.calls + n) within lt) left in
         inr (
           none_before n acts (all_late n le),
-          as_before_within start settled set opened.before opened.attached m added adds all_stop n some within lt c there,
+          as_before_at start set opened.before opened.attached m added adds all_stop telling n some within lt fenced c there,
         )
 
     pub stops_run : StandsAtStops set start opening acts end.image
     stops_run = record {
       words = shown opened.before;
       read = opened.attached.shows;
-      within = λ n some le lt c left. ⊎_elim
+      within = λ n some le lt fenced c left. ⊎_elim
           (λ (after : m.calls < n). inl (allowed (acts_before n acts) c
           (safe.within n some (omega (arith, safe.counts, le, lt)) lt c left after)))
-          (λ (first : n ≤ m.calls). early n some lt first c left)
+          (λ (first : n ≤ m.calls). early n some lt first (λ read. fenced (inl read)) c left)
           (cases_lt m.calls n);
-      now = λ c left. inl (allowed acts c (now c (λ l w. inr (left l w))));
+      now = λ fenced c left. inl (allowed acts c (now c (λ l w. inr (left l w))));
     }
 
 -- ---- an image that couldn't be attached
@@ -234,15 +251,17 @@ is_read : (o : Option Trace) → IsAllFenced o → (c : Outcome) → LeavesNow o
 is_read None settled c left = absurd (left 0 0)
 is_read (Some h) settled c left = fun_ext (λ l. fun_ext (λ w. settled l w (c l w) (left l w)))
 
-pub stops_unattached : (set : Linked) (start : Told) (opening : Graph) (after : Told) → IsAllFenced start.trace
-    → after.trace ≡ start.trace → Goes start after (LeavesNow start.trace) → StandsAtStops set start opening [] after
-stops_unattached set start opening after settled same goes =
-    let quiet : (c : Outcome) → LeavesNow start.trace c → StandsAsBefore set start.size (words_read start.trace) c =
-    λ c left graph stands.
-    inl (subst (λ (words : Words). StandsFor start.size words graph) (sym (is_read start.trace settled c left)) stands) in
+pub stops_unattached : (set : Linked) (start : Told) (opening : Graph) (after : Told) → after.trace ≡ start.trace
+    → Goes start after (LeavesNow start.trace) → StandsAtStops set start opening [] after
+stops_unattached set start opening after same goes =
+    let quiet : IsAllFenced start.trace → (c : Outcome) → LeavesNow start.trace c
+    → StandsAsBefore set start.size (words_read start.trace) c =
+    λ fenced c left graph stands.
+    inl (subst (λ (words : Words). StandsFor start.size words graph) (sym (is_read start.trace fenced c left)) stands) in
     record {
       words = words_read start.trace;
       read = are_read start;
-      within = λ n some le lt c left. inr (refl, quiet c (goes.during (start.calls + n) (omega (arith, some)) le lt c left));
-      now = λ c left. inr (refl, quiet c (subst (λ (o : Option Trace). LeavesNow o c) same left));
+      within = λ n some le lt fenced c left.
+          inr (refl, quiet (fenced (inr refl)) c (goes.during (start.calls + n) (omega (arith, some)) le lt c left));
+      now = λ fenced c left. inr (refl, quiet (fenced refl) c (subst (λ (o : Option Trace). LeavesNow o c) same left));
     }

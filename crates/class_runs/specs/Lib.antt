@@ -4,3 +4,4 @@ pub mod Chosen
 pub mod Sets
 pub mod Began
 pub mod Runs
+pub mod Complete

@@ -3,8 +3,8 @@ use Rattle.std.specs.Prelude.{◌≡◌, ◌≢◌, ◌⊎◌, ℕ, ◌+◌, ◌
 use Rattle.ap_base.specs.declared.reference.Ref.{Ref}
 use Rattle.graph_model.specs.declared.types.Graph.{Graph}
 use Rattle.line_image.specs.Told.{Told}
-use Rattle.line_image.specs.Trace.{Outcome, LeavesNow, LeftWithin}
-use Rattle.line_memory.specs.Memory.{Memory}
+use Rattle.line_image.specs.Trace.{IsAllFenced, Outcome, LeavesNow, LeftWithin}
+use Rattle.line_memory.specs.Memory.{IsTelling, Memory}
 use Rattle.image_meaning.specs.Checks.{Words}
 use Rattle.image_meaning.specs.Directories.{Directory}
 use Rattle.image_meaning.specs.Laws.{Opens}
@@ -33,7 +33,7 @@ use Rattle.durable_launch.specs.NoMains.{Class, Method}
 use Rattle.durable_launch.specs.Passed.{main_of}
 use Rattle.durable_launch.specs.Passed.{Unopened}
 use Rattle.durable_launch.specs.Unopenings as unopened
-use Rattle.durable_launch.specs.Passed.{AreRead, IsSettled}
+use Rattle.durable_launch.specs.Passed.{AreRead}
 use Rattle.durable_launch.specs.Passed.{IsOpenedFor, StandsWithNew}
 use Rattle.durable_launch.specs.Passed.{IsDirectoryIn}
 use Rattle.durable_launch.specs.Passed.{IsUnappended, IsUnbegun, IsUnopened}
@@ -62,7 +62,8 @@ status_of_unopened unopened.ImageFailed = status.ImageFault
 status_of_unopened unopened.OutOfMemory = status.OutOfMemory
 
 -- Nothing was appended to the image. A stop within any call, or after the last one, leaves only images that stand for the
--- very graph for which it stood; and at the end it opens with the directory that it had, a blank one with none.
+-- very graph for which it stood; and at the end it opens with the directory that it had, a blank one with none. Within the reads and the
+-- first fence that is so where nothing was unfenced at the start.
 pub record HasItsDirectory (start after : Told) : Type 0 where
   pub words : Words
   pub read : AreRead start words
@@ -71,6 +72,7 @@ pub record HasItsDirectory (start after : Told) : Type 0 where
   pub graph : Graph
   pub stood : StandsFor start.size words graph
   pub within : (n : ℕ) → 0 < n → start.calls + n ≤ after.calls → start.calls + n < 2 ^ 64 - 1
+      → (n ≤ start.size + 1 → IsAllFenced start.trace)
       → (c : Outcome) → LeftWithin after.trace (start.calls + n) c → StandsFor start.size c graph
   pub now : (c : Outcome) → LeavesNow after.trace c → StandsFor start.size c graph
   pub opens : (c : Outcome) → LeavesNow after.trace c → Opens start.size c directory
@@ -89,7 +91,7 @@ pub record CannotOpen (set : Linked) (start after : Told) (how : Status) : Type 
   pub why : Unopened
   pub unopened : IsUnopened start after set numbered why
   pub is : how ≡ status_of_unopened why
-  pub unappended : IsOfSet why → IsSettled start → HasItsDirectory start after
+  pub unappended : IsOfSet why → IsTelling start.trace → HasItsDirectory start after
 
 -- ---- the run doesn't begin
 
@@ -117,7 +119,7 @@ pub record CannotBegin (set : Linked) (name : List ℕ) (limits : Limits) (start
   pub numbered : Linked
   pub left : IsUnbegun start after set numbered
   pub cause : LacksFirstWords numbered limits how ⊎ HasNoMain numbered name limits how ⊎ (how ≡ status.OutOfMemory)
-  pub unappended : IsSettled start → HasItsDirectory start after
+  pub unappended : IsTelling start.trace → HasItsDirectory start after
 
 -- Then the image failed, while what it lacked of the set's entries was appended.
 pub record CannotAppend (set : Linked) (start after : Told) (how : Status) : Type 0 where
@@ -195,6 +197,11 @@ abbrev pub StandsRightly : Linked → Told → Graph → (all acts : List Record
 StandsRightly set start opening all acts before words = StandsAllowed set start opening all acts words
     ⊎ ((acts ≡ []) × StandsAsBefore set start.size before words)
 
+-- Nothing was unfenced at the start, where a stop within call n may leave it still: up to the fence behind the opening's reads; and where
+-- there are no acts, as that fence may not have been made then.
+abbrev pub IsFencedFor : Told → List Recorded → ℕ → Type 0
+IsFencedFor start acts n = (n ≤ start.size + 1) ⊎ (acts ≡ []) → IsAllFenced start.trace
+
 -- A stop within call n of the top call leaves only images that stand rightly for the acts before that call,
 -- and a stop after the last call those that do for all acts.
 pub record StandsAtStops (set : Linked) (start : Told) (opening : Graph) (acts : List Recorded) (after : Told)
@@ -202,9 +209,10 @@ pub record StandsAtStops (set : Linked) (start : Told) (opening : Graph) (acts :
   pub words : Words
   pub read : AreRead start words
   pub within : (n : ℕ) → 0 < n → start.calls + n ≤ after.calls → start.calls + n < 2 ^ 64 - 1
-      → (c : Outcome) → LeftWithin after.trace (start.calls + n) c
+      → IsFencedFor start acts n → (c : Outcome) → LeftWithin after.trace (start.calls + n) c
       → StandsRightly set start opening acts (acts_before n acts) words c
-  pub now : (c : Outcome) → LeavesNow after.trace c → StandsRightly set start opening acts acts words c
+  pub now : (acts ≡ [] → IsAllFenced start.trace) → (c : Outcome) → LeavesNow after.trace c
+      → StandsRightly set start opening acts acts words c
 
 -- ---- the whole
 
@@ -220,5 +228,5 @@ pub record SetRunsOver (set : Linked) (name : List ℕ) (limits : Limits) (start
   -- The persistence theorem: a stop within any image call, or after the last one, leaves only images that
   -- stand for a graph which the acts before that call allow; before the first act, for the graph that the
   -- image stood for, with some of the new null roots of the set. The image tells what is done to it, keeps what was fenced and tears no
-  -- word, and had nothing unfenced at the start.
-  pub stops : IsSettled start → StandsAtStops set start opening acts after
+  -- word. Nothing was unfenced at the start, where that matters (`IsFencedFor`).
+  pub stops : IsTelling start.trace → StandsAtStops set start opening acts after

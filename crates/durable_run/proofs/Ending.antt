@@ -19,7 +19,7 @@ use Rattle.plain_model.proofs.Causes.{faults_have_causes}
 use Rattle.run_forms.specs.Standing.{Launch, plain_code}
 use Rattle.run_forms.specs.Ends.{IsEndedBy}
 use Rattle.run_forms.specs.Views.{ThreadFrames}
-use Rattle.machine_forms.specs.Machines.{Opening, memory_of}
+use Rattle.machine.specs.Passed.{Opening, memory_of}
 use Rattle.machine.specs.Passed.{Shared}
 use Rattle.machine.specs.declared.events.Halt.{Halt}
 use Rattle.machine.specs.declared.events.Halt.TheVariants.{Stuck}

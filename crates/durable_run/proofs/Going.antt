@@ -27,10 +27,10 @@ use Rattle.run_forms.specs.Laws.{answered_threads}
 use Rattle.run_forms.specs.Views.{ThreadFrames}
 use Rattle.run_forms.specs.Standing.{IsAsking, setting_of}
 use Rattle.twin_forms.specs.Table.{Entry}
-use Rattle.machine_forms.specs.declared.doing.Doing.{Doing}
-use Rattle.machine_forms.specs.declared.doing.Doing.TheVariants.{Nothing, Converting, Writing, Fencing}
-use Rattle.machine_forms.specs.Machines.{Opening, Machine, doing_of, memory_of, shown_in}
-use Rattle.machine_forms.specs.Events.{IsListed}
+use Rattle.machine.specs.Passed.{Doing}
+use Rattle.machine.specs.Passed.{Nothing, Converting, Writing, Fencing}
+use Rattle.machine.specs.Passed.{Opening, Machine, doing_of, memory_of, shown_in}
+use Rattle.machine.specs.Passed.{IsListed}
 use Rattle.machine.specs.Passed.{Asks, Begins, IsReady as OwesNoFence, LagsByItsStore, Shared, all_acted, asked_by, given}
 use Rattle.machine.specs.Passed.{started_as, taken}
 use Rattle.machine.specs.declared.events.Event.{Event}
@@ -43,8 +43,7 @@ use Rattle.machine.specs.Events.{AddsOne, IsAnswerTo, IsOver}
 use Rattle.machine.specs.Remembering.{Answers, GoesOnAsking, LeadsTo, Remembers}
 use Rattle.machine.proofs.Passed.{frames-at, ready-own}
 use Rattle.durable_run.specs.Events.{HasAsked, with_begun}
-use Rattle.durable_run.specs.Turning.{AsksListed, EndsBy, HasFrames, HasMet, HasRun, HaveTurned, IsReady, is_live, lives}
-use Rattle.durable_run.specs.declared.runs.RunEnd.TheVariants as ends
+use Rattle.durable_run.specs.Turning.{AsksListed, EndsAt, HasFrames, HasRun, HaveTurned, IsReady, is_live, lives}
 use Rattle.durable_run.proofs.Noting.{forgets, forgets-taken, runs-noted}
 use Rattle.durable_run.proofs.Places.{get-before, get-behind, get-other, get-same, get-some, no-some, some-one}
 use Rattle.durable_run.proofs.Throwing.{thrown-is_plain}
@@ -489,7 +488,7 @@ module _ (o : Opening) (first : ℕ) (set : SetFacts) (x : Setting Native Ref (N
 module _ (o : Opening) (first : ℕ) (set : SetFacts) (x : Setting Native Ref (NativeState Ref) Item) (s new : Shared)
     (frames : List ThreadFrames) (t : ℕ) (request : Request Ref Item)
     (h : HasAsked o first set x s frames t request) where
-  over-so : (f : RunFault) → IsOver o first f s new h.threads t → EndsBy o first (ends.Over f) new
+  over-so : (f : RunFault) → IsOver o first f s new h.threads t → EndsAt o first t f new
   over-so f over = (
     record {
       run = over.plain.stands.run;
@@ -498,11 +497,11 @@ module _ (o : Opening) (first : ℕ) (set : SetFacts) (x : Setting Native Ref (N
       table = over.after;
       keeps = over.keeps;
     },
-    (t, over.ends),
+    over.ends,
   )
 
   pub ends-so : (halt : Halt) → LeadsTo o first (Over halt) s new h.threads t h.before request
-      → EndsBy o first (ends.Over (fault_of_halt new halt)) new
+      → EndsAt o first t (fault_of_halt new halt) new
   ends-so (Met f) leads = over-so (fault_of_halt new (Met f)) leads
   ends-so Stuck leads = over-so (fault_of_halt new Stuck) leads.over
 

@@ -10,7 +10,7 @@ use Rattle.run_types.specs.declared.wait.On.TheVariants as on
 use Rattle.natives.specs.declared.requests.Request.{Request}
 use Rattle.run_forms.specs.Views.{ThreadFrames}
 use Rattle.twin_forms.specs.Table.{Entry}
-use Rattle.machine_forms.specs.Machines.{Opening, doing_of}
+use Rattle.machine.specs.Passed.{Opening, doing_of}
 use Rattle.machine.specs.Passed.{AreNoted, Asks, IsReady, Shared, ThreadNotes, answered, asked_by, taken, waits_on}
 use Rattle.machine.specs.Events.{SparesOthers}
 use Rattle.machine.specs.Remembering.{without_notes}

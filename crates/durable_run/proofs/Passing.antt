@@ -11,6 +11,7 @@ use Rattle.ap_base.specs.declared.reference.Item.{Item}
 use Rattle.run_types.specs.declared.wait.On.{On}
 use Rattle.run_types.specs.declared.wait.On.TheVariants as on
 use Rattle.natives.specs.declared.methods.Native.{Native}
+use Rattle.natives.specs.declared.requests.Request.{Request}
 use Rattle.natives.specs.declared.states.NativeState.{NativeState}
 use Rattle.run_history.specs.Knowing.{pending_of}
 use Rattle.run_history.specs.Recorded.{Recorded}
@@ -22,15 +23,15 @@ use Rattle.shared_objects.specs.declared.threads.ThreadState.{ThreadState}
 use Rattle.run_forms.specs.Standing.{plain_code}
 use Rattle.run_forms.specs.Views.{ThreadFrames}
 use Rattle.twin_forms.specs.Table.{Entry, IsClaimed}
-use Rattle.machine_forms.specs.Machines.{Opening, Machine, known_in, layout_in, scene_of}
-use Rattle.machine_forms.specs.Keeping.{IsDoing}
+use Rattle.machine.specs.Passed.{Opening, Machine, known_in, layout_in, scene_of}
+use Rattle.machine.specs.Passed.{IsDoing}
 use Rattle.machine.specs.Passed.{AgreesAt, AllAskStores, ClaimersLive, FullRowsWaitPlainly, HaveWaited, HoldsWait, InRow, Is, IsFull}
 use Rattle.machine.specs.Passed.{IsLive, IsPlain, LiveThreadsAsk, MachinesBeginRows, PassesBegin, PassesFill, PassesGoOn, PassesSkip}
 use Rattle.machine.specs.Passed.{Plain, PlainWaitsAreNoConversions, Shared, Why, asks_some, measure, none_waited, on_of, plain_waits}
 use Rattle.machine.specs.Passed.{requests_in, waits_on, with_wait}
 use Rattle.machine.specs.declared.events.Halt.{Halt}
 use Rattle.machine.specs.Remembering.{IsStuckNow}
-use Rattle.durable_run.specs.Events.{AddsBy, LeavesLess, NotesWait, StepsTo, fault_of}
+use Rattle.durable_run.specs.Events.{AddsBy, LeavesLess, RemembersAfter, StepsTo, fault_of}
 use Rattle.durable_run.specs.Passes.{IsLess}
 use Rattle.durable_run.specs.Telling.{IsCaused}
 use Rattle.durable_run.specs.Turning.{IsReady, is_live, lives}
@@ -199,7 +200,8 @@ module _ (o : Opening) (first : ℕ) (set : SetFacts) (x : Setting Native Ref (N
 module _ (o : Opening) (first : ℕ) (set : SetFacts) (x : Setting Native Ref (NativeState Ref) Item) (s new : Shared)
     (frames now : List ThreadFrames) (ready : IsReady o first set x s frames) (n : ℕ) (wait : On)
     (goes : StepsTo o first set x n (WouldWait wait) s new now) (same : new.history.acts ≡ s.history.acts)
-    (no_more : measure new.machine ≤ measure s.machine) (notes : NotesWait n (WouldWait wait) s new) where
+    (no_more : measure new.machine ≤ measure s.machine) (asks : Option (Request Ref Item))
+    (notes : RemembersAfter n asks (WouldWait wait) s new) where
   same-acts : new.machine.acts ≡ s.machine.acts
   same-acts = sym goes.0.running.runs.acts ∙ same ∙ ready.running.runs.acts
 
@@ -231,9 +233,9 @@ module _ (o : Opening) (first : ℕ) (set : SetFacts) (x : Setting Native Ref (N
             (let row = goes.1.1.rows w.es w.waited w.row in
             let mine : row.0 ≡ why = some-one row.0 why
             (sym (ap (λ (b : Bool). if b then Some row.0 else w.waited u) e.0) ∙ is) in
-            ap (waits_on new.notes) e.1 ∙ notes.own wait refl
+            ap (waits_on new.notes) e.1 ∙ notes.own.1
             ∙ ap (λ (y : On). Some y) (sym row.1 ∙ ap on_of mine))
-        | inr e ↦ notes.others u e.1
+        | inr e ↦ notes.waits u e.1
             ∙ w.noted u why (sym (ap (λ (b : Bool).
             if b then Some (goes.1.1.rows w.es w.waited w.row).0 else w.waited u) e.0) ∙ is)
       ]
@@ -263,18 +265,19 @@ module _ (set : SetFacts) (x : Setting Native Ref (NativeState Ref) Item) (Began
 
   pub goes-on : PassesGoOn → (went : Stepped) → (IsOver went → ⊥)
       → ((o : Opening) (first : ℕ) → IsReady o first set x s frames → StepsTo o first set x n went s new now)
-      → AddsBy went n s.history.acts new.history.acts → LeavesLess went s new → NotesWait n went s new
+      → AddsBy went n s.history.acts new.history.acts → LeavesLess went s new → (asks : Option (Request Ref Item))
+      → RemembersAfter n asks went s new
       → IsGoing Began old new (n + 1) true
-  goes-on law Acted isnt goes adds less notes = inl (less-going (inl (more-acts n s.history.acts new.history.acts adds)))
-  goes-on law Micro isnt goes adds less notes = inl (less-going (micro-less n s new adds less))
-  goes-on law (WouldWait wait) isnt goes adds less notes = elim going [
+  goes-on law Acted isnt goes adds less asks notes = inl (less-going (inl (more-acts n s.history.acts new.history.acts adds)))
+  goes-on law Micro isnt goes adds less asks notes = inl (less-going (micro-less n s new adds less))
+  goes-on law (WouldWait wait) isnt goes adds less asks notes = elim going [
     | inl before ↦ inl (less-waiting old s new before adds less)
     | inr waits ↦ inr (λ o first began.
         let its = ready o first began in
-        waits-on o first set x s new frames now its n wait (goes o first its) adds less notes law old some
+        waits-on o first set x s new frames now its n wait (goes o first its) adds less asks notes law old some
         (waits o first began))
   ]
-  goes-on law (Over halt) isnt goes adds less notes = absurd (isnt tt)
+  goes-on law (Over halt) isnt goes adds less asks notes = absurd (isnt tt)
 
   pub goes-past : LiveThreadsAsk → PassesSkip → is_live s.machine.rest.threads n ≡ false → IsGoing Began old s (n + 1) some
   goes-past live_ask skip dead = elim going [
@@ -294,6 +297,15 @@ module _ (set : SetFacts) (x : Setting Native Ref (NativeState Ref) Item) (Began
   ]
 
 -- ---- as the code finds it
+
+-- a thread that was started has frames
+pub has-frames : (o : Opening) (first : ℕ) (set : SetFacts) (x : Setting Native Ref (NativeState Ref) Item) (s : Shared)
+    (frames : List ThreadFrames) → IsReady o first set x s frames → (n : ℕ) → n < length s.machine.rest.threads
+    → (fs : ThreadFrames) × (slice_get frames n ≡ Some fs)
+has-frames o first set x s frames ready n below =
+    let all = ready.many in
+    let many = ready.running.runs.many in
+    let few = ready.running.runs.few in get-some frames n (omega (arith, all, many, few, below))
 
 pub not-over : (went : Stepped) → ((halt : Halt) → went ≡ Over halt → ⊥) → IsOver went → ⊥
 not-over Acted isnt over = over

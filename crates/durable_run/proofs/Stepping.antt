@@ -1,13 +1,14 @@
 -- What an event comes to for its run, as the thread's request was noted before.
 use Rattle.std.proofs.Common.{◌≡◌, ◌≢◌, ◌↔◌, ℕ, ◌<◌, Bool, true, false, List, length, Option, Some, None, refl, sym, ◌∙◌, ap, subst, get_or}
 use Rattle.std.specs.Prelude.{IsSome, IsTrue, slice_get, slice_index_or, slice_set}
-use Rattle.std.proofs.lemmas.List.{set-set}
+use Rattle.std.proofs.lemmas.List.{get_or-set_other, set-set}
 use Rattle.std.proofs.lemmas.Option.{get_or_from_slice_get, slice_get_within}
 use Rattle.ap_base.specs.declared.reference.Ref.{Ref}
 use Rattle.ap_base.specs.declared.reference.Item.{Item}
 use Rattle.run_types.specs.declared.wait.On.{On}
 use Rattle.natives.specs.declared.methods.Native.{Native}
 use Rattle.natives.specs.declared.requests.Request.{Request}
+use Rattle.natives.specs.declared.requests.Reply.{Reply}
 use Rattle.natives.specs.declared.states.NativeState.{NativeState}
 use Rattle.plain_model.specs.Facts.{SetFacts}
 use Rattle.frames.specs.Settings.{Setting}
@@ -17,14 +18,20 @@ use Rattle.frame_thread.specs.declared.private.Stop.{Stop}
 use Rattle.private_steps.specs.Ahead.{HasCome}
 use Rattle.private_steps.specs.Waits.{WaitsAfter}
 use Rattle.run_forms.specs.Views.{ThreadFrames}
-use Rattle.machine_forms.specs.Machines.{Opening}
-use Rattle.machine.specs.Passed.{Shared, ThreadNotes, asked_by, waits_on}
-use Rattle.machine.specs.Remembering.{GoesOnWaiting}
-use Rattle.durable_run.specs.Events.{HasAsked, HasBegun, NotesWait, StepsTo}
-use Rattle.durable_run.specs.Turning.{IsReady, is_live}
+use Rattle.machine.specs.Passed.{Opening}
+use Rattle.twin_forms.specs.Table.{Entry}
+use Rattle.machine.specs.Passed.{Shared, ThreadNotes, asked_by, taken, waits_on}
+use Rattle.machine.specs.declared.events.Event.TheVariants as event
+use Rattle.machine.specs.declared.events.Halt.{Halt}
+use Rattle.machine.specs.declared.events.Halt.TheVariants.{Met, Stuck}
+use Rattle.machine.specs.Remembering.{GoesOnWaiting, Remembers, RemembersOwn as EventRemembersOwn}
+use Rattle.machine.specs.Running.{RemembersAsked}
+use Rattle.durable_run.specs.Events.{HasAsked, HasBegun, RemembersAfter, RemembersOwn, StepsTo}
+use Rattle.durable_run.specs.Turning.{IsReady, asks_next, is_live}
 use Rattle.durable_run.specs.declared.steps.Stepped.{Stepped}
 use Rattle.durable_run.specs.declared.steps.Stepped.TheVariants.{Acted, Micro, WouldWait, Over}
 use Rattle.durable_run.proofs.Going.{asks-next, live-frames}
+use Rattle.durable_run.proofs.Noting.{none-waits}
 use Rattle.durable_run.proofs.Places.{get-same}
 
 -- what is noted before doesn't count
@@ -48,13 +55,64 @@ steps-from o first set x t (WouldWait on) s new notes frames goes =
     (goes.0, (goes.1.0, waits-from o first on s new notes t goes.1.0 goes.1.1))
 steps-from o first set x t (Over halt) s new notes frames goes = goes
 
--- ---- what is noted of waits
+-- ---- what is noted of the threads
 
-pub notes-still : (t : ℕ) (old new : Shared) → new.notes.waits ≡ old.notes.waits → NotesWait t Acted old new
-notes-still t old new same = record {
-  own = λ on e. absurd (let no : Acted ≡ WouldWait on = e in cc);
-  others = λ u other. ap (λ (xs : List (Option On)). slice_index_or xs u None) same;
+-- where nothing is noted anew, of a thread of which nothing is
+pub notes-still : (o : Opening) (old new : Shared) (es : List Entry) (threads : List ThreadFrames) (t : ℕ)
+    (asks : Option (Request Ref Item)) → RemembersAsked o old es threads → asked_by old.notes t ≡ None
+    → new.notes.asks ≡ old.notes.asks → new.notes.waits ≡ old.notes.waits → RemembersAfter t asks Acted old new
+notes-still o old new es threads t asks noted unasked same_asks same_waits = record {
+  own = (asks-same t ∙ unasked, waits-same t ∙ none-waits o old es threads t noted unasked);
+  asked = λ u other. asks-same u;
+  waits = λ u other. waits-same u;
 }
+  where
+    asks-same : (u : ℕ) → asked_by new.notes u ≡ asked_by old.notes u
+    asks-same u = ap (λ (xs : List (Option (Request Ref Item))). slice_index_or xs u None) same_asks
+
+    waits-same : (u : ℕ) → waits_on new.notes u ≡ waits_on old.notes u
+    waits-same u = ap (λ (xs : List (Option On)). slice_index_or xs u None) same_waits
+
+-- as the event tells it
+own-over : (t : ℕ) (request : Request Ref Item) (s : Shared) (halt : Halt)
+    → EventRemembersOwn (event.Over halt) t request s → RemembersOwn (Over halt) t (Some request) s
+own-over t request s Stuck own = own
+own-over t request s (Met f) own = tt
+
+pub acted-remembers : (t : ℕ) (request : Request Ref Item) (old new : Shared) (r : Reply Ref Item)
+    → Remembers (event.Did r) t request old new → RemembersAfter t (Some request) Acted old new
+acted-remembers t request old new r it = record { own = it.own; asked = it.asked; waits = it.waits }
+
+pub micro-remembers : (t : ℕ) (request : Request Ref Item) (old new : Shared)
+    → Remembers event.Micro t request old new → RemembersAfter t (Some request) Micro old new
+micro-remembers t request old new it = record { own = it.own; asked = it.asked; waits = it.waits }
+
+pub wait-remembers : (t : ℕ) (request : Request Ref Item) (old new : Shared) (on : On)
+    → Remembers (event.WouldWait on) t request old new → RemembersAfter t (Some request) (WouldWait on) old new
+wait-remembers t request old new on it = record { own = it.own; asked = it.asked; waits = it.waits }
+
+pub over-remembers : (t : ℕ) (request : Request Ref Item) (old new : Shared) (halt : Halt)
+    → Remembers (event.Over halt) t request old new → RemembersAfter t (Some request) (Over halt) old new
+over-remembers t request old new halt it = record {
+  own = own-over t request new halt it.own;
+  asked = it.asked;
+  waits = it.waits;
+}
+
+-- the same once its request was taken
+pub remembers-taken : (t : ℕ) (asks : Option (Request Ref Item)) (went : Stepped) (old new : Shared)
+    → RemembersAfter t asks went (record old { notes = taken old.notes t }) new → RemembersAfter t asks went old new
+remembers-taken t asks went old new it = record {
+  own = it.own;
+  asked = λ u other. it.asked u other ∙ get_or-set_other old.notes.asks t u None None other;
+  waits = it.waits;
+}
+
+-- a request that isn't answered is what the thread asks next
+pub next-asked : (x : Setting Native Ref (NativeState Ref) Item) (q : Option (Request Ref Item)) (fs : ThreadFrames)
+    → IsSome q → asks_next x q fs ≡ q
+next-asked x None fs some = absurd (let no = some in cc)
+next-asked x (Some request) fs some = refl
 
 -- ---- whether a thread has asked
 

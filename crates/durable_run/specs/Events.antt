@@ -1,5 +1,5 @@
 -- What an event of a thread leaves of a run, and what it tells the outside.
-use Rattle.std.specs.Prelude.{◌≡◌, ◌≢◌, ◌⊎◌, ℕ, ◌<◌, ◌≤◌, true, List, length, slice_get, slice_set, Option, Some, None}
+use Rattle.std.specs.Prelude.{◌≡◌, ◌≢◌, ◌⊎◌, ℕ, ◌<◌, ◌≤◌, true, List, length, slice_get, slice_set, Option, Some, None, IsSome}
 use Rattle.ap_base.specs.declared.reference.Ref.{Ref}
 use Rattle.ap_base.specs.declared.reference.Item.{Item}
 use Rattle.run_types.specs.declared.fault.RunFault.{RunFault}
@@ -17,16 +17,16 @@ use Rattle.private_steps.specs.Ahead.{HasCome}
 use Rattle.run_forms.specs.Views.{ThreadFrames}
 use Rattle.run_forms.specs.Standing.{setting_of}
 use Rattle.twin_forms.specs.Table.{Entry}
-use Rattle.machine_forms.specs.Machines.{Opening, memory_of}
+use Rattle.machine.specs.Passed.{Opening, memory_of}
 use Rattle.machine.specs.Passed.{Shared, asked_by, measure, waits_on}
 use Rattle.machine.specs.declared.events.Event.{Event}
 use Rattle.machine.specs.declared.events.Event.TheVariants as event
+use Rattle.machine.specs.declared.events.Halt.TheVariants.{Met, Stuck}
 use Rattle.machine.specs.Halts.{fault_of_halt}
 use Rattle.machine.specs.Events.{AddsOne}
 use Rattle.machine.specs.Remembering.{GoesOnWaiting, IsNext}
 use Rattle.durable_run.specs.Telling.{AddsShare, HasTold, IsCaused}
-use Rattle.durable_run.specs.Turning.{AsksListed, EndsBy, HasFrames, IsReady, is_live}
-use Rattle.durable_run.specs.declared.runs.RunEnd.TheVariants as ends
+use Rattle.durable_run.specs.Turning.{AsksListed, EndsAt, HasFrames, IsReady, is_live}
 use Rattle.durable_run.specs.declared.steps.Stepped.{Stepped}
 use Rattle.durable_run.specs.declared.steps.Stepped.TheVariants.{Acted, Micro, WouldWait, Over}
 
@@ -101,12 +101,13 @@ fault_of s went = None
 abbrev pub WaitsOn : Opening → ℕ → On → Shared → Shared → ℕ → Type 0
 WaitsOn o first on old new t = (threads : List ThreadFrames) × GoesOnWaiting o first on old new threads t
 
--- An event of thread t leaves the run so that an event of each live thread may come; or the run is over.
+-- An event of thread t leaves the run so that an event of each live thread may come; or the run is over by a fault of its
+-- own.
 abbrev pub StepsTo : Opening → ℕ → SetFacts → Setting Native Ref (NativeState Ref) Item → ℕ → Stepped → Shared → Shared
     → List ThreadFrames → Type 0
 StepsTo o first set x t (WouldWait on) old new frames =
     IsReady o first set x new frames × WaitsOn o first on old new t
-StepsTo o first set x t (Over halt) old new frames = EndsBy o first (ends.Over (fault_of_halt new halt)) new
+StepsTo o first set x t (Over halt) old new frames = EndsAt o first t (fault_of_halt new halt) new
 StepsTo o first set x t went old new frames = IsReady o first set x new frames
 
 -- one act of the thread where it acted, none where it waits or the run is over, and one or none otherwise
@@ -122,7 +123,17 @@ LeavesLess Micro old new =
 LeavesLess (WouldWait on) old new = measure new.machine ≤ measure old.machine
 LeavesLess went old new = Unit {0}
 
--- The wait of thread t's event is noted, and what is noted of all others stays.
-pub record NotesWait (t : ℕ) (went : Stepped) (old new : Shared) : Type 0 where
-  pub own : (on : On) → went ≡ WouldWait on → waits_on new.notes t ≡ Some on
-  pub others : (u : ℕ) → u ≢ t → waits_on new.notes u ≡ waits_on old.notes u
+-- Of thread t itself: what it asked is forgotten once that is done; else it is kept, with the wait of an event that waits.
+abbrev pub RemembersOwn : Stepped → ℕ → (asks : Option (Request Ref Item)) → Shared → Type 0
+RemembersOwn Acted t asks s = (asked_by s.notes t ≡ None) × (waits_on s.notes t ≡ None)
+RemembersOwn Micro t asks s = (asked_by s.notes t ≡ asks) × (waits_on s.notes t ≡ None)
+RemembersOwn (WouldWait on) t asks s = (asked_by s.notes t ≡ asks) × (waits_on s.notes t ≡ Some on)
+RemembersOwn (Over Stuck) t asks s = (asked_by s.notes t ≡ asks) × IsSome (waits_on s.notes t)
+RemembersOwn (Over (Met f)) t asks s = Unit {0}
+
+-- What is noted of the threads after an event of thread t, whose turn asks this: of all others it is as it was.
+pub record RemembersAfter (t : ℕ) (asks : Option (Request Ref Item)) (went : Stepped) (old new : Shared) : Type 0
+  where
+    pub own : RemembersOwn went t asks new
+    pub asked : (u : ℕ) → u ≢ t → asked_by new.notes u ≡ asked_by old.notes u
+    pub waits : (u : ℕ) → u ≢ t → waits_on new.notes u ≡ waits_on old.notes u

@@ -1,4 +1,4 @@
--- What a pass over the threads leaves of a run: each live one has had an event.
+-- What a pass over the threads leaves of a run.
 use Rattle.std.specs.Prelude.{◌≡◌, ◌⊎◌, ℕ, ◌<◌, true, List, length, All, Option, Some, None}
 use Rattle.ap_base.specs.declared.reference.Ref.{Ref}
 use Rattle.ap_base.specs.declared.reference.Item.{Item}
@@ -9,7 +9,7 @@ use Rattle.plain_model.specs.Facts.{SetFacts}
 use Rattle.frames.specs.Settings.{Setting}
 use Rattle.shared_objects.specs.declared.threads.ThreadState.{ThreadState}
 use Rattle.run_forms.specs.Views.{ThreadFrames}
-use Rattle.machine_forms.specs.Machines.{Opening}
+use Rattle.machine.specs.Passed.{Opening}
 use Rattle.machine.specs.Passed.{Shared, measure}
 use Rattle.machine.specs.Halts.{fault_of_halt}
 use Rattle.durable_run.specs.Turning.{EndsBy, IsReady}

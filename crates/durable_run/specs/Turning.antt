@@ -24,9 +24,9 @@ use Rattle.run_forms.specs.Views.{ThreadFrames}
 use Rattle.run_forms.specs.Standing.{StandsFor, IsAsking, IsRun, plain_code, setting_of}
 use Rattle.run_forms.specs.Ends.{IsEndedBy}
 use Rattle.twin_forms.specs.Table.{Entry}
-use Rattle.machine_forms.specs.Machines.{Opening, Machine}
-use Rattle.machine_forms.specs.Events.{IsListed}
-use Rattle.machine_forms.specs.Keeping.{KeepsRun}
+use Rattle.machine.specs.Passed.{Opening, Machine}
+use Rattle.machine.specs.Passed.{IsListed}
+use Rattle.machine.specs.Passed.{KeepsRun}
 use Rattle.machine.specs.Passed.{Shared, asked_by, lines_from}
 use Rattle.machine.specs.Running.{IsRunning, HadNoFault}
 use Rattle.durable_run.specs.declared.runs.RunEnd.{RunEnd}
@@ -105,6 +105,10 @@ pub record HasRun (o : Opening) (s : Shared) : Type 0 where
 abbrev pub HasEnded : Opening → ℕ → Machine → Ending → Type 0
 HasEnded o first m ending = EndsAs o.launch.set o.launch.main o.launch.opening (plain_code o.launch)
     o.launch.limits (lines_from m first) m.acts ending
+
+-- The acts are a plain run, which is over by this fault of thread t's event.
+abbrev pub EndsAt : Opening → ℕ → ℕ → RunFault → Shared → Type 0
+EndsAt o first t f s = HasRun o s × IsEndedBy o.launch (lines_from s.machine first) s.machine.acts t f
 
 -- some thread's event meets this fault
 abbrev pub HasMet : Opening → ℕ → Machine → RunFault → Type 0

@@ -4,7 +4,7 @@ ghost use Rattle.run_types.specs.declared.fault.Which.TheVariants as which;
 ghost use Rattle.run_types.specs.declared.wait.On.{On as OnOf};
 ghost use Rattle.run_forms.specs.Views.{ThreadFrames};
 ghost use Rattle.twin_forms.specs.Table.{Entry};
-ghost use Rattle.machine_forms.specs.Machines.{Opening};
+ghost use Rattle.machine.specs.Passed.{Opening};
 ghost use Rattle.machine.specs.declared.events.Halt.TheVariants.{Met};
 ghost use Rattle.machine.specs.Events.{AddsActs, IsAnswerTo};
 ghost use Rattle.machine.specs.Halts.{lacks};
@@ -37,21 +37,21 @@ pub(crate) fn told_event<C: Types, I: Image, S: Sink, W: Watcher>(
     watcher: &mut W,
     set: &C,
     t: ThreadNo,
-    request: Request,
+    request: &mut Request,
 ) -> Event
     requires next { (o : Opening) × (first : ℕ) × (es : List Entry) × (threads : List ThreadFrames)
-        × (fs : ThreadFrames) × IsNext o first (C.facts set.now) heap.old es threads t fs request }
+        × (fs : ThreadFrames) × IsNext o first (C.facts set.now) heap.old es threads t fs request.old }
     ensures leads { (o : Opening) (first : ℕ) (es : List Entry) (threads : List ThreadFrames) (fs : ThreadFrames)
-        → IsNext o first (C.facts set.now) heap.old es threads t fs request
-        → LeadsTo o first result heap.old heap.new threads t fs request }
-    ensures remembers { Remembers result t request heap.old heap.new }
+        → IsNext o first (C.facts set.now) heap.old es threads t fs request.old
+        → LeadsTo o first result heap.old heap.new threads t fs request.old }
+    ensures remembers { Remembers result t request.old heap.old heap.new }
     ensures acts { AddsActs result t heap.old.history.acts heap.new.history.acts }
-    ensures tells { Tells request (fault_in_event heap.new result) heap.old heap.new
+    ensures tells { Tells request.old (fault_in_event heap.new result) heap.old heap.new
         (outside (W.seen watcher.old) (S.taken sink.old) (S.takes sink.old) (S.faults sink.old))
         (outside (W.seen watcher.new) (S.taken sink.new) (S.takes sink.new) (S.faults sink.new)) }
     ensures full { heap.old.history.limit ≤ length heap.old.history.acts
         → result ≡ Event.Over (Met (lacks which.Acts 1 0)) }
-    ensures answers { IsAnswerTo result request }
+    ensures answers { IsAnswerTo result request.old }
     ensures numbers { heap.new.machine.spaces.numbers ≡ heap.old.machine.spaces.numbers }
     ensures quiet { result ≡ Event.Micro → heap.new.history.acts ≡ heap.old.history.acts
         → measure heap.new.machine < measure heap.old.machine }

@@ -11,7 +11,8 @@ mod runs;
 mod steps;
 
 pub use machine::{
-    SharedHeap, each_stop_is_allowed, events_keep_lines, lines_stay_unwritten, others_keep_theirs,
+    Halt, SharedHeap, each_stop_is_allowed, events_keep_lines, lines_stay_unwritten,
+    others_keep_theirs,
 };
 pub use parts::is_live;
 pub use run::Run;

@@ -1,6 +1,6 @@
 // Passes over the threads.
 ghost use Rattle.std.specs.Prelude.{◌≡◌, ◌≢◌, ◌≤◌, ◌<◌, ℕ, length};
-ghost use Rattle.machine_forms.specs.Machines.{Opening, memory_of};
+ghost use Rattle.machine.specs.Passed.{Opening, memory_of};
 ghost use Rattle.durable_run.specs.Passes.{IsLess, PassesTo, fault_of_pass};
 ghost use Rattle.durable_run.specs.Telling.{HasTold, IsCaused};
 ghost use Rattle.durable_run.specs.Turning.{IsReady};

@@ -1,6 +1,6 @@
 // Whole runs.
 ghost use Rattle.std.specs.Prelude.{◌≡◌, ◌≢◌, ◌≤◌, ◌<◌, ℕ, None, length, slice_index_or, slice_set};
-ghost use Rattle.machine_forms.specs.Machines.{Opening, memory_of};
+ghost use Rattle.machine.specs.Passed.{Opening, memory_of};
 ghost use Rattle.machine.specs.declared.events.Halt.TheVariants.{Stuck};
 ghost use Rattle.machine.specs.Halts.{fault_of_halt};
 ghost use Rattle.durable_run.specs.Passes.{PassesTo, fault_of_pass};

@@ -4,11 +4,11 @@ ghost use Rattle.run_types.specs.declared.fault.Which.TheVariants as which;
 ghost use Rattle.frames.specs.Turns.{turn};
 ghost use Rattle.private_steps.specs.Ahead.{HasCome};
 ghost use Rattle.run_forms.specs.Views.{ThreadFrames};
-ghost use Rattle.machine_forms.specs.Machines.{Opening, memory_of};
+ghost use Rattle.machine.specs.Passed.{Opening, memory_of};
 ghost use Rattle.machine.specs.declared.events.Halt.TheVariants.{Met};
 ghost use Rattle.machine.specs.Halts.{lacks};
 ghost use Rattle.machine.specs.Passed.{asked_by, started_as};
-ghost use Rattle.durable_run.specs.Events.{AddsBy, HasAsked, HasBegun, LeavesLess, NotesWait, StepsTo, fault_of};
+ghost use Rattle.durable_run.specs.Events.{AddsBy, HasAsked, HasBegun, LeavesLess, RemembersAfter, StepsTo, fault_of};
 ghost use Rattle.durable_run.specs.Events.{with_begun};
 ghost use Rattle.durable_run.specs.Telling.{AddsShare, HasTold, IsCaused};
 ghost use Rattle.durable_run.specs.Turning.{IsReady, asks_next, is_live, turns_after};
@@ -79,26 +79,26 @@ fn goes_on<C: Types, I: Image, H: Host<Native, Ref, NativeState, Item>, S: Sink,
     set: &C,
     host: &H,
     t: ThreadNo,
-    request: Request,
+    request: &mut Request,
 ) -> Stepped
     requires asked { (o : Opening) × (first : ℕ) × HasAsked o first (C.facts set.now) (H.setting host.now)
-        run.old.heap run.old.frames.items t request }
+        run.old.heap run.old.frames.items t request.old }
     ensures goes { (o : Opening) (first : ℕ) → HasAsked o first (C.facts set.now) (H.setting host.now)
-        run.old.heap run.old.frames.items t request
+        run.old.heap run.old.frames.items t request.old
         → StepsTo o first (C.facts set.now) (H.setting host.now) t result run.old.heap run.new.heap
         run.new.frames.items }
     ensures acts { AddsBy result t run.old.heap.history.acts run.new.heap.history.acts }
     ensures told { HasTold run.old.heap.history.acts run.new.heap.history.acts
         (W.seen run.old.watcher) (W.seen run.new.watcher)
         (S.taken run.old.sink) (S.taken run.new.sink) }
-    ensures share { AddsShare (Some request)
+    ensures share { AddsShare (Some request.old)
         (S.takes run.old.sink) run.old.heap.history.acts run.new.heap.history.acts }
     ensures cause { IsCaused (fault_of run.new.heap result) (S.faults run.old.sink) (S.faults run.new.sink)
         (memory_of run.old.heap.machine).faults (memory_of run.new.heap.machine).faults }
     ensures full { run.old.heap.history.limit ≤ length run.old.heap.history.acts
         → result ≡ Stepped.Over (Met (lacks which.Acts 1 0)) }
     ensures less { LeavesLess result run.old.heap run.new.heap }
-    ensures waits { NotesWait t result run.old.heap run.new.heap }
+    ensures remembers { RemembersAfter t (Some request.old) result run.old.heap run.new.heap }
     ensures turns { run.new.turns ≡ run.old.turns }
 {
     let before = run.heap.threads().count();
@@ -147,13 +147,13 @@ fn continues<C: Types, I: Image, H: Host<Native, Ref, NativeState, Item>, S: Sin
     ensures full { run.old.heap.history.limit ≤ length run.old.heap.history.acts
         → result ≡ Stepped.Over (Met (lacks which.Acts 1 0)) }
     ensures less { LeavesLess result run.old.heap run.new.heap }
-    ensures waits { NotesWait t result run.old.heap run.new.heap }
+    ensures remembers { RemembersAfter t (asked_by run.old.heap.notes t) result run.old.heap run.new.heap }
     ensures turns { run.new.turns ≡ run.old.turns }
 {
-    let Some(request) = run.heap.take_asked(t) else {
+    let Some(mut request) = run.heap.take_asked(t) else {
         unreachable!()
     };
-    goes_on(run, set, host, t, request)
+    goes_on(run, set, host, t, &mut request)
 }
 
 // The turn that has begun so asks its request.
@@ -184,16 +184,18 @@ fn asks<C: Types, I: Image, H: Host<Native, Ref, NativeState, Item>, S: Sink, W:
     ensures full { run.old.heap.history.limit ≤ length run.old.heap.history.acts
         → result ≡ Stepped.Over (Met (lacks which.Acts 1 0)) }
     ensures less { LeavesLess result run.old.heap run.new.heap }
-    ensures waits { NotesWait t result run.old.heap run.new.heap }
+    ensures remembers { (before now : ThreadFrames) → HasCome (H.setting host.now) stop before now
+        → slice_get run.old.frames.items t ≡ Some now
+        → RemembersAfter t (turn (H.setting host.now) before).asks result run.old.heap run.new.heap }
     ensures turns { run.new.turns ≡ run.old.turns }
 {
     machine::machines_ask_as_plain_runs();
-    let request = asked(&mut run.frames[t.number() as usize], host, stop);
-    goes_on(run, set, host, t, request)
+    let mut request = asked(&mut run.frames[t.number() as usize], host, stop);
+    goes_on(run, set, host, t, &mut request)
 }
 
 /// One event of a live thread. Where no request of its turn waits for an answer, its next turn begins: the gate is
-/// called, the private instructions run, and the turn asks; so the gate is called once in a turn.
+/// called, the private instructions run, and the turn asks.
 pub fn step<
     C: Types,
     I: Image,
@@ -223,7 +225,10 @@ pub fn step<
     ensures full { run.old.heap.history.limit ≤ length run.old.heap.history.acts
         → result ≡ Stepped.Over (Met (lacks which.Acts 1 0)) }
     ensures less { LeavesLess result run.old.heap run.new.heap }
-    ensures waits { NotesWait t result run.old.heap run.new.heap }
+    // What isn't done is asked again, by the thread's next event.
+    ensures remembers { (fs : ThreadFrames) → slice_get run.old.frames.items t ≡ Some fs
+        → RemembersAfter t (asks_next (H.setting host.now) (asked_by run.old.heap.notes t) fs) result
+        run.old.heap run.new.heap }
     ensures turns { run.new.turns ≡ turns_after (asked_by run.old.heap.notes t) t run.old.turns }
 {
     if run.heap.has_asked(t) {

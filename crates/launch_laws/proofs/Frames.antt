@@ -15,8 +15,8 @@ use Rattle.run_forms.specs.Views.{ThreadFrames, PlainFrames, numbered, plain_fra
 use Rattle.run_forms.specs.Standing.{HasLiterals, StandsFor, frames_at}
 use Rattle.twin_forms.specs.Table.{Entry}
 use Rattle.two_spaces.specs.Seen.{number_in}
-use Rattle.machine_forms.specs.declared.doing.Doing.{Doing}
-use Rattle.machine_forms.specs.Machines.{Opening, Machine, shown_in}
+use Rattle.machine_laws.specs.Passed.{Doing}
+use Rattle.machine_laws.specs.Passed.{Opening, Machine, shown_in}
 use Rattle.machine_laws.specs.Frames.{RunsAsPlain, all_acted}
 use Rattle.launch_laws.specs.First.{IsFirstMachine, BeginsMain}
 use Rattle.launch_laws.proofs.Stops.{all_idle}

@@ -7,8 +7,8 @@ use Rattle.twin_forms.specs.Table.{Entry}
 use Rattle.twin_forms.specs.Sights.{AllKnown}
 use Rattle.convert_words.specs.Scenes.{AgreesAt}
 use Rattle.converter.specs.Stepping.{keys_of}
-use Rattle.machine_forms.specs.Machines.{Opening, Machine, memory_of, scene_of}
-use Rattle.machine_forms.specs.Keeping.{KeepsHeap}
+use Rattle.machine_laws.specs.Passed.{Opening, Machine, memory_of, scene_of}
+use Rattle.machine_laws.specs.Passed.{KeepsHeap}
 use Rattle.image_meaning.specs.Opening.{free_line}
 use Rattle.line_memory.specs.Memory.{shown}
 use Rattle.first_spaces.specs.Laws.{FirstScenesAgree, IsFirstScene, first_queues}

@@ -27,8 +27,8 @@ use Rattle.twin_forms.specs.Sights.{view_of}
 use Rattle.twin_forms.proofs.Led.{word_moved}
 use Rattle.twin_heap.proofs.Reading.{spot_is}
 use Rattle.two_spaces.proofs.Finding.{class_kind}
-use Rattle.machine_forms.specs.Machines.{Opening, Machine, memory_of}
-use Rattle.machine_forms.specs.Keeping.{IsOfDirectory, HoldsNumbers}
+use Rattle.machine_laws.specs.Passed.{Opening, Machine, memory_of}
+use Rattle.machine_laws.specs.Passed.{IsOfDirectory, HoldsNumbers}
 use Rattle.machine_laws.specs.Opened.{IsTableOf}
 use Rattle.machine_laws.proofs.Holding.{kind_there}
 use Rattle.machine_laws.proofs.StopTables.{placed_there}

@@ -12,7 +12,7 @@ use Rattle.two_spaces.specs.declared.spaces.Static.{Static}
 use Rattle.two_spaces.specs.declared.spaces.Static.TheVariants.{Beside, Root as InSlot}
 use Rattle.two_spaces.specs.Seen.{Spaces}
 use Rattle.two_spaces.specs.Whole.{no_static}
-use Rattle.machine_forms.specs.Keeping.{HasSlotsOfRoots}
+use Rattle.machine_laws.specs.Passed.{HasSlotsOfRoots}
 use Rattle.first_spaces.specs.Beginnings.{RootsLieInSlots}
 use Rattle.first_spaces.specs.Slots.{IsRootAt, no_root}
 

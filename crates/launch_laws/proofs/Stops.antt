@@ -6,10 +6,10 @@ use Rattle.line_memory.specs.Memory.{Memory, shown, IsTelling, IsDurable}
 use Rattle.plain_model.specs.First.{first_world}
 use Rattle.twin_forms.specs.Table.{Entry}
 use Rattle.region_log.specs.Kept.{Counts}
-use Rattle.machine_forms.specs.declared.doing.Doing.{Doing}
-use Rattle.machine_forms.specs.declared.doing.Doing.TheVariants.{Nothing}
-use Rattle.machine_forms.specs.Machines.{Opening, Machine, is_fencing, doing_of}
-use Rattle.machine_forms.specs.Keeping.{KeepsAsked, KeepsStops}
+use Rattle.machine_laws.specs.Passed.{Doing}
+use Rattle.machine_laws.specs.Passed.{Nothing}
+use Rattle.machine_laws.specs.Passed.{Opening, Machine, is_fencing, doing_of}
+use Rattle.machine_laws.specs.Passed.{KeepsAsked, KeepsStops}
 use Rattle.machine_laws.specs.StopLaws.{StartsKeepStops}
 use Rattle.machine_laws.specs.Opened.{OpenedImagesStart, ShowsFirstHeap}
 use Rattle.machine_laws.specs.AskLaws.{StartsKeepAsked, IsAtStart}

@@ -33,8 +33,8 @@ use Rattle.run_forms.specs.Standing.{plain_code}
 use Rattle.twin_forms.specs.Table.{Entry}
 use Rattle.two_spaces.specs.Seen.{static_value}
 use Rattle.twin_forms.specs.Sights.{view_of}
-use Rattle.machine_forms.specs.Machines.{Opening, Machine, first_of, known_in, shown_in}
-use Rattle.machine_forms.specs.Keeping.{KeepsWorld, HasSlotsOfRoots}
+use Rattle.machine_laws.specs.Passed.{Opening, Machine, first_of, known_in, shown_in}
+use Rattle.machine_laws.specs.Passed.{KeepsWorld, HasSlotsOfRoots}
 use Rattle.first_spaces.proofs.Holding.{first_holds}
 use Rattle.launch_laws.specs.First.{IsFirstMachine}
 use Rattle.launch_laws.proofs.Roots.{roots_in_slots}

@@ -22,8 +22,8 @@ use Rattle.run_forms.specs.Standing.{IsLaunch}
 use Rattle.twin_forms.specs.Table.{Entry}
 use Rattle.twin_forms.specs.Sights.{AllKnown}
 use Rattle.two_spaces.specs.Seen.{Spaces}
-use Rattle.machine_forms.specs.declared.doing.Doing.TheVariants.{Nothing}
-use Rattle.machine_forms.specs.Machines.{Opening, Machine, memory_of, shown_in, log_of, empty_log}
+use Rattle.machine_laws.specs.Passed.{Nothing}
+use Rattle.machine_laws.specs.Passed.{Opening, Machine, memory_of, shown_in, log_of, empty_log}
 use Rattle.first_spaces.specs.Beginnings.{RootsLieInSlots, ShowsOpening, StandFor, StandsOpened}
 use Rattle.first_spaces.specs.Laws.{first_queues}
 use Rattle.first_spaces.specs.Opened.{IsOpened}

@@ -2,8 +2,8 @@
 use Rattle.std.specs.Prelude.{List, ℕ, [], ◌∷◌}
 use Rattle.run_forms.specs.Views.{ThreadFrames}
 use Rattle.twin_forms.specs.Table.{Entry}
-use Rattle.machine_forms.specs.Machines.{Opening, Machine, first_of}
-use Rattle.machine_forms.specs.Keeping.{KeepsHeap, KeepsWorld, KeepsAsked, KeepsStops, KeepsRun, HasSlotsOfRoots}
+use Rattle.machine_laws.specs.Passed.{Opening, Machine, first_of}
+use Rattle.machine_laws.specs.Passed.{KeepsHeap, KeepsWorld, KeepsAsked, KeepsStops, KeepsRun, HasSlotsOfRoots}
 use Rattle.machine_laws.specs.Frames.{RunsAsPlain}
 use Rattle.launch_laws.specs.First.{IsFirstMachine, BeginsMain}
 

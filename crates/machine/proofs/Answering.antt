@@ -8,7 +8,7 @@ use Rattle.plain_model.specs.Facts.{SetFacts}
 use Rattle.step_forms.specs.declared.stepped.Stepped.{Stepped}
 use Rattle.step_forms.specs.Becomes.{IsNoStore, given}
 use Rattle.step_forms.specs.Follows.{Agrees}
-use Rattle.shared_steps.specs.Output.{FaultsGo, OutputGoes, SharesGo}
+use Rattle.shared_heap.specs.Passed.{FaultsGo, OutputGoes, SharesGo}
 use Rattle.run_forms.specs.Views.{ThreadFrames}
 use Rattle.twin_forms.specs.Table.{Entry}
 use Rattle.region_log.specs.declared.entry.Underway.TheVariants.{Nothing as Idle}

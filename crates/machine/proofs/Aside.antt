@@ -17,7 +17,7 @@ use Rattle.run_history.specs.Worlds.{Thread, World}
 use Rattle.one_space.proofs.Laid.{some_is}
 use Rattle.shared_objects.specs.declared.rest.Rest.{Rest}
 use Rattle.shared_objects.specs.Worlds.{world_of, plain_monitor, plain_thread, IsHeldKey, KnowsMonitors}
-use Rattle.shared_steps.specs.Lasting.{AtMost}
+use Rattle.shared_heap.specs.Passed.{AtMost}
 use Rattle.run_forms.specs.Views.{ThreadFrames}
 use Rattle.twin_forms.specs.Table.{Entry, entry, Lies}
 use Rattle.twin_forms.specs.Sights.{view_of}

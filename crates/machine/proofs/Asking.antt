@@ -43,9 +43,9 @@ use Rattle.machine_threads.specs.Passed.{IsReady}
 use Rattle.machine_threads.specs.Passed.{StoresFreely}
 use Rattle.object_steps.specs.declared.storing.Store.{Store}
 use Rattle.object_steps.specs.Stores.{place_of}
-use Rattle.store_barrier.specs.Barriers.{ConvertsFirst, IsReady as IsReadyFor}
-use Rattle.store_barrier.specs.Laws.{Asks}
-use Rattle.store_barrier.specs.Regions.{IsApart}
+use Rattle.shared_heap.specs.Passed.{ConvertsFirst, IsReady as IsReadyFor}
+use Rattle.shared_heap.specs.Passed.{Asks}
+use Rattle.shared_heap.specs.Passed.{IsApart}
 use Rattle.shared_heap.specs.Shared.{Shared}
 use Rattle.shared_heap.specs.Conversions.{BeginsOnce, Converts, HasBegun}
 use Rattle.shared_heap.specs.Requests.{AsksTo, value_stored}
@@ -59,7 +59,7 @@ use Rattle.machine.proofs.Faults.{none-more}
 use Rattle.machine.proofs.Freely.{freely-volatile}
 use Rattle.machine.proofs.Leaving.{ends-same, few, goes-on, same-room, same-size, happened, as-they-were, Kept, asks-by, converts-now}
 use Rattle.machine.proofs.Memory.{same-image}
-use Rattle.machine.proofs.Planned.{is-store, same-value, to-hold}
+use Rattle.machine.proofs.Planned.{is-store, same-value, to-hold, waits-none}
 use Rattle.machine_forms.specs.Happening as event
 use Rattle.machine.proofs.Needing.{NeedsBy, NeedsFirst}
 use Rattle.machine.proofs.Queued.{begun-queued}
@@ -156,6 +156,7 @@ module _ (laws : Laws) (o : Opening) (first : ℕ) (set : SetFacts) (s : Shared)
           calls = inl (same-image (memory_of s.machine) (memory_of s.machine) refl);
           cause = omega arith;
           answers = tt;
+          finds = λ logs. waits-none laws o first set s es threads t fs request store h;
           numbers = refl;
           quiet = λ micro same. not-longer s.history.acts act same;
           waits = λ on no. absurd (let e = no in cc);
@@ -271,6 +272,7 @@ module _ (laws : Laws) (o : Opening) (first : ℕ) (set : SetFacts) (s : Shared)
         calls = inl (same-image (memory_of s.machine) (memory_of new.machine) b.begins.memory);
         cause = (let same = ap (λ (m : Memory). m.faults) b.begins.memory in omega (arith, same));
         answers = tt;
+        finds = λ logs. waits-none laws o first set s es threads t fs request store h;
         numbers = ap (λ (m : Machine). m.spaces.numbers) b.same;
         quiet = λ micro same. (let less = laws.measure.begins o s.machine es h.due.running.keeps
             h.due.running.unwritten new.machine b.after t number (reference_word object) begun.Claimed

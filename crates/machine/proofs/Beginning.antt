@@ -30,6 +30,7 @@ use Rattle.machine_forms.specs.declared.doing.Doing.TheVariants.{Nothing}
 use Rattle.machine_forms.specs.Machines.{Opening, Machine, doing_of, empty_log, known_in, log_of, shown_in}
 use Rattle.machine_forms.specs.Events.{BeginsRegion, DoesRequest, RegionStep, act_in}
 use Rattle.machine_forms.specs.Events as region
+use Rattle.plain_model.specs.Ends.{wait_of}
 use Rattle.machine_threads.specs.Passed.{IsReady, Begins}
 use Rattle.shared_heap.specs.Shared.{Shared}
 use Rattle.shared_heap.specs.Regions.{with_log_of}
@@ -183,6 +184,9 @@ module _ (laws : Laws) (o : Opening) (first : ℕ) (set : SetFacts) (s : Shared)
         calls = inl stays.image;
         cause = (let same = stays.image.faults in omega (arith, same));
         answers = regional-whole request (subst IsRegional (sym is_begin) tt);
+        finds = laws.threads.wait o s.machine es threads due.running.keeps due.running.plain t fs request ready due.asks
+            ∙ ap wait_of (begins o.launch.set (known_in o s.machine).world t 1 (shown_in s.machine).number request from
+            is_begin);
         numbers = stays.numbers;
         quiet = λ micro same. absurd (let no = micro in cc);
         waits = λ on no. absurd (let e = no in cc);

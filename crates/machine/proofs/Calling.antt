@@ -129,6 +129,8 @@ module _ (laws : Laws) (o : Opening) (first : ℕ) (set : SetFacts) (s : Shared)
           calls = w.wrote.calls.count;
           cause = later_now;
           answers = tt;
+          finds = λ logs. laws.threads.fences o s.machine es threads due.running.keeps due.running.plain t
+              (inl (w.wrote.line, w.wrote.doing));
           numbers = refl;
           quiet = λ micro same. (let less = laws.measure.writes o s.machine es due.running.keeps
               due.running.unwritten w.twin t w.wrote in omega (arith, less));
@@ -217,6 +219,7 @@ module _ (laws : Laws) (o : Opening) (first : ℕ) (set : SetFacts) (s : Shared)
       calls = f.made.calls.count;
       cause = later_now;
       answers = whole (lag-fencing f.made.doing);
+      finds = laws.threads.fences o s.machine es threads due.running.keeps due.running.plain t (inr f.made.doing);
       numbers = refl;
       quiet = λ micro same. absurd (let no = micro in cc);
       waits = λ on no. absurd (let e = no in cc);
@@ -264,6 +267,7 @@ module _ (laws : Laws) (o : Opening) (first : ℕ) (set : SetFacts) (s : Shared)
           calls = f.calls.count;
           cause = rose_now;
           answers = tt;
+          finds = tt;
           numbers = refl;
           quiet = λ micro same. absurd (let no = micro in cc);
           waits = λ on no. absurd (let e = no in cc);

@@ -40,6 +40,8 @@ use Rattle.machine_forms.specs.Keeping.{IsDoing}
 use Rattle.machine_forms.specs.Events.{AsksEnd, CallsEnd, ClosesRegion, DoesRequest, EndsPart, EndsByAct, IsFree, LeavesLog}
 use Rattle.machine_forms.specs.Events.{RegionStep, act_in, with_closing, with_logged}
 use Rattle.machine_forms.specs.Events as region
+use Rattle.plain_model.specs.Ends.{wait_of}
+use Rattle.machine_threads.specs.Stuck.{plain_waits}
 use Rattle.machine_threads.specs.Passed.{KeepsShared}
 use Rattle.machine_threads.proofs.Passed.{left_goes_on}
 use Rattle.machine_threads.specs.Passed.{IsReady, Begins}
@@ -110,6 +112,12 @@ module _ (laws : Laws) (o : Opening) (first : ℕ) (set : SetFacts) (s : Shared)
   own : KeepsThread o s.machine es t fs
   own = due.running.all.each t fs due.asks.frames
 
+  -- an end waits for nothing in the plain world
+  waits-none : plain_waits o s.machine t ≡ None
+  waits-none = laws.threads.wait o s.machine es threads due.running.keeps due.running.plain t fs request ready due.asks
+      ∙ ap wait_of (ends o.launch.set (known_in o s.machine).world t 1 (shown_in s.machine).number request from is_end
+      open-now)
+
   asks-end : AsksEnd o s.machine t request
   asks-end = record {
     fit = fits laws o first set s es threads t fs request due ready;
@@ -167,6 +175,7 @@ module _ (laws : Laws) (o : Opening) (first : ℕ) (set : SetFacts) (s : Shared)
           calls = inr l.call.call.call;
           cause = later;
           answers = tt;
+          finds = λ logs. waits-none;
           numbers = refl;
           quiet = λ micro same. elim l.made [
             | inl touches ↦ absurd (laws.ending.untouched o s.machine es due.running.keeps
@@ -223,6 +232,7 @@ module _ (laws : Laws) (o : Opening) (first : ℕ) (set : SetFacts) (s : Shared)
           calls = inr l.call.call.call;
           cause = later;
           answers = tt;
+          finds = λ logs. waits-none;
           numbers = refl;
           quiet = λ micro same. not-longer s.history.acts act same;
           waits = λ on no. absurd (let e = no in cc);
@@ -274,6 +284,7 @@ module _ (laws : Laws) (o : Opening) (first : ℕ) (set : SetFacts) (s : Shared)
           calls = inr f.call.call.call;
           cause = rose;
           answers = tt;
+          finds = tt;
           numbers = refl;
           quiet = λ micro same. absurd (let no = micro in cc);
           waits = λ on no. absurd (let e = no in cc);
@@ -470,6 +481,7 @@ module _ (laws : Laws) (o : Opening) (first : ℕ) (set : SetFacts) (s : Shared)
             let left = ap (λ (m : Machine). (memory_of m).faults) l.left.machine in
             omega (arith, same, left, later));
         answers = regional-whole request regional;
+        finds = waits-none;
         numbers = ap (λ (y : Spaces). y.numbers) same-spaces;
         quiet = λ micro same. absurd (let no = micro in cc);
         waits = λ on no. absurd (let e = no in cc);

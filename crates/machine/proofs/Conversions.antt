@@ -39,8 +39,8 @@ use Rattle.machine_threads.specs.Keeping.{LagsByItsStore}
 use Rattle.machine_threads.specs.Stuck.{plain_waits}
 use Rattle.object_steps.specs.declared.storing.Store.{Store}
 use Rattle.object_steps.specs.Stores.{place_of}
-use Rattle.store_barrier.specs.Barriers.{ConvertsFirst}
-use Rattle.store_barrier.specs.Regions.{IsApart}
+use Rattle.shared_heap.specs.Passed.{ConvertsFirst}
+use Rattle.shared_heap.specs.Passed.{IsApart}
 use Rattle.shared_heap.specs.declared.conversions.Conversion.{Conversion}
 use Rattle.shared_heap.specs.declared.conversions.Conversion.TheVariants as did
 use Rattle.shared_heap.specs.Notes.{ThreadNotes}
@@ -63,7 +63,7 @@ use Rattle.machine.proofs.Faults.{none-more}
 use Rattle.machine.proofs.Freely.{freely-volatile}
 use Rattle.machine.proofs.Leaving.{AsksStill, Kept, as-they-were, asks-by, converts-now, ends-same, few, goes-on, happened}
 use Rattle.machine.proofs.Leaving.{lives, same-size}
-use Rattle.machine.proofs.Planned.{is-store}
+use Rattle.machine.proofs.Planned.{is-store, waits-none}
 use Rattle.machine.proofs.Queued.{claimed-queued}
 use Rattle.machine.proofs.Refusing.{refused-over}
 use Rattle.machine.proofs.Waiting.{touches-none}
@@ -209,6 +209,7 @@ module _ (laws : Laws) (o : Opening) (first : ℕ) (set : SetFacts) (s : Shared)
       calls = counted o s.machine es h.due.running.keeps new.machine t answer g.on;
       cause = later;
       answers = tt;
+      finds = λ logs. waits-none laws o first set s es threads t fs request store h;
       numbers = numbers-stay new.machine g.on.same;
       quiet = λ micro none. (let less = laws.measure.steps o s.machine es h.due.running.keeps
           h.due.running.unwritten new.machine t answer g.on in
@@ -234,6 +235,7 @@ module _ (laws : Laws) (o : Opening) (first : ℕ) (set : SetFacts) (s : Shared)
           calls = counted o s.machine es h.due.running.keeps new.machine t (step.Full need left) g.on;
           cause = later;
           answers = tt;
+          finds = tt;
           numbers = numbers-stay new.machine g.on.same;
           quiet = λ micro none. absurd (let no = micro in cc);
           waits = λ on no. absurd (let e = no in cc);
@@ -330,6 +332,7 @@ module _ (laws : Laws) (o : Opening) (first : ℕ) (set : SetFacts) (s : Shared)
       calls = counted o s.machine es h.due.running.keeps new.machine t (step.Wait u) g.on;
       cause = later;
       answers = tt;
+      finds = waits-none laws o first set s es threads t fs request store h;
       numbers = numbers-stay new.machine g.on.same;
       quiet = λ micro none. absurd (let no = micro in cc);
       waits = λ on is. (let less = laws.measure.steps o s.machine es h.due.running.keeps
@@ -420,6 +423,7 @@ module _ (laws : Laws) (o : Opening) (first : ℕ) (set : SetFacts) (s : Shared)
               (counted o s.machine es h.due.running.keeps j.between t (step.Sealed j.set) j.seals.converts);
           cause = later;
           answers = tt;
+          finds = λ logs. waits-none laws o first set s es threads t fs request store h;
           numbers = ap (λ (m : Machine). m.spaces.numbers) j.machine ∙ numbers-stay j.between between-same;
           quiet = λ micro none. not-longer s.history.acts joined (sym history-now ∙ none);
           waits = λ on no. absurd (let e = no in cc);
@@ -457,6 +461,7 @@ module _ (laws : Laws) (o : Opening) (first : ℕ) (set : SetFacts) (s : Shared)
           calls = inr (subst (λ (x : Memory). OneCall x (memory_of new.machine)) memory c.event.fails.call);
           cause = rose;
           answers = tt;
+          finds = tt;
           numbers = numbers-stay new.machine c.same;
           quiet = λ micro none. absurd (let no = micro in cc);
           waits = λ on no. absurd (let e = no in cc);

@@ -1,5 +1,5 @@
 -- An act of a request that changes no durable place: the request is answered.
-use Rattle.std.proofs.Common.{◌≡◌, inl, ℕ, List, [], ◌∷◌, ◌++◌, length, refl, sym, ◌∙◌, ap, subst, arith}
+use Rattle.std.proofs.Common.{◌≡◌, inl, ℕ, List, [], ◌∷◌, ◌++◌, length, None, refl, sym, ◌∙◌, ap, subst, arith}
 use Rattle.std.specs.Prelude.{slice_index_or}
 use Rattle.ap_base.specs.declared.reference.Ref.{Ref}
 use Rattle.ap_base.specs.declared.reference.Item.{Item}
@@ -24,6 +24,7 @@ use Rattle.machine_forms.specs.Machines.{Opening, doing_of, empty_log, log_of}
 use Rattle.machine_forms.specs.Events.{ActsBeside, act_in, left_by}
 use Rattle.machine_forms.specs.Happening as event
 use Rattle.machine_forms.specs.Happening.{table_after}
+use Rattle.machine_threads.specs.Stuck.{plain_waits}
 use Rattle.machine_threads.specs.Passed.{Begins}
 use Rattle.machine_threads.specs.Keeping.{LagsByItsStore}
 use Rattle.shared_heap.specs.Shared.{Shared}
@@ -60,6 +61,7 @@ module _ (laws : Laws) (o : Opening) (first : ℕ) (set : SetFacts) (s : Shared)
     pub asks : new.notes.asks ≡ s.notes.asks
     pub noted : new.notes.waits ≡ s.notes.waits
     pub whole : IsBroken request → ⊥
+    pub free : plain_waits o s.machine t ≡ None
 
   module _ (a : Answers) where
     abbrev es' : List Entry
@@ -130,6 +132,7 @@ module _ (laws : Laws) (o : Opening) (first : ℕ) (set : SetFacts) (s : Shared)
       calls = inl stays.image;
       cause = (let same = stays.image.faults in omega (arith, same));
       answers = a.whole;
+      finds = a.free;
       numbers = stays.numbers;
       quiet = λ micro same. absurd (let no = micro in cc);
       waits = λ on no. absurd (let e = no in cc);

@@ -23,10 +23,10 @@ use Rattle.object_steps.specs.Stores.{place_of}
 use Rattle.two_spaces.specs.declared.spaces.Static.{Static as Field}
 use Rattle.two_spaces.specs.declared.spaces.Static.TheVariants.{Beside, Root}
 use Rattle.two_spaces.specs.Seen.{Spaces}
-use Rattle.store_barrier.specs.Barriers.{ConvertsFirst, IsDurablePlace, IsSpotAt, line_of_place, static_at, word_of_place}
-use Rattle.store_barrier.specs.Barriers.{word_of_static}
-use Rattle.store_barrier.specs.Laws.{GuardedBy}
-use Rattle.store_barrier.specs.Regions.{IsApart}
+use Rattle.shared_heap.specs.Passed.{ConvertsFirst, IsDurablePlace, IsSpotAt, line_of_place, static_at, word_of_place}
+use Rattle.shared_heap.specs.Passed.{word_of_static}
+use Rattle.shared_heap.specs.Passed.{GuardedBy}
+use Rattle.shared_heap.specs.Passed.{IsApart}
 use Rattle.shared_heap.specs.Shared.{Shared}
 use Rattle.machine.specs.Ended.{HasPlanned}
 use Rattle.machine.specs.Laws.{Laws}

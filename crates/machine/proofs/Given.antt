@@ -23,7 +23,7 @@ use Rattle.machine_forms.specs.declared.doing.Doing.TheVariants.{Writing}
 use Rattle.machine_forms.specs.Machines.{Opening, doing_of, known_in, layout_in, log_of, memory_of, shown_in}
 use Rattle.machine_forms.specs.Keeping.{IsDoing, KeepsRun}
 use Rattle.machine_threads.specs.Passed.{Asks, IsReady}
-use Rattle.store_barrier.specs.Barriers.{AgreesWith}
+use Rattle.shared_heap.specs.Passed.{AgreesWith}
 use Rattle.converter.specs.Stepping.{keys_of}
 use Rattle.shared_heap.specs.Shared.{Shared}
 use Rattle.shared_heap.specs.Requests.{MayRequest}

@@ -37,8 +37,8 @@ use Rattle.machine_threads.proofs.Passed.{place-inside}
 use Rattle.machine_threads.specs.Passed.{StoresFreely, room as has_room}
 use Rattle.object_steps.specs.declared.storing.Store.{Store}
 use Rattle.object_steps.specs.Stores.{place_of}
-use Rattle.store_barrier.specs.Barriers.{MayFollow}
-use Rattle.store_barrier.specs.Regions.{IsApart, LogsFirst, Races}
+use Rattle.shared_heap.specs.Passed.{MayFollow}
+use Rattle.shared_heap.specs.Passed.{IsApart, LogsFirst, Races}
 use Rattle.shared_heap.specs.Shared.{Shared}
 use Rattle.shared_heap.specs.Regions.{GuardsTo, LiesAt, entry_at}
 use Rattle.machine.specs.declared.events.Event.TheVariants.{Micro, Over}
@@ -52,7 +52,7 @@ use Rattle.machine.proofs.Faults.{none-more}
 use Rattle.machine.proofs.Freely.{freely, guarded-by}
 use Rattle.machine.proofs.Leaving.{few, happened, as-they-were, stays-on, AsksStill}
 use Rattle.machine.proofs.Memory.{same-image}
-use Rattle.machine.proofs.Planned.{is-free, is-store, kept-durable}
+use Rattle.machine.proofs.Planned.{is-free, is-store, kept-durable, waits-none}
 use Rattle.machine_forms.specs.Happening as event
 use Rattle.machine_threads.specs.Keeping.{AsksItsEnd}
 
@@ -103,6 +103,7 @@ module _ (laws : Laws) (o : Opening) (first : ℕ) (set : SetFacts) (s : Shared)
     calls = inl (same-image (memory_of s.machine) (memory_of s.machine) refl);
     cause = unfailed f _ other;
     answers = tt;
+    finds = tt;
     numbers = refl;
     quiet = λ micro same. absurd (let no = micro in cc);
     waits = λ on no. absurd (let e = no in cc);
@@ -222,6 +223,7 @@ module _ (laws : Laws) (o : Opening) (first : ℕ) (set : SetFacts) (s : Shared)
             calls = inl (same-image (memory_of s.machine) (memory_of s.machine) refl);
             cause = omega arith;
             answers = tt;
+            finds = λ logs. waits-none laws o first set s es threads t fs request store h;
             numbers = refl;
             quiet = λ micro same. not-longer s.history.acts act same;
             waits = λ on no. absurd (let e = no in cc);

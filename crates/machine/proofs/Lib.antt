@@ -9,6 +9,7 @@ pub mod Closing
 pub mod Conversions
 pub mod Doing
 pub mod Faults
+pub mod Finding
 pub mod Freely
 pub mod Given
 pub mod Guarding

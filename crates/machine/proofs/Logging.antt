@@ -96,6 +96,7 @@ module _ (laws : Laws) (o : Opening) (first : ℕ) (set : SetFacts) (s : Shared)
             calls = inr l.logs.logs.call;
             cause = later;
             answers = tt;
+            finds = λ idle. absurd (let no : true ≡ false = sym (ap is_adding l.logs.logs.adding.1) ∙ idle in cc);
             numbers = refl;
             quiet = λ micro same. elim l.made [
               | inl touches ↦ absurd (laws.logging.untouched o s.machine es due.running.keeps
@@ -171,6 +172,7 @@ module _ (laws : Laws) (o : Opening) (first : ℕ) (set : SetFacts) (s : Shared)
             calls = inr f.logs.logs.call;
             cause = rose;
             answers = tt;
+            finds = tt;
             numbers = refl;
             quiet = λ micro same. absurd (let no = micro in cc);
             waits = λ on no. absurd (let e = no in cc);

@@ -27,7 +27,7 @@ use Rattle.shared_objects.specs.declared.rest.Rest.{Rest}
 use Rattle.shared_objects.specs.Shown.{Numbers, Shown}
 use Rattle.shared_objects.specs.Plain.{KnowsRequest, plain_request, plain_reply}
 use Rattle.shared_objects.specs.Worlds.{world_of}
-use Rattle.shared_steps.specs.Output.{FaultsGo, OutputGoes}
+use Rattle.shared_heap.specs.Passed.{FaultsGo, OutputGoes}
 use Rattle.step_forms.specs.declared.stepped.Stepped.{Stepped}
 use Rattle.step_forms.specs.declared.stepped.Stepped.TheVariants as stepped
 use Rattle.step_forms.specs.Becomes.{given}

@@ -17,8 +17,8 @@ use Rattle.machine_forms.specs.declared.doing.Doing.TheVariants.{Converting}
 use Rattle.machine_forms.specs.Machines.{Machine, doing_of, scene_of}
 use Rattle.object_steps.specs.declared.storing.Store.{Store}
 use Rattle.object_steps.specs.Stores.{place_of}
-use Rattle.store_barrier.specs.Barriers.{ConvertsFirst}
-use Rattle.store_barrier.specs.Regions.{IsApart}
+use Rattle.shared_heap.specs.Passed.{ConvertsFirst}
+use Rattle.shared_heap.specs.Passed.{IsApart}
 use Rattle.shared_heap.specs.Shared.{Shared}
 use Rattle.shared_heap.specs.Conversions.{BeginsOnce, Converts, HasBegun}
 use Rattle.machine.specs.Ended.{HasPlanned, HasSomePlanned}

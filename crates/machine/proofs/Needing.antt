@@ -3,6 +3,8 @@ use Rattle.std.proofs.Common.{◌≡◌, ◌⊎◌, ℕ, ◌≤◌, List, [], �
 use Rattle.ap_base.specs.declared.reference.Ref.{Ref}
 use Rattle.ap_base.specs.declared.reference.Item.{Item}
 use Rattle.run_types.specs.declared.wait.On.{On}
+use Rattle.run_types.specs.declared.wait.On.TheVariants as on
+use Rattle.region_log.specs.Guarding.{is_adding}
 use Rattle.natives.specs.declared.requests.Request.{Request}
 use Rattle.run_history.specs.Recorded.{History, Recorded}
 use Rattle.plain_model.specs.Facts.{SetFacts}
@@ -24,7 +26,7 @@ use Rattle.machine.specs.declared.events.Event.{Event}
 use Rattle.machine.specs.declared.events.Event.TheVariants.{Did, Micro, WouldWait, Over}
 use Rattle.machine.specs.declared.events.Halt.TheVariants.{Met, Stuck}
 use Rattle.machine.specs.Ended.{HasPlanned, StoreComesTo}
-use Rattle.machine.specs.Events.{AddsActs, AsksOn, Comes, GoesTo, HasImageCause, SparesOthers, SparesSink, KeepsRows, KeepsRowsByNeed}
+use Rattle.machine.specs.Events.{AddsActs, AsksOn, Comes, GoesTo, HasImageCause, SparesOthers, SparesSink, KeepsRows, KeepsRowsByNeed, FindsWait, logs_word}
 
 -- ---- one after another
 
@@ -127,6 +129,20 @@ module _ (o : Opening) (first : ℕ) (set : SetFacts) (s mid new : Shared) (es :
       → AddsActs result t s.history.acts new.history.acts
   acts-then result = subst (λ (h : History). AddsActs result t h.acts new.history.acts) n.history
 
+  same-waits : plain_waits o mid.machine t ≡ plain_waits o s.machine t
+  same-waits = ap (λ (acts : List Recorded). plain_waits o (record mid.machine { acts = acts }) t) n.acts
+
+  -- nothing is under way in the thread's log
+  finds-then : (result : Event) → FindsWait (logs_word mid.machine t) result (plain_waits o mid.machine t)
+      → FindsWait (logs_word s.machine t) result (plain_waits o s.machine t)
+  finds-then (Did r) found = sym same-waits ∙ found
+  finds-then Micro found = λ logs. sym same-waits ∙ found (ap is_adding n.planned.idle)
+  finds-then (WouldWait (on.Conversion u)) found = sym same-waits ∙ found
+  finds-then (WouldWait (on.Monitor u)) found = sym same-waits ∙ found
+  finds-then (WouldWait (on.Join u)) found = sym same-waits ∙ found
+  finds-then (WouldWait (on.Init u)) found = sym same-waits ∙ found
+  finds-then (Over halt) found = tt
+
   comes-then : (result : Event) → Comes o first n.asks.after threads t fs request result mid new
       → Comes o first es threads t fs request result s new
   comes-then result c = record {
@@ -136,6 +152,7 @@ module _ (o : Opening) (first : ℕ) (set : SetFacts) (s mid new : Shared) (es :
         c.calls;
     cause = subst (λ (m : Memory). HasImageCause result m.faults (memory_of new.machine).faults) n.memory c.cause;
     answers = c.answers;
+    finds = finds-then result c.finds;
     numbers = c.numbers ∙ n.numbers;
     quiet = λ micro same. (let less = c.quiet micro (same ∙ sym (ap (λ (h : History). h.acts) n.history)) in
         let first = n.measure in omega (arith, less, first));

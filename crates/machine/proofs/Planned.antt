@@ -1,5 +1,5 @@
 -- A store whose tests are passed: it is what the thread has asked, if it has asked something.
-use Rattle.std.proofs.Common.{◌≡◌, inl, inr, ℕ, Bool, true, false, not, List, Some, refl, sym, ◌∙◌, ap, subst}
+use Rattle.std.proofs.Common.{◌≡◌, inl, inr, ℕ, Bool, true, false, not, List, None, Some, refl, sym, ◌∙◌, ap, subst}
 use Rattle.ap_base.specs.declared.place.Place.{Place}
 use Rattle.ap_base.specs.declared.place.Place.TheVariants as place
 use Rattle.ap_base.specs.declared.reference.Ref.{Ref}
@@ -12,6 +12,7 @@ use Rattle.plain_model.specs.Facts.{SetFacts}
 use Rattle.plain_model.specs.Requests.{PlainRequest}
 use Rattle.plain_model.specs.Runs.{is_volatile, request_after}
 use Rattle.plain_model.specs.Steps.{step}
+use Rattle.plain_model.specs.Ends.{wait_of}
 use Rattle.shared_objects.specs.Plain.{plain_request}
 use Rattle.step_forms.specs.Becomes.{AsksStore}
 use Rattle.step_forms.specs.Follows.{stored_as}
@@ -23,10 +24,11 @@ use Rattle.machine_forms.specs.declared.doing.Doing.TheVariants.{Nothing, Conver
 use Rattle.machine_forms.specs.Machines.{Opening, doing_of, known_in, roots_in, shown_in, Machine}
 use Rattle.machine_forms.specs.Events.{IsFree, IsStoreOf, value_in}
 use Rattle.machine_threads.specs.Passed.{IsReady}
+use Rattle.machine_threads.specs.Stuck.{plain_waits}
 use Rattle.machine_threads.proofs.Passed.{stores-anyhow}
 use Rattle.object_steps.specs.declared.storing.Store.{Store}
 use Rattle.object_steps.specs.Stores.{place_of}
-use Rattle.store_barrier.specs.Barriers.{HoldsDurable, IsDurablePlace, MayFollow}
+use Rattle.shared_heap.specs.Passed.{HoldsDurable, IsDurablePlace, MayFollow}
 use Rattle.shared_heap.specs.Shared.{Shared}
 use Rattle.machine.specs.Ended.{HasPlanned}
 use Rattle.machine.specs.Laws.{Laws}
@@ -91,6 +93,11 @@ module _ (laws : Laws) (o : Opening) (first : ℕ) (set : SetFacts) (s : Shared)
       ∙ stores-anyhow o.launch.set (shown_in s.machine) s.machine.rest t (roots_in o s.machine) 1 plain
       goal value
       asks-store
+
+  -- so it waits for nothing in the plain world
+  pub waits-none : plain_waits o s.machine t ≡ None
+  waits-none = laws.threads.wait o s.machine es threads h.due.running.keeps h.due.running.plain t fs request h.ready
+      h.due.asks ∙ ap wait_of plain-stores
 
   -- ---- what is pending
 

@@ -34,7 +34,7 @@ use Rattle.step_forms.specs.declared.stepped.Stepped.{Stepped}
 use Rattle.step_forms.specs.declared.stepped.Stepped.TheVariants as stepped
 use Rattle.step_forms.specs.Becomes.{given}
 use Rattle.step_forms.specs.Follows.{IsFullOf, IsLimit, IsStep}
-use Rattle.shared_steps.specs.Output.{FaultsGo, OutputGoes, SharesGo}
+use Rattle.shared_heap.specs.Passed.{FaultsGo, OutputGoes, SharesGo}
 use Rattle.run_forms.proofs.Visible.{is_print, prints}
 use Rattle.machine.specs.declared.events.Event.{Event}
 use Rattle.machine.specs.declared.events.Event.TheVariants.{Did, Micro, WouldWait, Over}

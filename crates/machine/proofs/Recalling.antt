@@ -11,14 +11,17 @@ use Rattle.run_types.specs.declared.wait.On.TheVariants as on
 use Rattle.natives.specs.declared.requests.Request.{Request}
 use Rattle.natives.specs.declared.requests.Reply.{Reply}
 use Rattle.graph_model.specs.declared.types.Root.{Root}
+use Rattle.run_history.specs.declared.act.Op.{Op}
+use Rattle.run_history.specs.declared.act.Op.TheVariants as op
 use Rattle.run_history.specs.Recorded.{History, Recorded}
 use Rattle.plain_model.specs.Facts.{SetFacts}
+use Rattle.frames.specs.Turns.{begun_thread}
 use Rattle.run_forms.specs.Laws.{answered_threads}
 use Rattle.run_forms.specs.Views.{ThreadFrames}
 use Rattle.twin_forms.specs.Table.{Entry}
 use Rattle.twin_forms.proofs.Led.{below_or_not}
 use Rattle.machine_forms.specs.Machines.{Opening, Machine, memory_of, roots_in}
-use Rattle.machine_threads.specs.Passed.{Asks}
+use Rattle.machine_threads.specs.Passed.{Asks, Begins}
 use Rattle.machine_threads.specs.Testing.{IsLive}
 use Rattle.convert_waits.specs.Stuck.{IsPlain}
 use Rattle.shared_heap.specs.Notes.{AreOf64, ThreadNotes, answered, asked_by, asking, waiting, waits_on}
@@ -26,7 +29,7 @@ use Rattle.shared_heap.specs.Shared.{Shared}
 use Rattle.machine.specs.declared.events.Event.{Event}
 use Rattle.machine.specs.declared.events.Event.TheVariants.{Did, Micro, WouldWait, Over}
 use Rattle.machine.specs.declared.events.Halt.TheVariants.{Met, Stuck}
-use Rattle.machine.specs.Events.{AddsActs, Comes, HasImageCause, HasSinkCause, IsAnswerTo}
+use Rattle.machine.specs.Events.{AddsActs, Comes, FindsWait, HasImageCause, HasSinkCause, IsAnswerTo, IsUnanswered, LeavesOthers, NotesStart}
 use Rattle.machine.specs.Events.{IsBelow, IsOver, SparesOthers}
 use Rattle.machine.specs.Halts.{fault_of_halt, lacks}
 use Rattle.machine.specs.Laws.{Laws}
@@ -330,6 +333,25 @@ event-leads laws o first set s mid new es threads t fs request (Over (Met f)) re
     ))
 event-leads laws o first set s mid new es threads t fs request (Over Stuck) result next room c notes = absurd c.goes
 
+-- ---- what other threads are about
+
+-- A thread that an act starts has frames with which it begins.
+some-begun : (o : Opening) (operation : Op) (s mid : Shared)
+    → ((n child : ℕ) → operation ≡ op.Start n child → NotesStart o operation child s mid)
+    → (begun : List ThreadFrames) × Begins o mid.machine operation begun
+some-begun o (op.Start n child) s mid starts = let began = starts n child refl in (begun_thread began.thread ∷ [], began.begins)
+some-begun o operation s mid starts = ([], refl)
+
+pub others-left : (o : Opening) (first : ℕ) (s mid : Shared) (es : List Entry) (threads : List ThreadFrames) (t : ℕ)
+    (fs : ThreadFrames) (request : Request Ref Item) (came : Event) → Comes o first es threads t fs request came s mid
+    → LeavesOthers came t s.machine mid.machine
+others-left o first s mid es threads t fs request (Did r) c = λ u other.
+    (let begun = some-begun o c.goes.act.act.op s mid c.goes.started in
+    (c.goes.others begun.0 begun.1).doing u other)
+others-left o first s mid es threads t fs request Micro c = c.goes.others.doing
+others-left o first s mid es threads t fs request (WouldWait w) c = c.goes.asks.others.doing
+others-left o first s mid es threads t fs request (Over halt) c = tt
+
 -- ---- what is as the attempt left it
 
 -- What is noted makes no other event of it, but of a wait: the run may be stuck.
@@ -375,6 +397,12 @@ module _ (set : SetFacts) (t : ℕ) (request : Request Ref Item) (came result : 
     | inr stuck ↦ absurd (let no : Over Stuck ≡ Micro = sym stuck.2 ∙ micro in cc)
   ]
 
+  pub came-unanswered : IsUnanswered result → IsUnanswered came
+  came-unanswered un = elim same-result [
+    | inl same ↦ subst IsUnanswered same un
+    | inr stuck ↦ absurd (subst IsUnanswered stuck.2 un)
+  ]
+
   pub came-waiting : (w : On) → result ≡ WouldWait w → came ≡ WouldWait w
   came-waiting w waits = elim same-result [
     | inl same ↦ sym same ∙ waits
@@ -389,6 +417,14 @@ module _ (set : SetFacts) (t : ℕ) (request : Request Ref Item) (came result : 
 
   pub noted-answers : IsAnswerTo came request → IsAnswerTo result request
   noted-answers = becomes (λ e. IsAnswerTo e request) (λ w none. none) came result same-result
+
+  pub noted-finds : (logging : Bool) (waits : Option On) → FindsWait logging came waits → FindsWait logging result waits
+  noted-finds logging waits = becomes (λ e. FindsWait logging e waits) (λ w found. tt) came result same-result
+
+  pub noted-others : (old : Machine) → LeavesOthers came t old mid.machine → LeavesOthers result t old new.machine
+  noted-others old left = subst (λ (m : Machine). LeavesOthers result t old m)
+      (sym (noted-machine set t request came result mid new n))
+      (becomes (λ e. LeavesOthers e t old mid.machine) (λ w same. tt) came result same-result left)
 
   pub noted-sink : (before now : ℕ) → HasSinkCause came before now → HasSinkCause result before now
   noted-sink before now = becomes (λ e. HasSinkCause e before now) (λ w most. most) came result same-result

@@ -25,8 +25,8 @@ use Rattle.machine_threads.specs.Passed.{StoresFreely}
 use Rattle.machine_forms.specs.Events.{value_in}
 use Rattle.object_steps.specs.declared.storing.Store.{Store}
 use Rattle.object_steps.specs.Stores.{place_of}
-use Rattle.store_barrier.specs.Barriers.{ConvertsFirst}
-use Rattle.store_barrier.specs.Regions.{IsApart}
+use Rattle.shared_heap.specs.Passed.{ConvertsFirst}
+use Rattle.shared_heap.specs.Passed.{IsApart}
 use Rattle.shared_heap.specs.Shared.{Shared}
 use Rattle.shared_heap.specs.Conversions.{BeginsOnce, HasBegun, Converts}
 use Rattle.machine.specs.declared.events.Event.TheVariants.{Over, Micro}
@@ -101,6 +101,7 @@ module _ (laws : Laws) (o : Opening) (first : ℕ) (set : SetFacts) (s : Shared)
           cause = (let same_faults = ap (λ (m : Memory). m.faults) b.begins.memory in
               omega (arith, same_faults));
           answers = tt;
+          finds = tt;
           numbers = ap (λ (m : Machine). m.spaces.numbers) b.same;
           quiet = λ micro none. absurd (let no = micro in cc);
           waits = λ on no. absurd (let e = no in cc);

@@ -1,5 +1,5 @@
 -- Steps of requests that store nothing.
-use Rattle.std.proofs.Common.{◌≡◌, inl, inr, ℕ, ◌-◌, ◌<◌, true, false, List, [], ◌∷◌, ◌++◌, length, unwrap_or}
+use Rattle.std.proofs.Common.{◌≡◌, inl, inr, ℕ, ◌-◌, ◌<◌, true, false, List, [], ◌∷◌, ◌++◌, length, None, unwrap_or}
 use Rattle.std.proofs.Common.{◌≢◌, ◌≤◌}
 use Rattle.std.proofs.Common.{Option, Some, refl, sym, ◌∙◌, ap, subst, arith}
 use Rattle.std.specs.Prelude.{slice_set}
@@ -30,7 +30,8 @@ use Rattle.step_forms.specs.declared.stepped.Stepped.{Stepped}
 use Rattle.step_forms.specs.declared.stepped.Stepped.TheVariants as stepped
 use Rattle.step_forms.specs.Becomes.{Becomes, IsNoStore}
 use Rattle.step_forms.specs.Follows.{IsStep, stored_as}
-use Rattle.shared_steps.specs.Output.{FaultsGo, OutputGoes, SharesGo}
+use Rattle.line_memory.specs.Memory.{SameImage}
+use Rattle.shared_heap.specs.Passed.{FaultsGo, IsSilent, OutputGoes, SharesGo}
 use Rattle.run_forms.specs.Views.{ThreadFrames}
 use Rattle.run_forms.specs.Standing.{plain_code}
 use Rattle.run_forms.specs.Ends.{Ends, IsEndedBy, from_in}
@@ -52,17 +53,18 @@ use Rattle.shared_heap.specs.Requests.{StepsTo, noted_by}
 use Rattle.machine.proofs.Rows.{plain-rows}
 use Rattle.machine.proofs.Starting.{HasNotes, notes-start}
 use Rattle.two_spaces.specs.Whole.{MakesIn, StoresIn}
-use Rattle.machine.specs.declared.events.Event.TheVariants.{Did, Micro, Over, WouldWait}
+use Rattle.machine.specs.declared.events.Event.TheVariants.{Did, Over, WouldWait}
 use Rattle.machine.specs.declared.events.Halt.TheVariants.{Met}
 use Rattle.machine.specs.Ended.{IsOutside, event_of, nowhere}
-use Rattle.machine.specs.Events.{Comes, KeepsRows, NotesStart, HasImageCause, HasSinkCause, IsShare, TakesOutput, AsksOn, IsBelow}
+use Rattle.machine.specs.Events.{Comes, IsUnanswered, logs_word, KeepsRows, NotesStart, HasImageCause, HasSinkCause, IsShare, TakesOutput, AsksOn, IsBelow}
 use Rattle.machine.specs.Laws.{Laws}
 use Rattle.machine.specs.Running.{IsDue, HadNoFault}
 use Rattle.machine.proofs.Aside.{keeps-aside, plain-aside}
 use Rattle.machine.proofs.Basics.{doing-same, not-longer, some-same}
 use Rattle.machine.proofs.Doing.{answers}
+use Rattle.machine.proofs.Finding.{does-waits-none, finds-plain, waits-silent}
 use Rattle.machine.proofs.Leaving.{asked, few, fits, Kept, goes-on, same-room}
-use Rattle.machine.proofs.Memory.{stays, StaysPut}
+use Rattle.machine.proofs.Memory.{does-stay, stays, StaysPut}
 use Rattle.machine.proofs.Printing.{bytes-none, last-same, other-cause, over-cause, printed-not, printed-so, share-so}
 use Rattle.machine.proofs.Steps.{DoesFine, MayMake, broken-over, did-fine, may-make, stores-alone, StartsNoneBy, starts-none}
 use Rattle.convert_waits.specs.Stuck.{IsPlain, HoldsWait}
@@ -186,7 +188,7 @@ module _ (laws : Laws) (o : Opening) (first : ℕ) (set : SetFacts) (s : Shared)
       is-step = subst (λ (y : SetFacts). IsStep y t request (shown_in s.machine) s.machine.rest result
           (shown_in new.machine) new.machine.rest) due.facts x.step
 
-      ends : (lines : ℕ) → Ends o.launch lines s.machine.acts s.machine.rest t request result
+      ends : (lines : ℕ) → Ends o.launch lines s.machine.acts t request result
       ends lines = laws.ends.steps o s.machine es threads due.running.keeps due.running.plain lines t fs
           request
           result (shown_in new.machine) new.machine.rest ready due.asks is-step
@@ -299,6 +301,15 @@ module _ (laws : Laws) (o : Opening) (first : ℕ) (set : SetFacts) (s : Shared)
             (taken_by operation) plain ≡ Does x (plain_reply (shown_in new.machine).number r)) is does-it) notes
             (x.notes ∙ ap (λ (x : Op). noted_by request (stepped.Did x r) s.notes) is))
 
+        -- what was done waits for nothing in the plain world
+        did-free : plain_waits o s.machine t ≡ None
+        did-free =
+            laws.threads.wait o s.machine es threads due.running.keeps due.running.plain t fs request ready due.asks
+            ∙ ap (λ w. wait_of (step o.launch.set w t 1 plain)) due.running.keeps.world.world
+            ∙ does-waits-none o.launch.set (world_of (roots_in o s.machine) (shown_in s.machine) s.machine.rest) t
+            (taken_by operation) plain operation (plain_reply (shown_in new.machine).number r)
+            (is.follows (roots_in o s.machine)).0
+
         did-comes : HasNotes request new → Comes o first es threads t fs request (Did r) s new
         did-comes notes = answers laws o first set s es threads t fs request due new operation r acts-beside (record {
           idle = idle;
@@ -326,6 +337,7 @@ module _ (laws : Laws) (o : Opening) (first : ℕ) (set : SetFacts) (s : Shared)
               operation)
               (shown_in s.machine).number request operation (plain_reply (shown_in new.machine).number r)
               does-it;
+          free = did-free;
         })
 
       silent-print : prints plain ≡ false → is_print operation ≡ false
@@ -417,6 +429,7 @@ module _ (laws : Laws) (o : Opening) (first : ℕ) (set : SetFacts) (s : Shared)
           calls = inl put.image;
           cause = unfailed f _ _ other (sym put.image.faults);
           answers = tt;
+          finds = tt;
           numbers = put.numbers;
           quiet = λ micro same. absurd (let no = micro in cc);
           waits = λ on no. absurd (let e = no in cc);
@@ -533,6 +546,7 @@ module _ (laws : Laws) (o : Opening) (first : ℕ) (set : SetFacts) (s : Shared)
         calls = inl (put (stepped.Waits on) x st).image;
         cause = (let same = (put (stepped.Waits on) x st).image.faults in omega (arith, same));
         answers = tt;
+        finds = finds-plain (logs_word s.machine t) on (plain_waits o s.machine t) is-plain waits-now;
         numbers = (put (stepped.Waits on) x st).numbers;
         quiet = λ micro same. absurd (let no = micro in cc);
         waits = λ on2 is. subst (λ (m : Machine). measure m ≤ measure s.machine) (sym st.machine) (omega arith);
@@ -624,15 +638,27 @@ module _ (laws : Laws) (o : Opening) (first : ℕ) (set : SetFacts) (s : Shared)
         over-cause o.launch.set t request (shown_in s.machine) s.machine.rest f (shown_in new.machine)
         new.machine.rest (is-step (stepped.Over f) x none)
         (λ sink. subst Prints (asked laws o first set s es threads t fs request due ready).plain
-        (subst (λ (g : StepFault). Ends o.launch 0 s.machine.acts s.machine.rest t request (stepped.Over g))
+        (subst (λ (g : StepFault). Ends o.launch 0 s.machine.acts t request (stepped.Over g))
         sink
         (ends (stepped.Over f) x none 0)).0)
         before after go
 
-    -- ---- the event is no event of persistence
+    -- ---- neither image nor sink
 
-    pub stepped-ends : (result : Stepped) → event_of request result ≡ Micro → ⊥
-    stepped-ends (stepped.Did operation r) e = let no = e in cc
-    stepped-ends (stepped.Waits on) e = let no = e in cc
-    stepped-ends stepped.Wrong e = let no = e in cc
-    stepped-ends (stepped.Over f) e = let no = e in cc
+    -- a step makes no call of the image
+    pub stepped-image : (result : Stepped) → StepsTo set t request result s new → IsNoStore result
+        → SameImage (memory_of s.machine) (memory_of new.machine)
+    stepped-image (stepped.Did operation r) x none = (does-stay s.machine.spaces new.machine.spaces es operation r
+        due.running.keeps.heap.whole x.heap).image
+    stepped-image (stepped.Waits on) x none = (stays s.machine.spaces new.machine.spaces x.heap).image
+    stepped-image stepped.Wrong x none = (stays s.machine.spaces new.machine.spaces x.heap).image
+    stepped-image (stepped.Over f) x none = (stays s.machine.spaces new.machine.spaces x.heap).image
+
+    -- a step that doesn't answer prints nothing
+    pub stepped-silent : (result : Stepped) → StepsTo set t request result s new
+        → IsUnanswered (event_of request result) → IsSilent request
+    stepped-silent (stepped.Did operation r) x un = absurd un
+    stepped-silent (stepped.Waits on) x un = waits-silent set (world_of [] (shown_in s.machine) s.machine.rest) t
+        (shown_in s.machine).number request on ((x.step.follows []).0 1)
+    stepped-silent stepped.Wrong x un = absurd un
+    stepped-silent (stepped.Over f) x un = absurd un

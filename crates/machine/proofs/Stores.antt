@@ -29,8 +29,8 @@ use Rattle.machine_forms.specs.Events as region
 use Rattle.machine_threads.specs.Passed.{StoresFreely, beside, own}
 use Rattle.object_steps.specs.declared.storing.Store.{Store}
 use Rattle.object_steps.specs.Stores.{place_of}
-use Rattle.store_barrier.specs.Barriers.{HoldsDurable, IsDurablePlace, IsLineOf, MayFollow}
-use Rattle.store_barrier.specs.Regions.{HasLogged, IsApart, IsLineLeft}
+use Rattle.shared_heap.specs.Passed.{HoldsDurable, IsDurablePlace, IsLineOf, MayFollow}
+use Rattle.shared_heap.specs.Passed.{HasLogged, IsApart, IsLineLeft}
 use Rattle.shared_heap.specs.Shared.{Shared}
 use Rattle.shared_heap.specs.Requests.{IsPlannedFor, StoresTo, doing_stored}
 use Rattle.machine.specs.declared.events.Event.{Event}
@@ -45,7 +45,7 @@ use Rattle.machine.proofs.Faults.{none-more}
 use Rattle.machine.proofs.Freely.{freely-outside, true-or-false}
 use Rattle.machine.proofs.Leaving.{ends-idle, ends-same, few, happened, as-they-were, stays-on, Kept, as-answered, answered-on}
 use Rattle.machine.proofs.Memory.{does-stay}
-use Rattle.machine.proofs.Planned.{asks-store, is-free, is-store, kept-durable}
+use Rattle.machine.proofs.Planned.{asks-store, is-free, is-store, kept-durable, waits-none}
 use Rattle.machine.proofs.Steps.{given-whole}
 use Rattle.machine_forms.specs.Happening as event
 use Rattle.graph_model.specs.declared.types.Value.{Value}
@@ -180,6 +180,7 @@ module _ (laws : Laws) (o : Opening) (first : ℕ) (set : SetFacts) (s : Shared)
           asks = ap (λ (y : ThreadNotes). y.asks) x.noted;
           noted = ap (λ (y : ThreadNotes). y.waits) x.noted;
           whole = given-whole request h.gives;
+          free = waits-none laws o first set s es threads t fs request store h;
         })
 
   -- ---- to a durable place, outside regions
@@ -235,6 +236,7 @@ module _ (laws : Laws) (o : Opening) (first : ℕ) (set : SetFacts) (s : Shared)
           calls = inl stays.image;
           cause = (let same = stays.image.faults in omega (arith, same));
           answers = tt;
+          finds = λ logs. waits-none laws o first set s es threads t fs request store h;
           numbers = stays.numbers;
           quiet = λ micro same. not-longer s.history.acts act (sym new-acts ∙ same);
           waits = λ on no. absurd (let e = no in cc);
@@ -304,6 +306,7 @@ module _ (laws : Laws) (o : Opening) (first : ℕ) (set : SetFacts) (s : Shared)
           calls = inl stays.image;
           cause = (let same = stays.image.faults in omega (arith, same));
           answers = given-whole request h.gives;
+          finds = waits-none laws o first set s es threads t fs request store h;
           numbers = stays.numbers;
           quiet = λ micro same. absurd (let no = micro in cc);
           waits = λ on no. absurd (let e = no in cc);

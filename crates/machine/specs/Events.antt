@@ -1,5 +1,5 @@
 -- What an event of a thread over a shared heap comes to.
-use Rattle.std.specs.Prelude.{◌≡◌, ◌≢◌, ◌⊎◌, ℕ, ◌-◌, ◌<◌, ◌≤◌, List, [], ◌∷◌, ◌++◌, length, Option, Some, IfSome}
+use Rattle.std.specs.Prelude.{◌≡◌, ◌≢◌, ◌⊎◌, ℕ, ◌-◌, ◌<◌, ◌≤◌, Bool, false, List, [], ◌∷◌, ◌++◌, length, Option, Some, None, IfSome}
 use Rattle.ap_base.specs.Causes.{Rose}
 use Rattle.ap_base.specs.Sinks.{with_bytes}
 use Rattle.ap_base.specs.declared.reference.Ref.{Ref}
@@ -23,11 +23,12 @@ use Rattle.run_forms.specs.Views.{ThreadFrames}
 use Rattle.run_forms.specs.Ends.{IsEndedBy}
 use Rattle.convert_words.specs.Scenes.{Scene, AgreesAt}
 use Rattle.converter.specs.Laws.{AreUnwritten}
+use Rattle.region_log.specs.Guarding.{is_adding}
 use Rattle.convert_waits.specs.Rows.{BeginsToNeed, Why, InRow, on_of, with_wait}
 use Rattle.convert_waits.specs.Stuck.{HoldsWait, IsPlain}
 use Rattle.twin_forms.specs.Table.{Entry}
 use Rattle.machine_forms.specs.declared.doing.Doing.TheVariants.{Nothing, Converting}
-use Rattle.machine_forms.specs.Machines.{Opening, Machine, doing_of, memory_of, scene_of}
+use Rattle.machine_forms.specs.Machines.{Opening, Machine, doing_of, log_of, memory_of, scene_of}
 use Rattle.machine_forms.specs.Keeping.{KeepsRun}
 use Rattle.machine_threads.specs.Passed.{Asks, Begins, IsReady, RunsAsPlain}
 use Rattle.machine_threads.specs.Passed.{measure}
@@ -140,6 +141,27 @@ GoesTo o first (WouldWait on) old new es threads t fs request = WaitsOn o first 
 GoesTo o first (Over (Met f)) old new es threads t fs request = IsOver o first (run_fault f) old new threads t
 GoesTo o first (Over Stuck) old new es threads t fs request = ⊥
 
+-- ---- whose step it is
+
+-- whether a word is being logged for thread t
+abbrev pub logs_word : Machine → ℕ → Bool
+logs_word m t = is_adding (log_of m t).underway
+
+-- What an event says of what its thread waits for in the plain world: it waits for that exactly where it tells so. An act and
+-- a step of persistence come only where it waits for nothing there, and so does a wait for a conversion. Not said: that no
+-- word is logged for a thread that waits.
+abbrev pub FindsWait : (logging : Bool) → Event → Option On → Type 0
+FindsWait logging (Did r) waits = waits ≡ None
+FindsWait logging Micro waits = logging ≡ false → waits ≡ None
+FindsWait logging (WouldWait (on.Conversion u)) waits = waits ≡ None
+FindsWait logging (WouldWait on) waits = waits ≡ Some on
+FindsWait logging (Over halt) waits = Unit {0}
+
+-- What each other thread is about stays, unless the run is over.
+abbrev pub LeavesOthers : Event → ℕ → Machine → Machine → Type 0
+LeavesOthers (Over halt) t old new = Unit {0}
+LeavesOthers result t old new = (u : ℕ) → u ≢ t → doing_of new u ≡ doing_of old u
+
 -- ---- acts
 
 -- one act more, of the thread
@@ -166,6 +188,12 @@ abbrev pub IsShare : Request Ref Item → (ℕ → Option ℕ) → Op → Type 0
 IsShare (ask.Print from piece) takes (op.Print bytes) =
     IfSome (takes (length piece)) (λ m. length bytes ≡ m)
 IsShare request takes operation = Unit {0}
+
+-- the request isn't answered, and the run goes on
+abbrev pub IsUnanswered : Event → Type 0
+IsUnanswered Micro = Unit {0}
+IsUnanswered (WouldWait on) = Unit {0}
+IsUnanswered result = ⊥
 
 -- ---- what is beside
 
@@ -202,6 +230,7 @@ CallsAtMostOnce old new =
 pub record Comes (o : Opening) (first : ℕ) (es : List Entry) (threads : List ThreadFrames) (t : ℕ)
     (fs : ThreadFrames) (request : Request Ref Item) (result : Event) (old new : Shared) : Type 0 where
   pub goes : GoesTo o first result old new es threads t fs request
+  pub finds : FindsWait (logs_word old.machine t) result (plain_waits o old.machine t)
   pub acts : AddsActs result t old.history.acts new.history.acts
   pub calls : CallsAtMostOnce old new
   pub cause : HasImageCause result (memory_of old.machine).faults (memory_of new.machine).faults

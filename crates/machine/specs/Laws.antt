@@ -15,11 +15,11 @@ use Rattle.machine_threads.specs.Passed.{StepsEnd, StepsMeetNoFault, StoresMeetN
 use Rattle.machine_threads.specs.Keeping.{EventsKeepAll, OthersAskOn, OthersStayForwarded, OwnersKeepTheirs}
 use Rattle.machine_threads.specs.Claiming.{OthersHaveNothing}
 use Rattle.machine_threads.specs.Plain.{PlainWaitsAreNoConversions}
-use Rattle.machine_threads.specs.Stuck.{ReadyThreadsWaitAlike}
+use Rattle.machine_threads.specs.Stuck.{FencesDontWait, ReadyThreadsWaitAlike}
 use Rattle.machine_threads.specs.Testing.{LiveThreadsAsk, TestedWaitsAreStuck, TestedWaitsEnd}
-use Rattle.store_barrier.specs.Laws.{ConversionsAreAsked, DurableLinesAgree, DurablePlacesAgree, DurableWordsAgree, GuardsAgree}
-use Rattle.store_barrier.specs.Laws.{PlacesMayBeGuarded, StoredPlacesAreKept, StoresAreLogged, StoresAreOutside}
-use Rattle.store_barrier.specs.Laws.{StoresKeepDurable}
+use Rattle.shared_heap.specs.Passed.{ConversionsAreAsked, DurableLinesAgree, DurablePlacesAgree, DurableWordsAgree, GuardsAgree}
+use Rattle.shared_heap.specs.Passed.{PlacesMayBeGuarded, StoredPlacesAreKept, StoresAreLogged, StoresAreOutside}
+use Rattle.shared_heap.specs.Passed.{StoresKeepDurable}
 
 -- how runs end, and that acts met no fault
 pub record RunsEnd : Type 0 where
@@ -58,6 +58,7 @@ pub record ThreadsGoOn : Type 0 where
   pub nothing : OthersHaveNothing
   pub plain : PlainWaitsAreNoConversions
   pub wait : ReadyThreadsWaitAlike
+  pub fences : FencesDontWait
   pub live : LiveThreadsAsk
   pub tested : TestedWaitsAreStuck
   pub end : TestedWaitsEnd

@@ -10,8 +10,8 @@ ghost use Rattle.shared_heap.specs.Conversions.{HasBegun};
 ghost use Rattle.machine.specs.declared.events.Halt.TheVariants.{Met};
 ghost use Rattle.machine.specs.Halts.{lacks};
 ghost use Rattle.object_steps.specs.Stores.{place_of};
-ghost use Rattle.store_barrier.specs.Barriers.{ConvertsFirst};
-ghost use Rattle.store_barrier.specs.Regions.{IsApart};
+ghost use Rattle.shared_heap.specs.Passed.{ConvertsFirst};
+ghost use Rattle.shared_heap.specs.Passed.{IsApart};
 ghost use Rattle.machine.specs.Ended.{HasSomePlanned, IsThread, StoreComesTo, went_event};
 
 use crate::laws::laws;

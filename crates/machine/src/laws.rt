@@ -21,5 +21,5 @@ pub(crate) fn laws()
     machine_threads::full_rows_end_runs();
     machine_threads::threads_wait_as_they_ask();
     machine_threads::tested_waits_are_stuck();
-    store_barrier::answers_serve_machines();
+    shared_heap::answers_serve_machines();
 }

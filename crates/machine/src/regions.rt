@@ -54,7 +54,7 @@ pub(crate) fn begin<C: Types, I: Image, S: Sink>(
     requires is_begin { (from : At) × (request.now ≡ ask.Begin from) }
     ensures serves { Serves (C.facts set.now) t request.now result heap.old heap.new (S.takes sink.old)
         (S.taken sink.old) (S.taken sink.new) (S.faults sink.old) (S.faults sink.new) }
-    ensures sink { result ≡ Event.Micro → sink.new ≡ sink.old }
+    ensures sink { sink.new ≡ sink.old }
 {
     laws();
     // that so many acts can be counted
@@ -81,7 +81,7 @@ pub(crate) fn end<C: Types, I: Image, S: Sink>(
     requires is_end { (from : At) × (request.now ≡ ask.End from) }
     ensures serves { Serves (C.facts set.now) t request.now result heap.old heap.new (S.takes sink.old)
         (S.taken sink.old) (S.taken sink.new) (S.faults sink.old) (S.faults sink.new) }
-    ensures sink { result ≡ Event.Micro → sink.new ≡ sink.old }
+    ensures sink { sink.new ≡ sink.old }
 {
     laws();
     match heap.end_next(t) {

@@ -1,7 +1,6 @@
 // What is noted of an event, and whether all threads wait.
-ghost use Rattle.std.specs.Prelude.{◌≡◌, ◌↔◌, ◌<◌, ◌^◌, List, length, IfSome, IsTrue, None, Some};
+ghost use Rattle.std.specs.Prelude.{◌≡◌, ◌↔◌, ◌<◌, ◌^◌, true, false, List, length, IsTrue};
 ghost use Rattle.run_types.specs.declared.wait.On.{On as OnOf};
-ghost use Rattle.plain_model.specs.Facts.{SetFacts};
 ghost use Rattle.shared_heap.specs.Notes.{AreOf64, asked_by, asking, waiting, waits_on};
 ghost use Rattle.graph_model.specs.declared.types.Root.{Root as RootOf};
 ghost use Rattle.convert_waits.specs.Stuck.{IsPlain};
@@ -16,6 +15,7 @@ use natives::Request;
 use run_types::On;
 use shared_heap::SharedHeap;
 use shared_objects::Types;
+use std::mem::replace;
 
 // Whether it is a wait of the plain world: no conversion is waited for there.
 fn is_plain(on: &On) -> bool
@@ -102,54 +102,54 @@ fn note_wait<C: Types, I: Image>(
     all_wait(heap, set)
 }
 
-// Notes the request of another event.
-fn note<I: Image>(heap: &mut SharedHeap<I>, t: ThreadNo, request: Request, came: &Event)
-    requires goes_on { (on : OnOf) → came.now ≡ Event.WouldWait on → ⊥ }
-    ensures { (set : SetFacts) → NotesEvent set t request came.now came.now heap.old heap.new }
-{
-    match came {
-        Event::Did(_) => heap.answered(t),
-        Event::Micro => heap.ask_for(t, request),
-        Event::WouldWait(_) | Event::Over(_) => {}
-    }
-}
-
-// What an event waits for, if it waits.
-fn waited_for(came: &Event) -> Option<On>
-    ensures some { (on : OnOf) → came.now ≡ Event.WouldWait on → result ≡ Some on }
-    ensures is { IfSome result (λ on. came.now ≡ Event.WouldWait on) }
+// Notes the request of an event that isn't answered, and what the thread waits for; and tells whether all threads wait. The
+// request is moved only where it is noted: as a rule it is answered.
+fn note<C: Types, I: Image>(
+    heap: &mut SharedHeap<I>,
+    set: &C,
+    t: ThreadNo,
+    request: &mut Request,
+    came: &Event,
+) -> bool
+    requires notable { (on : OnOf) → came.now ≡ Event.WouldWait on
+        → AreOf64 (waiting (asking heap.old.notes t request.old) t on)
+        → IsSomeRunning (C.facts set.now) (record heap.old { notes = waiting (asking heap.old.notes t request.old) t on }) }
+    requires counted { length heap.old.history.acts < 2 ^ 32 }
+    ensures stuck { result ≡ true
+        → NotesEvent (C.facts set.now) t request.old came.now (Event.Over Halt.Stuck) heap.old heap.new }
+    ensures went { result ≡ false
+        → NotesEvent (C.facts set.now) t request.old came.now came.now heap.old heap.new }
 {
     match *came {
-        Event::WouldWait(on) => Some(on),
-        Event::Did(_) | Event::Micro | Event::Over(_) => None,
+        Event::Did(_) => {
+            heap.answered(t);
+            false
+        }
+        Event::Micro => {
+            heap.ask_for(t, replace(request, Request::Pause));
+            false
+        }
+        Event::WouldWait(on) => note_wait(heap, set, t, replace(request, Request::Pause), on),
+        Event::Over(_) => false,
     }
 }
 
-/// Notes the request of an event that isn't answered, and what the thread waits for; and tells whether all threads wait.
+/// Notes an event, and tells what it comes to: the run is over where it waits and all others do.
 pub(crate) fn remember<C: Types, I: Image>(
     heap: &mut SharedHeap<I>,
     set: &C,
     t: ThreadNo,
-    request: Request,
+    request: &mut Request,
     came: Event,
 ) -> Event
     requires notable { (on : OnOf) → came ≡ Event.WouldWait on
-        → AreOf64 (waiting (asking heap.old.notes t request) t on)
-        → IsSomeRunning (C.facts set.now) (record heap.old { notes = waiting (asking heap.old.notes t request) t on }) }
+        → AreOf64 (waiting (asking heap.old.notes t request.old) t on)
+        → IsSomeRunning (C.facts set.now) (record heap.old { notes = waiting (asking heap.old.notes t request.old) t on }) }
     requires counted { length heap.old.history.acts < 2 ^ 32 }
-    ensures { NotesEvent (C.facts set.now) t request came result heap.old heap.new }
+    ensures { NotesEvent (C.facts set.now) t request.old came result heap.old heap.new }
 {
-    match waited_for(&came) {
-        Some(on) => {
-            if note_wait(heap, set, t, request, on) {
-                Event::Over(Halt::Stuck)
-            } else {
-                came
-            }
-        }
-        None => {
-            note(heap, t, request, &came);
-            came
-        }
+    if note(heap, set, t, request, &came) {
+        return Event::Over(Halt::Stuck);
     }
+    came
 }

@@ -1,5 +1,5 @@
 // Events.
-ghost use Rattle.std.specs.Prelude.{◌≡◌, ◌<◌, ◌≤◌, ◌^◌, ◌++◌, [], ◌∷◌, ℕ, List, length};
+ghost use Rattle.std.specs.Prelude.{◌≡◌, ◌⊎◌, ◌<◌, ◌≤◌, ◌^◌, ◌++◌, [], ◌∷◌, ℕ, List, length};
 ghost use Rattle.run_history.specs.Recorded.{Recorded};
 ghost use Rattle.run_forms.specs.Views.{ThreadFrames};
 ghost use Rattle.run_types.specs.declared.fault.Which.TheVariants as which;
@@ -15,7 +15,10 @@ ghost use Rattle.machine.specs.Ended.{ComesTo, IsOutside, IsSomeDue, Serves};
 ghost use Rattle.machine.specs.Remembering.{IsNext, LeadsTo, Remembers};
 ghost use Rattle.run_types.specs.declared.wait.On.{On as OnOf};
 ghost use Rattle.machine.specs.Events.{AddsActs, CallsAtMostOnce, HasImageCause, HasSinkCause, IsAnswerTo, IsShare};
-ghost use Rattle.machine.specs.Events.{TakesOutput};
+ghost use Rattle.machine.specs.Events.{FindsWait, IsUnanswered, LeavesOthers, TakesOutput, logs_word};
+ghost use Rattle.line_memory.specs.Memory.{SameImage};
+ghost use Rattle.shared_heap.specs.Passed.{IsSilent};
+ghost use Rattle.machine_threads.specs.Stuck.{plain_waits};
 ghost use Rattle.machine.specs.Running.{IsDue};
 
 use crate::laws::laws;
@@ -37,27 +40,36 @@ use shared_objects::Types;
 /// of its own; in a failure-atomic region it is logged before it is made, and its line is written back as the region ends
 /// (Shull, Huang and Torrellas, "AutoPersist", PLDI 2019). An event waits for a monitor that another thread holds (JVMS
 /// 2.11.10), for the end of a thread, for a class that another thread initialises (JVMS 5.5), or for another thread's
-/// conversion; a run of which all threads wait is over. A request that isn't answered is noted until it is.
+/// conversion; a run of which all threads wait is over. A request that isn't answered is noted until it is: it is moved there, and
+/// one that is answered isn't copied.
 pub fn event<C: Types, I: Image, S: Sink>(
     heap: &mut SharedHeap<I>,
     set: &C,
     sink: &mut S,
     t: ThreadNo,
-    request: Request,
+    request: &mut Request,
 ) -> Event
     requires next { (o : Opening) × (first : ℕ) × (es : List Entry) × (threads : List ThreadFrames)
-        × (fs : ThreadFrames) × IsNext o first (C.facts set.now) heap.old es threads t fs request }
+        × (fs : ThreadFrames) × IsNext o first (C.facts set.now) heap.old es threads t fs request.old }
     ensures leads { (o : Opening) (first : ℕ) (es : List Entry) (threads : List ThreadFrames) (fs : ThreadFrames)
-        → IsNext o first (C.facts set.now) heap.old es threads t fs request
-        → LeadsTo o first result heap.old heap.new threads t fs request }
-    ensures remembers { Remembers result t request heap.old heap.new }
+        → IsNext o first (C.facts set.now) heap.old es threads t fs request.old
+        → LeadsTo o first result heap.old heap.new threads t fs request.old }
+    ensures remembers { Remembers result t request.old heap.old heap.new }
+    // Unless the run is over, it waits in the plain world exactly where its thread does; it makes something only where that
+    // waits for nothing, but for a part of the logging of a word.
+    ensures finds { (o : Opening) (first : ℕ) (es : List Entry) (threads : List ThreadFrames) (fs : ThreadFrames)
+        → IsNext o first (C.facts set.now) heap.old es threads t fs request.old
+        → FindsWait (logs_word heap.old.machine t) result (plain_waits o heap.old.machine t) }
+    ensures others { LeavesOthers result t heap.old.machine heap.new.machine }
     ensures acts { AddsActs result t heap.old.history.acts heap.new.history.acts }
     ensures told { TakesOutput heap.old.history.acts heap.new.history.acts (S.taken sink.old)
         (S.taken sink.new) }
     ensures share { (act : Recorded) → heap.new.history.acts ≡ heap.old.history.acts ++ act ∷ []
-        → IsShare request (S.takes sink.old) act.act.op }
-    // Only an event that answers or ends may call the sink.
-    ensures sink { result ≡ Event.Micro → sink.new ≡ sink.old }
+        → IsShare request.old (S.takes sink.old) act.act.op }
+    // Only a print calls the sink, which answers it or ends the run; and then the image isn't called.
+    ensures sink { IsUnanswered result → sink.new ≡ sink.old }
+    ensures silent { IsSilent request.old → sink.new ≡ sink.old }
+    ensures either { SameImage (memory_of heap.old.machine) (memory_of heap.new.machine) ⊎ (sink.new ≡ sink.old) }
     ensures sink_cause { HasSinkCause result (S.faults sink.old) (S.faults sink.new) }
     ensures image_cause { HasImageCause result (memory_of heap.old.machine).faults
         (memory_of heap.new.machine).faults }
@@ -65,7 +77,7 @@ pub fn event<C: Types, I: Image, S: Sink>(
     // A history without room for an act ends the run before all else.
     ensures full { heap.old.history.limit ≤ length heap.old.history.acts
         → result ≡ Event.Over (Met (lacks which.Acts 1 0)) }
-    ensures answers { IsAnswerTo result request }
+    ensures answers { IsAnswerTo result request.old }
     ensures numbers { heap.new.machine.spaces.numbers ≡ heap.old.machine.spaces.numbers }
     // So a loop over events of one request ends, within the acts that the history may have.
     ensures quiet { result ≡ Event.Micro → heap.new.history.acts ≡ heap.old.history.acts
@@ -80,7 +92,7 @@ pub fn event<C: Types, I: Image, S: Sink>(
             left: 0,
         })));
     }
-    let came = attempt(heap, set, sink, t, &request);
+    let came = attempt(heap, set, sink, t, request);
     remember(heap, set, t, request, came)
 }
 
@@ -98,7 +110,9 @@ fn attempt<C: Types, I: Image, S: Sink>(
     requires counted { heap.old.history.limit < 2 ^ 32 }
     ensures serves { Serves (C.facts set.now) t request.now result heap.old heap.new (S.takes sink.old)
         (S.taken sink.old) (S.taken sink.new) (S.faults sink.old) (S.faults sink.new) }
-    ensures sink { result ≡ Event.Micro → sink.new ≡ sink.old }
+    ensures sink { IsUnanswered result → sink.new ≡ sink.old }
+    ensures silent { IsSilent request.now → sink.new ≡ sink.old }
+    ensures either { SameImage (memory_of heap.old.machine) (memory_of heap.new.machine) ⊎ (sink.new ≡ sink.old) }
 {
     match heap.doing(t) {
         Doing::Writing(line) => write_back(heap, t, line),
@@ -150,7 +164,9 @@ fn go_on<C: Types, I: Image, S: Sink>(
     requires ready { IsReady (doing_of heap.old.machine t) }
     ensures serves { Serves (C.facts set.now) t request.now result heap.old heap.new (S.takes sink.old)
         (S.taken sink.old) (S.taken sink.new) (S.faults sink.old) (S.faults sink.new) }
-    ensures sink { result ≡ Event.Micro → sink.new ≡ sink.old }
+    ensures sink { IsUnanswered result → sink.new ≡ sink.old }
+    ensures silent { IsSilent request.now → sink.new ≡ sink.old }
+    ensures either { SameImage (memory_of heap.old.machine) (memory_of heap.new.machine) ⊎ (sink.new ≡ sink.old) }
 {
     laws();
     if heap.is_logging(t) {
@@ -189,7 +205,9 @@ fn answer<C: Types, I: Image, S: Sink>(
     requires outside { IsOutside (log_of heap.old.machine t).depth request.now }
     ensures serves { Serves (C.facts set.now) t request.now result heap.old heap.new (S.takes sink.old)
         (S.taken sink.old) (S.taken sink.new) (S.faults sink.old) (S.faults sink.new) }
-    ensures sink { result ≡ Event.Micro → sink.new ≡ sink.old }
+    ensures sink { IsUnanswered result → sink.new ≡ sink.old }
+    ensures silent { IsSilent request.now → sink.new ≡ sink.old }
+    ensures either { SameImage (memory_of heap.old.machine) (memory_of heap.new.machine) ⊎ (sink.new ≡ sink.old) }
 {
     laws();
     // that so many acts can be counted

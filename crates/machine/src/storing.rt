@@ -3,8 +3,8 @@ ghost use Rattle.std.specs.Prelude.{◌<◌, List, length};
 ghost use Rattle.twin_forms.specs.Table.{Entry};
 ghost use Rattle.two_spaces.specs.Whole.{Stands};
 ghost use Rattle.object_steps.specs.Stores.{place_of};
-ghost use Rattle.store_barrier.specs.Barriers.{MayFollow};
-ghost use Rattle.store_barrier.specs.Regions.{HasLogged, IsApart, IsLineLeft, LogsFirst};
+ghost use Rattle.shared_heap.specs.Passed.{MayFollow};
+ghost use Rattle.shared_heap.specs.Passed.{HasLogged, IsApart, IsLineLeft, LogsFirst};
 ghost use Rattle.machine.specs.Ended.{HasSomePlanned, StoreComesTo};
 
 use crate::converting::convert;
@@ -15,8 +15,7 @@ use line_image::Image;
 use natives::Reply;
 use object_steps::Store;
 use run_types::{Full, StepFault, Which};
-use shared_heap::{SharedHeap, place_of};
-use store_barrier::Barrier;
+use shared_heap::{Barrier, SharedHeap, place_of};
 
 /// The store is made, where nothing is to be converted or logged before it.
 pub(crate) fn store<I: Image>(heap: &mut SharedHeap<I>, t: ThreadNo, store: Store) -> Event

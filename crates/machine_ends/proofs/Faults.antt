@@ -1,11 +1,8 @@
 -- The fault of a step is that by which the event ends the plain run, and a step that does an operation met
 -- none; of a thread that owes no fence.
-use Rattle.std.proofs.Common.{◌≡◌, ℕ, ◌<◌, ◌≤◌, ◌&&◌, ◌||◌, Bool, true, false, not, List, ◌∷◌, length, map, replicate, nat_le}
-use Rattle.std.proofs.Common.{is_some, Option, Some, None, inl, inr, refl, ap, sym, subst, ◌∙◌, arith, if◌then◌else◌}
-use Rattle.std.specs.Prelude.{slice_get, slice_set}
+use Rattle.std.proofs.Common.{◌≡◌, ℕ, ◌<◌, ◌≤◌, Bool, true, false, List, length, nat_le}
+use Rattle.std.proofs.Common.{Option, Some, None, inl, inr, refl, ap, sym, subst, ◌∙◌, arith, if◌then◌else◌}
 use Rattle.std.proofs.lemmas.Bool.Decides.{nat_tests}
-use Rattle.std.proofs.lemmas.List.{length-map}
-use Rattle.std.proofs.lemmas.Option.{slice_get_past}
 use Rattle.ap_base.specs.declared.place.Place.{Place}
 use Rattle.ap_base.specs.declared.reference.Ref.{Ref}
 use Rattle.ap_base.specs.declared.reference.Item.{Item}
@@ -16,7 +13,6 @@ use Rattle.run_types.specs.declared.fault.StepFault.TheVariants as met
 use Rattle.run_types.specs.Faults.{run_fault}
 use Rattle.run_types.specs.declared.fault.Which.{Which}
 use Rattle.run_types.specs.declared.fault.Which.TheVariants as which
-use Rattle.run_types.specs.declared.wait.On.{On}
 use Rattle.graph_model.specs.declared.types.Root.{Root}
 use Rattle.graph_model.specs.declared.types.Value.{Value}
 use Rattle.natives.specs.declared.requests.Request.{Request}
@@ -31,22 +27,22 @@ use Rattle.run_history.specs.Knowing.{Knowledge, owes_fence}
 use Rattle.plain_model.specs.Requests.{PlainRequest}
 use Rattle.plain_model.specs.Limits.{words_made, words_left, monitors_left}
 use Rattle.plain_model.specs.Steps.{Step, Does, Waits, WrongOperand, IsOver, step}
-use Rattle.plain_model.specs.Codes.{asks_live, taken_by}
+use Rattle.plain_model.specs.Codes.{taken_by}
 use Rattle.plain_model.specs.Duties.{IsFit}
-use Rattle.plain_model.specs.Ends.{full, full_unless, bad_code, all_wait, waits_from, waits_of, wait_at, wait_of, fault_of_op}
+use Rattle.plain_model.specs.Ends.{full, full_unless, bad_code, fault_of_op}
 use Rattle.plain_model.specs.Ends.{fault_of_words, fault_of_enter, fault_of_store, Prints}
 use Rattle.shared_objects.specs.declared.rest.Rest.{Rest}
 use Rattle.shared_objects.specs.Shown.{Shown}
 use Rattle.shared_objects.specs.Plain.{plain_request, plain_reply}
-use Rattle.shared_objects.specs.Worlds.{plain_thread, world_of}
+use Rattle.shared_objects.specs.Worlds.{world_of}
 use Rattle.step_forms.specs.declared.stepped.Stepped.{Stepped}
 use Rattle.step_forms.specs.declared.stepped.Stepped.TheVariants as stepped
 use Rattle.step_forms.specs.Follows.{FindsMonitor, IsStep, IsFullOf, IsLimit, DoesPrint, TakesWords, words_of_step}
-use Rattle.run_forms.specs.Standing.{Launch, IsAsked, plain_code, known_at, frames_at}
+use Rattle.run_forms.specs.Standing.{Launch, IsAsked, known_at}
 use Rattle.run_forms.specs.Ends.{IsEndedBy, Ends, MeetsNoFault}
 use Rattle.run_forms.proofs.Visible.{is_outside, prints, step-silent, step-inside}
 use Rattle.machine_ends.proofs.Rooms.{requests as asked_after, fault_here, fault_so, has-room, paid-steps}
-use Rattle.machine_ends.proofs.Steps.{no-false, none-some, wrong-asks, printing, print-does, taken-one, none-from}
+use Rattle.machine_ends.proofs.Steps.{no-false, none-some, wrong-asks, printing, print-does, taken-one}
 
 -- What the faults of thread t's steps depend on: the thread owes no fence, heap and rest show the plain run's
 -- world, and what is left of the words is what the limits leave.
@@ -62,10 +58,6 @@ abbrev pub MeetsNone : Launch → List Recorded → ℕ → Op → Type 0
 MeetsNone launch acts t (op.Stored place value) = fault_of_store launch.set launch.opening launch.limits
     (known_at launch acts) t place value ≡ None
 MeetsNone launch acts t o = Unit {0}
-
-and-true : (b : Bool) → ((b || true) && true) ≡ true
-and-true true = refl
-and-true false = refl
 
 if-none : {X : Type 0} (b : Bool) (x : Option X) → x ≡ None → (if b then None else x) ≡ None
 if-none true x e = refl
@@ -199,51 +191,11 @@ module _ (launch : Launch) (acts : List Recorded) (shown : Shown) (rest : Rest) 
   limit-comes met.ImageFault h = absurd h
   limit-comes (met.LinkFault kind class index) h = absurd h
 
-  -- ---- waiting
-
-  abbrev waits : ℕ → Option On
-  waits = waits_of launch.set known requests
-
-  waits-none : length rest.threads ≡ 1 → (u : ℕ) → 1 ≤ u → waits u ≡ None
-  waits-none one u more =
-      let past : slice_get known.world.threads u ≡ None =
-      ap (λ (w : World). slice_get w.threads u) here.world
-      ∙ slice_get_past (map plain_thread rest.threads) u
-      (omega (arith, one, more, length-map rest.threads plain_thread)) in
-      let silent : requests u ≡ None =
-      ap (λ thread. asks_live launch.set launch.main launch.opening (plain_code launch) thread
-      (slice_get (frames_at launch acts) u)) past in
-      if-none (owes_fence known.unfenced u) _
-      (ap (wait_at launch.set known.world u) silent)
-
-  waits-here : (on : On) → step launch.set world t 1 pq ≡ Waits on → waits t ≡ Some on
-  waits-here on e =
-      ap (λ b. if b then None
-      else wait_at launch.set known.world t (requests t)) here.paid
-      ∙ ap (wait_at launch.set known.world t) asked.plain
-      ∙ ap wait_of (step-here ∙ e)
-
-  stuck-so : (on : On) → step launch.set world t 1 pq ≡ Waits on → length rest.threads ≡ 1 → t ≡ 0
-      → fault_by (Waits on) ≡ Some (fault.Stuck (slice_set (replicate 64 None) 0 (Some on)))
-  stuck-so on e one first =
-      let count : length known.world.threads ≡ 1 =
-      ap (λ (w : World). length w.threads) here.world
-      ∙ length-map rest.threads plain_thread ∙ one in
-      let own : waits 0 ≡ Some on = subst (λ u. waits u ≡ Some on) first (waits-here on e) in
-      let others : waits_from waits 1 63 ≡ replicate 63 None = none-from waits 63 1 (waits-none one) in
-      ap (λ n. if all_wait requests waits n then Some (fault.Stuck (waits_from waits 0 64))
-      else None) count
-      ∙ ap (λ (w : Option On). if (not (is_some (requests 0)) || is_some w) && true
-      then Some (fault.Stuck (waits_from waits 0 64)) else None) own
-      ∙ ap (λ b. if b then Some (fault.Stuck (waits_from waits 0 64)) else None)
-      (and-true (not (is_some (requests 0))))
-      ∙ (λ i. Some (fault.Stuck (own i ∷ others i)))
-
   -- ---- steps
 
   pub step-ends : (result : Stepped) (now : Shown) (rest_now : Rest)
       → IsStep launch.set t q shown rest result now rest_now
-      → Ends launch lines acts rest t q result
+      → Ends launch lines acts t q result
   step-ends (stepped.Did o r) now rest_now steps = tt
   step-ends stepped.Wrong now rest_now steps =
       let wrong = (steps.follows here.roots).0 1 in
@@ -255,9 +207,7 @@ module _ (launch : Launch) (acts : List Recorded) (shown : Shown) (rest : Rest) 
         | inr over ↦
             comes (run_fault f) (step-inside launch.set world t 1 pq f fit-shown (over 1)) (tells-of (IsOver f) (over 1))
       ]
-  step-ends (stepped.Waits on) now rest_now steps = λ one first.
-      inl (tells-of (Waits on) ((steps.follows here.roots).0 1)
-      ∙ stuck-so on ((steps.follows here.roots).0 1) one first)
+  step-ends (stepped.Waits on) now rest_now steps = tt
 
   -- ---- no fault
 

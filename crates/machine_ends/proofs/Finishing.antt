@@ -1,16 +1,15 @@
 -- Where all threads of a machine have ended, its plain run has.
-use Rattle.std.proofs.Common.{◌≡◌, ℕ, suc, Bool, true, false, List, [], ◌∷◌, length, map, Option, Some, None, refl, ap, sym}
-use Rattle.std.proofs.Common.{subst, ◌∙◌, arith}
-use Rattle.std.specs.Prelude.{slice_get, All}
+use Rattle.std.proofs.Common.{◌≡◌, ℕ, suc, Bool, true, false, List, [], ◌∷◌, map, Option, Some, None, refl, ap, sym}
+use Rattle.std.proofs.Common.{subst}
+use Rattle.std.specs.Prelude.{All}
 use Rattle.std.proofs.lemmas.Bool.{true≢false}
-use Rattle.std.proofs.lemmas.List.Elements.{All-nil, All-cons, All-map}
+use Rattle.std.proofs.lemmas.List.Elements.{All-map}
 use Rattle.run_history.specs.Recorded.{Recorded}
 use Rattle.run_history.specs.Worlds.{Thread, World}
 use Rattle.plain_model.specs.Ends.{Ending, Fault, Finished, Uncaught, EndsAs, HaveEnded, first_uncaught}
-use Rattle.shared_objects.specs.declared.threads.ThreadState.{ThreadState}
 use Rattle.shared_objects.specs.Worlds.{plain_thread}
 use Rattle.run_forms.specs.Standing.{Launch, plain_code, known_at}
-use Rattle.machine_ends.specs.Laws.{RunsFinish, SingleThreadsFinish, ending_of}
+use Rattle.machine_ends.specs.Laws.{RunsFinish}
 
 abbrev is_fault : Ending → Bool
 is_fault (Fault f) = true
@@ -53,28 +52,3 @@ runs-finish o m es threads run plain lines all =
     ended o.launch lines m.acts (map plain_thread m.rest.threads)
     (ap (λ (w : World). w.threads) run.world.world)
     (All-map (λ (thread : Thread). thread.ended ≡ true) plain_thread m.rest.threads all)
-
--- ---- a single thread
-
-alone : (states : List ThreadState) (state : ThreadState) → length states ≡ 1
-    → slice_get states 0 ≡ Some state → states ≡ state ∷ []
-alone [] state one is = absurd (omega (arith, one))
-alone (s ∷ u ∷ us) state one is = absurd (omega (arith, one))
-alone (s ∷ []) state one is = let same : s ≡ state = cc in ap (λ x. x ∷ []) same
-
-told-by : (uncaught : Option ℕ)
-    → (elim uncaught as (λ _. Ending) [ None ↦ Finished | Some class ↦ Uncaught 0 class ])
-    ≡ ending_of uncaught
-told-by None = refl
-told-by (Some class) = refl
-
-pub single-finishes : SingleThreadsFinish
-single-finishes o m es threads run plain lines state one is ended_it =
-    let are = alone m.rest.threads state one is in
-    let all : All (λ (s : ThreadState). s.ended ≡ true) m.rest.threads =
-    subst (All (λ (s : ThreadState). s.ended ≡ true)) (sym are)
-    (All-cons (λ (s : ThreadState). s.ended ≡ true) state [] ended_it
-    (All-nil (λ (s : ThreadState). s.ended ≡ true))) in
-    subst (EndsSo o.launch lines m.acts)
-    (ap (λ ss. first_uncaught 0 (map plain_thread ss)) are ∙ told-by state.uncaught)
-    (runs-finish o m es threads run plain lines all)

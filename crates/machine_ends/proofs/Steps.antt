@@ -1,11 +1,10 @@
 -- What plain steps of single requests come to.
-use Rattle.std.proofs.Common.{◌≡◌, ℕ, zero, suc, ◌≤◌, ◌&&◌, Bool, true, false, List, [], ◌∷◌, length, replicate, take, nat_le}
-use Rattle.std.proofs.Common.{nat_lt, is_some, Option, Some, None, refl, ap, sym, subst, ◌∙◌, arith, if◌then◌else◌}
+use Rattle.std.proofs.Common.{◌≡◌, ℕ, zero, suc, ◌&&◌, true, false, [], ◌∷◌, length, take, nat_le}
+use Rattle.std.proofs.Common.{nat_lt, is_some, Option, Some, None, refl, sym, subst, ◌∙◌, arith, if◌then◌else◌}
 use Rattle.std.proofs.lemmas.Bool.Decides.{nat_tests}
 use Rattle.ap_base.specs.declared.reference.Ref.{Ref}
 use Rattle.ap_base.specs.declared.reference.Item.{Item}
 use Rattle.run_types.specs.declared.resolved.At.{At}
-use Rattle.run_types.specs.declared.wait.On.{On}
 use Rattle.graph_model.specs.declared.types.Value.{Value}
 use Rattle.natives.specs.declared.requests.Request.{Request}
 use Rattle.natives.specs.declared.requests.Request.TheVariants as ask
@@ -17,7 +16,7 @@ use Rattle.plain_model.specs.Facts.{SetFacts}
 use Rattle.plain_model.specs.Requests.{PlainReply, PlainRequest, from_of}
 use Rattle.plain_model.specs.Steps.{Does, WrongOperand, step}
 use Rattle.plain_model.specs.Codes.{taken_by}
-use Rattle.plain_model.specs.Ends.{waits_from, Prints}
+use Rattle.plain_model.specs.Ends.{Prints}
 use Rattle.frames.specs.Maps.{map_request}
 use Rattle.step_forms.specs.Follows.{DoesPrint}
 use Rattle.run_forms.specs.Ends.{from_in}
@@ -82,14 +81,3 @@ print-does set world t taken q o r is e = absurd (let no : false ≡ true = is i
 pub taken-one : (o : Op) → is_print o ≡ false → taken_by o ≡ 1
 taken-one (op.Print bytes) e = no-false e
 taken-one o e = refl
-
--- ---- waits
-
--- all further threads wait for nothing
-pub none-from : (waits : ℕ → Option On) (n t : ℕ) → ((u : ℕ) → t ≤ u → waits u ≡ None)
-    → waits_from waits t n ≡ replicate n None
-none-from waits zero t none = refl
-none-from waits (suc n) t none =
-    let first = none t (omega arith) in
-    let others = none-from waits n (suc t) (λ u more. none u (omega (arith, more))) in
-    λ i. first i ∷ others i

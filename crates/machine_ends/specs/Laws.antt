@@ -1,6 +1,6 @@
 -- How an event ends the plain run of a machine over a shared heap, and how the run finishes; and that the
 -- events of its acts met no fault.
-use Rattle.std.specs.Prelude.{◌≡◌, ◌≢◌, ◌⊎◌, ℕ, ◌<◌, ◌≤◌, true, false, List, map, length, slice_get, All, Option, Some, None}
+use Rattle.std.specs.Prelude.{◌≡◌, ◌≢◌, ◌⊎◌, ℕ, ◌<◌, ◌≤◌, true, false, List, map, length, slice_get, All, Some}
 use Rattle.ap_base.specs.declared.place.Place.{Place}
 use Rattle.ap_base.specs.declared.reference.Ref.{Ref}
 use Rattle.ap_base.specs.declared.reference.Item.{Item}
@@ -10,7 +10,7 @@ use Rattle.natives.specs.declared.requests.Request.{Request}
 use Rattle.natives.specs.declared.requests.Reply.{Reply}
 use Rattle.run_history.specs.declared.act.Op.{Op}
 use Rattle.run_history.specs.Knowing.{guard_of}
-use Rattle.plain_model.specs.Ends.{Ending, Finished, Uncaught, EndsAs, first_uncaught, full}
+use Rattle.plain_model.specs.Ends.{EndsAs, first_uncaught, full}
 use Rattle.shared_objects.specs.declared.rest.Rest.{Rest}
 use Rattle.shared_objects.specs.declared.threads.ThreadState.{ThreadState}
 use Rattle.shared_objects.specs.Shown.{Shown}
@@ -54,7 +54,7 @@ StepsEnd = OfPlain (λ o m es threads. (lines t : ℕ) (fs : ThreadFrames) (requ
     (result : Stepped) (now : Shown) (rest_now : Rest) → IsReady (doing_of m t)
     → Asks o m threads t fs request
     → IsStep o.launch.set t request (shown_in m) m.rest result now rest_now
-    → length m.acts < o.launch.limits.acts → Ends o.launch lines m.acts m.rest t request result)
+    → length m.acts < o.launch.limits.acts → Ends o.launch lines m.acts t request result)
 
 -- While there is room for an act, the image may fail in each event, whatever the thread is about.
 abbrev pub ImageFaultsEnd : Type 0
@@ -117,14 +117,3 @@ RunsFinish = OfPlain (λ o m es threads. (lines : ℕ)
     → All (λ (state : ThreadState). state.ended ≡ true) m.rest.threads
     → EndsAs o.launch.set o.launch.main o.launch.opening (plain_code o.launch) o.launch.limits lines m.acts
     (first_uncaught 0 (map plain_thread m.rest.threads)))
-
--- how the run of a single thread ends, which this throwable ended, if one did
-abbrev pub ending_of : Option ℕ → Ending
-ending_of None = Finished
-ending_of (Some class) = Uncaught 0 class
-
-abbrev pub SingleThreadsFinish : Type 0
-SingleThreadsFinish = OfPlain (λ o m es threads. (lines : ℕ) (state : ThreadState)
-    → length m.rest.threads ≡ 1 → slice_get m.rest.threads 0 ≡ Some state → state.ended ≡ true
-    → EndsAs o.launch.set o.launch.main o.launch.opening (plain_code o.launch) o.launch.limits lines m.acts
-    (ending_of state.uncaught))

@@ -1,9 +1,9 @@
 // How events end a run, which acts met no fault, and how a run finishes.
 ghost use Rattle.machine_ends.specs.Laws.{EndsMeetNoFault, FencesMeetNoFault, FullHistoriesEnd, FullLogsEnd, ImageFaultsEnd};
-ghost use Rattle.machine_ends.specs.Laws.{RacesEnd, RunsFinish, SingleThreadsFinish, StepsEnd, StepsMeetNoFault};
+ghost use Rattle.machine_ends.specs.Laws.{RacesEnd, RunsFinish, StepsEnd, StepsMeetNoFault};
 ghost use Rattle.machine_ends.specs.Laws.{StoresMeetNoFault};
 
-/// What a step finds wrong, lacks or waits for is the fault by which the event ends the plain run; a full
+/// What a step finds wrong or lacks is the fault by which the event ends the plain run; a full
 /// history ends it before all else, and the image may fail while it isn't full. A full log ends it, and a
 /// store to a place that another thread's region has guarded.
 pub fn machines_end_by_their_faults()
@@ -30,5 +30,4 @@ pub fn acts_meet_no_fault()
 /// Where all threads have ended, so has the run: by a throwable that ended one, or normally.
 pub fn machines_finish_with_their_threads()
     ensures all { RunsFinish }
-    ensures single { SingleThreadsFinish }
 {}

@@ -3,3 +3,4 @@ pub mod Keeping
 pub mod Machines
 pub mod Naming
 pub mod Happening
+pub mod Passed

@@ -29,8 +29,8 @@ use Rattle.run_history.proofs.Grown.{known_after-append}
 use Rattle.one_space.proofs.Laid.{some_is}
 use Rattle.stop_theorem.specs.Layouts.{HasRootSlots}
 use Rattle.shared_objects.specs.Worlds.{world_of, IsHeldKey}
-use Rattle.shared_steps.specs.Lasting.{AtMost}
-use Rattle.shared_steps.proofs.Lasting.{heap_kept, classes_kept, counts_kept, words_kept, objects_kept}
+use Rattle.machine_forms.specs.Passed.{AtMost}
+use Rattle.machine_forms.proofs.Passed.{heap_kept, classes_kept, counts_kept, words_kept, objects_kept}
 use Rattle.step_forms.specs.declared.stepped.Stepped.TheVariants as stepped
 use Rattle.twin_forms.specs.Table.{Entry, entry, Lies}
 use Rattle.twin_forms.specs.Moves.{ChangesLine}

@@ -35,7 +35,7 @@ use Rattle.plain_model.proofs.StepFits.{step_fits}
 use Rattle.shared_objects.specs.Shown.{item_value, number_value}
 use Rattle.shared_objects.specs.Plain.{plain_request, plain_reply}
 use Rattle.shared_objects.specs.Worlds.{heap_of, world_of}
-use Rattle.shared_steps.proofs.Lasting.{heap_kept}
+use Rattle.machine_forms.proofs.Passed.{heap_kept}
 use Rattle.step_forms.specs.declared.stepped.Stepped.TheVariants as stepped
 use Rattle.step_forms.specs.Follows.{IsHeapOf}
 use Rattle.twin_forms.specs.Table.{Entry, entry, View, number_of, InP, IsClaimed, HasCopied, line_of, Names, kind_at, refers}

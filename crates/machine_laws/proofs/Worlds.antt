@@ -21,7 +21,7 @@ use Rattle.shared_objects.specs.declared.rest.Rest.{Rest}
 use Rattle.shared_objects.specs.declared.threads.ThreadState.{ThreadState}
 use Rattle.shared_objects.specs.Shown.{Shown}
 use Rattle.shared_objects.specs.Worlds.{world_of, heap_of, KnowsMonitors}
-use Rattle.shared_steps.specs.Lasting.{AtMost}
+use Rattle.machine_forms.specs.Passed.{AtMost}
 use Rattle.two_spaces.specs.declared.spaces.Static.{Static}
 use Rattle.two_spaces.specs.Seen.{Spaces}
 use Rattle.two_spaces.specs.Whole.{no_static}

@@ -4,3 +4,4 @@ pub mod HeapLaws
 pub mod Keeping
 pub mod Opened
 pub mod StopLaws
+pub mod Passed

@@ -1,11 +1,8 @@
 -- The fault of a step is that by which the event ends the plain run, and a step that does an operation met none.
-use Rattle.std.proofs.Common.{◌≡◌, ℕ, zero, suc, ◌-◌, ◌<◌, ◌≤◌, ◌&&◌, ◌||◌, Bool, true, false, not, List, [], ◌∷◌, length, map}
-use Rattle.std.proofs.Common.{drop, replicate, take, nat_le, nat_lt, is_some, sum_by, Option, Some, None, inl, inr, refl, ap}
+use Rattle.std.proofs.Common.{◌≡◌, ℕ, zero, suc, ◌-◌, ◌<◌, ◌≤◌, ◌&&◌, Bool, true, false, List, [], ◌∷◌, length}
+use Rattle.std.proofs.Common.{drop, take, nat_le, nat_lt, sum_by, Option, Some, None, inl, inr, refl, ap}
 use Rattle.std.proofs.Common.{sym, subst, ◌∙◌, arith, if◌then◌else◌}
-use Rattle.std.specs.Prelude.{slice_get, slice_set}
 use Rattle.std.proofs.lemmas.Bool.Decides.{nat_tests}
-use Rattle.std.proofs.lemmas.List.{length-map}
-use Rattle.std.proofs.lemmas.Option.{slice_get_past}
 use Rattle.ap_base.specs.declared.reference.Ref.{Ref}
 use Rattle.ap_base.specs.declared.reference.Item.{Item}
 use Rattle.run_types.specs.declared.fault.RunFault.{RunFault}
@@ -16,7 +13,6 @@ use Rattle.run_types.specs.Faults.{run_fault}
 use Rattle.run_types.specs.declared.fault.Which.{Which}
 use Rattle.run_types.specs.declared.fault.Which.TheVariants as which
 use Rattle.run_types.specs.declared.resolved.At.{At}
-use Rattle.run_types.specs.declared.wait.On.{On}
 use Rattle.graph_model.specs.declared.types.Value.{Value}
 use Rattle.natives.specs.declared.requests.Request.{Request}
 use Rattle.natives.specs.declared.requests.Request.TheVariants as ask
@@ -33,10 +29,10 @@ use Rattle.plain_model.specs.First.{first_known}
 use Rattle.plain_model.specs.Requests.{PlainReply, PlainRequest, from_of}
 use Rattle.plain_model.specs.Limits.{words_of, words_made, words_left, acts_left, monitors_left}
 use Rattle.plain_model.specs.Steps.{Step, Does, Waits, WrongOperand, IsOver, step}
-use Rattle.plain_model.specs.Codes.{asks_live, taken_by}
+use Rattle.plain_model.specs.Codes.{taken_by}
 use Rattle.plain_model.specs.Runs.{request_after}
 use Rattle.plain_model.specs.Duties.{IsFit}
-use Rattle.plain_model.specs.Ends.{full, full_unless, bad_code, all_wait, waits_from, waits_of, wait_at, wait_of, fault_of_op}
+use Rattle.plain_model.specs.Ends.{full, full_unless, bad_code, fault_of_op}
 use Rattle.plain_model.specs.Ends.{fault_of_words, fault_of_enter, fault_of_durable_store, fault_of_step, fault_of_request}
 use Rattle.plain_model.specs.Ends.{fault_after, Prints}
 use Rattle.plain_model.proofs.Within.{each_act_leaves_a_mark}
@@ -44,12 +40,12 @@ use Rattle.frames.specs.Maps.{map_request}
 use Rattle.shared_objects.specs.declared.rest.Rest.{Rest}
 use Rattle.shared_objects.specs.Shown.{Shown}
 use Rattle.shared_objects.specs.Plain.{plain_request, plain_reply}
-use Rattle.shared_objects.specs.Worlds.{plain_thread, world_of}
+use Rattle.shared_objects.specs.Worlds.{world_of}
 use Rattle.step_forms.specs.declared.stepped.Stepped.{Stepped}
 use Rattle.step_forms.specs.declared.stepped.Stepped.TheVariants as stepped
 use Rattle.step_forms.specs.Follows.{FindsMonitor, IsStep, IsFullOf, IsLimit, DoesPrint, TakesWords, words_of_step}
 use Rattle.run_forms.specs.Views.{ThreadFrames}
-use Rattle.run_forms.specs.Standing.{Launch, IsLaunch, IsAsking, plain_code, known_at, frames_at}
+use Rattle.run_forms.specs.Standing.{Launch, IsLaunch, IsAsking, plain_code, known_at}
 use Rattle.run_forms.specs.Volatile.{IsVolatile}
 use Rattle.run_forms.specs.Ends.{IsEndedBy, Ends, MeetsNoFault, from_in}
 use Rattle.run_forms.proofs.Asked.{BuiltIns, asked, fit-here}
@@ -94,15 +90,6 @@ wrong-from set world t f h (ask.Print from piece) e = (from, refl, refl)
 wrong-from set world t f h (ask.Raise from class) e = (from, refl, refl)
 wrong-from set world t f h (ask.Begin from) e = (from, refl, refl)
 wrong-from set world t f h (ask.End from) e = (from, refl, refl)
-
--- all further threads wait for nothing
-none-from : (waits : ℕ → Option On) (n t : ℕ) → ((u : ℕ) → t ≤ u → waits u ≡ None)
-    → waits_from waits t n ≡ replicate n None
-none-from waits zero t none = refl
-none-from waits (suc n) t none =
-    let first = none t (omega arith) in
-    let others = none-from waits n (suc t) (λ u more. none u (omega (arith, more))) in
-    λ i. first i ∷ others i
 
 printing : (q : PlainRequest) → prints q ≡ true → Prints (Some q)
 printing (ask.Print from piece) e = (from, piece, refl)
@@ -296,53 +283,11 @@ module _ (laws : BuiltIns) (launch : Launch) (calls : ℕ) (acts : List Recorded
     limit-comes met.ImageFault h = absurd h
     limit-comes (met.LinkFault kind class index) h = absurd h
 
-    -- ---- waiting
-
-    waits-none : length rest.threads ≡ 1 → (u : ℕ) → 1 ≤ u
-        → waits_of launch.set known requests u ≡ None
-    waits-none one u more =
-        let past : slice_get known.world.threads u ≡ None =
-        ap (λ (w : World). slice_get w.threads u) here.stands.world
-        ∙ slice_get_past (map plain_thread rest.threads) u
-        (omega (arith, one, more, length-map rest.threads plain_thread)) in
-        let silent : requests u ≡ None = ap (λ thread. asks_live launch.set launch.main launch.opening
-        (plain_code launch) thread (slice_get (frames_at launch acts) u)) past in
-        ap (λ us. if owes_fence us u then None else wait_at launch.set known.world u (requests u))
-        here.nothing.unfenced
-        ∙ ap (wait_at launch.set known.world u) silent
-
-    waits-here : (on : On) → step launch.set world t 1 pq ≡ Waits on
-        → waits_of launch.set known requests t ≡ Some on
-    waits-here on e =
-        ap (λ b. if b then None else wait_at launch.set known.world t (requests t)) owes-none
-        ∙ ap (wait_at launch.set known.world t) asks-here
-        ∙ ap wait_of (step-here ∙ e)
-
-    or-true : (b : Bool) → ((b || true) && true) ≡ true
-    or-true true = refl
-    or-true false = refl
-
-    stuck-so : (on : On) → step launch.set world t 1 pq ≡ Waits on → length rest.threads ≡ 1 → t ≡ 0
-        → fault_so (Waits on) ≡ Some (fault.Stuck (slice_set (replicate 64 None) 0 (Some on)))
-    stuck-so on e one first =
-        let waits = waits_of launch.set known requests in
-        let count : length known.world.threads ≡ 1 =
-        ap (λ (w : World). length w.threads) here.stands.world
-        ∙ length-map rest.threads plain_thread ∙ one in
-        let own : waits 0 ≡ Some on = subst (λ u. waits u ≡ Some on) first (waits-here on e) in
-        let others : waits_from waits 1 63 ≡ replicate 63 None = none-from waits 63 1 (waits-none one) in
-        ap (λ n. if all_wait requests waits n then Some (fault.Stuck (waits_from waits 0 64)) else None) count
-        ∙ ap (λ (w : Option On). if (not (is_some (requests 0)) || is_some w) && true
-        then Some (fault.Stuck (waits_from waits 0 64)) else None) own
-        ∙ ap (λ b. if b then Some (fault.Stuck (waits_from waits 0 64)) else None)
-        (or-true (not (is_some (requests 0))))
-        ∙ (λ i. Some (fault.Stuck (own i ∷ others i)))
-
     -- ---- steps
 
     pub step-ends : (result : Stepped) (now : Shown) (rest_now : Rest)
         → IsStep launch.set t q shown rest result now rest_now
-        → Ends launch lines acts rest t q result
+        → Ends launch lines acts t q result
     step-ends (stepped.Did o r) now rest_now steps = tt
     step-ends stepped.Wrong now rest_now steps =
         let wrong = (steps.follows here.stands.roots).0 1 in
@@ -355,9 +300,7 @@ module _ (laws : BuiltIns) (launch : Launch) (calls : ℕ) (acts : List Recorded
               comes (run_fault f) (step-inside launch.set known.world t 1 pq f fits (step-here ∙ over 1))
               (tells-of (IsOver f) (over 1))
         ]
-    step-ends (stepped.Waits on) now rest_now steps = λ one first.
-        inl (tells-of (Waits on) ((steps.follows here.stands.roots).0 1)
-        ∙ stuck-so on ((steps.follows here.stands.roots).0 1) one first)
+    step-ends (stepped.Waits on) now rest_now steps = tt
 
     -- ---- no fault
 

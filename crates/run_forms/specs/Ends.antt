@@ -1,6 +1,6 @@
 -- How a turn ends a run without durable roots: by a fault that its acts tell, or that the sink gave. One that
 -- does an act met none.
-use Rattle.std.specs.Prelude.{◌≡◌, ℕ, ◌<◌, ◌≤◌, List, length, replicate, slice_set, Option, Some, None}
+use Rattle.std.specs.Prelude.{◌≡◌, ℕ, ◌<◌, ◌≤◌, List, length, Option, Some, None}
 use Rattle.ap_base.specs.declared.reference.Ref.{Ref}
 use Rattle.ap_base.specs.declared.reference.Item.{Item}
 use Rattle.run_types.specs.declared.fault.RunFault.{RunFault}
@@ -42,15 +42,13 @@ FullHistoriesEnd = OfVolatile (λ launch calls acts shown rest threads.
     (lines t : ℕ) (fs : ThreadFrames) (request : Request Ref Item) → IsAsking launch rest threads t fs request
     → launch.limits.acts ≤ length acts → IsEndedBy launch lines acts t (full which.Acts 1 0))
 
--- A wrong operand names the instruction that asks; a thread that is alone and waits is stuck; and a step by
--- which the run is over tells its fault.
-abbrev pub Ends : Launch → (lines : ℕ) → List Recorded → Rest → ℕ → Request Ref Item → Stepped → Type 0
-Ends launch lines acts rest t request (stepped.Did o r) = Unit {0}
-Ends launch lines acts rest t request (stepped.Waits on) = length rest.threads ≡ 1 → t ≡ 0
-    → IsEndedBy launch lines acts t (fault.Stuck (slice_set (replicate 64 None) 0 (Some on)))
-Ends launch lines acts rest t request stepped.Wrong =
+-- A wrong operand names the instruction that asks, and a step by which the run is over tells its fault.
+abbrev pub Ends : Launch → (lines : ℕ) → List Recorded → ℕ → Request Ref Item → Stepped → Type 0
+Ends launch lines acts t request (stepped.Did o r) = Unit {0}
+Ends launch lines acts t request (stepped.Waits on) = Unit {0}
+Ends launch lines acts t request stepped.Wrong =
     (from : At) × (from_in request ≡ Some from) × IsEndedBy launch lines acts t (fault.BadCode from)
-Ends launch lines acts rest t request (stepped.Over f) = IsEndedBy launch lines acts t (run_fault f)
+Ends launch lines acts t request (stepped.Over f) = IsEndedBy launch lines acts t (run_fault f)
 
 -- While there is room for an act, the step's fault is that by which the event ends the run.
 abbrev pub StepsEnd : Type 0
@@ -58,7 +56,7 @@ StepsEnd = OfVolatile (λ launch calls acts shown rest threads.
     (lines t : ℕ) (fs : ThreadFrames) (request : Request Ref Item) (result : Stepped) (now : Shown)
     (rest_now : Rest) → IsAsking launch rest threads t fs request
     → IsStep launch.set t request shown rest result now rest_now → length acts < launch.limits.acts
-    → Ends launch lines acts rest t request result)
+    → Ends launch lines acts t request result)
 
 -- After these acts the history has room for an act, and by what acts tell thread t's event ends the run by no
 -- fault.

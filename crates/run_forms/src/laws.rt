@@ -46,9 +46,8 @@ pub fn volatile_machines_go_on()
     plain_frames::items_are_alike();
 }
 
-/// Where nothing is durable, what a step finds wrong, waits for or lacks is the fault by which the event ends the
-/// plain run, and a full history ends it before all else. The event of a step that does an operation met no
-/// fault.
+/// Where nothing is durable, what a step finds wrong or lacks is the fault by which the event ends the plain run, and
+/// a full history ends it before all else. The event of a step that does an operation met no fault.
 pub fn volatile_runs_end_by_their_faults()
     ensures full { FullHistoriesEnd }
     ensures steps { StepsEnd }

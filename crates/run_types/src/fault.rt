@@ -105,7 +105,7 @@ pub enum RunFault {
     Full(Full),
     SinkFault,
     ImageFault,
-    /// Each live thread waits for another one.
+    /// Each live thread waits, and for what it says.
     Stuck(Waits),
     /// A pool entry of a class names what can't be used.
     LinkFault {

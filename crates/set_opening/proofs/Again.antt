@@ -1,28 +1,27 @@
 -- An image that was opened for a class set and has its directory still opens for the set again.
-use Rattle.std.proofs.Common.{◌≡◌, ◌≢◌, inl, inr, ℕ, ◌+◌, ◌<◌, ◌≤◌, Bool, true, false, not, cond, ◌||◌, List, [], ◌∷◌, ◌++◌, Option, Some, None}
+use Rattle.std.proofs.Common.{◌≡◌, ◌≢◌, inl, inr, ℕ, ◌+◌, ◌<◌, ◌≤◌, true, false, ◌||◌, List, [], ◌∷◌, ◌++◌, Option, Some, None}
 use Rattle.std.proofs.Common.{Result, Ok, Err, map, length, slice_index_or, refl, sym, ap, ◌∙◌, subst, arith, append_assoc, ⊎_elim, if◌then◌else◌}
 use Rattle.std.specs.Prelude.{All, Contains, is_some}
 use Rattle.std.specs.List.{list_any}
 use Rattle.std.specs.Str.{bytes_eq}
 use Rattle.std.proofs.lemmas.Bool.{false≢true, le-ltb}
 use Rattle.std.proofs.lemmas.List.{append-nil}
-use Rattle.std.proofs.lemmas.List.Elements.{All-append, All-contains, All-head, All-map, All-tail, Contains-append_left, Contains-append_right}
+use Rattle.std.proofs.lemmas.List.Elements.{All-append, All-head, All-map, All-tail, Contains-append_left, Contains-append_right}
 use Rattle.std.proofs.lemmas.List.Elements.{Contains-get_or}
 use Rattle.std.proofs.lemmas.Slice.Eq.{bytes_eq-Decides}
-use Rattle.graph_walks.proofs.Lists.{Contains-cons_cases, Contains-head, Contains-tail}
+use Rattle.graph_walks.proofs.Lists.{Contains-cons_cases}
 use Rattle.graph_model.specs.declared.types.Graph.{Graph}
 use Rattle.graph_model.specs.declared.types.Shape.{Shape}
 use Rattle.graph_model.specs.Heaps.{no_shape}
 use Rattle.run_types.specs.declared.fault.Full.{Full}
-use Rattle.run_types.specs.declared.fault.Which.TheVariants.{DirectoryWords, Roots}
 use Rattle.line_image.specs.Told.{Told}
 use Rattle.line_image.specs.Trace.{Trace}
 use Rattle.line_memory.specs.Memory.{IsTelling, Memory, ReadsWord, shown}
 use Rattle.image_layout.specs.Places.{directory_line, directory_word, directory_words, log_entries, log_entry_line, log_entry_word}
 use Rattle.image_layout.specs.Places.{log_head_line, logs, max_lines, min_lines}
 use Rattle.image_meaning.specs.Appending.{with_all_too}
-use Rattle.image_meaning.specs.Checks.{Bad, Words}
-use Rattle.image_meaning.specs.Directories.{Directory, directory_of, has_name, with_all, with_entry}
+use Rattle.image_meaning.specs.Checks.{Bad}
+use Rattle.image_meaning.specs.Directories.{Directory, directory_of, with_all, with_entry}
 use Rattle.image_meaning.specs.Entries.{DirectoryEntry, RootEntry, ShapeEntry, is_array_name}
 use Rattle.image_meaning.specs.Laws.{Opens}
 use Rattle.image_meaning.specs.Meaning.{StandsFor, meaning}
@@ -30,7 +29,7 @@ use Rattle.image_meaning.proofs.Opened.{opens-same}
 use Rattle.image_meaning.proofs.Standing.{use-within}
 use Rattle.image_meaning.proofs.Standings.{stands-within}
 use Rattle.text_table.specs.Texts.{place_from}
-use Rattle.plain_model.specs.Classes.{ClassFacts, no_class}
+use Rattle.plain_model.specs.Classes.{no_class}
 use Rattle.plain_model.specs.Facts.{classes_of}
 use Rattle.plain_model.specs.First as first
 use Rattle.class_set.specs.Linked.{Linked, class_named, names_of, with_array}
@@ -40,7 +39,7 @@ use Rattle.class_set.proofs.Differ.{name, names_listed}
 use Rattle.class_set.proofs.GivenArrays.{contains_map}
 use Rattle.directories.specs.ClassSets.{Agrees, AreEntriesOf, LacksRoomFor}
 use Rattle.directories.specs.Kept.{Kept}
-use Rattle.directories.specs.Planning.{has_entry, lacking, no_room, root_count, roots_left, unless_room, words_left}
+use Rattle.directories.specs.Planning.{has_entry, lacking, no_room, roots_left, words_left}
 use Rattle.image_recovery.specs.Recovered.{entries_in}
 use Rattle.image_recovery.proofs.PutSteps.{counted_few, same_logged}
 use Rattle.set_opening.specs.declared.unopened.Unopened.{Unopened}
@@ -51,7 +50,7 @@ use Rattle.set_opening.specs.Attached.{IsAttached}
 use Rattle.set_opening.specs.Fitted.{IsOtherShape, IsUnfit}
 use Rattle.set_opening.specs.Found.{IsDirectoryIn}
 use Rattle.set_opening.specs.Opened.{IsKnownIn, IsOpenedFor}
-use Rattle.set_opening.specs.Unopened.{IsAttachFault, IsOfWrongSize, IsRecoveryFault, IsUnopened}
+use Rattle.set_opening.specs.Unopened.{IsAttachFault, IsRecoveryFault, IsUnopened}
 use Rattle.set_opening.proofs.Arrays.{arrays_files}
 use Rattle.set_opening.proofs.Names.{HasEntry, each_there}
 use Rattle.set_opening.proofs.Suits.{agrees_on, name_of_named}

@@ -1,7 +1,7 @@
 -- The shapes of a set's own classes and array types agree with it.
-use Rattle.std.proofs.Common.{◌≡◌, ⊎_elim, ◌⊎◌, inl, inr, ℕ, zero, suc, ◌<◌, ◌-◌, Bool, true, false, ◌||◌, replicate, List, [], ◌∷◌, ◌++◌}
-use Rattle.std.proofs.Common.{Option, Some, None, map, length, take, slice_index_or, refl, sym, ap, ◌∙◌, subst, arith, if◌then◌else◌}
-use Rattle.std.specs.Prelude.{All, Contains}
+use Rattle.std.proofs.Common.{◌≡◌, ⊎_elim, ◌⊎◌, inl, inr, ℕ, zero, suc, ◌<◌, ◌-◌, true, false, ◌||◌, replicate, List, [], ◌∷◌, ◌++◌}
+use Rattle.std.proofs.Common.{Option, Some, map, length, take, slice_index_or, refl, sym, ap, ◌∙◌, subst, arith, if◌then◌else◌}
+use Rattle.std.specs.Prelude.{Contains}
 use Rattle.std.specs.Str.{bytes_eq}
 use Rattle.std.proofs.Math.Seq.{take-append_seam}
 use Rattle.std.proofs.lemmas.Bool.{false≢true}
@@ -9,17 +9,16 @@ use Rattle.std.proofs.lemmas.List.{get_or_append_left, length-append, map-append
 use Rattle.std.proofs.lemmas.List.Elements.{All-contains, Contains-append_left, Contains-get_or}
 use Rattle.std.proofs.lemmas.Slice.Eq.{bytes_eq-Decides}
 use Rattle.graph_walks.proofs.Lists.{Contains-cons_cases}
-use Rattle.ap_base.specs.declared.kind.Kind.{Kind}
 use Rattle.ap_base.specs.declared.kind.Kind.TheVariants.{Z, B, C, S, I, J, L, Text}
 use Rattle.graph_model.specs.declared.types.Shape.{Shape}
 use Rattle.image_meaning.specs.Entries.{is_array_name}
 use Rattle.plain_model.specs.BuiltIn.{array_class, built_in_classes}
 use Rattle.plain_model.specs.Classes.{ArrayType, ClassFacts, Innermost, Missing, Numbers, Objects, no_class}
-use Rattle.plain_model.specs.Consistent.{IsArrayType, IsInnermost, IsNumberKind, innermost_descriptor}
-use Rattle.plain_model.specs.Facts.{SetFacts, class_at, class_count, classes_of}
+use Rattle.plain_model.specs.Consistent.{IsArrayType, IsInnermost, innermost_descriptor}
+use Rattle.plain_model.specs.Facts.{SetFacts, class_at, class_count}
 use Rattle.class_links.specs.Names.{has_name, name_of}
 use Rattle.class_set.specs.ArrayTypes.{begins_with_bracket}
-use Rattle.class_set.specs.Facts.{class_facts, facts_of}
+use Rattle.class_set.specs.Facts.{facts_of}
 use Rattle.class_set.specs.Linked.{Linked, class_names}
 use Rattle.class_set.specs.Sets.{IsLinked}
 use Rattle.class_set.proofs.Consistency.{set_consistent}

@@ -10,9 +10,9 @@ use Rattle.run_history.specs.Recorded.{Recorded, History, with_act}
 use Rattle.twin_forms.specs.Sights.{Twin}
 use Rattle.convert_queue.specs.Queues.{Queues}
 use Rattle.convert_words.specs.Steps.{told_fenced}
-use Rattle.machine_forms.specs.declared.doing.Doing.TheVariants.{Nothing, Fencing, Writing}
-use Rattle.machine_forms.specs.Machines.{Machine, memory_of, doing_of}
-use Rattle.machine_forms.specs.Events.{CallsImage, with_twin, with_doing}
+use Rattle.store_barrier.specs.Passed.{Nothing, Fencing, Writing}
+use Rattle.store_barrier.specs.Passed.{Machine, memory_of, doing_of}
+use Rattle.store_barrier.specs.Passed.{CallsImage, with_twin, with_doing}
 use Rattle.shared_heap.specs.Shared.{Shared, Failed, Writes, TellsFence}
 
 -- each line of each memory is resident

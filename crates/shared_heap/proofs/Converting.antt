@@ -34,12 +34,12 @@ use Rattle.converter.specs.Working.{SomeScene}
 use Rattle.converter.proofs.Events.{event_of}
 use Rattle.converter.proofs.Goings.{stays}
 use Rattle.converter.proofs.Unwritten.{beginnings_stay_unwritten, events_stay_unwritten, going_unwritten}
-use Rattle.machine_forms.specs.declared.doing.Doing.TheVariants.{Converting}
-use Rattle.machine_forms.specs.Machines.{Machine, memory_of, scene_of, doing_of}
-use Rattle.machine_forms.specs.Events.{Converted, ConvertsOn, IsNoSeal, StaysSound, with_joined}
-use Rattle.machine_forms.specs.Naming.{HasToSeal, group_names}
-use Rattle.machine_forms.proofs.Naming.{groups_name_theirs}
-use Rattle.machine_forms.proofs.Taking.{seals_take_queues}
+use Rattle.store_barrier.specs.Passed.{Converting}
+use Rattle.store_barrier.specs.Passed.{Machine, memory_of, scene_of, doing_of}
+use Rattle.store_barrier.specs.Passed.{Converted, ConvertsOn, IsNoSeal, StaysSound, with_joined}
+use Rattle.store_barrier.specs.Passed.{HasToSeal, group_names}
+use Rattle.store_barrier.proofs.Passed.{groups_name_theirs}
+use Rattle.store_barrier.proofs.Passed.{seals_take_queues}
 use Rattle.shared_heap.specs.Shared.{Shared}
 use Rattle.shared_heap.specs.Conversions.{BeginsOnce, Converts, FailsTo, GoesOnce, GoesTo, HasBegun, JoinsOnce}
 use Rattle.shared_heap.specs.Conversions.{came_to, with_names}

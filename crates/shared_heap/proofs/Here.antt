@@ -30,7 +30,7 @@ use Rattle.two_spaces.specs.declared.spaces.Static.TheVariants.{Beside, Root}
 use Rattle.two_spaces.specs.Seen.{Spaces, shown_of, static_value}
 use Rattle.two_spaces.specs.Whole.{HasResident, IsHereIn, IsStatic, IsStaticHereIn, IsWhole, Stands, no_static}
 use Rattle.two_spaces.proofs.Finding.{at_number, slot_there}
-use Rattle.machine_forms.specs.Machines.{Machine, memory_of, shown_in}
+use Rattle.store_barrier.specs.Passed.{Machine, memory_of, shown_in}
 use Rattle.shared_heap.specs.Requests.{MayRequest}
 
 module _ (s : Spaces) (es : List Entry) (h : Stands s es) where

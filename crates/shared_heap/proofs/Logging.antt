@@ -5,7 +5,7 @@ use Rattle.std.proofs.lemmas.List.{get_or_default, get_or-set_same, get_or-set_o
 use Rattle.std.proofs.lemmas.List.{length-append, same_lists}
 use Rattle.region_log.specs.Log.{Log}
 use Rattle.twin_forms.proofs.Led.{same_or_not, below_or_not}
-use Rattle.machine_forms.specs.Machines.{empty_log, log_of}
+use Rattle.store_barrier.specs.Passed.{empty_log, log_of}
 use Rattle.shared_heap.specs.First.{empty_logs, logs_to}
 use Rattle.shared_heap.specs.Shared.{Shared}
 use Rattle.shared_heap.specs.Regions.{with_log_of}

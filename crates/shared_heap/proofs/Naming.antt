@@ -15,8 +15,8 @@ use Rattle.convert_words.proofs.Basics.{young}
 use Rattle.converter.proofs.Goings.{found}
 use Rattle.converter.proofs.Named.{number_is}
 use Rattle.converter.specs.Laws.{number_at}
-use Rattle.machine_forms.specs.Naming.{member_names, names_below}
-use Rattle.machine_forms.proofs.Taking.{names_fit}
+use Rattle.store_barrier.specs.Passed.{member_names, names_below}
+use Rattle.store_barrier.proofs.Passed.{names_fit}
 use Rattle.shared_heap.specs.Conversions.{with_names}
 
 pub with_none : (h : History) → with_names h [] ≡ h

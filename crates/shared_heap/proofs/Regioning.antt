@@ -27,8 +27,8 @@ use Rattle.region_logs.specs.Calls.{EndsPart, LogsPart}
 use Rattle.region_logs.proofs.Guards.{adding-is}
 use Rattle.convert_queue.specs.Marks.{with_fence}
 use Rattle.convert_queue.specs.Queues.{Queues}
-use Rattle.machine_forms.specs.Machines.{Machine, log_of, memory_of}
-use Rattle.machine_forms.specs.Events.{LogsWord, told_of_log, with_logged}
+use Rattle.store_barrier.specs.Passed.{Machine, log_of, memory_of}
+use Rattle.store_barrier.specs.Passed.{LogsWord, told_of_log, with_logged}
 use Rattle.shared_heap.specs.Shared.{Shared}
 use Rattle.shared_heap.specs.Regions.{ClosesTo, EndingFailsTo, EndsOnTo, EndsTo, FencesTo, IsEndCall, IsLeft, LeavesTo}
 use Rattle.shared_heap.specs.Regions.{LoggingFailsTo, LogsTo, PartTo}

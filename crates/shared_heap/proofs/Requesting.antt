@@ -31,9 +31,9 @@ use Rattle.two_spaces.specs.Laws.{one_key_each}
 use Rattle.two_spaces.specs.Seen.{Spaces, shown_of}
 use Rattle.two_spaces.specs.Whole.{IsHereIn, IsStaticHereIn, IsWhole, MakesIn, Stands, StoresIn}
 use Rattle.convert_queue.specs.Queues.{Queues}
-use Rattle.machine_forms.specs.declared.doing.Doing.{Doing}
-use Rattle.machine_forms.specs.Machines.{Machine, memory_of, shown_in}
-use Rattle.machine_forms.specs.Events.{NotesStore, act_in}
+use Rattle.store_barrier.specs.Passed.{Doing}
+use Rattle.store_barrier.specs.Passed.{Machine, memory_of, shown_in}
+use Rattle.store_barrier.specs.Passed.{NotesStore, act_in}
 use Rattle.store_barrier.specs.Barriers.{IsDurablePlace, spaces_of}
 use Rattle.shared_heap.specs.Notes.{ThreadNotes}
 use Rattle.shared_heap.specs.Shared.{Shared}

@@ -14,9 +14,9 @@ use Rattle.convert_words.specs.Scenes.{Scene, AgreesAt}
 use Rattle.converter.specs.declared.begin.Begun.{Begun}
 use Rattle.converter.specs.Beginning.{Begins}
 use Rattle.converter.specs.Laws.{AreUnwritten}
-use Rattle.machine_forms.specs.Machines.{Machine, memory_of, scene_of}
-use Rattle.machine_forms.specs.Events.{Converted, ConvertsOn, FailsOn, IsNoSeal, Seals, StaysSound, with_joined}
-use Rattle.machine_forms.specs.Naming.{group_names}
+use Rattle.store_barrier.specs.Passed.{Machine, memory_of, scene_of}
+use Rattle.store_barrier.specs.Passed.{Converted, ConvertsOn, FailsOn, IsNoSeal, Seals, StaysSound, with_joined}
+use Rattle.store_barrier.specs.Passed.{group_names}
 use Rattle.shared_heap.specs.declared.conversions.Conversion.{Conversion}
 use Rattle.shared_heap.specs.declared.conversions.Conversion.TheVariants as did
 use Rattle.shared_heap.specs.Shared.{Shared}

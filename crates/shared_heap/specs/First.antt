@@ -4,8 +4,8 @@ use Rattle.shared_objects.specs.declared.rest.Rest.{Rest}
 use Rattle.two_spaces.specs.Seen.{Spaces}
 use Rattle.first_spaces.specs.Laws.{first_queues}
 use Rattle.region_log.specs.Log.{Log}
-use Rattle.machine_forms.specs.declared.doing.Doing.TheVariants.{Nothing}
-use Rattle.machine_forms.specs.Machines.{empty_log}
+use Rattle.store_barrier.specs.Passed.{Nothing}
+use Rattle.store_barrier.specs.Passed.{empty_log}
 use Rattle.shared_heap.specs.Notes.{no_notes}
 use Rattle.shared_heap.specs.Shared.{Shared}
 

@@ -7,7 +7,7 @@ use Rattle.natives.specs.declared.requests.Reply.{Reply}
 use Rattle.run_history.specs.declared.act.Op.{Op}
 use Rattle.plain_model.specs.Facts.{SetFacts}
 use Rattle.step_forms.specs.declared.stepped.Stepped.TheVariants as stepped
-use Rattle.machine_forms.specs.Events.{act_in}
+use Rattle.store_barrier.specs.Passed.{act_in}
 use Rattle.shared_heap.specs.Shared.{Shared}
 use Rattle.shared_heap.specs.Requests.{StepsTo}
 

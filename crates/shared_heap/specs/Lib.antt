@@ -8,3 +8,4 @@ pub mod Requests
 pub mod Shared
 pub mod Quick
 pub mod FieldReads
+pub mod Passed

@@ -21,8 +21,8 @@ use Rattle.region_log.specs.Stages.{EndsAtOnce}
 use Rattle.region_log.specs.Steps.{AddsEntry, AddsOn, EndsOn, EndsLog, FailsToAdd, FailsToEnd, FencesRegion, TouchesFor}
 use Rattle.region_log.specs.Steps.{TouchesToEnd}
 use Rattle.region_events.specs.Laws.{CallsToEnd}
-use Rattle.machine_forms.specs.Machines.{Machine, log_of, memory_of}
-use Rattle.machine_forms.specs.Events.{LogsWord, OnlyImage, with_closing, with_guarded, with_log, with_logged}
+use Rattle.store_barrier.specs.Passed.{Machine, log_of, memory_of}
+use Rattle.store_barrier.specs.Passed.{LogsWord, OnlyImage, with_closing, with_guarded, with_log, with_logged}
 use Rattle.shared_heap.specs.Shared.{Shared}
 
 -- the thread's log is this one

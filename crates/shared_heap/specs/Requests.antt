@@ -25,10 +25,10 @@ use Rattle.object_steps.specs.Stores.{place_of}
 use Rattle.twin_forms.specs.Table.{Entry}
 use Rattle.two_spaces.specs.Seen.{shown_of}
 use Rattle.two_spaces.specs.Whole.{Stands, StoresIn, MakesIn}
-use Rattle.machine_forms.specs.declared.doing.Doing.{Doing}
-use Rattle.machine_forms.specs.declared.doing.Doing.TheVariants.{Nothing, Writing}
-use Rattle.machine_forms.specs.Machines.{Machine, memory_of, shown_in}
-use Rattle.machine_forms.specs.Events.{NotesStore, value_in, with_asked}
+use Rattle.store_barrier.specs.Passed.{Doing}
+use Rattle.store_barrier.specs.Passed.{Nothing, Writing}
+use Rattle.store_barrier.specs.Passed.{Machine, memory_of, shown_in}
+use Rattle.store_barrier.specs.Passed.{NotesStore, value_in, with_asked}
 use Rattle.store_barrier.specs.Barriers.{IsDurablePlace, IsReady}
 use Rattle.shared_heap.specs.Notes.{ThreadNotes, starting}
 use Rattle.shared_heap.specs.Shared.{Shared}

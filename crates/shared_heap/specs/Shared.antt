@@ -3,9 +3,9 @@ use Rattle.std.specs.Prelude.{◌≡◌, ℕ}
 use Rattle.run_history.specs.declared.act.Op.TheVariants as op
 use Rattle.run_history.specs.Recorded.{History, with_act}
 use Rattle.twin_forms.specs.Sights.{Twin}
-use Rattle.machine_forms.specs.Machines.{Machine}
+use Rattle.store_barrier.specs.Passed.{Machine}
 use Rattle.shared_heap.specs.Notes.{ThreadNotes}
-use Rattle.machine_forms.specs.Events.{CallsImage, with_twin, WritesBack, with_write, MakesFence, with_fence}
+use Rattle.store_barrier.specs.Passed.{CallsImage, with_twin, WritesBack, with_write, MakesFence, with_fence}
 
 -- The machine; its history, with the objects that are named for the next act that makes objects durable; how
 -- many lines the image has; and what is noted for threads.

@@ -10,7 +10,7 @@ ghost use Rattle.shared_objects.specs.Plain.{plain_request};
 ghost use Rattle.shared_objects.specs.Worlds.{world_of};
 ghost use Rattle.step_forms.specs.Follows.{Agrees};
 ghost use Rattle.two_spaces.specs.Whole.{IsWhole};
-ghost use Rattle.machine_forms.specs.Machines.{memory_of, shown_in};
+ghost use Rattle.store_barrier.specs.Passed.{memory_of, shown_in};
 ghost use Rattle.shared_heap.specs.Notes.{AreOf64, answered, asked_by, asking, taken, waiting};
 ghost use Rattle.shared_heap.specs.Requests.{MayRequest};
 

@@ -3,9 +3,9 @@ ghost use Rattle.std.specs.Prelude.{◌≡◌, ◌<◌, ◌≤◌, length, OnErr
 ghost use Rattle.ap_base.specs.Causes.{HasCause};
 ghost use Rattle.line_memory.specs.Memory.{Memory};
 ghost use Rattle.twin_forms.specs.Sights.{Twin};
-ghost use Rattle.machine_forms.specs.declared.doing.Doing.TheVariants.{Fencing, Writing};
-ghost use Rattle.machine_forms.specs.Machines.{doing_of, memory_of};
-ghost use Rattle.machine_forms.specs.Events.{MakesFence, WritesBack, with_fence, with_write};
+ghost use Rattle.store_barrier.specs.Passed.{Fencing, Writing};
+ghost use Rattle.store_barrier.specs.Passed.{doing_of, memory_of};
+ghost use Rattle.store_barrier.specs.Passed.{MakesFence, WritesBack, with_fence, with_write};
 ghost use Rattle.run_history.specs.Recorded.{with_act};
 ghost use Rattle.run_history.specs.declared.act.Op.TheVariants as op;
 ghost use Rattle.shared_heap.specs.Shared.{Failed, TellsFence, Writes};
@@ -13,8 +13,8 @@ ghost use Rattle.shared_heap.specs.Shared.{Failed, TellsFence, Writes};
 use crate::SharedHeap;
 use ap_base::ThreadNo;
 use line_image::{Image, ImageFailed};
-use machine_forms::Doing;
 use run_history::{Act, Op};
+use store_barrier::Doing;
 
 impl<I: Image> SharedHeap<I> {
     /// Writes back the line of a thread's durable store: a fence is to follow.

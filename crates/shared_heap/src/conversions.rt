@@ -6,8 +6,8 @@ ghost use Rattle.twin_forms.specs.Table.{Entry};
 ghost use Rattle.convert_queue.specs.Queues.{AllSettled, IsSettled, queue_of, total};
 ghost use Rattle.convert_queue.specs.Threads.{IsGroupOf};
 ghost use Rattle.converter.specs.Beginning.{IsAsked};
-ghost use Rattle.machine_forms.specs.declared.doing.Doing.TheVariants.{Converting};
-ghost use Rattle.machine_forms.specs.Machines.{doing_of, memory_of, scene_of};
+ghost use Rattle.store_barrier.specs.Passed.{Converting};
+ghost use Rattle.store_barrier.specs.Passed.{doing_of, memory_of, scene_of};
 ghost use Rattle.shared_heap.specs.Conversions.{BeginsOnce, Converts, FailsTo, GoesTo, HasBegun, JoinsOnce, came_to};
 
 use crate::SharedHeap;

@@ -4,12 +4,12 @@ ghost use Rattle.std.specs.Prelude.{◌≡◌, ◌↔◌, ◌≤◌, ◌<◌, �
 use crate::notes::Notes;
 use convert_queue::Conversions;
 use line_image::Image;
-use machine_forms::Doing;
 use persist_space::PersistSpace;
 use region_logs::Logs;
 use run_history::Acts;
 use shared_objects::Rest;
 use std::marker::Model;
+use store_barrier::Doing;
 use two_spaces::TwoSpaces;
 
 /// A heap of two spaces with what threads share beside it: the conversions that go on, the lines of

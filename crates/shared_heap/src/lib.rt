@@ -21,4 +21,5 @@ pub use conversions::Conversion;
 pub use heap::SharedHeap;
 pub use laws::steps_add_acts_that_name_nothing;
 pub use requests::Plan;
+pub use store_barrier::{Barrier, answers_serve_machines};
 pub use telling::place_of;

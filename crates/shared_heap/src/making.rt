@@ -3,8 +3,8 @@ ghost use Rattle.std.specs.Prelude.{◌≡◌, ◌≢◌, ◌↔◌, ◌<◌, �
 ghost use Rattle.convert_queue.specs.Threads.{has};
 ghost use Rattle.first_spaces.specs.Laws.{first_queues};
 ghost use Rattle.image_layout.specs.Places.{max_lines};
-ghost use Rattle.machine_forms.specs.declared.doing.Doing.TheVariants.{Nothing};
-ghost use Rattle.machine_forms.specs.Machines.{doing_of, memory_of, scene_of};
+ghost use Rattle.store_barrier.specs.Passed.{Nothing};
+ghost use Rattle.store_barrier.specs.Passed.{doing_of, memory_of, scene_of};
 ghost use Rattle.store_barrier.specs.Barriers.{spaces_of};
 ghost use Rattle.shared_heap.specs.Conversions.{HasBegun};
 ghost use Rattle.shared_heap.specs.First.{empty_logs, first_shared};
@@ -17,12 +17,12 @@ use convert_queue::{Conversions, Phase};
 use converter::is_member;
 use line_image::Image;
 use line_memory::LineMemory;
-use machine_forms::Doing;
 use persist_space::PersistSpace;
 use region_logs::Logs;
 use run_history::Acts;
 use shared_objects::{Rest, Threads};
 use std::alloc::{AllocError, Global};
+use store_barrier::Doing;
 use two_spaces::TwoSpaces;
 
 // The queues of conversions, what each thread is about, the history, the logs of regions, and what is noted for threads.

@@ -1,5 +1,5 @@
 // What is noted for each thread.
-ghost use Rattle.std.specs.Prelude.{◌≡◌, length, option_copied, replicate, slice_get, IfOk, None, Some};
+ghost use Rattle.std.specs.Prelude.{◌≡◌, ◌<◌, length, option_copied, replicate, slice_get, slice_set, IfOk, None, Some};
 ghost use Rattle.shared_heap.specs.Notes.{AreOf64, answered, asking, no_notes, starting, taken, waiting};
 
 use ap_base::{Ref, ThreadNo};
@@ -42,6 +42,17 @@ fn nothing_noted<T: Drop>(alloc: Global) -> Result<Vec<Option<T>>, AllocError>
         noted.push_reserved(None);
     }
     Ok(noted)
+}
+
+// Nothing is noted there. As a rule nothing was, and a note that is written takes many bytes.
+fn forget<T: Drop>(noted: &mut Vec<Option<T>>, at: usize)
+    requires inside { at < length noted.old.items }
+    ensures none { noted.new.items ≡ slice_set noted.old.items at None }
+{
+    if noted[at].is_none() {
+        return;
+    }
+    noted[at] = None;
 }
 
 impl Notes {
@@ -96,8 +107,8 @@ impl Notes {
         ensures threads { AreOf64 self.new }
     {
         let at = t.number() as usize;
-        self.asks[at] = None;
-        self.waits[at] = None;
+        forget(&mut self.asks, at);
+        forget(&mut self.waits, at);
     }
 
     /// A thread was started by this reference to its Thread object.

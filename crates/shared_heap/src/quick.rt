@@ -5,7 +5,7 @@ ghost use Rattle.natives.specs.declared.requests.Request.TheVariants as ask;
 ghost use Rattle.run_types.specs.declared.resolved.At.{At as From};
 ghost use Rattle.step_forms.specs.Follows.{Agrees};
 ghost use Rattle.two_spaces.specs.Whole.{IsWhole};
-ghost use Rattle.machine_forms.specs.Machines.{memory_of, shown_in};
+ghost use Rattle.store_barrier.specs.Passed.{memory_of, shown_in};
 ghost use Rattle.shared_heap.specs.Requests.{MayRequest};
 ghost use Rattle.shared_heap.specs.Quick.{ReadsTo};
 

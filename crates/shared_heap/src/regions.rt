@@ -13,7 +13,7 @@ ghost use Rattle.region_log.specs.Readers.{is_ending};
 ghost use Rattle.region_log.specs.Stages.{CanEnd};
 ghost use Rattle.region_events.specs.Laws.{one_deeper, with_entry};
 ghost use Rattle.two_spaces.specs.Whole.{IsWhole};
-ghost use Rattle.machine_forms.specs.Machines.{log_of, memory_of, shown_in};
+ghost use Rattle.store_barrier.specs.Passed.{log_of, memory_of, shown_in};
 ghost use Rattle.shared_heap.specs.Regions.{EndingFailsTo, EndsTo, GuardsTo, LiesAt, LoggingFailsTo, LogsTo, PartTo};
 ghost use Rattle.shared_heap.specs.Regions.{with_log_of};
 ghost use Rattle.shared_heap.specs.Requests.{MayRequest};

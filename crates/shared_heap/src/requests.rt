@@ -6,10 +6,10 @@ ghost use Rattle.shared_objects.specs.Worlds.{KnowsMonitors};
 ghost use Rattle.step_forms.specs.Becomes.{IsNoStore, given};
 ghost use Rattle.step_forms.specs.Follows.{Agrees};
 ghost use Rattle.object_steps.specs.Stores.{CanStore, IsKeptOf, place_of};
-ghost use Rattle.shared_steps.specs.Output.{FaultsGo, OutputGoes, SharesGo};
+ghost use Rattle.shared_steps.specs.Output.{FaultsGo, IsSilent, OutputGoes, SharesGo};
 ghost use Rattle.twin_forms.specs.Table.{Entry};
 ghost use Rattle.two_spaces.specs.Whole.{IsWhole, Stands};
-ghost use Rattle.machine_forms.specs.Machines.{memory_of, shown_in};
+ghost use Rattle.store_barrier.specs.Passed.{memory_of, shown_in};
 ghost use Rattle.store_barrier.specs.Barriers.{AgreesWith, ConvertsFirst, IfConverts, IfFollows, IfLogs, IfNoRace, IfRaces};
 ghost use Rattle.store_barrier.specs.Barriers.{IfStores, IsReady, MayFollow};
 ghost use Rattle.store_barrier.specs.Regions.{HasLogged, IsApart, IsLineLeft, LogsFirst, Races};
@@ -22,14 +22,13 @@ use crate::planning::plan_store;
 use crate::telling::{doing_stored, note_start, place_of, tell_step};
 use ap_base::{Sink, ThreadNo};
 use line_image::Image;
-use machine_forms::Doing;
 use natives::Request;
 use object_steps::{Planned, Store};
 use run_history::{Act, Op};
 use shared_objects::Types;
 use shared_steps::take_step;
 use step_forms::{Stepped, valued};
-use store_barrier::{Barrier, ask_store, do_store};
+use store_barrier::{Barrier, Doing, ask_store, do_store};
 
 /// What the tests of a request come to.
 #[derive(Drop)]
@@ -94,6 +93,7 @@ impl<I: Image> SharedHeap<I> {
         ensures share { SharesGo request.now (S.takes sink.old) result }
         ensures output { OutputGoes request.now (S.taken sink.old) result (S.taken sink.new) }
         ensures cause { FaultsGo request.now (S.faults sink.old) result (S.faults sink.new) }
+        ensures silent { IsSilent request.now → sink.new ≡ sink.old }
     {
         let at = self.spaces.heap.memory.calls();
         let step = take_step(set, &mut self.spaces, &mut self.rest, sink, t, request);

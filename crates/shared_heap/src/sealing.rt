@@ -4,7 +4,7 @@ ghost use Rattle.convert_queue.specs.Queues.{queue_of, total};
 ghost use Rattle.convert_queue.specs.Threads.{has};
 ghost use Rattle.convert_words.specs.Scenes.{scene};
 ghost use Rattle.converter.specs.Working.{SomeScene};
-ghost use Rattle.machine_forms.specs.Naming.{group_names, member_names, queue_names};
+ghost use Rattle.store_barrier.specs.Passed.{group_names, member_names, queue_names};
 ghost use Rattle.shared_heap.specs.Conversions.{with_names};
 
 use ap_base::{Ref, ThreadNo};

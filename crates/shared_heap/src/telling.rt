@@ -8,11 +8,11 @@ ghost use Rattle.shared_heap.specs.Requests.{doing_stored, noted_by, told_at};
 use crate::notes::Notes;
 use ap_base::{Place, ThreadNo};
 use convert_queue::Conversions;
-use machine_forms::Doing;
 use natives::Request;
 use object_steps::Target;
 use run_history::{Act, Acts, Op};
 use step_forms::Stepped;
+use store_barrier::Doing;
 
 // Adds the act of a step, where it did something, after so many calls of the image.
 pub(crate) fn tell_step(acts: &mut Acts, thread: ThreadNo, at: u64, step: &Stepped)

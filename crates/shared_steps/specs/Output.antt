@@ -7,6 +7,11 @@ use Rattle.natives.specs.declared.requests.Request.TheVariants as ask
 use Rattle.step_forms.specs.declared.stepped.Stepped.{Stepped}
 use Rattle.world_steps.specs.Printing.{PrintsTo, HasSinkCause, TakesShare}
 
+-- a request that prints nothing
+abbrev pub IsSilent : Request Ref Item → Type 0
+IsSilent (ask.Print from piece) = ⊥
+IsSilent request = Unit {0}
+
 -- A print puts into the sink what its act says; any other request puts nothing.
 abbrev pub OutputGoes : Request Ref Item → Option (List ℕ) → Stepped → Option (List ℕ) → Type 0
 OutputGoes (ask.Print from piece) before result now = PrintsTo before result now

@@ -3,7 +3,8 @@ ghost use Rattle.step_forms.specs.Becomes.{Becomes, MayBeStored};
 ghost use Rattle.step_forms.specs.Follows.{Agrees, IsStep};
 ghost use Rattle.step_forms.specs.Needs.{IsAskable};
 ghost use Rattle.shared_steps.specs.Giving.{StoresGiven};
-ghost use Rattle.shared_steps.specs.Output.{FaultsGo, OutputGoes, SharesGo};
+ghost use Rattle.std.specs.Prelude.{◌≡◌};
+ghost use Rattle.shared_steps.specs.Output.{FaultsGo, IsSilent, OutputGoes, SharesGo};
 
 use ap_base::{Sink, ThreadNo};
 use natives::Request;
@@ -19,7 +20,7 @@ use world_steps::{
     pause, print, start,
 };
 
-/// What a request of a thread comes to. Only a print puts something into the sink.
+/// What a request of a thread comes to. Only a print calls the sink.
 pub fn take_step<C: Types, O: Objects, S: Sink>(
     set: &C,
     objects: &mut O,
@@ -41,6 +42,7 @@ pub fn take_step<C: Types, O: Objects, S: Sink>(
     ensures share { SharesGo request.now (S.takes sink.old) result }
     ensures output { OutputGoes request.now (S.taken sink.old) result (S.taken sink.new) }
     ensures cause { FaultsGo request.now (S.faults sink.old) result (S.faults sink.new) }
+    ensures silent { IsSilent request.now → sink.new ≡ sink.old }
 {
     match *request {
         Request::Pause => pause(),

@@ -66,7 +66,7 @@ pub enum Status {
     SinkFault,
     /// There was no memory. Comes only before the first turn.
     OutOfMemory,
-    /// Each live thread waits for another one.
+    /// Each live thread waits, and for what it says.
     Stuck(Waits),
     /// A class or a member of this name can't be used.
     LinkFault {

@@ -4,3 +4,4 @@ mod Holders
 mod Lines
 mod Machines
 mod Spots
+pub mod Passed

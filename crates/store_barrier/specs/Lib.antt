@@ -1,3 +1,4 @@
 pub mod Barriers
 pub mod Laws
 pub mod Regions
+pub mod Passed

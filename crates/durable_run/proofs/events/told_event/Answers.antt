@@ -14,7 +14,7 @@ tell-requires g c =
 
 pub returns-clause-tells : goal.returns-clause-tells
 returns-clause-tells g c =
-    tells-event c.args.request c.event-went.result c.args.t c.args.heap.now c.event-went.new.heap _ _ _ _ _ _ _ _
+    tells-event c.args.request.now c.event-went.result c.args.t c.args.heap.now c.event-went.new.heap _ _ _ _ _ _ _ _
     c.event-went.ensures.acts
     (c.tell.ensures.told ∙ ap (with_all (g.W.Watcher.seen c.args.watcher.now))
     (ap (λ (n : ℕ). drop n c.acts-2.result.now.acts)

@@ -1,11 +1,12 @@
 use Rattle.std.proofs.Common.{◌≡◌, ◌<◌, ◌≤◌, ◌+◌, ℕ, Bool, true, false, List, None, length, inr, refl, sym, ◌∙◌, ap, subst, arith}
 use Rattle.shared_objects.specs.declared.threads.ThreadState.{ThreadState}
-use Rattle.machine_forms.specs.Machines.{Opening}
+use Rattle.machine.specs.Passed.{Opening}
 use Rattle.machine.specs.declared.events.Halt.{Halt}
 use Rattle.durable_run.specs.Events.{StepsTo}
-use Rattle.durable_run.specs.Turning.{IsReady, is_live}
+use Rattle.machine.specs.Passed.{asked_by}
+use Rattle.durable_run.specs.Turning.{IsReady, asks_next, is_live}
 use Rattle.durable_run.specs.declared.steps.Stepped.{Stepped}
-use Rattle.durable_run.proofs.Passing.{IsGoing, all-ended, cause-on, dead-on, goes-less, goes-on, goes-past, not-over, ready-on, room-so}
+use Rattle.durable_run.proofs.Passing.{IsGoing, all-ended, cause-on, dead-on, goes-less, goes-on, goes-past, has-frames, not-over, ready-on, room-so}
 use Rattle.durable_run.proofs.Passing.{waits-begin}
 use Rattle.durable_run.proofs.Places.{next-is}
 use Rattle.durable_run.proofs.Telling.{caused-since, told-both, told-nothing}
@@ -58,7 +59,8 @@ step-went-requires-clause-ready g c =
 
 pub returns-in-Over-clause-goes : goal.returns-in-Over-clause-goes
 returns-in-Over-clause-goes g c o first ready =
-    c.in-Over.ensures.goes o first (c.threads.invariant.ready o first ready)
+    let ended = c.in-Over.ensures.goes o first (c.threads.invariant.ready o first ready) in
+    (ended.0, (c.unwrap-t.result, ended.1))
 
 pub returns-in-Over-clause-told : goal.returns-in-Over-clause-told
 returns-in-Over-clause-told g c =
@@ -75,6 +77,11 @@ threads-preserved g c =
     let isnt = not-over went c.in_default.not-Over in
     let t = c.unwrap-t.result in
     let t_is = next-is c.new.result t c.threads.n c.unwrap-t.ensures c.new.ensures.same in
+    let r = c.requires.ready in
+    let count = c.count.ensures.count ∙ ap (λ (states : List ThreadState). length states) c.threads-in-threads.ensures in
+    let within = c.threads-test.true in
+    let fs = has-frames r.0 r.1 set x s c.threads.run.frames.items (c.threads.invariant.ready r.0 r.1 r.2) t
+    (omega (arith, count, within, t_is)) in
     record {
       ready = λ o first ready. ready-on o first set x t went s new c.step-went.new.run.frames.items isnt
           (c.step-went.ensures.goes o first (c.threads.invariant.ready o first ready));
@@ -89,7 +96,8 @@ threads-preserved g c =
           (subst (λ (n : ℕ). IsGoing
           (λ o first. IsReady o first set x c.args.run.now.heap c.args.run.now.frames.items) old s n c.threads.lived)
           (sym t_is) c.threads.invariant.going) c.passes_fill_rows.ensures.on went isnt c.step-went.ensures.goes
-          c.step-went.ensures.acts c.step-went.ensures.less c.step-went.ensures.waits);
+          c.step-went.ensures.acts c.step-went.ensures.less
+          (asks_next x (asked_by s.notes t) fs.0) (c.step-went.ensures.remembers fs.0 fs.1));
       dead = λ e. no-true (sym e);
       same = λ e. no-true (sym e);
       room = λ e. room-so c.threads.lived went old s _ isnt c.threads.invariant.room c.threads.invariant.same

@@ -1,5 +1,5 @@
 use Rattle.std.proofs.Common.{◌≡◌, ◌-◌, ◌<◌, ◌≤◌, ℕ, true, false, length, None}
-use Rattle.machine_forms.specs.Machines.{Opening, memory_of}
+use Rattle.machine.specs.Passed.{Opening, memory_of}
 use Rattle.durable_run.specs.Telling.{HasTold, IsCaused}
 use Rattle.durable_run.specs.Turning.{IsReady, is_live}
 use Rattle.durable_run.proofs.Passing.{IsGoing}

@@ -1,5 +1,5 @@
 use Rattle.std.proofs.Common.{◌≡◌, ℕ, None}
-use Rattle.machine_forms.specs.Machines.{Opening, memory_of}
+use Rattle.machine.specs.Passed.{Opening, memory_of}
 use Rattle.machine.specs.Passed.{measure}
 use Rattle.durable_run.specs.Telling.{HasTold, IsCaused}
 use Rattle.durable_run.specs.Turning.{IsReady}

@@ -3,7 +3,7 @@ use Rattle.run_types.specs.declared.fault.RunFault.{RunFault}
 use Rattle.plain_model.specs.Ends.{Ending, first_uncaught}
 use Rattle.shared_objects.specs.declared.threads.ThreadState.{ThreadState}
 use Rattle.shared_objects.specs.Worlds.{plain_thread}
-use Rattle.machine_forms.specs.Machines.{memory_of}
+use Rattle.machine.specs.Passed.{memory_of}
 use Rattle.machine.specs.Halts.{fault_of_halt}
 use Rattle.durable_run.specs.Turning.{EndsBy, HasEnded}
 use Rattle.durable_run.specs.declared.runs.RunEnd.TheVariants as ends

@@ -4,6 +4,7 @@ use Rattle.ap_base.specs.declared.reference.Item.{Item}
 use Rattle.natives.specs.declared.requests.Request.{Request}
 use Rattle.run_forms.specs.Views.{ThreadFrames}
 use Rattle.private_steps.specs.Ahead.{HasCome}
+use Rattle.durable_run.specs.Events.{RemembersAfter}
 use Rattle.durable_run.specs.Telling.{AddsShare}
 use Rattle.durable_run.proofs.Stepping.{asks-at, elem-is, put-there}
 use Rattle.durable_run.proofs.steps.asks.Goals as goal
@@ -39,6 +40,17 @@ returns-clause-goes g c o first all before now begun frames_are =
     (asks-at o first (g.C.Types.facts c.args.set.now) x c.args.run.now.heap all c.args.t c.args.stop before now
     c.args.run.now.frames.items c.number.result c.asked-request.new.frames c.asked-request.result begun frames_are
     c.number.ensures.same asked.0 asked.1 c.asked-request.ensures.waits c.asked-request.ensures.of)
+
+pub returns-clause-remembers : goal.returns-clause-remembers
+returns-clause-remembers g c before now come there =
+    let x = g.H.Host.setting c.args.host.now in
+    let is = elem-is c.args.run.now.frames.items c.args.t c.number.result c.index_mut.result.now now
+    c.number.ensures.same c.index_mut.ensures.value there in
+    let asked = c.asked-request.ensures.finishes before
+    (subst (λ (fs : ThreadFrames). HasCome x c.args.stop before fs) (sym is) come) in
+    subst (λ (q : Option (Request Ref Item)).
+    RemembersAfter c.args.t q c.goes_on.result c.args.run.now.heap c.goes_on.new.run.heap) asked.1
+    c.goes_on.ensures.remembers
 
 pub returns-clause-share : goal.returns-clause-share
 returns-clause-share g c before now come there =

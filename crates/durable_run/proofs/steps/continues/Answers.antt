@@ -3,11 +3,11 @@ use Rattle.ap_base.specs.declared.reference.Ref.{Ref}
 use Rattle.ap_base.specs.declared.reference.Item.{Item}
 use Rattle.natives.specs.declared.requests.Request.{Request}
 use Rattle.machine.specs.Passed.{Shared, asked_by, taken}
-use Rattle.durable_run.specs.Events.{HasAsked, StepsTo}
+use Rattle.durable_run.specs.Events.{HasAsked, RemembersAfter, StepsTo}
 use Rattle.durable_run.specs.Telling.{AddsShare}
 use Rattle.durable_run.proofs.Going.{goes-still}
 use Rattle.durable_run.proofs.Places.{index-of-get}
-use Rattle.durable_run.proofs.Stepping.{steps-from}
+use Rattle.durable_run.proofs.Stepping.{remembers-taken, steps-from}
 use Rattle.durable_run.proofs.steps.continues.Goals as goal
 
 pub goes_on-requires : goal.goes_on-requires
@@ -39,6 +39,15 @@ returns-clause-goes g c o first ready =
     (subst (λ (y : Shared). HasAsked o first set x y c.args.run.now.frames.items c.args.t c.in-Some.request)
     (sym c.take_asked.ensures.taken)
     (goes-still o first set x s c.args.run.now.frames.items c.args.t ready c.in-Some.request asked))))
+
+pub returns-clause-remembers : goal.returns-clause-remembers
+returns-clause-remembers g c =
+    let s = c.args.run.now.heap in
+    let asked = index-of-get s.notes.asks c.args.t (Some c.in-Some.request) c.in-Some.ensures.asked in
+    subst (λ (q : Option (Request Ref Item)). RemembersAfter c.args.t q c.goes_on.result s c.goes_on.new.run.heap)
+    (sym asked) (remembers-taken c.args.t (Some c.in-Some.request) c.goes_on.result s c.goes_on.new.run.heap
+    (subst (λ (y : Shared). RemembersAfter c.args.t (Some c.in-Some.request) c.goes_on.result y c.goes_on.new.run.heap)
+    c.take_asked.ensures.taken c.goes_on.ensures.remembers))
 
 pub returns-clause-share : goal.returns-clause-share
 returns-clause-share g c =

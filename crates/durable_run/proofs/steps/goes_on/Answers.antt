@@ -4,6 +4,7 @@ use Rattle.frames.specs.Turns.{answer}
 use Rattle.shared_objects.specs.declared.threads.ThreadState.{ThreadState}
 use Rattle.run_forms.specs.Views.{ThreadFrames}
 use Rattle.durable_run.proofs.Going.{acts-on, asks-on, ends-so}
+use Rattle.durable_run.proofs.Stepping.{acted-remembers, micro-remembers, over-remembers, wait-remembers}
 use Rattle.durable_run.proofs.steps.goes_on.Goals as goal
 
 pub returns-in-Did-clause-goes : goal.returns-in-Did-clause-goes
@@ -14,17 +15,33 @@ returns-in-Did-clause-goes g c o first h =
     let here = c.index_mut.ensures.value ∙ ap (λ (n : ℕ). get_or c.args.run.now.frames.items n elem) c.number.ensures.same
     ∙ get_or_from_slice_get c.args.run.now.frames.items c.args.t h.own.now elem h.own.there in
     acts-on o first (g.C.Types.facts c.args.set.now) x old c.told_event-went.new.heap c.args.run.now.frames.items c.args.t
-    c.args.request h c.told_event-went.ensures.numbers c.in-Did.reply c.in-Did.ensures.remembers
+    c.args.request.now h c.told_event-went.ensures.numbers c.in-Did.reply c.in-Did.ensures.remembers
     (c.in-Did.ensures.leads o first h.table h.threads h.before h.next) c.answer.new.self
     (c.answer.ensures.answer ∙ ap (λ (fs : ThreadFrames). answer x fs c.in-Did.reply) here) c.answer.ensures.of
     c.begin_next.new.frames.items c.count-before.result c.number.result
     (c.count-before.ensures.count ∙ ap (λ (states : List ThreadState). length states) c.threads.ensures)
     c.number.ensures.same c.begin_next.ensures.begun c.begin_next.ensures.none
 
+pub returns-in-Did-clause-remembers : goal.returns-in-Did-clause-remembers
+returns-in-Did-clause-remembers g c = acted-remembers c.args.t c.args.request.now c.args.run.now.heap
+    c.told_event-went.new.heap c.in-Did.reply c.in-Did.ensures.remembers
+
+pub returns-in-Micro-clause-remembers : goal.returns-in-Micro-clause-remembers
+returns-in-Micro-clause-remembers g c = micro-remembers c.args.t c.args.request.now c.args.run.now.heap
+    c.told_event-went.new.heap c.in-Micro.ensures.remembers
+
+pub returns-in-WouldWait-clause-remembers : goal.returns-in-WouldWait-clause-remembers
+returns-in-WouldWait-clause-remembers g c = wait-remembers c.args.t c.args.request.now c.args.run.now.heap
+    c.told_event-went.new.heap c.in-WouldWait.on c.in-WouldWait.ensures.remembers
+
+pub returns-in-Over-clause-remembers : goal.returns-in-Over-clause-remembers
+returns-in-Over-clause-remembers g c = over-remembers c.args.t c.args.request.now c.args.run.now.heap
+    c.told_event-went.new.heap c.in-Over.halt c.in-Over.ensures.remembers
+
 pub returns-in-Micro-clause-goes : goal.returns-in-Micro-clause-goes
 returns-in-Micro-clause-goes g c o first h =
     asks-on o first (g.C.Types.facts c.args.set.now) (g.H.Host.setting c.args.host.now) c.args.run.now.heap
-    c.told_event-went.new.heap c.args.run.now.frames.items c.args.t c.args.request h c.told_event-went.ensures.numbers
+    c.told_event-went.new.heap c.args.run.now.frames.items c.args.t c.args.request.now h c.told_event-went.ensures.numbers
     c.told_event-went.result c.told_event-went.ensures.remembers c.in-Micro.ensures.remembers.own.0
     (c.in-Micro.ensures.leads o first h.table h.threads h.before h.next)
 
@@ -32,7 +49,7 @@ pub returns-in-WouldWait-clause-goes : goal.returns-in-WouldWait-clause-goes
 returns-in-WouldWait-clause-goes g c o first h =
     let waits = c.in-WouldWait.ensures.leads o first h.table h.threads h.before h.next in (
       asks-on o first (g.C.Types.facts c.args.set.now) (g.H.Host.setting c.args.host.now) c.args.run.now.heap
-          c.told_event-went.new.heap c.args.run.now.frames.items c.args.t c.args.request h
+          c.told_event-went.new.heap c.args.run.now.frames.items c.args.t c.args.request.now h
           c.told_event-went.ensures.numbers c.told_event-went.result c.told_event-went.ensures.remembers
           c.in-WouldWait.ensures.remembers.own.0 waits.asks,
       (h.threads, waits),
@@ -41,5 +58,5 @@ returns-in-WouldWait-clause-goes g c o first h =
 pub returns-in-Over-clause-goes : goal.returns-in-Over-clause-goes
 returns-in-Over-clause-goes g c o first h =
     ends-so o first (g.C.Types.facts c.args.set.now) (g.H.Host.setting c.args.host.now) c.args.run.now.heap
-    c.told_event-went.new.heap c.args.run.now.frames.items c.args.t c.args.request h c.in-Over.halt
+    c.told_event-went.new.heap c.args.run.now.frames.items c.args.t c.args.request.now h c.in-Over.halt
     (c.in-Over.ensures.leads o first h.table h.threads h.before h.next)

@@ -7,11 +7,11 @@ use Rattle.natives.specs.declared.requests.Request.{Request}
 use Rattle.frames.specs.Turns.{turn}
 use Rattle.run_forms.specs.Views.{ThreadFrames}
 use Rattle.machine.specs.Passed.{Shared, asked_by}
-use Rattle.durable_run.specs.Events.{HasBegun, StepsTo}
+use Rattle.durable_run.specs.Events.{HasBegun, RemembersAfter, StepsTo}
 use Rattle.durable_run.specs.Telling.{AddsShare}
 use Rattle.durable_run.specs.Turning.{IsReady, asks_next}
 use Rattle.durable_run.proofs.Places.{some-one}
-use Rattle.durable_run.proofs.Stepping.{begun-at, begun-so, elem-of, elem-put, none-asked, notes-still, put-there, set-twice}
+use Rattle.durable_run.proofs.Stepping.{begun-at, begun-so, elem-of, elem-put, next-asked, none-asked, notes-still, put-there, set-twice}
 use Rattle.durable_run.proofs.steps.step.Goals as goal
 
 pub begun-stop-requires : goal.begun-stop-requires
@@ -118,8 +118,8 @@ returns-then-reads_at_once-clause-cause g c =
     let acted = c.reads_at_once.ensures.acted c.if-reads_at_once.true r.0 r.1 frames c.index_mut.result.now b in
     acted.cause (g.S.Sink.faults c.args.run.now.sink)
 
-pub returns-then-reads_at_once-clause-waits : goal.returns-then-reads_at_once-clause-waits
-returns-then-reads_at_once-clause-waits g c =
+pub returns-then-reads_at_once-clause-remembers : goal.returns-then-reads_at_once-clause-remembers
+returns-then-reads_at_once-clause-remembers g c fs there =
     let x = g.H.Host.setting c.args.host.now in
     let set = g.C.Types.facts c.args.set.now in
     let s = c.args.run.now.heap in
@@ -130,7 +130,8 @@ returns-then-reads_at_once-clause-waits g c =
     c.number-at.ensures.same c.index_mut.ensures.value c.begun-stop.result c.begun-stop.new.frames
     c.index_mut-2.result.now unasked c.begun-stop.ensures.come c.begun-stop.ensures.of c.index_mut-2.ensures.value in
     let acted = c.reads_at_once.ensures.acted c.if-reads_at_once.true r.0 r.1 frames c.index_mut.result.now b in
-    notes-still c.args.t s c.reads_at_once.new.heap acted.noted
+    notes-still r.0 s c.reads_at_once.new.heap r.2.table r.2.threads c.args.t
+    (asks_next x (asked_by s.notes c.args.t) fs) r.2.running.asked unasked acted.asks acted.noted
 
 pub asks-requires : goal.asks-requires
 asks-requires g c =
@@ -184,6 +185,41 @@ returns-clause-goes g c o first ready =
     ∙ elem-put frames c.args.t c.number-at.result c.begun-stop.new.frames c.index_mut-2.result.now
     c.number-at.ensures.same (slice_get_within frames c.args.t c.index_mut.result.now begun.there)
     c.index_mut-2.ensures.value)))
+
+pub returns-then-has_asked-clause-remembers : goal.returns-then-has_asked-clause-remembers
+returns-then-has_asked-clause-remembers g c fs there =
+    let x = g.H.Host.setting c.args.host.now in
+    let s = c.args.run.now.heap in
+    subst (λ (q : Option (Request Ref Item)). RemembersAfter c.args.t q c.continues.result s c.continues.new.run.heap)
+    (sym (next-asked x (asked_by s.notes c.args.t) fs (c.has_asked.ensures.0 c.if-has_asked.true)))
+    c.continues.ensures.remembers
+
+pub returns-clause-remembers : goal.returns-clause-remembers
+returns-clause-remembers g c fs there =
+    let x = g.H.Host.setting c.args.host.now in
+    let set = g.C.Types.facts c.args.set.now in
+    let s = c.args.run.now.heap in
+    let frames = c.args.run.now.frames.items in
+    let unasked = none-asked c.has_asked.result (asked_by s.notes c.args.t) c.if-has_asked.false c.has_asked.ensures in
+    let r = c.requires.ready in
+    let none = c.reads_at_once.ensures.none c.if-reads_at_once.false in
+    let begun = begun-so r.0 r.1 set x s frames c.args.t c.number-at.result c.index_mut.result.now r.2 c.requires.live
+    c.number-at.ensures.same c.index_mut.ensures.value c.begun-stop.result c.begun-stop.new.frames unasked
+    c.begun-stop.ensures.come c.begun-stop.ensures.of in
+    let is = some-one fs c.index_mut.result.now (sym there ∙ begun.there) in
+    let here = set-twice frames c.args.t c.number-at.result c.begun-stop.new.frames c.reads_at_once.new.frames
+    c.number-at.ensures.same
+    ∙ ap (slice_set frames c.args.t) (none.0
+    ∙ elem-put frames c.args.t c.number-at.result c.begun-stop.new.frames c.index_mut-2.result.now
+    c.number-at.ensures.same (slice_get_within frames c.args.t c.index_mut.result.now begun.there)
+    c.index_mut-2.ensures.value) in
+    subst (λ (q : Option (Request Ref Item)). RemembersAfter c.args.t (asks_next x q fs) c.asks.result s
+    c.asks.new.run.heap) (sym unasked)
+    (subst (λ (gs : ThreadFrames). RemembersAfter c.args.t (turn x gs).asks c.asks.result s c.asks.new.run.heap) (sym is)
+    (subst (λ (y : Shared). RemembersAfter c.args.t (turn x c.index_mut.result.now).asks c.asks.result y
+    c.asks.new.run.heap) none.1
+    (c.asks.ensures.remembers c.index_mut.result.now c.begun-stop.new.frames c.begun-stop.ensures.come
+    (put-there frames _ c.args.t c.index_mut.result.now c.begun-stop.new.frames begun.there here))))
 
 pub returns-clause-share : goal.returns-clause-share
 returns-clause-share g c fs there =

@@ -17,6 +17,7 @@ returns c = record {
     nothing = c.claimers_convert.ensures.others;
     plain = c.full_rows_end_runs.ensures.no_conversion;
     wait = c.threads_wait_as_they_ask.ensures.ready;
+    fences = c.threads_wait_as_they_ask.ensures.fences;
     live = c.tested_waits_are_stuck.ensures.live;
     tested = c.tested_waits_are_stuck.ensures.stuck;
     end = c.tested_waits_are_stuck.ensures.end;

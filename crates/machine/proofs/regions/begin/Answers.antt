@@ -4,6 +4,7 @@ use Rattle.machine.specs.Ended.{event_of}
 use Rattle.machine.proofs.Answering.{agrees-at, serves-as}
 use Rattle.machine.proofs.Beginning.{begun-serves}
 use Rattle.machine.proofs.Marks.{IsRegional, regional-faults, regional-output}
+use Rattle.shared_heap.specs.Passed.{IsSilent}
 use Rattle.machine.proofs.regions.begin.Goals as goal
 
 pub take-step-requires-clause-agrees : goal.take-step-requires-clause-agrees
@@ -28,3 +29,6 @@ returns-clause-serves g c =
     c.ended.ensures
     (regional-output c.args.request.now regional _ _ c.take-step.result c.take-step.ensures.output)
     (regional-faults c.args.request.now regional _ _ c.take-step.result c.take-step.ensures.cause)
+
+pub returns-clause-sink : goal.returns-clause-sink
+returns-clause-sink g c = c.take-step.ensures.silent (subst IsSilent (sym c.requires.is_begin.1) tt)

@@ -6,6 +6,7 @@ use Rattle.machine.specs.Ended.{event_of}
 use Rattle.machine.proofs.Answering.{serves-as}
 use Rattle.machine.proofs.Closing.{closed-serves, ended-serves, failed-serves, left-agree, left-whole, part-serves}
 use Rattle.machine.proofs.Marks.{IsRegional, regional-faults, regional-output}
+use Rattle.shared_heap.specs.Passed.{IsSilent}
 use Rattle.machine.proofs.regions.end.Goals as goal
 
 pub take-step-requires-clause-whole : goal.take-step-requires-clause-whole
@@ -63,3 +64,6 @@ returns-in-Err-clause-serves g c =
     c.end_next.new.self
     c.in-Err.ensures.failed c.in-Err.ensures.cause.failed (g.S.Sink.takes c.args.sink.now)
     (g.S.Sink.taken c.args.sink.now) (g.S.Sink.faults c.args.sink.now)
+
+pub returns-in-Ok-Ended-clause-sink : goal.returns-in-Ok-Ended-clause-sink
+returns-in-Ok-Ended-clause-sink g c = c.take-step.ensures.silent (subst IsSilent (sym c.requires.is_end.1) tt)

@@ -1,9 +1,13 @@
-use Rattle.std.proofs.Common.{length, refl, ap, ◌∙◌}
+use Rattle.std.proofs.Common.{inl, inr, length, refl, ap, subst, ◌∙◌}
 use Rattle.run_history.specs.Recorded.{History}
 use Rattle.step_forms.specs.Becomes.{given}
 use Rattle.machine.proofs.Answering.{agrees-at, may-at, some-of, some-planned, step-serves, store-serves}
 use Rattle.machine.proofs.Printing.{given-faults, given-output, given-shares}
 use Rattle.machine.proofs.Starting.{given-notes, has-notes}
+use Rattle.shared_heap.specs.Shared.{Shared}
+use Rattle.shared_heap.specs.Requests.{StepsTo}
+use Rattle.machine.specs.Events.{IsUnanswered}
+use Rattle.machine.proofs.Stepping.{stepped-image, stepped-silent}
 use Rattle.machine.proofs.running.answer.Goals as goal
 
 pub plan-requires-clause-agrees : goal.plan-requires-clause-agrees
@@ -69,3 +73,29 @@ returns-in-Stores-clause-serves g c =
     c.requires.idle c.in-Stores.ensures.stores.1 (λ none. let no = c.in-Stores.ensures.none.1 none in cc)
     c.store.new.heap c.store.result c.store.ensures (g.S.Sink.takes c.args.sink.now)
     (g.S.Sink.taken c.args.sink.now) (g.S.Sink.faults c.args.sink.now)
+
+pub returns-in-NoStore-clause-either : goal.returns-in-NoStore-clause-either
+returns-in-NoStore-clause-either g c =
+    let (o, first, es, threads, fs, due) = c.requires.due in
+    let facts = g.C.Types.facts c.args.set.now in
+    inl (stepped-image c.laws.ensures o first facts c.args.heap.now es threads c.args.t fs c.args.request.now due
+    c.requires.room c.requires.ready c.take-step.new.self c.take-step.result
+    (subst (λ (y : Shared). StepsTo facts c.args.t c.args.request.now c.take-step.result y c.take-step.new.self)
+    (c.in-NoStore.ensures.same refl) c.take-step.ensures.steps) c.take-step.ensures.no_store)
+
+pub returns-in-NoStore-clause-sink : goal.returns-in-NoStore-clause-sink
+returns-in-NoStore-clause-sink g c un =
+    let (o, first, es, threads, fs, due) = c.requires.due in
+    let facts = g.C.Types.facts c.args.set.now in
+    c.take-step.ensures.silent
+    (stepped-silent c.laws.ensures o first facts c.args.heap.now es threads c.args.t fs c.args.request.now due
+    c.requires.room c.requires.ready c.take-step.new.self c.take-step.result
+    (subst (λ (y : Shared). StepsTo facts c.args.t c.args.request.now c.take-step.result y c.take-step.new.self)
+    (c.in-NoStore.ensures.same refl) c.take-step.ensures.steps)
+    (subst IsUnanswered c.ended.ensures un))
+
+pub returns-in-Ends-clause-either : goal.returns-in-Ends-clause-either
+returns-in-Ends-clause-either g c = inr refl
+
+pub returns-in-Stores-clause-either : goal.returns-in-Stores-clause-either
+returns-in-Stores-clause-either g c = inr refl

@@ -1,22 +1,27 @@
-use Rattle.std.proofs.Common.{◌⊎◌, ◌<◌, ◌≤◌, length, sym, ◌∙◌, ap, subst}
+use Rattle.std.proofs.Common.{◌≡◌, ◌⊎◌, inr, refl, ◌<◌, ◌≤◌, length, sym, ◌∙◌, ap, subst}
 use Rattle.line_memory.specs.Memory.{OneCall, SameImage}
 use Rattle.run_history.specs.Recorded.{History}
 use Rattle.machine_forms.specs.Machines.{Machine, memory_of}
 use Rattle.machine_threads.specs.Passed.{measure}
-use Rattle.machine.specs.Events.{TakesOutput}
+use Rattle.machine_threads.specs.Stuck.{plain_waits}
+use Rattle.machine.specs.Events.{TakesOutput, logs_word}
 use Rattle.machine.proofs.Leaving.{few}
-use Rattle.machine.proofs.Recalling.{came-micro, came-waiting, counted-then, event-leads, full-over, full-remembers}
-use Rattle.machine.proofs.Recalling.{notable, noted-acts, noted-answers, noted-history, noted-image, noted-machine, noted-sink}
+use Rattle.machine.proofs.Recalling.{came-micro, came-unanswered, came-waiting, counted-then, event-leads, full-over, full-remembers}
+use Rattle.machine.proofs.Recalling.{notable, noted-acts, noted-answers, noted-finds, noted-history, noted-image, noted-machine, noted-others}
+use Rattle.machine.proofs.Recalling.{noted-sink, others-left}
 use Rattle.machine.proofs.Recalling.{room-of}
 use Rattle.machine.proofs.running.event.Goals as goal
 
 pub returns-then-is_full-clause-leads : goal.returns-then-is_full-clause-leads
 returns-then-is_full-clause-leads g c o first es threads fs next =
     full-over c.laws.ensures o first (g.C.Types.facts c.args.set.now) c.args.heap.now es threads c.args.t fs
-    c.args.request next.due (c.is_full.ensures.full.0 c.if-is_full.true)
+    c.args.request.now next.due (c.is_full.ensures.full.0 c.if-is_full.true)
 
 pub returns-then-is_full-clause-remembers : goal.returns-then-is_full-clause-remembers
-returns-then-is_full-clause-remembers g c = full-remembers c.args.heap.now c.args.t c.args.request
+returns-then-is_full-clause-remembers g c = full-remembers c.args.heap.now c.args.t c.args.request.now
+
+pub returns-then-is_full-clause-either : goal.returns-then-is_full-clause-either
+returns-then-is_full-clause-either g c = inr refl
 
 pub attempt-came-requires-clause-due : goal.attempt-came-requires-clause-due
 attempt-came-requires-clause-due g c =
@@ -26,7 +31,7 @@ pub remember-requires-clause-notable : goal.remember-requires-clause-notable
 remember-requires-clause-notable g c w is sixty_four =
     let (o, first, es, threads, fs, next) = c.requires.next in
     notable c.laws.ensures o first (g.C.Types.facts c.args.set.now) c.args.heap.now c.attempt-came.new.heap es threads
-    c.args.t fs c.args.request c.attempt-came.result next (c.attempt-came.ensures.serves.comes o first es threads fs next.due) w is
+    c.args.t fs c.args.request.now c.attempt-came.result next (c.attempt-came.ensures.serves.comes o first es threads fs next.due) w is
     sixty_four
 
 pub remember-requires-clause-counted : goal.remember-requires-clause-counted
@@ -45,7 +50,7 @@ returns g c =
     let mid = c.attempt-came.new.heap in
     let new = c.remember.new.heap in
     let t = c.args.t in
-    let request = c.args.request in
+    let request = c.args.request.now in
     let came = c.attempt-came.result in
     let result = c.remember.result in
     let serves = c.attempt-came.ensures.serves in
@@ -62,11 +67,18 @@ returns g c =
           (serves.comes o first es threads fs next.due) notes).0;
       remembers = (event-leads c.laws.ensures o first set s mid new es threads t fs request came result next
           (few c.laws.ensures o first set s es threads t fs request next.due room) comes notes).1;
+      finds = λ o first es threads fs next. noted-finds set t request came result mid new notes (logs_word s.machine t)
+          (plain_waits o s.machine t) (serves.comes o first es threads fs next.due).finds;
+      others = noted-others set t request came result mid new notes s.machine
+          (others-left o first s mid es threads t fs request came comes);
       acts = noted-acts set t request came result mid new notes s.history.acts comes.acts;
       told = subst (λ (h : History). TakesOutput s.history.acts h.acts (g.S.Sink.taken c.args.sink.now)
           (g.S.Sink.taken c.attempt-came.new.sink)) (sym history) serves.told;
       share = λ act is. serves.share act (sym acts ∙ is);
-      sink = λ micro. c.attempt-came.ensures.sink (came-micro set t request came result mid new notes micro);
+      sink = λ un. c.attempt-came.ensures.sink (came-unanswered set t request came result mid new notes un);
+      silent = c.attempt-came.ensures.silent;
+      either = subst (λ (m : Machine). SameImage (memory_of s.machine) (memory_of m)
+          ⊎ (c.attempt-came.new.sink ≡ c.args.sink.now)) (sym machine) c.attempt-came.ensures.either;
       sink_cause = noted-sink set t request came result mid new notes (g.S.Sink.faults c.args.sink.now)
           (g.S.Sink.faults c.attempt-came.new.sink) serves.cause;
       image_cause = noted-image set t request came result mid new notes (memory_of s.machine).faults comes.cause;

@@ -1,4 +1,4 @@
-use Rattle.std.proofs.Common.{sym, ◌∙◌}
+use Rattle.std.proofs.Common.{inr, refl, sym, ◌∙◌}
 use Rattle.machine.proofs.Answering.{comes-serves}
 use Rattle.machine.proofs.Given.{end-asked}
 use Rattle.machine.proofs.running.go_on.Goals as goal
@@ -14,3 +14,6 @@ end-requires-clause-is_end g c =
     let (o, first, es, threads, fs, due) = c.requires.due in
     end-asked o first (g.C.Types.facts c.args.set.now) c.args.heap.now es threads c.args.t fs c.args.request.now due
     (sym c.is_ending.ensures ∙ c.if-is_ending.true)
+
+pub returns-then-is_logging-clause-either : goal.returns-then-is_logging-clause-either
+returns-then-is_logging-clause-either g c = inr refl

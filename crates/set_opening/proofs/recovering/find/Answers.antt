@@ -1,4 +1,3 @@
-use Rattle.line_image.specs.Told.{Told}
 use Rattle.set_opening.proofs.Recovered.{failed_so, is_found, unfound}
 use Rattle.set_opening.proofs.recovering.find.Goals as goal
 

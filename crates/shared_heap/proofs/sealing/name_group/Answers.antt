@@ -1,6 +1,6 @@
 use Rattle.std.proofs.Common.{◌≡◌, ◌<◌, [], ◌∙◌, ap, sym, arith}
 use Rattle.convert_words.specs.Scenes.{Scene, scene}
-use Rattle.machine_forms.specs.Naming.{names_below}
+use Rattle.store_barrier.specs.Passed.{names_below}
 use Rattle.shared_heap.specs.Conversions.{with_names}
 use Rattle.shared_heap.proofs.Naming.{group_left, group_next, with_none}
 use Rattle.shared_heap.proofs.sealing.name_group.Goals as goal

@@ -1,6 +1,6 @@
 use Rattle.std.proofs.Common.{◌≡◌, []}
 use Rattle.convert_words.specs.Scenes.{scene}
-use Rattle.machine_forms.specs.Naming.{names_below}
+use Rattle.store_barrier.specs.Passed.{names_below}
 use Rattle.shared_heap.specs.Conversions.{with_names}
 use Rattle.shared_heap.proofs.sealing.name_group.Given as goal
 

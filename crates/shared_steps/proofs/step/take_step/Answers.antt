@@ -1,4 +1,4 @@
-use Rattle.std.proofs.Common.{rules, refl, ap, ◌∙◌, [], w32}
+use Rattle.std.proofs.Common.{rules, refl, ap, ◌∙◌, [], subst, w32}
 use Rattle.std.proofs.lemmas.Int.{to_z-of_z}
 use Rattle.std.proofs.lemmas.Option.{slice_get_within}
 use Rattle.natives.specs.declared.requests.Request.TheVariants as ask
@@ -8,6 +8,7 @@ use Rattle.step_forms.proofs.Going.{asked, same_goes}
 use Rattle.step_forms.proofs.Becoming.{quiet_becomes}
 use Rattle.shared_steps.proofs.Asking.{asks_is, class_there, field_there, held_kind, broken_goes, step_raise, quiet_output}
 use Rattle.shared_steps.proofs.Asking.{quiet_faults, output_is, faults_are, share_is, given_none, given_some, may_is}
+use Rattle.shared_steps.specs.Output.{IsSilent}
 use Rattle.shared_steps.proofs.step.take_step.Goals as goal
 
 pub returns-in-Pause-clause-step : goal.returns-in-Pause-clause-step
@@ -802,6 +803,9 @@ returns-in-InitDone-clause-share g c = share_is _ _ _ _ c.in-InitDone.is tt
 pub returns-in-InitDone-clause-heap : goal.returns-in-InitDone-clause-heap
 returns-in-InitDone-clause-heap g c = quiet_becomes g.O.Objects.shown g.O.Objects.stores g.O.Objects.makes
     c.args.objects.now c.init_done.result c.init_done.ensures.quiet
+
+pub returns-in-Print-clause-silent : goal.returns-in-Print-clause-silent
+returns-in-Print-clause-silent g c silent = absurd (subst IsSilent c.in-Print.is silent)
 
 pub returns-in-Print-clause-share : goal.returns-in-Print-clause-share
 returns-in-Print-clause-share g c = share_is _ _ _ _ c.in-Print.is c.print.ensures.share

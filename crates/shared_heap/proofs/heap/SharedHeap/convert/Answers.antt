@@ -3,7 +3,7 @@ use Rattle.std.proofs.lemmas.Bool.{both_ways}
 use Rattle.convert_queue.specs.Queues.{AllSettled, IsSettled}
 use Rattle.convert_queue.specs.Threads.{IsGroupOf}
 use Rattle.convert_words.specs.Converting.{WaitsFor}
-use Rattle.machine_forms.specs.Machines.{memory_of, scene_of}
+use Rattle.store_barrier.specs.Passed.{memory_of, scene_of}
 use Rattle.shared_heap.specs.declared.conversions.Conversion.TheVariants as did
 use Rattle.shared_heap.specs.Shared.{Shared}
 use Rattle.shared_heap.proofs.Converting.{cause_same, goes_all, waits_settled}

@@ -1,7 +1,7 @@
 use Rattle.std.proofs.Common.{refl, sym, subst, arith}
 use Rattle.region_log.specs.Kept.{KeepsLog}
 use Rattle.region_log.specs.Stages.{CanEnd}
-use Rattle.machine_forms.specs.Machines.{log_of, memory_of}
+use Rattle.store_barrier.specs.Passed.{log_of, memory_of}
 use Rattle.store_barrier.specs.Regions.{log_in}
 use Rattle.shared_heap.specs.Shared.{Shared}
 use Rattle.shared_heap.proofs.Logging.{same_set}

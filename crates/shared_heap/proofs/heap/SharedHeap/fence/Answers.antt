@@ -1,6 +1,6 @@
 use Rattle.std.proofs.Common.{◌≡◌, ◌≤◌, refl, sym, subst, arith}
-use Rattle.machine_forms.specs.declared.doing.Doing.TheVariants.{Fencing}
-use Rattle.machine_forms.specs.Machines.{doing_of, memory_of}
+use Rattle.store_barrier.specs.Passed.{Fencing}
+use Rattle.store_barrier.specs.Passed.{doing_of, memory_of}
 use Rattle.shared_heap.specs.Shared.{Shared, Failed}
 use Rattle.shared_heap.proofs.Calling.{fence_act, failed_call, failed_from, fenced_call, fences_from, told_by, on_err}
 use Rattle.shared_heap.proofs.heap.SharedHeap.fence.Goals as goal

@@ -5,7 +5,7 @@ use Rattle.twin_forms.specs.Sights.{Twin}
 use Rattle.convert_queue.specs.Queues.{AllSettled, total}
 use Rattle.convert_queue.specs.Threads.{IsGroupOf}
 use Rattle.converter.specs.Stepping.{keys_of}
-use Rattle.machine_forms.specs.Machines.{Machine, memory_of}
+use Rattle.store_barrier.specs.Passed.{Machine, memory_of}
 use Rattle.shared_heap.specs.Conversions.{with_names}
 use Rattle.shared_heap.specs.Shared.{Shared}
 use Rattle.shared_heap.proofs.Converting.{joins_from, some_scene}

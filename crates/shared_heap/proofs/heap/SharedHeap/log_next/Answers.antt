@@ -1,6 +1,6 @@
 use Rattle.std.proofs.Common.{◌≡◌, true, refl, sym, subst, arith}
 use Rattle.region_log.specs.Guarding.{is_adding}
-use Rattle.machine_forms.specs.Machines.{log_of}
+use Rattle.store_barrier.specs.Passed.{log_of}
 use Rattle.store_barrier.specs.Regions.{log_in}
 use Rattle.shared_heap.specs.Shared.{Shared}
 use Rattle.shared_heap.proofs.Logging.{same_set}

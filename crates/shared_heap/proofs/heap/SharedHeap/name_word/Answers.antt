@@ -2,7 +2,7 @@ use Rattle.std.proofs.Common.{ℕ, sym, subst, arith}
 use Rattle.region_events.specs.Laws.{with_entry}
 use Rattle.region_log.specs.Guarding.{IsGuarded}
 use Rattle.region_log.specs.Log.{entry_of}
-use Rattle.machine_forms.specs.Machines.{log_of}
+use Rattle.store_barrier.specs.Passed.{log_of}
 use Rattle.shared_heap.specs.Shared.{Shared}
 use Rattle.shared_heap.proofs.Logging.{logs_become, same_set}
 use Rattle.shared_heap.proofs.heap.SharedHeap.name_word.Goals as goal

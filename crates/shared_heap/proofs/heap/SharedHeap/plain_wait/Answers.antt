@@ -9,7 +9,7 @@ use Rattle.shared_objects.specs.Plain.{plain_request}
 use Rattle.shared_objects.specs.Worlds.{world_of}
 use Rattle.step_forms.specs.Follows.{Agrees}
 use Rattle.two_spaces.specs.Seen.{shown_of}
-use Rattle.machine_forms.specs.Machines.{shown_in}
+use Rattle.store_barrier.specs.Passed.{shown_in}
 use Rattle.store_barrier.specs.Barriers.{spaces_of}
 use Rattle.shared_heap.specs.Notes.{asked_by}
 use Rattle.shared_heap.specs.Shared.{Shared}

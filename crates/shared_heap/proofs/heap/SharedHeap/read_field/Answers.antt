@@ -6,7 +6,7 @@ use Rattle.run_history.specs.declared.act.Op.TheVariants as op
 use Rattle.monitors.specs.Indexed.{AreSound}
 use Rattle.step_forms.specs.declared.stepped.Stepped.TheVariants as stepped
 use Rattle.step_forms.specs.Follows.{Agrees}
-use Rattle.machine_forms.specs.Machines.{shown_in}
+use Rattle.store_barrier.specs.Passed.{shown_in}
 use Rattle.store_barrier.specs.Barriers.{spaces_of}
 use Rattle.shared_heap.specs.Shared.{Shared}
 use Rattle.shared_heap.proofs.Requesting.{asks_from, steps_to, told_after}

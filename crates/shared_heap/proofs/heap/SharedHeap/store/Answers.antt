@@ -1,6 +1,6 @@
 use Rattle.std.proofs.Common.{sym, subst}
 use Rattle.shared_objects.specs.Worlds.{KnowsMonitors}
-use Rattle.machine_forms.specs.Machines.{shown_in}
+use Rattle.store_barrier.specs.Passed.{shown_in}
 use Rattle.store_barrier.specs.Barriers.{MayFollow, spaces_of}
 use Rattle.shared_heap.specs.Shared.{Shared}
 use Rattle.shared_heap.proofs.Requesting.{stores_to}

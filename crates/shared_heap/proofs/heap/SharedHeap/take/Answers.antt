@@ -2,7 +2,7 @@ use Rattle.std.proofs.Common.{sym, subst}
 use Rattle.monitors.specs.Indexed.{AreSound}
 use Rattle.step_forms.specs.Follows.{Agrees}
 use Rattle.two_spaces.specs.Seen.{shown_of}
-use Rattle.machine_forms.specs.Machines.{shown_in}
+use Rattle.store_barrier.specs.Passed.{shown_in}
 use Rattle.store_barrier.specs.Barriers.{spaces_of}
 use Rattle.shared_heap.specs.Shared.{Shared}
 use Rattle.shared_heap.proofs.Requesting.{asks_from, becomes_of, steps_to, told_after}

@@ -1,6 +1,6 @@
 use Rattle.std.proofs.Common.{◌≡◌, ◌<◌, ◌≤◌, sym, subst, arith}
-use Rattle.machine_forms.specs.declared.doing.Doing.TheVariants.{Writing}
-use Rattle.machine_forms.specs.Machines.{doing_of, memory_of}
+use Rattle.store_barrier.specs.Passed.{Writing}
+use Rattle.store_barrier.specs.Passed.{doing_of, memory_of}
 use Rattle.shared_heap.specs.Shared.{Shared, Failed}
 use Rattle.shared_heap.proofs.Calling.{failed_call, failed_from, written_call, writes_from, on_err}
 use Rattle.shared_heap.proofs.heap.SharedHeap.write_back.Goals as goal

@@ -1,0 +1,118 @@
+-- A run of a class set over an image that suits it, where nothing outside fails and no limit is met.
+use Rattle.std.proofs.Common.{◌≡◌, ◌⊎◌, inl, inr, ℕ, List, [], Err, refl, sym, ◌∙◌, subst}
+use Rattle.graph_model.specs.declared.types.Graph.{Graph}
+use Rattle.image_layout.specs.declared.superblock.BadReason.{BadReason}
+use Rattle.image_meaning.specs.Checks.{Words}
+use Rattle.image_meaning.specs.Meaning.{meaning}
+use Rattle.image_recovery.specs.Recovered.{entries_in}
+use Rattle.line_image.specs.Told.{Told}
+use Rattle.line_memory.specs.Memory.{shown}
+use Rattle.run_history.specs.Recorded.{Recorded}
+use Rattle.run_types.specs.declared.fault.Full.{Full}
+use Rattle.run_types.specs.declared.fault.RunFault.{RunFault}
+use Rattle.run_types.specs.declared.fault.RunFault.TheVariants as fault
+use Rattle.run_types.specs.declared.limits.Limits.{Limits}
+use Rattle.plain_model.specs.Ends.{Ending, Fault, Finished, Uncaught}
+use Rattle.class_set.specs.Linked.{Linked}
+use Rattle.durable_launch.specs.Passed.{AreRead, IsAttachFault, IsRecoveryFault, IsUnfit, IsUnopened, Unopened}
+use Rattle.durable_launch.specs.Unopenings as unopened
+use Rattle.statuses.specs.Names.{fault_status}
+use Rattle.statuses.specs.declared.status.Status.{Status}
+use Rattle.statuses.specs.declared.status.Status.TheVariants as status
+use Rattle.class_runs.specs.Again.{IsLeftBy}
+use Rattle.class_runs.specs.Complete.{Admits, EndsComplete, IsOfPlainRun, StandsForSome}
+use Rattle.class_runs.specs.Sets.{CannotBegin, HasEndedSo, SetEnds, status_of_ending, status_of_unopened}
+use Rattle.class_runs.proofs.Again.{not_bad_so}
+use Rattle.class_runs.proofs.Reading.{not_both, one_read, stands_alike}
+
+-- ---- how a run ends that nothing outside and no limit ended
+
+plain_fault : (set : Linked) (f : RunFault) → (fault_status set f ≡ status.ImageFault → ⊥) → (fault_status set f ≡ status.SinkFault → ⊥)
+    → ((full : Full) → fault_status set f ≡ status.Full full → ⊥) → IsOfPlainRun (fault_status set f)
+plain_fault set (fault.BadCode at) image sink room = tt
+plain_fault set (fault.RegionRace thread other place) image sink room = tt
+plain_fault set (fault.Full full) image sink room = absurd (room full refl)
+plain_fault set fault.SinkFault image sink room = absurd (sink refl)
+plain_fault set fault.ImageFault image sink room = absurd (image refl)
+plain_fault set (fault.Stuck waits) image sink room = tt
+plain_fault set (fault.LinkFault kind class index) image sink room = tt
+
+plain_ending : (set : Linked) (ending : Ending) → (status_of_ending set ending ≡ status.ImageFault → ⊥)
+    → (status_of_ending set ending ≡ status.SinkFault → ⊥) → ((full : Full) → status_of_ending set ending ≡ status.Full full → ⊥)
+    → IsOfPlainRun (status_of_ending set ending)
+plain_ending set (Fault f) image sink room = plain_fault set f image sink room
+plain_ending set (Uncaught t class) image sink room = tt
+plain_ending set Finished image sink room = tt
+
+-- ---- an image that suits a set isn't refused for it
+
+module _ (set : Linked) (start : Told) (admits : Admits set start) where
+  as_it_stands : IsLeftBy start admits.some.words start
+  as_it_stands = record { size = refl; telling = admits.some.telling; read = admits.some.read }
+
+  not_bad : (line : ℕ) (reason : BadReason) (now : Linked) (after : Told)
+      → IsUnopened start after set now (unopened.BadImage line reason) → ⊥
+  not_bad line reason now after is =
+      not_bad_so start admits.some.words start as_it_stands admits.some.graph admits.some.stands line reason set now after is
+
+  not_changed : (name : List ℕ) (now : Linked) (after : Told) → IsUnopened start after set now (unopened.ShapeChanged name) → ⊥
+  not_changed name now after (inl (unattached, same)) =
+      let cause : IsAttachFault start (unopened.ShapeChanged name) = unattached.cause in absurd cause
+  not_changed name now after (inr (inl (unrecovered, same))) =
+      let cause : IsRecoveryFault unrecovered.before unrecovered.memory (unopened.ShapeChanged name) = unrecovered.cause in absurd cause
+  not_changed name now after (inr (inr unprepared)) =
+      let cause : IsUnfit set now unprepared.directory (unopened.ShapeChanged name) = unprepared.cause in
+      let found = unprepared.left.found in
+      let first = cause.0.first in
+      first.other (admits.agree (shown unprepared.left.before) (entries_in unprepared.directory) found.attached.shows found.found_is
+      cause.0.at first.there)
+
+-- what reads give of an image that stands for a graph fails no check
+pub some_not_bad : (image : Told) → StandsForSome image → (line : ℕ) (reason : BadReason) (words : Words) → AreRead image words
+    → meaning image.size words ≡ Err (line, reason) → ⊥
+some_not_bad image some line reason words read fails =
+    not_both (meaning image.size words) some.graph (line, reason)
+    (stands_alike image.size some.words words some.graph some.stands (λ l w below.
+    one_read image.trace some.telling l w (some.words l w) (words l w) (some.read l w below) (read l w below)))
+    fails
+
+-- ---- what the run comes to
+
+module _ (set : Linked) (name : List ℕ) (limits : Limits) (start : Told) (opening : Graph) (acts : List Recorded) (after : Told)
+    (how : Status) (admits : Admits set start) (image : how ≡ status.ImageFault → ⊥) (sink : how ≡ status.SinkFault → ⊥)
+    (room : (full : Full) → how ≡ status.Full full → ⊥) where
+  abbrev Complete : Type 0
+  Complete = EndsComplete set name limits start opening acts how ⊎ (how ≡ status.OutOfMemory)
+
+  cannot_open : (why : Unopened) (now : Linked) → how ≡ status_of_unopened why → IsUnopened start after set now why → Complete
+  cannot_open (unopened.BadImage line reason) now is cannot = absurd (not_bad set start admits line reason now after cannot)
+  cannot_open (unopened.ShapeChanged shape) now is cannot = absurd (not_changed set start admits shape now after cannot)
+  cannot_open (unopened.Full full) now is cannot = absurd (room full is)
+  cannot_open unopened.ImageFailed now is cannot = absurd (image is)
+  cannot_open unopened.OutOfMemory now is cannot = inr is
+
+  unbegun : acts ≡ [] → CannotBegin set name limits start after how → Complete
+  unbegun none begins = elim begins.cause [
+    | inl lacks ↦ absurd (room lacks.full lacks.is)
+    | inr rest ↦ elim rest [
+      | inl missing ↦ inl (inl (none, begins.numbered, missing))
+      | inr memory ↦ inr memory
+    ]
+  ]
+
+  ended : HasEndedSo set name limits start opening acts how → Complete
+  ended ran =
+      let is = ran.ends.is in
+      let ending = ran.ends.ending in
+      inl (inr (
+        ran,
+        subst IsOfPlainRun (sym is)
+            (plain_ending ran.of.numbered ending (λ e. image (is ∙ e)) (λ e. sink (is ∙ e)) (λ full e. room full (is ∙ e))),
+      ))
+
+  pub ends_complete : SetEnds set name limits start opening acts after how → Complete
+  ends_complete (inl (none, inl cannot)) = cannot_open cannot.why cannot.numbered cannot.is cannot.unopened
+  ends_complete (inl (none, inr (inl begins))) = unbegun none begins
+  ends_complete (inl (none, inr (inr (inl appends)))) = absurd (image appends.is)
+  ends_complete (inl (none, inr (inr (inr lacks)))) = inr lacks.is
+  ends_complete (inr ran) = ended ran

@@ -1,0 +1,301 @@
+-- What is recovered of what a stop of a run left.
+use Rattle.std.proofs.Common.{◌≡◌, ◌⊎◌, inl, inr, ⊎_elim, ℕ, ◌+◌, ◌-◌, ◌^◌, ◌<◌, ◌≤◌, List, [], ◌++◌, Option, Some, Result, Ok, Err}
+use Rattle.std.proofs.Common.{refl, sym, ap, ◌∙◌, subst, arith, take, slice_index, get_or}
+use Rattle.std.specs.Prelude.{◌≢◌, IfOk, IfErr}
+use Rattle.std.proofs.lemmas.List.{append-nil}
+use Rattle.ap_base.specs.Sinks.{with_bytes}
+use Rattle.ap_base.specs.declared.source.NamedBytes.{NamedBytes}
+use Rattle.graph_model.specs.declared.types.Graph.{Graph}
+use Rattle.line_image.specs.Crash.{first_word}
+use Rattle.line_image.specs.Memory.{told_of, trace_of}
+use Rattle.line_image.specs.Told.{Told}
+use Rattle.line_image.specs.declared.effect.Effect.{Effect}
+use Rattle.line_image.specs.declared.memory.MemoryImage.{MemoryImage}
+use Rattle.line_image.specs.Trace.{IsAllFenced, LeavesNow, LeftWithin, Outcome, newest, versions_from}
+use Rattle.line_memory.specs.Memory.{IsTelling, Memory, shown}
+use Rattle.image_meaning.specs.Appending.{with_all_too}
+use Rattle.image_meaning.specs.Checks.{Words}
+use Rattle.image_meaning.specs.Meaning.{StandsFor, meaning}
+use Rattle.image_opening.specs.Attached.{IsAttached}
+use Rattle.image_opening.specs.Unopened.{IsBadThere}
+use Rattle.image_opening.specs.declared.not_opened.NotOpened.{NotOpened}
+use Rattle.image_opening.specs.declared.not_opened.NotOpened.TheVariants.{BadImage, ImageFailed, OutOfMemory}
+use Rattle.run_history.specs.Kept.{IsAllowedFrom, acts_before}
+use Rattle.run_history.specs.Recorded.{Recorded}
+use Rattle.plain_model.specs.First.{first_known}
+use Rattle.plain_model.specs.Runs.{output_of}
+use Rattle.command_words.specs.declared.command.Command.{Command}
+use Rattle.command_words.specs.declared.command.Run.{Run as RunWords}
+use Rattle.autopersist.specs.Asked.{of_top}
+use Rattle.autopersist.specs.Meets.{Does, IsIdle, Meets}
+use Rattle.autopersist.specs.Outside.{Outside}
+use Rattle.autopersist.specs.Passed as top
+use Rattle.autopersist.specs.Passed.{AreRead, Choice, ComesTo, OfChoice, RunsAs, StandsAllowed, StandsAsBefore, StandsRightly, StandsWithNew}
+use Rattle.autopersist.specs.Passed.{Status, facts_of, lacking, over}
+use Rattle.autopersist.specs.Runs.{RunsClass}
+use Rattle.autopersist.proofs.Passed.{come_so, fenced_as_read, not_both, one_read, same_graph, stands_alike}
+use Rattle.reopened_runs.specs.Left.{AreAsked, AsksRun, IsNoBadImage, IsSomeLeft, RecoversAllowed, RecoversAsBefore, Recovers}
+
+-- ---- words that reads give
+
+module _ (start : Told) (telling : IsTelling start.trace) where
+  -- what a stop leaves of an image with nothing unfenced is what reads give
+  pub fenced_stands : IsAllFenced start.trace → (prior : Graph) → IsSomeLeft start prior → (c : Outcome) → LeavesNow start.trace c
+      → StandsFor start.size c prior
+  fenced_stands fenced prior (words, read, stands) c left =
+      stands_alike start.size words c prior stands (λ l w below.
+      fenced_as_read start.trace telling fenced c left l w (words l w) (read l w below))
+
+  -- reads give one graph
+  pub read_stands : (prior : Graph) → IsSomeLeft start prior → (words : Words) → AreRead start words → StandsFor start.size words prior
+  read_stands prior (seen, read, stands) words other =
+      stands_alike start.size seen words prior stands (λ l w below.
+      one_read start.trace telling l w (seen l w) (words l w) (read l w below) (other l w below))
+
+-- ---- an image that a stop left
+
+-- it gives the words that it was made of
+pub fresh_reads : (image : MemoryImage) → (trace_of image).done ≡ [] → AreRead (told_of image) (first_word (trace_of image))
+fresh_reads image none l w below =
+    ap (λ (done : List Effect). slice_index (newest (versions_from (get_or (trace_of image).first l []) done l)) w) (sym none)
+
+module _ (start : Told) (telling : IsTelling start.trace) (words : Words) (read : AreRead start words) (graph : Graph)
+    (stands : StandsFor start.size words graph) where
+  pub attached_stands : (before : Memory) → IsAttached start before → StandsFor before.size (shown before) graph
+  attached_stands before at =
+      subst (λ n. StandsFor n (shown before) graph) (sym at.size)
+      (stands_alike start.size words (shown before) graph stands (λ l w below.
+      one_read start.trace telling l w (words l w) (shown before l w) (read l w below) (at.shows l w below)))
+
+  pub not_bad : (why : NotOpened) → IsBadThere start why → IsNoBadImage why
+  not_bad (BadImage line reason) bad =
+      not_both (meaning start.size bad.words) graph (line, reason)
+      (stands_alike start.size words bad.words graph stands (λ l w below.
+      one_read start.trace telling l w (words l w) (bad.words l w) (read l w below) (bad.read l w below)))
+      bad.fails
+  not_bad ImageFailed bad = tt
+  not_bad OutOfMemory bad = tt
+
+-- what is found has what that graph has
+if_found : (r : Result Graph NotOpened) (graph : Graph) (P : Graph → Type 0) → IfOk r (λ found. found ≡ graph) → P graph → IfOk r P
+if_found (Ok found) graph P is has = subst P (sym is) has
+if_found (Err why) graph P is has = tt
+
+abbrev some_bytes : List ℕ → Option (List ℕ)
+some_bytes bytes = Some bytes
+
+same_bytes : (a b : List ℕ) → some_bytes a ≡ some_bytes b → a ≡ b
+same_bytes a b is = cc
+
+-- there was no memory for what the stop left
+pub recovers_nothing : (words : List (List ℕ)) (files : List NamedBytes) (start : Told) (opening : Graph) (all acts : List Recorded)
+    → Recovers words files start opening all acts (Err OutOfMemory)
+recovers_nothing words files start opening all acts = record {
+  allowed = λ run asked some. tt;
+  opens = λ run asked some. tt;
+  as_before = λ run asked fenced empty prior stood. tt;
+  opens_still = λ run asked fenced prior stood. tt;
+}
+
+-- ---- a run that the words ask for
+
+module _ (words : List (List ℕ)) (before after : Outside) (SameSource SameImage : Type 0) (how : Status) (opening : Graph)
+    (all : List Recorded) (meets : Meets words before after SameSource SameImage how opening all) where
+  abbrev Idle : Type 0
+  Idle = (how ≡ top.OutOfMemory) × IsIdle before after SameSource SameImage all
+
+  module _ (run : RunWords) (asked : AsksRun words run) where
+    pub done : RunsClass run before after SameImage how opening all ⊎ Idle
+    done = subst (λ (o : Option Command). Does (of_top o) before after SameSource SameImage how opening all ⊎ Idle) asked meets.does
+
+    abbrev pub Ran : Type 0
+    Ran = OfChoice (ComesTo run.main before.left) (RunsAs run.limits (over before.image opening all after.image) how)
+
+    -- it ran over the image, or the image is as it was and there are no acts
+    pub ran_or_same : Ran ⊎ (SameImage × (all ≡ []))
+    ran_or_same = ⊎_elim
+        (λ runs. ⊎_elim (λ same. inr same) (λ of. inl of) runs.runs.theorem)
+        (λ idle. inr (idle.1.unopened, idle.1.unrun))
+        done
+
+    pub ran : all ≢ [] → Ran
+    ran some = ⊎_elim (λ of. of) (λ same. absurd (some same.1)) ran_or_same
+
+    -- the sink took the output of the acts behind what it had
+    pub printed_so : (taken taken' : List ℕ) → before.taken ≡ Some taken → after.taken ≡ Some taken' → taken' ≡ taken ++ output_of all
+    printed_so taken taken' was is = ⊎_elim
+        (λ runs. same_bytes taken' (taken ++ output_of all)
+        (sym is ∙ runs.runs.printed ∙ ap (λ (bytes : Option (List ℕ)). with_bytes bytes (output_of all)) was))
+        (λ idle.
+        same_bytes taken' taken (sym is ∙ idle.1.nothing ∙ was)
+        ∙ sym (append-nil taken)
+        ∙ ap (λ (made : List Recorded). taken ++ output_of made) (sym idle.1.unrun))
+        done
+
+    pub given : (files : List NamedBytes) → before.left ≡ Some files → (choice : Choice) → ComesTo run.main before.left (Ok choice)
+        → AreAsked run files (Ok choice)
+    given files told choice comes = come_so run.main before.left files told (Ok choice) comes
+
+  -- ---- behind these of its acts
+
+  module _ (files : List NamedBytes) (told : before.left ≡ Some files) (acts : List Recorded) (none : all ≡ [] → acts ≡ []) (c : Outcome)
+    where
+      abbrev Rightly : Choice → Type 0
+      Rightly choice = (seen : Words) × AreRead before.image seen × StandsRightly choice.set before.image opening all acts seen c
+
+      module _ (run : RunWords) (asked : AsksRun words run) where
+        -- what a stop left stands for a graph that the acts allow
+        pub allowed_graph : (of : Ran run asked) → StandsAllowed of.choice.set before.image opening all acts c → (graph : Graph)
+            → StandsFor before.image.size c graph → RecoversAllowed (AreAsked run files) before.image opening all acts graph
+        allowed_graph of allowed graph stands = record {
+          choice = of.choice;
+          given = given run asked files told of.choice of.given;
+          holds = record {
+            first = allowed.graph;
+            of = allowed.of;
+            from = allowed.from;
+            allowed = subst (λ (g : Graph). IsAllowedFrom (first_known (facts_of allowed.of.numbered) allowed.graph) acts g)
+                (same_graph (meaning before.image.size c) allowed.allowed.graph graph allowed.allowed.stands stands)
+                allowed.allowed.allowed;
+          };
+        }
+
+        -- behind an act
+        module _ (some : acts ≢ []) (rightly : (of : Ran run asked) → Rightly of.choice) where
+          behind : Ran run asked
+          behind = ran run asked (λ empty. some (none empty))
+
+          allowed_there : StandsAllowed behind.choice.set before.image opening all acts c
+          allowed_there = ⊎_elim
+              (λ (so : StandsAllowed behind.choice.set before.image opening all acts c). so)
+              (λ early. absurd (some early.0))
+              (rightly behind).2
+
+          pub allowed_stands : (graph : Graph) × StandsFor before.image.size c graph
+          allowed_stands = (allowed_there.allowed.graph, allowed_there.allowed.stands)
+
+          pub allowed : (graph : Graph) → StandsFor before.image.size c graph
+              → RecoversAllowed (AreAsked run files) before.image opening all acts graph
+          allowed graph stands = allowed_graph behind allowed_there graph stands
+
+        -- before any
+        module _ (telling : IsTelling before.image.trace) (rightly : (of : Ran run asked) → Rightly of.choice) (prior : Graph)
+            (stood : IsSomeLeft before.image prior) (unchanged : SameImage → StandsFor before.image.size c prior) where
+          abbrev New : Graph → Type 0
+          New graph = RecoversAsBefore (AreAsked run files) before.image prior graph
+
+          of_new : (of : Ran run asked) (seen : Words) → AreRead before.image seen
+              → StandsAsBefore of.choice.set before.image.size seen c → (graph : Graph) → StandsFor before.image.size c graph → New graph
+          of_new of seen read as_before graph stands = ⊎_elim
+              (λ (still : StandsFor before.image.size c prior).
+              inl (same_graph (meaning before.image.size c) graph prior stands still))
+              (λ (new : StandsWithNew of.choice.set before.image.size seen prior c). inr (record {
+                choice = of.choice;
+                given = given run asked files told of.choice of.given;
+                holds = record {
+                  words = seen;
+                  read = read;
+                  found = new.found;
+                  found_is = new.found_is;
+                  entries = new.entries;
+                  are_its = new.are_its;
+                  count = new.first.0;
+                  few = new.first.1;
+                  is = same_graph (meaning before.image.size c) graph
+                      (with_all_too prior (take new.first.0 (lacking new.found new.entries))) stands new.first.2;
+                };
+              }))
+              (as_before prior (read_stands before.image telling prior stood seen read))
+
+          pub as_before : acts ≡ [] → (graph : Graph) → StandsFor before.image.size c graph
+              → New graph ⊎ RecoversAllowed (AreAsked run files) before.image opening all [] graph
+          as_before empty graph stands = ⊎_elim
+              (λ (of : Ran run asked).
+              let is = rightly of in
+              ⊎_elim
+              (λ (so : StandsAllowed of.choice.set before.image opening all acts c). inr
+              (subst (λ (made : List Recorded). RecoversAllowed (AreAsked run files) before.image opening all made graph) empty
+              (allowed_graph of so graph stands)))
+              (λ early. inl (of_new of is.0 is.1 early.1 graph stands))
+              is.2)
+              (λ unrun. inl (inl (same_graph (meaning before.image.size c) graph prior stands (unchanged unrun.0))))
+              (ran_or_same run asked)
+
+          pub stands_still : (graph : Graph) × StandsFor before.image.size c graph
+          stands_still = ⊎_elim
+              (λ (of : Ran run asked).
+              let is = rightly of in
+              ⊎_elim
+              (λ (so : StandsAllowed of.choice.set before.image opening all acts c). (so.allowed.graph, so.allowed.stands))
+              (λ early. ⊎_elim
+              (λ (still : StandsFor before.image.size c prior). (prior, still))
+              (λ (new : StandsWithNew of.choice.set before.image.size is.0 prior c). (_, new.first.2))
+              (early.1 prior (read_stands before.image telling prior stood is.0 is.1)))
+              is.2)
+              (λ unrun. (prior, unchanged unrun.0))
+              (ran_or_same run asked)
+
+      -- what is found of it
+      module _ (telling : IsTelling before.image.trace) (found : Result Graph NotOpened)
+          (gives : (graph : Graph) → StandsFor before.image.size c graph → IfOk found (λ it. it ≡ graph))
+          (refused : (graph : Graph) → StandsFor before.image.size c graph → IfErr found IsNoBadImage)
+          (rightly : (run : RunWords) (asked : AsksRun words run) → (all ≡ [] → IsAllFenced before.image.trace)
+          → (of : Ran run asked) → Rightly of.choice)
+          (unchanged : SameImage → IsAllFenced before.image.trace → (prior : Graph) → IsSomeLeft before.image prior
+          → StandsFor before.image.size c prior) where
+        -- there are some, so there are some of all
+        of_some : acts ≢ [] → all ≡ [] → IsAllFenced before.image.trace
+        of_some some empty = absurd (some (none empty))
+
+        pub recovers : Recovers words files before.image opening all acts found
+        recovers = record {
+          allowed = λ run asked some.
+              let right = rightly run asked (of_some some) in
+              let is = allowed_stands run asked some right in
+              if_found found is.0 (RecoversAllowed (AreAsked run files) before.image opening all acts) (gives is.0 is.1)
+              (allowed run asked some right is.0 is.1);
+          opens = λ run asked some.
+              let is = allowed_stands run asked some (rightly run asked (of_some some)) in
+              refused is.0 is.1;
+          as_before = λ run asked fenced empty prior stood.
+              let right = rightly run asked (λ made. fenced) in
+              let same = λ (it : SameImage). unchanged it fenced prior stood in
+              let is = stands_still run asked telling right prior stood same in
+              if_found found is.0
+              (λ (graph : Graph). RecoversAsBefore (AreAsked run files) before.image prior graph
+              ⊎ RecoversAllowed (AreAsked run files) before.image opening all [] graph)
+              (gives is.0 is.1) (as_before run asked telling right prior stood same empty is.0 is.1);
+          opens_still = λ run asked fenced prior stood.
+              let is = stands_still run asked telling (rightly run asked (λ made. fenced)) prior stood
+              (λ it. unchanged it fenced prior stood) in
+              refused is.0 is.1;
+        }
+
+  -- ---- behind the last call, and within any
+
+  module _ (files : List NamedBytes) (told : before.left ≡ Some files) (telling : IsTelling before.image.trace)
+      (same : SameImage → after.image ≡ before.image) (c : Outcome) (found : Result Graph NotOpened)
+      (gives : (graph : Graph) → StandsFor before.image.size c graph → IfOk found (λ it. it ≡ graph))
+      (refused : (graph : Graph) → StandsFor before.image.size c graph → IfErr found IsNoBadImage) where
+    pub recovers_now : LeavesNow after.image.trace c → Recovers words files before.image opening all all found
+    recovers_now left =
+        recovers files told all (λ empty. empty) c telling found gives refused
+        (λ run asked fenced of.
+        let stops = of.holds.stops telling in (stops.words, stops.read, stops.now fenced c left))
+        (λ it fenced prior stood.
+        fenced_stands before.image telling fenced prior stood c
+        (subst (λ (t : Told). LeavesNow t.trace c) (same it) left))
+
+    none_of : (n : ℕ) → all ≡ [] → acts_before n all ≡ []
+    none_of n empty = subst (λ (made : List Recorded). acts_before n made ≡ []) (sym empty) refl
+
+    pub recovers_within : (n : ℕ) → 0 < n → before.image.calls + n ≤ after.image.calls → before.image.calls + n < 2 ^ 64 - 1
+        → LeftWithin after.image.trace (before.image.calls + n) c → (n ≤ before.image.size + 1 → IsAllFenced before.image.trace)
+        → Recovers words files before.image opening all (acts_before n all) found
+    recovers_within n some made counted left early =
+        recovers files told (acts_before n all) (none_of n) c telling found gives refused
+        (λ run asked fenced of.
+        let stops = of.holds.stops telling in
+        (stops.words, stops.read, stops.within n some made counted (λ at. ⊎_elim early fenced at) c left))
+        (λ it fenced prior stood.
+        absurd (let calls = ap (λ (t : Told). t.calls) (same it) in omega (arith, calls, some, made)))

@@ -1,0 +1,189 @@
+-- What a run under a lock knows, from its beginning on.
+use Rattle.std.proofs.Common.{◌≡◌, ℕ, length, true, false, List, Option, Some, None, refl, sym, subst, ◌∙◌, arith}
+use Rattle.std.specs.Prelude.{IfSome, is_some}
+use Rattle.ap_base.specs.declared.reference.Ref.{Ref}
+use Rattle.ap_base.specs.declared.reference.Item.{Item}
+use Rattle.run_types.specs.declared.fault.RunFault.{RunFault}
+use Rattle.natives.specs.declared.methods.Native.{Native}
+use Rattle.natives.specs.declared.states.NativeState.{NativeState}
+use Rattle.run_history.specs.Recorded.{Recorded}
+use Rattle.plain_model.specs.Facts.{SetFacts}
+use Rattle.frames.specs.Settings.{Setting}
+use Rattle.run_forms.specs.Views.{ThreadFrames}
+use Rattle.durable_run.specs.Passed.{Opening, memory_of}
+use Rattle.durable_run.specs.Passed.{Shared}
+use Rattle.durable_run.specs.Passed.{Halt}
+use Rattle.durable_run.specs.Passed.{Stuck}
+use Rattle.durable_run.specs.declared.runs.RunEnd.{RunEnd}
+use Rattle.durable_run.specs.declared.runs.RunEnd.TheVariants as ends
+use Rattle.durable_run.specs.declared.steps.Stepped.{Stepped}
+use Rattle.durable_run.specs.declared.steps.Stepped.TheVariants.{Acted, Micro, WouldWait, Over}
+use Rattle.durable_run.specs.Events.{StepsTo, fault_of}
+use Rattle.durable_run.specs.Telling.{HasTold, IsCaused}
+use Rattle.durable_run.specs.Turning.{EndsBy, IsReady, fault_in}
+use Rattle.workers.specs.Held.{Began, GoesOn, HasLeft, Held, Holds, IsOf, Knows, began, held}
+use Rattle.workers.proofs.Ending.{size-same, waits-long}
+use Rattle.workers.proofs.Telling.{caused-since, told-both, told-nothing}
+
+pub none-of : (over : Option RunFault) → is_some over ≡ false → over ≡ None
+none-of None is = refl
+none-of (Some f) is = absurd (let no : true ≡ false = is in cc)
+
+module _ (set : SetFacts) (x : Setting Native Ref (NativeState Ref) Item) where
+  pub starts : (entry : Option Began) (s : Shared) (frames : List ThreadFrames) (seen : Option (List Recorded))
+      (taken : Option (List ℕ)) (faults : ℕ) → entry ≡ Some (began set x s frames seen taken faults)
+      → ((o : Opening) × (first : ℕ) × IsReady o first set x s frames)
+      → Knows entry (held s frames seen taken faults None)
+  starts entry s frames seen taken faults is ready = (
+    began set x s frames seen taken faults,
+    is,
+    record {
+      some = ready;
+      goes = λ o first now. now;
+      told = told-nothing s.history.acts seen taken;
+      cause = (omega arith, omega arith);
+    },
+  )
+
+  goes-on : (o : Opening) (first t : ℕ) (went : Stepped) (old new : Shared) (frames : List ThreadFrames)
+      → StepsTo o first set x t went old new frames → GoesOn o first set x (fault_of new went) new frames
+  goes-on o first t Acted old new frames steps = steps
+  goes-on o first t Micro old new frames steps = steps
+  goes-on o first t (WouldWait on) old new frames steps = steps.0
+  goes-on o first t (Over halt) old new frames steps = (steps.0, (t, steps.1))
+
+  pub of-entry : (entry : Option Began) (e : Began) → entry ≡ Some e → IsOf set x entry → (set ≡ e.set) × (x ≡ e.setting)
+  of-entry entry e is same = subst (λ (b : Option Began). IsOf set x b) is same
+
+  -- An event of some opening may come, where the run isn't over.
+  pub ready-now : (entry : Option Began) (s : Shared) (frames : List ThreadFrames) (seen : Option (List Recorded))
+      (taken : Option (List ℕ)) (faults : ℕ) → Knows entry (held s frames seen taken faults None) → IsOf set x entry
+      → (o : Opening) × (first : ℕ) × IsReady o first set x s frames
+  ready-now entry s frames seen taken faults knows same =
+      let e = knows.0 in
+      let holds = knows.2 in
+      let is = of-entry entry e knows.1 same in
+      let o = holds.some.0 in
+      let first = holds.some.1 in (
+        o,
+        first,
+        subst (λ (y : Setting Native Ref (NativeState Ref) Item). IsReady o first set y s frames) (sym is.1)
+            (subst (λ (f : SetFacts). IsReady o first f e.setting s frames) (sym is.0)
+            (holds.goes o first holds.some.2)),
+      )
+
+  module _ (entry : Option Began) (t : ℕ) (went : Stepped) (old new : Shared) (before after : List ThreadFrames)
+      (seen seen' : Option (List Recorded)) (taken taken' : Option (List ℕ)) (faults faults' : ℕ) where
+    -- an event
+    pub steps-on : Knows entry (held old before seen taken faults None) → IsOf set x entry
+        → ((o : Opening) (first : ℕ) → IsReady o first set x old before → StepsTo o first set x t went old new after)
+        → HasTold old.history.acts new.history.acts seen seen' taken taken'
+        → IsCaused (fault_of new went) faults faults' (memory_of old.machine).faults (memory_of new.machine).faults
+        → Knows entry (held new after seen' taken' faults' (fault_of new went))
+    steps-on knows same steps told cause =
+        let e = knows.0 in
+        let holds = knows.2 in
+        let is = of-entry entry e knows.1 same in (
+          e,
+          knows.1,
+          record {
+            some = holds.some;
+            goes = λ (o : Opening) (first : ℕ) (was : IsReady o first e.set e.setting e.heap e.frames).
+                let ready : IsReady o first e.set e.setting old before = holds.goes o first was in
+                let mine : IsReady o first set x old before =
+                subst (λ (y : Setting Native Ref (NativeState Ref) Item). IsReady o first set y old before) (sym is.1)
+                (subst (λ (f : SetFacts). IsReady o first f e.setting old before) (sym is.0) ready) in
+                let now : GoesOn o first set x (fault_of new went) new after =
+                goes-on o first t went old new after (steps o first mine) in
+                subst (λ (y : Setting Native Ref (NativeState Ref) Item). GoesOn o first e.set y (fault_of new went) new after)
+                is.1 (subst (λ (f : SetFacts). GoesOn o first f x (fault_of new went) new after) is.0 now);
+            told = told-both _ _ _ _ _ _ _ _ _ holds.told told;
+            cause = caused-since (fault_of new went) _ _ _ _ _ _ holds.cause cause;
+          },
+        )
+
+    pub steps-so : Knows entry (held old before seen taken faults None) → IsOf set x entry
+        → ((o : Opening) (first : ℕ) → IsReady o first set x old before → StepsTo o first set x t went old new after)
+        → HasTold old.history.acts new.history.acts seen seen' taken taken'
+        → IsCaused (fault_of new went) faults faults' (memory_of old.machine).faults (memory_of new.machine).faults
+        → (over : Option RunFault) → over ≡ fault_of new went → Knows entry (held new after seen' taken' faults' over)
+    steps-so knows same steps told cause over is =
+        subst (λ (f : Option RunFault). Knows entry (held new after seen' taken' faults' f)) (sym is)
+        (steps-on knows same steps told cause)
+
+  -- where an event of thread t left the run over, each of the 64 threads' waits is noted
+  pub noted-waits : (t : ℕ) (halt : Halt) (went : Stepped) (old new : Shared) (before after : List ThreadFrames)
+      → ((o : Opening) × (first : ℕ) × IsReady o first set x old before)
+      → ((o : Opening) (first : ℕ) → IsReady o first set x old before → StepsTo o first set x t went old new after)
+      → went ≡ Over halt → halt ≡ Stuck → length new.notes.waits ≡ 64
+  noted-waits t halt went old new before after ready steps is stuck =
+      let over : StepsTo ready.0 ready.1 set x t (Over halt) old new after =
+      subst (λ (w : Stepped). StepsTo ready.0 ready.1 set x t w old new after) is (steps ready.0 ready.1 ready.2) in
+      waits-long ready.0 ready.1 halt new (over.0, (t, over.1)) stuck
+
+-- an event that isn't the last left no fault
+pub no-fault : (s : Shared) (went : Stepped) → ((halt : Halt) → went ≡ Over halt → ⊥) → fault_of s went ≡ None
+no-fault s Acted isnt = refl
+no-fault s Micro isnt = refl
+no-fault s (WouldWait on) isnt = refl
+no-fault s (Over halt) isnt = absurd (isnt halt refl)
+
+-- ---- the end
+
+module _ (entry : Option Began) (k : Held) (s : Shared) (frames : List ThreadFrames) (seen : Option (List Recorded))
+    (taken : Option (List ℕ)) (faults : ℕ) (over : Option RunFault) (is : k ≡ held s frames seen taken faults over) where
+  of-held : (how : Option RunFault) → over ≡ how → (e : Began) → Holds e k → Holds e (held s frames seen taken faults how)
+  of-held how same e holds =
+      subst (λ (f : Option RunFault). Holds e (held s frames seen taken faults f)) same (subst (Holds e) is holds)
+
+  -- the run was over under the lock
+  pub left-over : Knows entry k → (f : RunFault) → over ≡ Some f
+      → IfSome entry (λ e. HasLeft e (ends.Over f) s seen taken faults)
+  left-over knows f same =
+      let e = knows.0 in
+      let holds = of-held (Some f) same e knows.2 in
+      let r = holds.some in
+      subst (λ (b : Option Began). IfSome b (λ e. HasLeft e (ends.Over f) s seen taken faults)) (sym knows.1) (record {
+        ends = holds.goes;
+        told = holds.told;
+        cause = holds.cause;
+        size = size-same r.0 r.1 e.set e.setting e.heap s e.frames r.2 (holds.goes r.0 r.1 r.2).0;
+      })
+
+  module _ (set : SetFacts) (x : Setting Native Ref (NativeState Ref) Item) where
+    -- An event of some opening may come, where it wasn't over.
+    pub ready-left : Knows entry k → IsOf set x entry → over ≡ None → (o : Opening) × (first : ℕ) × IsReady o first set x s frames
+    ready-left knows same none = ready-now set x entry s frames seen taken faults
+        (knows.0, knows.1, of-held None none knows.0 knows.2) same
+
+    -- it went on so, to its end
+    pub left-rest : Knows entry k → IsOf set x entry → over ≡ None → (end : RunEnd) (s' : Shared)
+        (seen' : Option (List Recorded)) (taken' : Option (List ℕ)) (faults' : ℕ)
+        → ((o : Opening) (first : ℕ) → IsReady o first set x s frames → EndsBy o first end s')
+        → HasTold s.history.acts s'.history.acts seen seen' taken taken'
+        → IsCaused (fault_in end) faults faults' (memory_of s.machine).faults (memory_of s'.machine).faults
+        → (memory_of s'.machine).size ≡ (memory_of s.machine).size
+        → IfSome entry (λ e. HasLeft e end s' seen' taken' faults')
+    left-rest knows same none end s' seen' taken' faults' goes told cause size =
+        let e = knows.0 in
+        let holds = of-held None none e knows.2 in
+        let of = of-entry set x entry e knows.1 same in
+        let r = holds.some in
+        subst (λ (b : Option Began). IfSome b (λ e. HasLeft e end s' seen' taken' faults')) (sym knows.1) (record {
+          ends = λ (o : Opening) (first : ℕ) (was : IsReady o first e.set e.setting e.heap e.frames).
+              let now : IsReady o first e.set e.setting s frames = holds.goes o first was in
+              goes o first (subst (λ (y : Setting Native Ref (NativeState Ref) Item). IsReady o first set y s frames) (sym of.1)
+              (subst (λ (f : SetFacts). IsReady o first f e.setting s frames) (sym of.0) now));
+          told = told-both _ _ _ _ _ _ _ _ _ holds.told told;
+          cause = caused-since (fault_in end) _ _ _ _ _ _ holds.cause cause;
+          size =
+              let now : IsReady r.0 r.1 e.set e.setting s frames = holds.goes r.0 r.1 r.2 in
+              size ∙ (now.running.runs.keeps.heap.size ∙ sym r.2.running.runs.keeps.heap.size);
+        })
+
+-- what is left of the run of this name
+pub left-of : (entry : Option Began) (b : Began) → entry ≡ Some b → (end : RunEnd) (s : Shared) (seen : Option (List Recorded))
+    (taken : Option (List ℕ)) (faults : ℕ) → IfSome entry (λ e. HasLeft e end s seen taken faults)
+    → HasLeft b end s seen taken faults
+left-of entry b is end s seen taken faults left =
+    subst (λ (e : Option Began). IfSome e (λ e. HasLeft e end s seen taken faults)) is left

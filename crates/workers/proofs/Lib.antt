@@ -1,0 +1,4 @@
+mod Ending
+mod Filling
+mod Knowing
+mod Telling

@@ -1,0 +1,91 @@
+-- A run that lies under a lock, and what it knows of its beginning.
+use Rattle.std.specs.Prelude.{◌≡◌, ℕ, List, Option, Some, None, IfSome}
+use Rattle.ap_base.specs.declared.reference.Ref.{Ref}
+use Rattle.ap_base.specs.declared.reference.Item.{Item}
+use Rattle.run_types.specs.declared.fault.RunFault.{RunFault}
+use Rattle.natives.specs.declared.methods.Native.{Native}
+use Rattle.natives.specs.declared.states.NativeState.{NativeState}
+use Rattle.run_history.specs.Recorded.{Recorded}
+use Rattle.plain_model.specs.Facts.{SetFacts}
+use Rattle.frames.specs.Settings.{Setting}
+use Rattle.run_forms.specs.Views.{ThreadFrames}
+use Rattle.durable_run.specs.Passed.{Opening, memory_of}
+use Rattle.durable_run.specs.Passed.{Shared}
+use Rattle.durable_run.specs.declared.runs.RunEnd.{RunEnd}
+use Rattle.durable_run.specs.declared.runs.RunEnd.TheVariants.{Over}
+use Rattle.durable_run.specs.Telling.{HasTold, IsCaused}
+use Rattle.durable_run.specs.Turning.{EndsBy, IsReady, fault_in}
+
+-- What a run began with: class set, setting, heap with its history, the threads' frames; what the watcher had seen, what the
+-- sink had taken, and how often it had failed.
+pub record Began : Type 0 where
+  pub set : SetFacts
+  pub setting : Setting Native Ref (NativeState Ref) Item
+  pub heap : Shared
+  pub frames : List ThreadFrames
+  pub seen : Option (List Recorded)
+  pub taken : Option (List ℕ)
+  pub faults : ℕ
+
+-- What lies under the lock, with the fault by which the run is over, if it is.
+pub record Held : Type 0 where
+  pub heap : Shared
+  pub frames : List ThreadFrames
+  pub seen : Option (List Recorded)
+  pub taken : Option (List ℕ)
+  pub faults : ℕ
+  pub over : Option RunFault
+
+abbrev pub began : SetFacts → Setting Native Ref (NativeState Ref) Item → Shared → List ThreadFrames
+    → Option (List Recorded) → Option (List ℕ) → ℕ → Began
+began set x s frames seen taken faults = record {
+  set = set;
+  setting = x;
+  heap = s;
+  frames = frames;
+  seen = seen;
+  taken = taken;
+  faults = faults;
+}
+
+abbrev pub held : Shared → List ThreadFrames → Option (List Recorded) → Option (List ℕ) → ℕ → Option RunFault → Held
+held s frames seen taken faults over = record {
+  heap = s;
+  frames = frames;
+  seen = seen;
+  taken = taken;
+  faults = faults;
+  over = over;
+}
+
+-- a run that began so is of this class set and setting
+abbrev pub IsOf : SetFacts → Setting Native Ref (NativeState Ref) Item → Option Began → Type 0
+IsOf set x entry = IfSome entry (λ e. (set ≡ e.set) × (x ≡ e.setting))
+
+-- an event of each live thread may come, or the run is over by this fault
+abbrev pub GoesOn : Opening → ℕ → SetFacts → Setting Native Ref (NativeState Ref) Item → Option RunFault → Shared
+    → List ThreadFrames → Type 0
+GoesOn o first set x None s frames = IsReady o first set x s frames
+GoesOn o first set x (Some f) s frames = EndsBy o first (Over f) s
+
+-- Whatever opening an event might have come of as it began: it goes on with the run of that opening, or that run is over.
+-- Watcher and sink were told its further acts. A fault of the outside has its cause.
+pub record Holds (e : Began) (k : Held) : Type 0 where
+  pub some : (o : Opening) × (first : ℕ) × IsReady o first e.set e.setting e.heap e.frames
+  pub goes : (o : Opening) (first : ℕ) → IsReady o first e.set e.setting e.heap e.frames
+      → GoesOn o first e.set e.setting k.over k.heap k.frames
+  pub told : HasTold e.heap.history.acts k.heap.history.acts e.seen k.seen e.taken k.taken
+  pub cause : IsCaused k.over e.faults k.faults (memory_of e.heap.machine).faults (memory_of k.heap.machine).faults
+
+-- it holds of what the run's name says that it began with
+abbrev pub Knows : Option Began → Held → Type 0
+Knows entry k = (e : Began) × (entry ≡ Some e) × Holds e k
+
+-- What is left of a run that began so and ended so: its acts are a plain run, which is kept; the outside was told those since;
+-- a fault of the outside has its cause; and the image keeps its size.
+pub record HasLeft (e : Began) (end : RunEnd) (s : Shared) (seen : Option (List Recorded)) (taken : Option (List ℕ))
+    (faults : ℕ) : Type 0 where
+  pub ends : (o : Opening) (first : ℕ) → IsReady o first e.set e.setting e.heap e.frames → EndsBy o first end s
+  pub told : HasTold e.heap.history.acts s.history.acts e.seen seen e.taken taken
+  pub cause : IsCaused (fault_in end) e.faults faults (memory_of e.heap.machine).faults (memory_of s.machine).faults
+  pub size : (memory_of s.machine).size ≡ (memory_of e.heap.machine).size
