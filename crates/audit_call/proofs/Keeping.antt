@@ -3,9 +3,10 @@ use Rattle.std.proofs.Common.{◌≡◌, inl, inr, ℕ, zero, suc, List, [], tak
 use Rattle.graph_model.specs.declared.types.Graph.{Graph}
 use Rattle.line_image.specs.Told.{Told}
 use Rattle.line_image.specs.Trace.{LeavesNow, Outcome}
-use Rattle.line_memory.specs.Memory.{Memory}
+use Rattle.line_memory.specs.Memory.{Memory, shown}
 use Rattle.line_memory.proofs.Chain.{goes_nowhere}
 use Rattle.image_meaning.specs.Appending.{with_all_too}
+use Rattle.image_meaning.specs.Directories.{Directory}
 use Rattle.image_meaning.specs.Entries.{DirectoryEntry}
 use Rattle.image_meaning.specs.Meaning.{StandsFor}
 use Rattle.word_changes.proofs.Changing.{stops_weaker}
@@ -15,6 +16,7 @@ use Rattle.class_set.specs.Linked.{Linked}
 use Rattle.set_opening.specs.declared.unopened.Unopened.{Unopened}
 use Rattle.set_opening.specs.Opened.{StandsWithFirst}
 use Rattle.set_opening.specs.Unopened.{IsLeft, IsUnbegun, IsUnopened}
+use Rattle.set_opening.proofs.Recovered.{standing_spells}
 use Rattle.audit_call.specs.Audits.{IsKept}
 
 abbrev none : List DirectoryEntry
@@ -24,8 +26,9 @@ take_none : (k : ℕ) → take k none ≡ none
 take_none zero = refl
 take_none (suc k) = refl
 
-without : (size : ℕ) (graph : Graph) (c : Outcome) → StandsWithFirst size graph none c → StandsFor size c graph
-without size graph c so = subst (λ (added : List DirectoryEntry). StandsFor size c (with_all_too graph added)) (take_none so.0) so.2
+without : (size : ℕ) (found : Directory) (graph : Graph) (c : Outcome) → StandsWithFirst size found graph none c → StandsFor size c graph
+without size found graph c so =
+    subst (λ (added : List DirectoryEntry). StandsFor size c (with_all_too graph added)) (take_none so.count) so.stands
 
 module _ (start after : Told) where
   -- nothing was appended to it
@@ -33,11 +36,13 @@ module _ (start after : Told) where
   left_kept before m left = record {
     size = left.size;
     stops = λ settled words graph read stands.
+        let there = stood start settled words graph read stands before m left.attached in
+        let spelled = standing_spells before.size (shown before) graph there in
         subst (λ (t : Told). StopsStandFor start t graph) (sym left.told)
         (since_attached start settled words graph read stands before m left.attached
-        (stops_weaker before m (StandsWithFirst before.size graph none) (λ c. StandsFor before.size c graph)
-        (left.stops settled.0 graph (stood start settled words graph read stands before m left.attached))
-        (without before.size graph)));
+        (stops_weaker before m (StandsWithFirst before.size spelled.0 graph none) (λ c. StandsFor before.size c graph)
+        (left.stops settled.0 graph spelled.0 there spelled.1)
+        (without before.size spelled.0 graph)));
   }
 
   -- it was found for a set

@@ -28,11 +28,35 @@ use Rattle.class_runs.specs.Runs.{ComesTo, EndsOver, IsCauseOf, OfChoice, over}
 use Rattle.class_runs.proofs.Causes.{come_so, one_of_classes, one_of_files}
 use Rattle.class_runs.proofs.Complete.{ends_complete, some_not_bad}
 use Rattle.autopersist.specs.Asked.{of_top}
-use Rattle.autopersist.specs.Complete.{DoesAll, IsComplete, MetNoLimit, PrintsAll, PutsAll, RanOutOfMemory, RunsWhole}
+use Rattle.autopersist.specs.Complete.{DoesAll, DoesItsWork, MetNoLimit, PrintsAll, PutsAll, RanOutOfMemory, RunsWhole}
 use Rattle.autopersist.specs.Meets.{Does, IsIdle, Meets}
 use Rattle.autopersist.specs.Outside.{Outside}
 use Rattle.autopersist.specs.Reports.{IsReport, Reports}
 use Rattle.autopersist.specs.Runs.{RunsClass, RunsOn, RunsWorkload, default_limits}
+
+-- ---- whether a limit was met
+
+pub full_or_not : (how : Status) → ((full : Full) × (how ≡ status.Full full)) ⊎ MetNoLimit how
+full_or_not (status.Full full) = inl (full, refl)
+full_or_not status.Ok = inr (λ full is. cc)
+full_or_not (status.Uncaught thread class) = inr (λ full is. cc)
+full_or_not status.Usage = inr (λ full is. cc)
+full_or_not (status.BadClass file refusal) = inr (λ full is. cc)
+full_or_not (status.BadListing line kind) = inr (λ full is. cc)
+full_or_not (status.LinkRefused refusal) = inr (λ full is. cc)
+full_or_not (status.BadImage line reason) = inr (λ full is. cc)
+full_or_not (status.ShapeChanged shape) = inr (λ full is. cc)
+full_or_not (status.BadCode method pc) = inr (λ full is. cc)
+full_or_not (status.RegionRace thread other place) = inr (λ full is. cc)
+full_or_not status.SourceFault = inr (λ full is. cc)
+full_or_not status.ImageFault = inr (λ full is. cc)
+full_or_not status.SinkFault = inr (λ full is. cc)
+full_or_not (status.Stuck waits) = inr (λ full is. cc)
+full_or_not (status.LinkFault kind name) = inr (λ full is. cc)
+full_or_not status.OutOfMemory = inr (λ full is. cc)
+full_or_not (status.NewImage reason) = inr (λ full is. cc)
+full_or_not (status.BadHistory word) = inr (λ full is. cc)
+full_or_not status.Refuted = inr (λ full is. cc)
 
 -- ---- a call that nothing hindered
 
@@ -235,7 +259,7 @@ module _ (before after : Outside) (how : Status) (opening : Graph) (acts : List 
 
 pub complete : (words : List (List ℕ)) (before after : Outside) (SameSource SameImage : Type 0) (how : Status) (opening : Graph)
     (acts : List Recorded) → Meets words before after SameSource SameImage how opening acts
-    → IsComplete (command_of words) before after how opening acts
+    → DoesItsWork (command_of words) before after how opening acts
 complete words before after SameSource SameImage how opening acts meets none room =
     let source : how ≡ status.SourceFault → ⊥ = λ is. none.source (meets.source_fault is) in
     let image : how ≡ status.ImageFault → ⊥ = λ is. none.image (meets.image_fault is) in

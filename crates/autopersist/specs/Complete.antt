@@ -76,6 +76,6 @@ DoesAll (Some (Compact words)) before after how opening acts = Unit {0}
 DoesAll (Some (Audit words)) before after how opening acts = Unit {0}
 DoesAll None before after how opening acts = Unit {0}
 
-abbrev pub IsComplete : Option Command → (before after : Outside) → Status → Graph → List Recorded → Type 0
-IsComplete command before after how opening acts =
+abbrev pub DoesItsWork : Option Command → (before after : Outside) → Status → Graph → List Recorded → Type 0
+DoesItsWork command before after how opening acts =
     NothingFailed before after → MetNoLimit how → DoesAll command before after how opening acts

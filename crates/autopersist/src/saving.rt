@@ -3,7 +3,8 @@ ghost use Rattle.std.specs.Prelude.{◌≡◌, ◌<◌, ◌≤◌, ℕ, length, 
 ghost use Rattle.ap_base.specs.Causes.{Rose};
 ghost use Rattle.ap_base.specs.Sinks.{with_bytes};
 ghost use Rattle.history_file.specs.Spelling.{history_bytes};
-ghost use Rattle.command_words.specs.Commands.{texts};
+ghost use Rattle.command_words.specs.Commands.{command_of, texts};
+ghost use Rattle.autopersist.specs.Complete.{DoesItsWork};
 ghost use Rattle.autopersist.specs.Meets.{Meets};
 ghost use Rattle.autopersist.specs.Outside.{outside};
 
@@ -79,6 +80,12 @@ where
         (outside (C.left result.ended.source) (C.faults result.ended.source) (I.told result.ended.image) (I.faults result.ended.image)
         (S.taken result.ended.sink) (S.faults result.ended.sink) (W.seen result.ended.watcher))
         (result.ended.source ≡ source) (result.ended.image ≡ image) result.ended.status result.ended.opening result.ended.acts.acts }
+    // It does its work, where nothing is in the way.
+    ensures complete { DoesItsWork (command_of (texts words.now.items))
+        (outside (C.left source) (C.faults source) (I.told image) (I.faults image) (S.taken sink) (S.faults sink) (W.seen watcher))
+        (outside (C.left result.ended.source) (C.faults result.ended.source) (I.told result.ended.image) (I.faults result.ended.image)
+        (S.taken result.ended.sink) (S.faults result.ended.sink) (W.seen result.ended.watcher))
+        result.ended.status result.ended.opening result.ended.acts.acts }
     // Its acts are saved.
     ensures whole { OnOk result.saved (H.taken result.history ≡ with_bytes (H.taken history) (history_bytes result.ended.acts.acts 0)) }
     ensures front { IsErrOf result.saved SaveFault.SinkFault → (k : ℕ) × (k < length (history_bytes result.ended.acts.acts 0))

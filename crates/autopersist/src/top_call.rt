@@ -1,7 +1,7 @@
 // The top call.
 ghost use Rattle.std.specs.Prelude.{◌≡◌};
 ghost use Rattle.command_words.specs.Commands.{command_of, texts};
-ghost use Rattle.autopersist.specs.Complete.{IsComplete};
+ghost use Rattle.autopersist.specs.Complete.{DoesItsWork};
 ghost use Rattle.autopersist.specs.Meets.{Meets};
 ghost use Rattle.autopersist.specs.Outside.{outside};
 
@@ -50,7 +50,7 @@ where
         (result.source ≡ source) (result.image ≡ image) result.status result.opening result.acts.acts }
     // Where the inputs are as the command asks, nothing outside fails and no limit is met, it does its work, or memory runs out before any
     // of it.
-    ensures complete { IsComplete (command_of (texts words.now.items))
+    ensures complete { DoesItsWork (command_of (texts words.now.items))
         (outside (C.left source) (C.faults source) (I.told image) (I.faults image) (S.taken sink) (S.faults sink) (W.seen watcher))
         (outside (C.left result.source) (C.faults result.source) (I.told result.image) (I.faults result.image)
         (S.taken result.sink) (S.faults result.sink) (W.seen result.watcher))

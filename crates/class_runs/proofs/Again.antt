@@ -1,7 +1,10 @@
 -- What stops of a run left opens again.
-use Rattle.std.proofs.Common.{◌≡◌, ◌⊎◌, inl, inr, ⊎_elim, ℕ, ◌<◌, ◌≤◌, List, sym, refl, ◌∙◌, subst, arith}
+use Rattle.std.proofs.Common.{◌≡◌, ◌⊎◌, inl, inr, ⊎_elim, ℕ, ◌+◌, ◌<◌, ◌≤◌, List, [], length, slice_index_or, sym, refl, ap, ◌∙◌, subst, arith}
 use Rattle.std.specs.Prelude.{take}
+use Rattle.std.proofs.lemmas.List.{get_or_append_left, length-append}
+use Rattle.graph_model.specs.Heaps.{no_shape}
 use Rattle.graph_model.specs.declared.types.Graph.{Graph}
+use Rattle.graph_model.specs.declared.types.Shape.{Shape}
 use Rattle.line_image.specs.Told.{Told}
 use Rattle.line_image.specs.Trace.{Outcome}
 use Rattle.line_memory.specs.Memory.{Memory, shown}
@@ -9,8 +12,10 @@ use Rattle.image_layout.specs.Places.{max_lines, min_lines}
 use Rattle.image_layout.specs.declared.superblock.BadReason.{BadReason}
 use Rattle.image_meaning.specs.Appending.{with_all_too}
 use Rattle.image_meaning.specs.Checks.{Words}
+use Rattle.image_meaning.specs.Directories.{Directory, with_all}
 use Rattle.image_meaning.specs.Meaning.{StandsFor, meaning}
 use Rattle.image_meaning.proofs.Standings.{stands-within}
+use Rattle.directories.specs.ClassSets.{Agrees}
 use Rattle.directories.specs.Planning.{lacking}
 use Rattle.image_recovery.specs.Recovered.{entries_in}
 use Rattle.run_history.specs.Recorded.{Recorded}
@@ -18,17 +23,19 @@ use Rattle.run_types.specs.declared.fault.RunFault.{RunFault}
 use Rattle.run_types.specs.declared.fault.RunFault.TheVariants as fault
 use Rattle.run_types.specs.declared.limits.Limits.{Limits}
 use Rattle.plain_model.specs.Ends.{Ending, Fault, Finished, Uncaught}
+use Rattle.class_set.specs.Facts.{facts_of}
 use Rattle.class_set.specs.Linked.{Linked}
-use Rattle.durable_launch.specs.Passed.{HoldsGraph, IsAttachFault, IsAttached, IsNoRefusal, IsRecoveryFault, IsUnfit, IsUnopened}
-use Rattle.durable_launch.specs.Passed.{OpenedImagesOpenAgain, Unopened}
+use Rattle.durable_launch.specs.Passed.{HasDirectory, HoldsGraph, IsAttachFault, IsAttached, IsNoRefusal, IsOtherShape, IsRecoveryFault}
+use Rattle.durable_launch.specs.Passed.{IsUnfit, IsUnopened, OpenedImagesOpenAgain, StandsWithNew, Unopened}
+use Rattle.durable_launch.proofs.Passed.{shapes_first}
 use Rattle.durable_launch.specs.Unopenings as unopened
 use Rattle.statuses.specs.Names.{fault_status}
 use Rattle.statuses.specs.Stages.{OfImage, OfMemory, OfNames, OfOpening, OfRoom, stage_of}
 use Rattle.statuses.specs.declared.status.Status.{Status}
 use Rattle.statuses.specs.declared.status.Status.TheVariants as status
-use Rattle.class_runs.specs.Again.{IsLeftBy}
+use Rattle.class_runs.specs.Again.{HadOtherShape, IsLeftBy, IsRefusedStill}
 use Rattle.class_runs.specs.Sets.{CannotBegin, CannotOpen, HasEndedSo, IsOpenedSo, SetEnds, StandsAllowed, StandsAsBefore, StandsRightly}
-use Rattle.class_runs.specs.Sets.{status_of_ending, status_of_unopened}
+use Rattle.class_runs.specs.Sets.{StandsStill, status_of_ending, status_of_unopened}
 use Rattle.class_runs.proofs.Reading.{not_both, one_read, sized}
 
 -- ---- what stands is no bad image
@@ -40,8 +47,8 @@ StandsSome size words = (graph : Graph) × StandsFor size words graph
 stands_before : (set : Linked) (size : ℕ) (before : Words) (stood : Graph) (left : Outcome) → StandsFor size before stood
     → StandsAsBefore set size before left → StandsSome size left
 stands_before set size before stood left stands as_before = ⊎_elim
-    (λ same. (stood, same))
-    (λ new. (with_all_too stood (take new.first.0 (lacking new.found new.entries)), new.first.2))
+    (λ still. (stood, still.stands))
+    (λ new. (with_all_too stood (take new.first.count (lacking new.found new.entries)), new.first.stands))
     (as_before stood stands)
 
 stands_rightly : (set : Linked) (start : Told) (opening : Graph) (all acts : List Recorded) (before : Words) (stood : Graph) (left : Outcome)
@@ -119,13 +126,13 @@ module _ (law : OpenedImagesOpenAgain) (set : Linked) (start : Told) (opening : 
     telling = is.telling;
     words = left;
     read = is.read;
-    opens = stands.opens;
+    has = inr stands.opens;
     stands = stands.allowed.stands;
   }
 
-  pub unrefused : (after : Told) (how : Status) → CannotOpen set again after how
+  pub unrefused_behind : (after : Told) (how : Status) → CannotOpen set again after how
       → (how ≡ status.ImageFault) ⊎ (how ≡ status.OutOfMemory)
-  unrefused after how cannot =
+  unrefused_behind after how cannot =
       let of = stands.of in
       let unrefused : IsNoRefusal cannot.why =
       law.unrefused start set of.numbered of.memory of.directory of.lines stands.graph of.free of.opened again after
@@ -137,6 +144,84 @@ module _ (law : OpenedImagesOpenAgain) (set : Linked) (start : Told) (opening : 
       let of = stands.of in
       (law.as_left start set of.numbered of.memory of.directory of.lines stands.graph of.free of.opened again stands.allowed.graph holds
       of_again.numbered of_again.memory of_again.directory of_again.lines graph of_again.free of_again.opened).1
+
+-- ---- what wasn't
+
+-- it isn't refused, but for what it had before the run
+abbrev EndsOpening : Linked → (before : Words) → Status → Type 0
+EndsOpening set before s = (s ≡ status.ImageFault) ⊎ (s ≡ status.OutOfMemory) ⊎ IsRefusedStill set before s
+
+module _ (law : OpenedImagesOpenAgain) (set : Linked) (start : Told) (before : Words) (left : Outcome) (again : Told)
+    (is : IsLeftBy start left again) where
+  early_holds : (directory : Directory) (graph : Graph) → StandsFor start.size left graph → HasDirectory start.size left directory
+      → HoldsGraph again start.size directory graph
+  early_holds directory graph stands has = record {
+    size_is = is.size;
+    telling = is.telling;
+    words = left;
+    read = is.read;
+    has = has;
+    stands = stands;
+  }
+
+  -- no shape of an entry that was appended is another
+  none_appended : (graph : Graph) (new : StandsWithNew set start.size before graph left) (name : List ℕ)
+      → IsOtherShape (facts_of set) (with_all new.found (take new.first.count (lacking new.found new.entries))).shapes name → ⊥
+  none_appended graph new name other =
+      let added = lacking new.found new.entries in
+      let shapes = (with_all new.found (take new.first.count added)).shapes in
+      let at = other.at in
+      let there = other.first.there in
+      let more = shapes_first new.found added new.first.count in
+      let long : length (with_all new.found added).shapes ≡ length shapes + length more.0 =
+      ap (λ (ss : List Shape). length ss) more.1 ∙ length-append shapes more.0 in
+      let same : slice_index_or (with_all new.found added).shapes at no_shape ≡ slice_index_or shapes at no_shape =
+      ap (λ (ss : List Shape). slice_index_or ss at no_shape) more.1 ∙ get_or_append_left shapes more.0 no_shape at there in
+      other.first.other (subst (λ (s : Shape). Agrees (facts_of set) s) same (new.agree at (omega (arith, there, long))))
+
+  module _ (as_before : StandsAsBefore set start.size before left) (stood : Graph) (stands : StandsFor start.size before stood)
+      (now : Linked) (after : Told) where
+    changed : (name : List ℕ) → IsUnopened again after set now (unopened.ShapeChanged name) → HadOtherShape set before name
+    changed name cannot = ⊎_elim
+        (λ (still : StandsStill start.size before stood left). record {
+          found = still.found;
+          found_is = still.found_is;
+          other = law.refused set again after start.size still.found stood
+              (early_holds still.found stood still.stands still.has) now name cannot;
+        })
+        (λ (new : StandsWithNew set start.size before stood left).
+        let first = take new.first.count (lacking new.found new.entries) in
+        absurd (none_appended stood new name
+        (law.refused set again after start.size (with_all new.found first) (with_all_too stood first)
+        (early_holds (with_all new.found first) (with_all_too stood first) new.first.stands new.first.has) now name cannot)))
+        (as_before stood stands)
+
+    early : (why : Unopened) → IsUnopened again after set now why → EndsOpening set before (status_of_unopened why)
+    early (unopened.BadImage line reason) cannot =
+        let some = stands_before set start.size before stood left stands as_before in
+        absurd (not_bad_so start left again is some.0 some.1 line reason set now after cannot)
+    early (unopened.ShapeChanged name) cannot = inr (inr (changed name cannot))
+    early (unopened.Full full) cannot = inr (inr tt)
+    early unopened.ImageFailed cannot = inl refl
+    early unopened.OutOfMemory cannot = inr (inl refl)
+
+-- whichever it is
+pub unrefused : (law : OpenedImagesOpenAgain) (set : Linked) (start : Told) (opening : Graph) (all acts : List Recorded) (before : Words)
+    (stood : Graph) (left : Outcome) → StandsFor start.size before stood → StandsRightly set start opening all acts before left
+    → (again after : Told) → IsLeftBy start left again → (how : Status) → CannotOpen set again after how
+    → (how ≡ status.ImageFault) ⊎ (how ≡ status.OutOfMemory) ⊎ ((acts ≡ []) × IsRefusedStill set before how)
+unrefused law set start opening all acts before stood left stands (inl allowed) again after is how cannot = ⊎_elim
+    (λ fault. inl fault)
+    (λ memory. inr (inl memory))
+    (unrefused_behind law set start opening all acts left allowed again is after how cannot)
+unrefused law set start opening all acts before stood left stands (inr (none, as_before)) again after is how cannot =
+    let ends : EndsOpening set before how =
+    subst (EndsOpening set before) (sym cannot.is)
+    (early law set start before left again is as_before stood stands cannot.numbered after cannot.why cannot.unopened) in
+    ⊎_elim
+    (λ fault. inl fault)
+    (λ rest. inr (⊎_elim (λ memory. inl memory) (λ refused. inr (none, refused)) rest))
+    ends
 
 -- ---- what refuses an image
 

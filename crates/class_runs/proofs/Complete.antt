@@ -1,29 +1,34 @@
 -- A run of a class set over an image that suits it, where nothing outside fails and no limit is met.
-use Rattle.std.proofs.Common.{◌≡◌, ◌⊎◌, inl, inr, ℕ, List, [], Err, refl, sym, ◌∙◌, subst}
+use Rattle.std.proofs.Common.{◌≡◌, ◌⊎◌, inl, inr, ℕ, ◌<◌, List, [], Err, refl, sym, ◌∙◌, subst}
 use Rattle.graph_model.specs.declared.types.Graph.{Graph}
 use Rattle.image_layout.specs.declared.superblock.BadReason.{BadReason}
 use Rattle.image_meaning.specs.Checks.{Words}
-use Rattle.image_meaning.specs.Meaning.{meaning}
+use Rattle.image_meaning.specs.Directories.{Directory}
+use Rattle.image_meaning.specs.Meaning.{StandsFor, meaning}
 use Rattle.image_recovery.specs.Recovered.{entries_in}
+use Rattle.image_recovery.proofs.Directories.{has_by_lines}
 use Rattle.line_image.specs.Told.{Told}
-use Rattle.line_memory.specs.Memory.{shown}
+use Rattle.line_memory.specs.Memory.{IsTelling, shown}
 use Rattle.run_history.specs.Recorded.{Recorded}
 use Rattle.run_types.specs.declared.fault.Full.{Full}
 use Rattle.run_types.specs.declared.fault.RunFault.{RunFault}
 use Rattle.run_types.specs.declared.fault.RunFault.TheVariants as fault
 use Rattle.run_types.specs.declared.limits.Limits.{Limits}
 use Rattle.plain_model.specs.Ends.{Ending, Fault, Finished, Uncaught}
+use Rattle.class_set.specs.Facts.{facts_of}
 use Rattle.class_set.specs.Linked.{Linked}
-use Rattle.durable_launch.specs.Passed.{AreRead, IsAttachFault, IsRecoveryFault, IsUnfit, IsUnopened, Unopened}
+use Rattle.durable_launch.specs.Passed.{AllAgree, AreRead, HasDirectory, IsAttachFault, IsDirectoryIn, IsRecoveryFault, IsUnfit}
+use Rattle.durable_launch.specs.Passed.{IsUnopened, Unopened}
+use Rattle.durable_launch.proofs.Passed.{has_spells, one_directory, standing_has}
 use Rattle.durable_launch.specs.Unopenings as unopened
 use Rattle.statuses.specs.Names.{fault_status}
 use Rattle.statuses.specs.declared.status.Status.{Status}
 use Rattle.statuses.specs.declared.status.Status.TheVariants as status
 use Rattle.class_runs.specs.Again.{IsLeftBy}
-use Rattle.class_runs.specs.Complete.{Admits, EndsComplete, IsOfPlainRun, StandsForSome}
+use Rattle.class_runs.specs.Complete.{Admits, EndsComplete, IsNumberedFor, IsOfPlainRun, StandsForSome}
 use Rattle.class_runs.specs.Sets.{CannotBegin, HasEndedSo, SetEnds, status_of_ending, status_of_unopened}
 use Rattle.class_runs.proofs.Again.{not_bad_so}
-use Rattle.class_runs.proofs.Reading.{not_both, one_read, stands_alike}
+use Rattle.class_runs.proofs.Reading.{not_both, one_read, sized, stands_alike}
 
 -- ---- how a run ends that nothing outside and no limit ended
 
@@ -67,6 +72,30 @@ module _ (set : Linked) (start : Told) (admits : Admits set start) where
       first.other (admits.agree (shown unprepared.left.before) (entries_in unprepared.directory) found.attached.shows found.found_is
       cause.0.at first.there)
 
+-- what reads give of an image that stands for a graph spells one directory
+pub read_directory : (image : Told) → IsTelling image.trace → (words : Words) → AreRead image words → (graph : Graph)
+    → StandsFor image.size words graph → (directory : Directory) → IsDirectoryIn words directory
+    → (others : Words) → AreRead image others → (other : Directory) → IsDirectoryIn others other → directory ≡ other
+read_directory image telling words read graph stands directory spells others other_read other other_spells =
+    let has : HasDirectory image.size words directory = standing_has image.size words graph directory stands spells in
+    let same : (l w : ℕ) → l < image.size → others l w ≡ words l w = λ l w there.
+    one_read image.trace telling l w (words l w) (others l w) (read l w there) (other_read l w there) in
+    one_directory others directory other
+    (has_spells image.size others directory
+    (has_by_lines image.size words others directory (sized image.size words graph stands).0 has same)) other_spells
+
+-- and so tells whether it suits a set
+pub admits_so : (set : Linked) (image : Told) → IsTelling image.trace → (words : Words) → AreRead image words → (graph : Graph)
+    → StandsFor image.size words graph → (directory : Directory) → IsDirectoryIn words directory
+    → AllAgree (facts_of set) directory.shapes → Admits set image
+admits_so set image telling words read graph stands directory spells agree =
+    record {
+      some = record { telling = telling; words = words; read = read; graph = graph; stands = stands };
+      agree = λ others other other_read other_spells n below.
+          subst (λ (d : Directory). AllAgree (facts_of set) d.shapes)
+          (read_directory image telling words read graph stands directory spells others other_read other other_spells) agree n below;
+    }
+
 -- what reads give of an image that stands for a graph fails no check
 pub some_not_bad : (image : Told) → StandsForSome image → (line : ℕ) (reason : BadReason) (words : Words) → AreRead image words
     → meaning image.size words ≡ Err (line, reason) → ⊥
@@ -91,11 +120,22 @@ module _ (set : Linked) (name : List ℕ) (limits : Limits) (start : Told) (open
   cannot_open unopened.ImageFailed now is cannot = absurd (image is)
   cannot_open unopened.OutOfMemory now is cannot = inr is
 
+  numbered_for : (begins : CannotBegin set name limits start after how) → IsNumberedFor set begins.numbered start
+  numbered_for begins =
+      let found = begins.left.left.found in
+      record {
+        words = shown begins.left.left.before;
+        read = found.attached.shows;
+        directory = entries_in begins.left.found;
+        directory_is = found.found_is;
+        is = begins.left.fitted.set_is;
+      }
+
   unbegun : acts ≡ [] → CannotBegin set name limits start after how → Complete
   unbegun none begins = elim begins.cause [
     | inl lacks ↦ absurd (room lacks.full lacks.is)
     | inr rest ↦ elim rest [
-      | inl missing ↦ inl (inl (none, begins.numbered, missing))
+      | inl missing ↦ inl (inl (none, begins.numbered, numbered_for begins, missing))
       | inr memory ↦ inr memory
     ]
   ]

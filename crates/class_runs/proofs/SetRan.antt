@@ -12,6 +12,8 @@ use Rattle.graph_model.specs.declared.types.Graph.{Graph}
 use Rattle.line_image.specs.Told.{Told}
 use Rattle.line_image.specs.Trace.{Outcome}
 use Rattle.line_memory.specs.Memory.{Memory, IsTelling, CanLeaveAll, shown}
+use Rattle.image_meaning.specs.Directories.{with_all}
+use Rattle.image_meaning.specs.Entries.{DirectoryEntry}
 use Rattle.image_meaning.specs.Meaning.{empty_graph}
 use Rattle.run_types.specs.declared.limits.Limits.{Limits}
 use Rattle.run_history.specs.Recorded.{Recorded}
@@ -40,7 +42,7 @@ use Rattle.durable_launch.specs.NoLaunches as no_launch
 use Rattle.one_space.specs.First.{LacksWords}
 use Rattle.durable_launch.specs.Passed.{Unopened}
 use Rattle.durable_launch.specs.Unopenings as unopened
-use Rattle.durable_launch.specs.Passed.{IsFoundFor, IsOpenedFor}
+use Rattle.durable_launch.specs.Passed.{AllAgree, IsFoundFor, IsOpenedFor}
 use Rattle.durable_launch.specs.Passed.{IsAttachFault, IsLeft, IsLeftAsFound, IsRecoveryFault, IsUnappended, IsUnopened}
 use Rattle.durable_launch.proofs.Passed.{found_left}
 use Rattle.statuses.specs.declared.status.Status.{Status}
@@ -158,7 +160,8 @@ unappended_ran set numbered name limits start after u = record {
   unbegun = λ none. refl;
   stops = left_stops set start after u.before u.memory u.added u.left
       (subst (AddsNew set u.before.size (shown u.before)) (sym u.added_is)
-      (adds_lacking set numbered u.before.size (shown u.before) u.found u.entries u.found_is u.set_is u.are_its))
+      (adds_lacking set numbered u.before.size (shown u.before) u.found u.entries u.found_is u.set_is u.are_its
+      (subst (λ (added : List DirectoryEntry). AllAgree (facts_of numbered) (with_all u.found added).shapes) u.added_is u.agree)))
       empty_graph;
 }
 

@@ -1,7 +1,7 @@
 -- What a stop leaves of an image that is attached, opened for a class set, and then run on.
 use Rattle.std.proofs.Math.Path.{fun_ext}
 use Rattle.std.proofs.Common.{◌≡◌, ◌⊎◌, inl, inr, ⊎_elim, ℕ, ◌<◌, ◌≤◌, ◌+◌, ◌-◌, ◌^◌, List, [], ◌∷◌, Option, Some, None}
-use Rattle.std.proofs.Common.{refl, sym, subst, arith}
+use Rattle.std.proofs.Common.{refl, ap, sym, subst, arith}
 use Rattle.std.specs.Prelude.{◌≢◌, All}
 use Rattle.std.proofs.Math.Seq.{take-nil}
 use Rattle.std.proofs.lemmas.Bool.{cases_lt, le-ltb}
@@ -14,12 +14,13 @@ use Rattle.line_memory.specs.Moments.{Goes, CountsFrom}
 use Rattle.line_memory.proofs.Chain.{goes_on}
 use Rattle.image_meaning.specs.Appending.{with_all_too}
 use Rattle.image_meaning.specs.Checks.{Words}
-use Rattle.image_meaning.specs.Directories.{Directory}
+use Rattle.image_meaning.specs.Directories.{Directory, with_all}
 use Rattle.image_meaning.specs.Entries.{DirectoryEntry}
 use Rattle.image_meaning.specs.Laws.{Opens}
 use Rattle.image_meaning.specs.Meaning.{StandsFor, meaning}
 use Rattle.image_meaning.proofs.Standings.{stands-within}
 use Rattle.image_recovery.specs.Recovered.{entries_in}
+use Rattle.image_recovery.proofs.Directories.{has_by_lines}
 use Rattle.word_changes.specs.Changes.{StopsLeave}
 use Rattle.directories.specs.ClassSets.{AreEntriesOf}
 use Rattle.directories.specs.Planning.{lacking}
@@ -32,9 +33,11 @@ use Rattle.class_set.specs.Sets.{made_of}
 use Rattle.stop_theorem.specs.Stops.{IsAllowedImage}
 use Rattle.stop_theorem.specs.Laws.{IsSafeRun}
 use Rattle.durable_launch.specs.Passed.{AreRead, IsAttached, IsSettled}
-use Rattle.durable_launch.specs.Passed.{IsDirectoryIn, IsOpenedFor, StandsWithFirst, StandsWithNew, with_arrays_of}
-use Rattle.class_runs.specs.Sets.{IsOpenedSo, StandsAllowed, StandsAsBefore, StandsAtStops, StandsRightly}
-use Rattle.class_runs.proofs.Reading.{fenced_as_read, same_graph}
+use Rattle.durable_launch.specs.Passed.{AllAgree, HasDirectory, IsDirectoryIn, IsOpenedFor, StandsWithFirst, StandsWithNew}
+use Rattle.durable_launch.specs.Passed.{with_arrays_of}
+use Rattle.durable_launch.proofs.Passed.{agree_before, one_directory, standing_has, standing_spells}
+use Rattle.class_runs.specs.Sets.{IsOpenedSo, StandsAllowed, StandsAsBefore, StandsAtStops, StandsRightly, StandsStill}
+use Rattle.class_runs.proofs.Reading.{fenced_as_read, same_graph, sized}
 
 pub none_before : (n : ℕ) (acts : List Recorded) → All (λ (a : Recorded). n ≤ a.act.at) acts → acts_before n acts ≡ []
 none_before n [] late = refl
@@ -46,28 +49,53 @@ none_before n (a ∷ acts) late =
 
 -- the words stand for the graph, or for it with the first of the set's new entries
 abbrev WithNew : Linked → ℕ → Words → Graph → Outcome → Type 0
-WithNew set size before graph c = StandsFor size c graph ⊎ StandsWithNew set size before graph c
+WithNew set size before graph c = StandsStill size before graph c ⊎ StandsWithNew set size before graph c
 
 -- where these entries are appended, so it is with the first of them
 abbrev pub AddsNew : Linked → ℕ → Words → List DirectoryEntry → Type 0
-AddsNew set size before added = (graph : Graph) (c : Outcome) → StandsWithFirst size graph added c → WithNew set size before graph c
+AddsNew set size before added = (graph : Graph) (found : Directory) (c : Outcome) → IsDirectoryIn before found
+    → StandsWithFirst size found graph added c → WithNew set size before graph c
 
 -- none are
 pub adds_none : (set : Linked) (size : ℕ) (before : Words) → AddsNew set size before []
-adds_none set size before graph c first =
-    inl (subst (λ (entries : List DirectoryEntry). StandsFor size c (with_all_too graph entries)) (take-nil first.0) first.2)
+adds_none set size before graph found c found_is first =
+    inl (record {
+      found = found;
+      found_is = found_is;
+      stands = subst (λ (entries : List DirectoryEntry). StandsFor size c (with_all_too graph entries)) (take-nil first.count)
+          first.stands;
+      has = subst (λ (entries : List DirectoryEntry). HasDirectory size c (with_all found entries)) (take-nil first.count) first.has;
+    })
 
 -- those that the directory lacks
 pub adds_lacking : (set numbered : Linked) (size : ℕ) (before : Words) (found : Directory) (entries : List DirectoryEntry)
     → IsDirectoryIn before found → numbered ≡ with_arrays_of set found.shapes
-    → AreEntriesOf (facts_of numbered) (made_of numbered) entries → AddsNew set size before (lacking found entries)
-adds_lacking set numbered size before found entries found_is set_is are_its graph c first = inr (record {
-  found = found;
-  found_is = found_is;
-  entries = entries;
-  are_its = subst (λ (s : Linked). AreEntriesOf (facts_of s) (made_of s) entries) set_is are_its;
-  first = first;
-})
+    → AreEntriesOf (facts_of numbered) (made_of numbered) entries
+    → AllAgree (facts_of numbered) (with_all found (lacking found entries)).shapes → AddsNew set size before (lacking found entries)
+adds_lacking set numbered size before found entries found_is set_is are_its agree graph other c other_is first =
+    let added = lacking found entries in
+    inr (record {
+      found = found;
+      found_is = found_is;
+      entries = entries;
+      are_its = subst (λ (s : Linked). AreEntriesOf (facts_of s) (made_of s) entries) set_is are_its;
+      first = subst (λ (d : Directory). StandsWithFirst size d graph added c) (one_directory before other found other_is found_is) first;
+      agree = agree_before set found.shapes (with_all found added).shapes
+          (subst (λ (s : Linked). AllAgree (facts_of s) (with_all found added).shapes) set_is agree);
+    })
+
+-- words that are the same in all lines stand for the same, and have the same directory
+pub still_stands : (size : ℕ) (before c : Words) (graph : Graph) → StandsFor size before graph
+    → ((l w : ℕ) → l < size → c l w ≡ before l w) → StandsStill size before graph c
+still_stands size before c graph stands same =
+    let range = sized size before graph stands in
+    let spelled = standing_spells size before graph stands in
+    record {
+      found = spelled.0;
+      found_is = spelled.1;
+      stands = stands-within size before c graph range.0 range.1 stands same;
+      has = has_by_lines size before c spelled.0 range.0 (standing_has size before graph spelled.0 stands spelled.1) same;
+    }
 
 module _ (start : Told) (settled : IsSettled start) (before : Memory) (attached : IsAttached start before) where
   -- what a settled image leaves is what is shown
@@ -85,43 +113,45 @@ module _ (start : Told) (settled : IsSettled start) (set : Linked) (before : Mem
   still : (graph : Graph) → StandsFor before.size (shown before) graph → (c : Outcome) → LeavesNow start.trace c
       → New before.size graph c
   still graph stands c left =
-      inl (stands-within before.size (shown before) c graph attached.enough attached.most stands
-      (as_shown start settled before attached c left))
+      inl (still_stands before.size (shown before) c graph stands (as_shown start settled before attached c left))
 
   -- these entries may be appended
   abbrev Adds : List DirectoryEntry → Type 0
   Adds added = AddsNew set before.size (shown before) added
 
   -- each stop since the start left the graph for which the image stood, with some null roots
-  pub goes_since : (m : Memory) (added : List DirectoryEntry) → Adds added → (graph : Graph) → StandsFor before.size (shown before) graph
-      → StopsLeave before m (StandsWithFirst before.size graph added) → Goes start m.image (New before.size graph)
-  goes_since m added adds graph stands stops =
-      goes_on start before.image m.image (LeavesNow start.trace) (StandsWithFirst before.size graph added)
-      (New before.size graph) attached.moments stops.within (still graph stands) (adds graph)
+  pub goes_since : (m : Memory) (added : List DirectoryEntry) → Adds added → (graph : Graph) (found : Directory)
+      → StandsFor before.size (shown before) graph → IsDirectoryIn (shown before) found
+      → StopsLeave before m (StandsWithFirst before.size found graph added) → Goes start m.image (New before.size graph)
+  goes_since m added adds graph found stands spells stops =
+      goes_on start before.image m.image (LeavesNow start.trace) (StandsWithFirst before.size found graph added)
+      (New before.size graph) attached.moments stops.within (still graph stands) (λ c first. adds graph found c spells first)
 
-  sized : (graph : Graph) (c : Outcome) → New before.size graph c → New start.size graph c
-  sized graph c some = subst (λ (n : ℕ). New n graph c) attached.size some
+  sized_as : (graph : Graph) (c : Outcome) → New before.size graph c → New start.size graph c
+  sized_as graph c some = subst (λ (n : ℕ). New n graph c) attached.size some
 
   stood : (graph : Graph) → StandsFor start.size (shown before) graph → StandsFor before.size (shown before) graph
   stood graph stands = subst (λ (n : ℕ). StandsFor n (shown before) graph) (sym attached.size) stands
 
-  -- what each stop leaves, for whatever graph the image stood
+  -- what each stop leaves, for whatever graph the image stood, and whatever directory it had
   abbrev AllStop : Memory → List DirectoryEntry → Type 0
-  AllStop m added = (graph : Graph) → StandsFor before.size (shown before) graph
-      → StopsLeave before m (StandsWithFirst before.size graph added)
+  AllStop m added = (graph : Graph) (found : Directory) → StandsFor before.size (shown before) graph
+      → IsDirectoryIn (shown before) found → StopsLeave before m (StandsWithFirst before.size found graph added)
 
   pub as_before_within : (m : Memory) (added : List DirectoryEntry) → Adds added → AllStop m added → (n : ℕ) → 0 < n → start.calls + n ≤ m.image.calls
       → start.calls + n < 2 ^ 64 - 1 → (c : Outcome) → LeftWithin m.image.trace (start.calls + n) c
       → StandsAsBefore set start.size (shown before) c
   as_before_within m added adds stops n some le lt c left graph stands =
       let there = stood graph stands in
-      sized graph c ((goes_since m added adds graph there (stops graph there)).during (start.calls + n) (omega (arith, some)) le lt c left)
+      let spelled = standing_spells before.size (shown before) graph there in
+      sized_as graph c ((goes_since m added adds graph spelled.0 there spelled.1 (stops graph spelled.0 there spelled.1)).during
+      (start.calls + n) (omega (arith, some)) le lt c left)
 
 -- behind the fence that the opening begins with, whatever was unfenced at the start
 module _ (start : Told) (set : Linked) (before : Memory) (attached : IsAttached start before) (m : Memory) (added : List DirectoryEntry)
     (adds : AddsNew set before.size (shown before) added)
-    (stops : (graph : Graph) → StandsFor before.size (shown before) graph
-    → StopsLeave before m (StandsWithFirst before.size graph added)) where
+    (stops : (graph : Graph) (found : Directory) → StandsFor before.size (shown before) graph → IsDirectoryIn (shown before) found
+    → StopsLeave before m (StandsWithFirst before.size found graph added)) where
   sized_so : (graph : Graph) (c : Outcome) → WithNew set before.size (shown before) graph c
       → WithNew set start.size (shown before) graph c
   sized_so graph c some = subst (λ (n : ℕ). WithNew set n (shown before) graph c) attached.size some
@@ -134,12 +164,16 @@ module _ (start : Told) (set : Linked) (before : Memory) (attached : IsAttached 
   as_before_late n late le lt c left graph stands =
       let counts = attached.counts in
       let calls = attached.calls in
-      sized_so graph c (adds graph c
-      ((stops graph (stood_so graph stands)).within.during (start.calls + n) (omega (arith, late, counts, calls)) le lt c left))
+      let there = stood_so graph stands in
+      let spelled = standing_spells before.size (shown before) graph there in
+      sized_so graph c (adds graph spelled.0 c spelled.1
+      ((stops graph spelled.0 there spelled.1).within.during (start.calls + n) (omega (arith, late, counts, calls)) le lt c left))
 
   pub as_before_now : (c : Outcome) → LeavesNow m.image.trace c → StandsAsBefore set start.size (shown before) c
   as_before_now c left graph stands =
-      sized_so graph c (adds graph c ((stops graph (stood_so graph stands)).after c (λ l w. inr (left l w))))
+      let there = stood_so graph stands in
+      let spelled = standing_spells before.size (shown before) graph there in
+      sized_so graph c (adds graph spelled.0 c spelled.1 ((stops graph spelled.0 there spelled.1).after c (λ l w. inr (left l w))))
 
   -- up to it, where nothing was
   pub as_before_at : IsTelling start.trace → (n : ℕ) → 0 < n → start.calls + n ≤ m.image.calls → start.calls + n < 2 ^ 64 - 1
@@ -168,17 +202,21 @@ module _ (start : Told) (telling : IsTelling start.trace) (set numbered : Linked
   abbrev pub added : List DirectoryEntry
   added = lacking opened.found opened.entries
 
-  pub all_stop : (other : Graph) → StandsFor opened.before.size (shown opened.before) other
-      → StopsLeave opened.before m (StandsWithFirst opened.before.size other added)
-  all_stop other stands =
-      subst (λ (g : Graph). StopsLeave opened.before m (StandsWithFirst opened.before.size g added))
-      (same_graph (meaning opened.before.size (shown opened.before)) opened.stood other opened.stands stands) (opened.stops telling)
+  pub all_stop : (other : Graph) (spelled : Directory) → StandsFor opened.before.size (shown opened.before) other
+      → IsDirectoryIn (shown opened.before) spelled
+      → StopsLeave opened.before m (StandsWithFirst opened.before.size spelled other added)
+  all_stop other spelled stands spells =
+      subst (λ (d : Directory). StopsLeave opened.before m (StandsWithFirst opened.before.size d other added))
+      (one_directory (shown opened.before) opened.found spelled opened.found_is spells)
+      (subst (λ (g : Graph). StopsLeave opened.before m (StandsWithFirst opened.before.size opened.found g added))
+      (same_graph (meaning opened.before.size (shown opened.before)) opened.stood other opened.stands stands) (opened.stops telling))
 
   -- what is appended are the set's entries that the directory lacked
   pub adds : AddsNew set opened.before.size (shown opened.before) added
   adds =
       adds_lacking set numbered opened.before.size (shown opened.before) opened.found opened.entries opened.found_is opened.set_is
       opened.are_its
+      (subst (λ (d : Directory). AllAgree (facts_of numbered) d.shapes) opened.directory_is opened.agree)
 
   pub stops_opened : (opening : Graph) → StandsAtStops set start opening [] m.image
   stops_opened opening = stops_without start set opened.before opened.attached m added adds all_stop telling opening
@@ -257,7 +295,8 @@ stops_unattached set start opening after same goes =
     let quiet : IsAllFenced start.trace → (c : Outcome) → LeavesNow start.trace c
     → StandsAsBefore set start.size (words_read start.trace) c =
     λ fenced c left graph stands.
-    inl (subst (λ (words : Words). StandsFor start.size words graph) (sym (is_read start.trace fenced c left)) stands) in
+    inl (still_stands start.size (words_read start.trace) c graph stands (λ l w below.
+    ap (λ (words : Words). words l w) (is_read start.trace fenced c left))) in
     record {
       words = words_read start.trace;
       read = are_read start;

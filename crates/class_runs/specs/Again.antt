@@ -1,15 +1,17 @@
 -- Images that a stop of a run left, under the next run of the same set.
-use Rattle.std.specs.Prelude.{◌≡◌, ◌⊎◌, ℕ, List}
+use Rattle.std.specs.Prelude.{◌≡◌, ◌⊎◌, ℕ, List, []}
 use Rattle.graph_model.specs.declared.types.Graph.{Graph}
 use Rattle.line_image.specs.Told.{Told}
 use Rattle.line_image.specs.Trace.{Outcome}
 use Rattle.line_memory.specs.Memory.{IsTelling}
 use Rattle.image_layout.specs.declared.superblock.BadReason.{BadReason}
 use Rattle.image_meaning.specs.Checks.{Words}
+use Rattle.image_meaning.specs.Directories.{Directory}
 use Rattle.image_meaning.specs.Meaning.{StandsFor}
 use Rattle.run_history.specs.Recorded.{Recorded}
+use Rattle.class_set.specs.Facts.{facts_of}
 use Rattle.class_set.specs.Linked.{Linked}
-use Rattle.durable_launch.specs.Passed.{AreRead}
+use Rattle.durable_launch.specs.Passed.{AreRead, IsDirectoryIn, IsOtherShape}
 use Rattle.run_types.specs.declared.limits.Limits.{Limits}
 use Rattle.statuses.specs.Stages.{OfOpening, stage_of}
 use Rattle.statuses.specs.declared.status.Status.{Status}
@@ -22,6 +24,18 @@ pub record IsLeftBy (start : Told) (left : Outcome) (again : Told) : Type 0 wher
   pub telling : IsTelling again.trace
   pub read : AreRead again left
 
+-- The directory that these words spelled has shapes that aren't the set's: the first has this name.
+pub record HadOtherShape (set : Linked) (before : Words) (name : List ℕ) : Type 0 where
+  pub found : Directory
+  pub found_is : IsDirectoryIn before found
+  pub other : IsOtherShape (facts_of set) found.shapes name
+
+-- The image was refused for the set as it may have been before: one of its own shapes isn't the set's, or room for the set's entries lacks.
+abbrev pub IsRefusedStill : Linked → (before : Words) → Status → Type 0
+IsRefusedStill set before (status.ShapeChanged name) = HadOtherShape set before name
+IsRefusedStill set before (status.Full full) = Unit {0}
+IsRefusedStill set before other = ⊥
+
 -- What stops of a run of a set over an image left opens again.
 pub record StoppedRunsOpenAgain : Type 0 where
   -- BadImage and ShapeChanged come where an image can't be opened, and nowhere else.
@@ -32,9 +46,14 @@ pub record StoppedRunsOpenAgain : Type 0 where
       (left : Outcome) → StandsFor start.size before stood → StandsRightly set start opening all acts before left
       → (again after : Told) → IsLeftBy start left again → (line : ℕ) (reason : BadReason)
       → CannotOpen other again after (status.BadImage line reason) → ⊥
-  -- Once the image was opened for the set, what a stop leaves isn't refused for the set: opening ends by a fault of the image, or for want
-  -- of memory, alone.
-  pub unrefused : (set : Linked) (start : Told) (opening : Graph) (all acts : List Recorded) (left : Outcome)
+  -- What a stop leaves isn't refused for the set: opening ends by a fault of the image, or for want of memory, alone. Only where there are no
+  -- acts, it may be refused as it was before the run; no entry that the run appended is why but by the room that it takes.
+  pub unrefused : (set : Linked) (start : Told) (opening : Graph) (all acts : List Recorded) (before : Words) (stood : Graph)
+      (left : Outcome) → StandsFor start.size before stood → StandsRightly set start opening all acts before left
+      → (again after : Told) → IsLeftBy start left again → (how : Status) → CannotOpen set again after how
+      → (how ≡ status.ImageFault) ⊎ (how ≡ status.OutOfMemory) ⊎ ((acts ≡ []) × IsRefusedStill set before how)
+  -- Once the image was opened for the set, not so either.
+  pub unrefused_behind : (set : Linked) (start : Told) (opening : Graph) (all acts : List Recorded) (left : Outcome)
       → StandsAllowed set start opening all acts left → (again after : Told) → IsLeftBy start left again
       → (how : Status) → CannotOpen set again after how → (how ≡ status.ImageFault) ⊎ (how ≡ status.OutOfMemory)
   -- And the next run begins with the very graph that the stop left, which the acts allow.

@@ -12,7 +12,7 @@ use Rattle.run_history.specs.Recorded.{Recorded}
 use Rattle.class_set.specs.Facts.{facts_of}
 use Rattle.class_set.specs.Linked.{Linked}
 use Rattle.directories.specs.ClassSets.{Agrees}
-use Rattle.durable_launch.specs.Passed.{AreRead, IsDirectoryIn}
+use Rattle.durable_launch.specs.Passed.{AreRead, IsDirectoryIn, with_arrays_of}
 use Rattle.statuses.specs.declared.status.Status.{Status}
 use Rattle.statuses.specs.declared.status.Status.TheVariants as status
 use Rattle.class_runs.specs.Sets.{HasEndedSo, HasNoMain}
@@ -41,8 +41,16 @@ IsOfPlainRun (status.Stuck waits) = Unit {0}
 IsOfPlainRun (status.LinkFault kind name) = Unit {0}
 IsOfPlainRun other = ⊥
 
--- The set, once its array types had numbers, has no such class, or the class no `main`; or the acts are a plain run, which ended so.
+-- This is the set once the array types of the image's directory had numbers in it.
+pub record IsNumberedFor (set numbered : Linked) (image : Told) : Type 0 where
+  pub words : Words
+  pub read : AreRead image words
+  pub directory : Directory
+  pub directory_is : IsDirectoryIn words directory
+  pub is : numbered ≡ with_arrays_of set directory.shapes
+
+-- The set, once it has these numbers, has no such class, or the class no `main`; or the acts are a plain run, which ended so.
 abbrev pub EndsComplete : Linked → (name : List ℕ) → Limits → Told → Graph → List Recorded → Status → Type 0
 EndsComplete set name limits start opening acts how =
-    ((acts ≡ []) × (numbered : Linked) × HasNoMain numbered name limits how)
+    ((acts ≡ []) × (numbered : Linked) × IsNumberedFor set numbered start × HasNoMain numbered name limits how)
     ⊎ (HasEndedSo set name limits start opening acts how × IsOfPlainRun how)

@@ -35,7 +35,7 @@ use Rattle.durable_launch.specs.Passed.{Unopened}
 use Rattle.durable_launch.specs.Unopenings as unopened
 use Rattle.durable_launch.specs.Passed.{AreRead}
 use Rattle.durable_launch.specs.Passed.{IsOpenedFor, StandsWithNew}
-use Rattle.durable_launch.specs.Passed.{IsDirectoryIn}
+use Rattle.durable_launch.specs.Passed.{HasDirectory, IsDirectoryIn}
 use Rattle.durable_launch.specs.Passed.{IsUnappended, IsUnbegun, IsUnopened}
 use Rattle.statuses.specs.Names.{fault_status, main_text, shortened, uncaught_in}
 use Rattle.statuses.specs.declared.status.Status.{Status}
@@ -62,8 +62,8 @@ status_of_unopened unopened.ImageFailed = status.ImageFault
 status_of_unopened unopened.OutOfMemory = status.OutOfMemory
 
 -- Nothing was appended to the image. A stop within any call, or after the last one, leaves only images that stand for the
--- very graph for which it stood; and at the end it opens with the directory that it had, a blank one with none. Within the reads and the
--- first fence that is so where nothing was unfenced at the start.
+-- very graph for which it stood, and have the directory that it had, a blank one none; at the end it opens with that. Within the reads and
+-- the first fence that is so where nothing was unfenced at the start.
 pub record HasItsDirectory (start after : Told) : Type 0 where
   pub words : Words
   pub read : AreRead start words
@@ -73,7 +73,8 @@ pub record HasItsDirectory (start after : Told) : Type 0 where
   pub stood : StandsFor start.size words graph
   pub within : (n : ℕ) → 0 < n → start.calls + n ≤ after.calls → start.calls + n < 2 ^ 64 - 1
       → (n ≤ start.size + 1 → IsAllFenced start.trace)
-      → (c : Outcome) → LeftWithin after.trace (start.calls + n) c → StandsFor start.size c graph
+      → (c : Outcome) → LeftWithin after.trace (start.calls + n) c
+      → StandsFor start.size c graph × HasDirectory start.size c directory
   pub now : (c : Outcome) → LeavesNow after.trace c → StandsFor start.size c graph
   pub opens : (c : Outcome) → LeavesNow after.trace c → Opens start.size c directory
 
@@ -175,11 +176,18 @@ SetEnds set name limits start opening acts after how =
 
 -- ---- stops
 
--- The words stand for the graph for which those before stood; or for it with the first of the set's entries that the directory lacked, in
--- their order, and the roots among these are null.
+-- The words stand for this graph, and have the directory that those before spelled.
+pub record StandsStill (size : ℕ) (before : Words) (graph : Graph) (words : Outcome) : Type 0 where
+  pub found : Directory
+  pub found_is : IsDirectoryIn before found
+  pub stands : StandsFor size words graph
+  pub has : HasDirectory size words found
+
+-- The words stand for the graph for which those before stood, and have their directory; or for it with the first of the set's entries that
+-- the directory lacked, in their order, and the roots among these are null: then they have the directory with these.
 abbrev pub StandsAsBefore : Linked → (size : ℕ) → (before : Words) → Outcome → Type 0
 StandsAsBefore set size before words = (graph : Graph) → StandsFor size before graph
-    → StandsFor size words graph ⊎ StandsWithNew set size before graph words
+    → StandsStill size before graph words ⊎ StandsWithNew set size before graph words
 
 -- They open with the directory with which the image was opened, and stand for a graph that these acts of all allow from
 -- the graph with which it was.
@@ -227,6 +235,6 @@ pub record SetRunsOver (set : Linked) (name : List ℕ) (limits : Limits) (start
   pub unbegun : acts ≡ [] → opening ≡ empty_graph
   -- The persistence theorem: a stop within any image call, or after the last one, leaves only images that
   -- stand for a graph which the acts before that call allow; before the first act, for the graph that the
-  -- image stood for, with some of the new null roots of the set. The image tells what is done to it, keeps what was fenced and tears no
+  -- image stood for, with the first of the set's new entries, and have its directory with these. The image tells what is done to it, keeps what was fenced and tears no
   -- word. Nothing was unfenced at the start, where that matters (`IsFencedFor`).
   pub stops : IsTelling start.trace → StandsAtStops set start opening acts after

@@ -391,7 +391,7 @@ repaired_left lines t s s' es es' few a unwritten tells c =
     before (after ∙ ap (λ x. x + 1) (sym before)) others c
 
 claimed_left : (lines : ℕ → ℕ) (t : ℕ) (s s' : Scene) (es es' : List Entry) → t < 64 → AgreesAt s es → Tells lines es → Tells lines es' → Converts t step.Claimed s s' es es' →
-    work_of lines s' ≤ work_of lines s + 16 * (s'.free - s.free)
+    work_of lines s' + 1 ≤ work_of lines s + 16 * (s'.free - s.free)
 claimed_left lines t s s' es es' few a tells tells' c =
     let w = c.says.0 in
     let m = w.m in
@@ -532,7 +532,7 @@ first_most lines x d =
     omega (arith, one, none, rest)
 
 claim_begun : (lines : ℕ → ℕ) (t m : ℕ) (s s' : Scene) (es es' : List Entry) → t < 64 → AgreesAt s es → AgreesAt s' es' → queue_of s.queue t ≡ [] → Tells lines es' → m < length es →
-    BeginsByClaim s s' es es' t m → work_of lines s' ≤ work_of lines s + 16 * (s'.free - s.free)
+    BeginsByClaim s s' es es' t m → work_of lines s' + 1 ≤ work_of lines s + 16 * (s'.free - s.free)
 claim_begun lines t m s s' es es' few a a' empty tells lm w =
     let e = entry es m in
     let q = queue_of s.queue t in

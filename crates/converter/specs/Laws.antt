@@ -17,6 +17,7 @@ use Rattle.convert_words.specs.Converting.{IsLineOf, Lacks, Waits, Converts}
 use Rattle.convert_words.specs.Scenes.{Scene, AgreesAt}
 use Rattle.convert_words.specs.Steps.{told}
 use Rattle.converter.specs.declared.begin.Begun.{Begun}
+use Rattle.converter.specs.declared.begin.Begun.TheVariants as begun
 use Rattle.converter.specs.Beginning.{Begins}
 use Rattle.converter.specs.Stepping.{Event}
 
@@ -148,18 +149,24 @@ done_at lines copies q t = done_of lines copies (phase_of q t) (place_of q t).1 
 abbrev pub work_of : (ℕ → ℕ) → Scene → ℕ
 work_of lines s = work_left lines (done_at lines s.heap.marks.copies s.queue) s.queue
 
--- one for a quiet step: it copies, forwards, repairs, writes or fences
+-- one for a quiet step: it claims, copies, forwards, repairs, writes or fences
 abbrev pub quiet : ConvertStep → ℕ
+quiet step.Claimed = 1
 quiet step.CopiedLine = 1
 quiet step.Forwarded = 1
 quiet step.Repaired = 1
 quiet step.WroteBack = 1
 quiet step.Fenced = 1
-quiet step.Claimed = 0
 quiet step.Touched = 0
 quiet (step.Sealed set) = 0
 quiet (step.Wait u) = 0
 quiet (step.Full need left) = 0
+
+-- the beginning of a conversion claims, or needs a thread, which is no step yet
+abbrev pub quiet_begun : Begun → ℕ
+quiet_begun begun.Claimed = 1
+quiet_begun (begun.Needs u) = 0
+quiet_begun (begun.Full need left) = 0
 
 -- Each event leaves at most the work that there was, less one where it is a quiet step, and 16 more for each line that a claim takes.
 abbrev pub EventsTakeWork : Type 0
@@ -167,11 +174,11 @@ EventsTakeWork = (lines : ℕ → ℕ) (t : ℕ) (answer : ConvertStep) (s s' : 
     → AgreesAt s es → AreUnwritten s.queue es → (e : Event t answer s s' es ms ms') → Tells lines es → Tells lines e.after
     → work_of lines s' + quiet answer ≤ work_of lines s + 16 * (s'.free - s.free)
 
--- The beginning of a conversion leaves 16 more for each line that it takes, and a store to a line of a queued object two more.
+-- So does the beginning of a conversion. A store to a line of a queued object leaves two more.
 abbrev pub BeginningsAddWork : Type 0
 BeginningsAddWork = (lines : ℕ → ℕ) (t m : ℕ) (answer : Begun) (s s' : Scene) (es es' : List Entry) → t < 64 → AgreesAt s es
     → queue_of s.queue t ≡ [] → m < length es → Tells lines es' → Begins t m answer s s' es es'
-    → work_of lines s' ≤ work_of lines s + 16 * (s'.free - s.free)
+    → work_of lines s' + quiet_begun answer ≤ work_of lines s + 16 * (s'.free - s.free)
 
 abbrev pub StoresAddWork : Type 0
 StoresAddWork = (lines : ℕ → ℕ) (t l : ℕ) (s : Scene) (heap : Twin) (es : List Entry) → AgreesAt s es → IsLineOf es t l

@@ -13,8 +13,8 @@ pub use Rattle.program_launch.specs.declared.refusals.NoLaunch.{NoLaunch}
 pub use Rattle.set_opening.specs.Again.{HoldsGraph, IsNoRefusal, OpenedImagesOpenAgain}
 pub use Rattle.set_opening.specs.Arrays.{with_arrays_of}
 pub use Rattle.set_opening.specs.Attached.{AreRead, IsAttached, IsSettled}
-pub use Rattle.set_opening.specs.Fitted.{IsUnfit}
-pub use Rattle.set_opening.specs.Found.{IsDirectoryIn}
+pub use Rattle.set_opening.specs.Fitted.{AllAgree, IsOtherShape, IsUnfit}
+pub use Rattle.set_opening.specs.Found.{HasDirectory, IsDirectoryIn}
 pub use Rattle.set_opening.specs.Opened.{IsFoundFor, IsOpenedFor, StandsWithFirst, StandsWithNew}
 pub use Rattle.set_opening.specs.Unopened.{IsAttachFault, IsLeft, IsLeftAsFound, IsRecoveryFault, IsUnappended, IsUnbegun}
 pub use Rattle.set_opening.specs.Unopened.{IsUnopened}

@@ -1,12 +1,12 @@
 // The events by which a request of a thread is done.
-ghost use Rattle.std.specs.Prelude.{◌≡◌, ◌<◌, ◌≤◌, ◌+◌, ℕ, List, drop, length};
+ghost use Rattle.std.specs.Prelude.{◌≡◌, ◌⊎◌, ◌<◌, ◌≤◌, ◌+◌, ℕ, List, drop, length};
 ghost use Rattle.run_types.specs.declared.fault.Which.TheVariants as which;
 ghost use Rattle.run_types.specs.declared.wait.On.{On as OnOf};
 ghost use Rattle.run_forms.specs.Views.{ThreadFrames};
 ghost use Rattle.twin_forms.specs.Table.{Entry};
-ghost use Rattle.machine.specs.Passed.{Opening};
+ghost use Rattle.machine.specs.Passed.{IsSilent, Opening, SameImage, memory_of, plain_waits};
 ghost use Rattle.machine.specs.declared.events.Halt.TheVariants.{Met};
-ghost use Rattle.machine.specs.Events.{AddsActs, IsAnswerTo};
+ghost use Rattle.machine.specs.Events.{AddsActs, CallsAtMostOnce, FindsWait, IsAnswerTo, IsUnanswered, LeavesOthers, logs_word};
 ghost use Rattle.machine.specs.Halts.{lacks};
 ghost use Rattle.machine.specs.Passed.{measure};
 ghost use Rattle.machine.specs.Remembering.{IsNext, LeadsTo, Remembers};
@@ -31,6 +31,7 @@ pub(crate) fn tell<W: Watcher>(watcher: &mut W, acts: &Acts, from: u32)
 }
 
 /// One event of a thread. The watcher is told its act, if it made one.
+#[inline(always)]
 pub(crate) fn told_event<C: Types, I: Image, S: Sink, W: Watcher>(
     heap: &mut SharedHeap<I>,
     sink: &mut S,
@@ -45,6 +46,14 @@ pub(crate) fn told_event<C: Types, I: Image, S: Sink, W: Watcher>(
         → IsNext o first (C.facts set.now) heap.old es threads t fs request.old
         → LeadsTo o first result heap.old heap.new threads t fs request.old }
     ensures remembers { Remembers result t request.old heap.old heap.new }
+    ensures finds { (o : Opening) (first : ℕ) (es : List Entry) (threads : List ThreadFrames) (fs : ThreadFrames)
+        → IsNext o first (C.facts set.now) heap.old es threads t fs request.old
+        → FindsWait (logs_word heap.old.machine t) result (plain_waits o heap.old.machine t) }
+    ensures others { LeavesOthers result t heap.old.machine heap.new.machine }
+    ensures calls { CallsAtMostOnce heap.old heap.new }
+    ensures sink { IsUnanswered result → sink.new ≡ sink.old }
+    ensures silent { IsSilent request.old → sink.new ≡ sink.old }
+    ensures either { SameImage (memory_of heap.old.machine) (memory_of heap.new.machine) ⊎ (sink.new ≡ sink.old) }
     ensures acts { AddsActs result t heap.old.history.acts heap.new.history.acts }
     ensures tells { Tells request.old (fault_in_event heap.new result) heap.old heap.new
         (outside (W.seen watcher.old) (S.taken sink.old) (S.takes sink.old) (S.faults sink.old))

@@ -8,7 +8,7 @@ ghost use Rattle.machine.specs.Passed.{Opening, memory_of};
 ghost use Rattle.machine.specs.declared.events.Halt.TheVariants.{Met};
 ghost use Rattle.machine.specs.Halts.{lacks};
 ghost use Rattle.machine.specs.Passed.{asked_by, started_as};
-ghost use Rattle.durable_run.specs.Events.{AddsBy, HasAsked, HasBegun, LeavesLess, RemembersAfter, StepsTo, fault_of};
+ghost use Rattle.durable_run.specs.Events.{AddsBy, FindsItsWait, HasAsked, HasBegun, LeavesAlone, LeavesLess, RemembersAfter, StepsTo, fault_of};
 ghost use Rattle.durable_run.specs.Events.{with_begun};
 ghost use Rattle.durable_run.specs.Telling.{AddsShare, HasTold, IsCaused};
 ghost use Rattle.durable_run.specs.Turning.{IsReady, asks_next, is_live, turns_after};
@@ -74,6 +74,7 @@ fn begin_next<I: Image>(
 }
 
 // The event of a thread whose turn has asked this: what it asks is done, or goes on, or waits.
+#[inline(always)]
 fn goes_on<C: Types, I: Image, H: Host<Native, Ref, NativeState, Item>, S: Sink, W: Watcher>(
     run: &mut Run<I, S, W>,
     set: &C,
@@ -99,6 +100,9 @@ fn goes_on<C: Types, I: Image, H: Host<Native, Ref, NativeState, Item>, S: Sink,
         → result ≡ Stepped.Over (Met (lacks which.Acts 1 0)) }
     ensures less { LeavesLess result run.old.heap run.new.heap }
     ensures remembers { RemembersAfter t (Some request.old) result run.old.heap run.new.heap }
+    ensures finds { (o : Opening) (first : ℕ) → HasAsked o first (C.facts set.now) (H.setting host.now)
+        run.old.heap run.old.frames.items t request.old → FindsItsWait o t result run.old.heap }
+    ensures alone { LeavesAlone t (Some request.old) result run.old.heap run.new.heap (run.new.sink ≡ run.old.sink) }
     ensures turns { run.new.turns ≡ run.old.turns }
 {
     let before = run.heap.threads().count();
@@ -123,6 +127,7 @@ fn goes_on<C: Types, I: Image, H: Host<Native, Ref, NativeState, Item>, S: Sink,
 }
 
 // The request of the thread's turn that isn't answered goes on.
+#[inline(never)]
 fn continues<C: Types, I: Image, H: Host<Native, Ref, NativeState, Item>, S: Sink, W: Watcher>(
     run: &mut Run<I, S, W>,
     set: &C,
@@ -148,6 +153,11 @@ fn continues<C: Types, I: Image, H: Host<Native, Ref, NativeState, Item>, S: Sin
         → result ≡ Stepped.Over (Met (lacks which.Acts 1 0)) }
     ensures less { LeavesLess result run.old.heap run.new.heap }
     ensures remembers { RemembersAfter t (asked_by run.old.heap.notes t) result run.old.heap run.new.heap }
+    ensures finds { (o : Opening) (first : ℕ)
+        → IsReady o first (C.facts set.now) (H.setting host.now) run.old.heap run.old.frames.items
+        → FindsItsWait o t result run.old.heap }
+    ensures alone { LeavesAlone t (asked_by run.old.heap.notes t) result run.old.heap run.new.heap
+        (run.new.sink ≡ run.old.sink) }
     ensures turns { run.new.turns ≡ run.old.turns }
 {
     let Some(mut request) = run.heap.take_asked(t) else {
@@ -187,6 +197,13 @@ fn asks<C: Types, I: Image, H: Host<Native, Ref, NativeState, Item>, S: Sink, W:
     ensures remembers { (before now : ThreadFrames) → HasCome (H.setting host.now) stop before now
         → slice_get run.old.frames.items t ≡ Some now
         → RemembersAfter t (turn (H.setting host.now) before).asks result run.old.heap run.new.heap }
+    ensures finds { (o : Opening) (first : ℕ) (all : List ThreadFrames) (before now : ThreadFrames)
+        → HasBegun o first (C.facts set.now) (H.setting host.now) run.old.heap all t stop before now
+        → run.old.frames.items ≡ slice_set all t now → FindsItsWait o t result run.old.heap }
+    ensures alone { (before now : ThreadFrames) → HasCome (H.setting host.now) stop before now
+        → slice_get run.old.frames.items t ≡ Some now
+        → LeavesAlone t (turn (H.setting host.now) before).asks result run.old.heap run.new.heap
+        (run.new.sink ≡ run.old.sink) }
     ensures turns { run.new.turns ≡ run.old.turns }
 {
     machine::machines_ask_as_plain_runs();
@@ -229,6 +246,14 @@ pub fn step<
     ensures remembers { (fs : ThreadFrames) → slice_get run.old.frames.items t ≡ Some fs
         → RemembersAfter t (asks_next (H.setting host.now) (asked_by run.old.heap.notes t) fs) result
         run.old.heap run.new.heap }
+    // It waits in the plain world exactly where its thread does.
+    ensures finds { (o : Opening) (first : ℕ)
+        → IsReady o first (C.facts set.now) (H.setting host.now) run.old.heap run.old.frames.items
+        → FindsItsWait o t result run.old.heap }
+    // It calls the image once at most, or else, for a print, the sink; and leaves the other threads at what they are about.
+    ensures alone { (fs : ThreadFrames) → slice_get run.old.frames.items t ≡ Some fs
+        → LeavesAlone t (asks_next (H.setting host.now) (asked_by run.old.heap.notes t) fs) result
+        run.old.heap run.new.heap (run.new.sink ≡ run.old.sink) }
     ensures turns { run.new.turns ≡ turns_after (asked_by run.old.heap.notes t) t run.old.turns }
 {
     if run.heap.has_asked(t) {

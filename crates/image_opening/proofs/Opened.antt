@@ -16,7 +16,7 @@ use Rattle.directories.specs.Formatting.{IsFormatted}
 use Rattle.directories.specs.Kept.{Kept}
 use Rattle.image_recovery.specs.Putting.{AllDurable, AllWritten, IsPutBack, IsRecovered}
 use Rattle.image_recovery.specs.Recovered.{FindsImage, FindsNothing, IsBadFault, entries_in}
-use Rattle.image_recovery.specs.Recoveries.{Recovers, FailsToRecover}
+use Rattle.image_recovery.specs.Recoveries.{FailsToRecover, HasDirectory, Recovers}
 use Rattle.image_walk.specs.declared.fault.RecoverFault.{RecoverFault}
 use Rattle.image_walk.specs.declared.fault.RecoverFault.TheVariants as recovery
 use Rattle.image_walk.specs.Walking.{IsFaultOf}
@@ -49,6 +49,12 @@ module _ (start : Told) (before m : Memory) (version : ℕ) (directory : Kept) (
     λ not_zero. (r.used at.known not_zero).finds.opens.entries,
   )
 
+  directory_had : HasDirectory before.size (shown before) (entries_in directory)
+  directory_had = ⊎_elim
+      (λ (zero : shown before 0 0 ≡ 0). inl (zero, directory_found.0 zero))
+      (λ (not_zero : shown before 0 0 ≢ 0). inr (r.used at.known not_zero).finds.opens)
+      (cases_eq (shown before 0 0) 0)
+
   durable_now : AllDurable m
   durable_now = ⊎_elim
       (λ tells. r.durable tells (attached_written start before at) (attached_durable start before at))
@@ -75,6 +81,8 @@ module _ (start : Told) (before m : Memory) (version : ℕ) (directory : Kept) (
     goes_on = r.goes_on;
     stops = λ tells. r.stops (at.telling tells) (attached_durable start before at) (attached_written start before at) graph
         (r.stands at.known);
+    directory_stays = λ tells. r.directory_stays (at.telling tells) (attached_durable start before at)
+        (attached_written start before at) at.enough at.most (entries_in directory) directory_had;
     recovered = done;
     known = known;
     stands_now = r.stands_now at.known;
@@ -106,6 +114,8 @@ is_unrecovered start after before m fault why at fails of sized told = record {
   told = told;
   goes_on = fails.goes_on;
   stops = λ tells. fails.stops (at.telling tells) (attached_durable start before at) (attached_written start before at);
+  directory_stays = λ tells. fails.directory_stays (at.telling tells) (attached_durable start before at)
+      (attached_written start before at) at.enough at.most;
   cause = recovery_cause before m fault why of (fails.bad at.known) (fails.put_back at.known);
 }
 

@@ -11,11 +11,13 @@ use Rattle.image_layout.specs.declared.superblock.BadReason.{BadReason}
 use Rattle.image_layout.specs.declared.superblock.BadReason.TheVariants.{Size}
 use Rattle.image_layout.specs.Places.{min_lines, max_lines}
 use Rattle.image_meaning.specs.Checks.{Words}
+use Rattle.image_meaning.specs.Directories.{Directory}
 use Rattle.image_meaning.specs.Meaning.{meaning, StandsFor}
 use Rattle.word_changes.specs.Changes.{ChangesTo, GoesOn, StopsLeave}
 use Rattle.image_walk.specs.declared.fault.RecoverFault.{RecoverFault}
 use Rattle.image_walk.specs.declared.fault.RecoverFault.TheVariants as recovery
 use Rattle.image_recovery.specs.Putting.{IsPutBack}
+use Rattle.image_recovery.specs.Recoveries.{HasDirectory}
 use Rattle.image_opening.specs.declared.not_opened.NotOpened.{NotOpened}
 use Rattle.image_opening.specs.declared.not_opened.NotOpened.TheVariants.{BadImage, ImageFailed, OutOfMemory}
 use Rattle.image_opening.specs.Attached.{AreRead, IsAttached}
@@ -76,7 +78,7 @@ IsRecoveryFault before m ImageFailed = Unit {0}
 IsRecoveryFault before m OutOfMemory = Unit {0}
 
 -- It was attached, its memory being `before` then, and couldn't be recovered. Each stop leaves an image that stands for the graph for which
--- it stood, if there is one.
+-- it stood, and has the directory that it had, if there is one.
 pub record IsUnrecovered (start after : Told) (why : NotOpened) : Type 0 where
   pub before : Memory
   pub memory : Memory
@@ -86,6 +88,8 @@ pub record IsUnrecovered (start after : Told) (why : NotOpened) : Type 0 where
   pub goes_on : GoesOn before memory
   pub stops : IsTelling start.trace → (graph : Graph) → StandsFor before.size (shown before) graph
       → StopsLeave before memory (λ c. StandsFor before.size c graph)
+  pub directory_stays : IsTelling start.trace → (directory : Directory) → HasDirectory before.size (shown before) directory
+      → StopsLeave before memory (λ c. HasDirectory before.size c directory)
   pub cause : IsRecoveryFault before memory why
 
 abbrev pub IsUnopened : Told → Told → NotOpened → Type 0

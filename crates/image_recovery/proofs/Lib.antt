@@ -1,4 +1,5 @@
 pub mod PutSteps
 pub mod Stops
 pub mod Checks
+pub mod Directories
 pub mod Recovers

@@ -15,6 +15,7 @@ use Rattle.image_layout.specs.declared.superblock.Super.TheVariants as supers
 use Rattle.image_meaning.specs.Checks as checks
 use Rattle.image_meaning.specs.Checks.{Words}
 use Rattle.image_meaning.specs.Directories.{Directory, no_entries, directory_of, directory_words_of, with_entries}
+use Rattle.image_meaning.specs.Laws.{Opens}
 use Rattle.image_meaning.specs.Logs.{logs_fault, is_log_line, put_back}
 use Rattle.image_meaning.specs.Meaning.{at_super, empty_graph, graph_from, meaning, StandsFor, IsWellFormed}
 use Rattle.image_meaning.proofs.Ranges.{mapped_same}
@@ -37,7 +38,8 @@ use Rattle.image_walk.specs.declared.fault.RecoverFault.TheVariants as faults
 use Rattle.image_recovery.specs.Putting.{IsPutBack, IsCleared, IsRestored, AllDurable, AllWritten, PutsBack, IsRecovered}
 use Rattle.image_recovery.specs.Putting.{within, IsRecoveringIn}
 use Rattle.image_recovery.specs.Recovered.{IsUsed, FailsFirst, FindsImage, FindsNothing, IsSameFault, IsBadFault, entries_in}
-use Rattle.image_recovery.specs.Recoveries.{FailsToRecover, Recovers, StopsKeepTheGraph, StoresItsOwn}
+use Rattle.image_recovery.specs.Recoveries.{FailsToRecover, Recovers, StopsKeepTheDirectory, StopsKeepTheGraph, StoresItsOwn}
+use Rattle.image_recovery.proofs.Directories.{formatting_keeps, looking_keeps, recovering_keeps}
 use Rattle.image_recovery.proofs.PutSteps.{head_in}
 use Rattle.image_recovery.proofs.Stops.{inside, behind, putting_stop, emptying_stop}
 
@@ -366,6 +368,7 @@ unread_fails first seen fault looks fails cause = record {
   stops = λ tells durable all graph stands.
       let range = sized first.size (shown first) graph stands in
       looking_stops first seen graph range.0 range.1 durable stands looks;
+  directory_stays = λ tells durable all enough most directory has. looking_keeps first seen enough durable looks directory has;
   recovering = λ tells durable all enough used pass.
       stops_putting first enough pass durable seen (changes_nowhere (IsPutBack (shown first)) first seen looks.changes);
   goes_on = goes_by_looks first seen looks;
@@ -394,6 +397,17 @@ module _ (first seen new : Memory) (enough : min_lines ≤ first.size) (most : f
   blank_stops tells durable all graph stands =
       let known = telling_knows first tells in
       formatting_stops first seen new graph enough most durable stands looks (zero known)
+      (subst (λ (n : ℕ). StopsLeave seen new (IsBlankOrFormatted n)) looks.changes.size
+      (formats (looks.changes.telling tells) (blank_fixed first seen enough known durable looks (zero known))))
+
+  blank_keeps : StopsKeepTheDirectory first new
+  blank_keeps tells durable all enough_lines most_lines directory has =
+      let known = telling_knows first tells in
+      let none : directory ≡ no_entries = ⊎_elim
+      (λ (blank : (shown first 0 0 ≡ 0) × (directory ≡ no_entries)). blank.1)
+      (λ (opens : Opens first.size (shown first) directory). absurd (opens.used (zero known)))
+      has in
+      formatting_keeps first seen enough durable looks directory has new most none
       (subst (λ (n : ℕ). StopsLeave seen new (IsBlankOrFormatted n)) looks.changes.size
       (formats (looks.changes.telling tells) (blank_fixed first seen enough known durable looks (zero known))))
 
@@ -428,6 +442,7 @@ module _ (first seen new : Memory) (enough : min_lines ≤ first.size) (most : f
             (durable_on first seen (telling_knows first tells) looks before);
         stores = blank_stores;
         stops = blank_stops;
+        directory_stays = blank_keeps;
         recovering = λ tells before all used. absurd (used (zero (telling_knows first tells)));
         goes_on = blank_goes;
         later = omega (arith, looks.later, later);
@@ -441,6 +456,7 @@ module _ (first seen new : Memory) (enough : min_lines ≤ first.size) (most : f
     put_back = λ known bad. absurd (never (looks.changes.known known) bad);
     stores = blank_stores;
     stops = blank_stops;
+    directory_stays = blank_keeps;
     recovering = λ tells before all enough used pass. absurd (used (zero (telling_knows first tells)));
     goes_on = blank_goes;
     later = omega (arith, looks.later, later);
@@ -470,6 +486,15 @@ module _ (first seen new : Memory) (words : ℕ) (enough : min_lines ≤ first.s
       stops_weaker first new (IsRecoveringIn first.size (shown first)) (λ d. StandsFor first.size d graph) (leaves tells durable all pass)
       (λ d so. recovering_stands first.size (shown first) d graph enough most used stands so)
 
+  used_keeps : StopsKeepTheDirectory first new
+  used_keeps tells durable all enough_lines most_lines directory has =
+      let begins = (is (telling_knows first tells)).begins in
+      let opens : Opens first.size (shown first) directory = ⊎_elim
+      (λ (blank : (shown first 0 0 ≡ 0) × (directory ≡ no_entries)). absurd (begins blank.0))
+      (λ (there : Opens first.size (shown first) directory). there)
+      has in
+      recovering_keeps first new enough directory opens (leaves tells durable all opens.logs)
+
   used_goes : GoesOn first new
   used_goes = goes_more first seen new (goes_by_looks first seen looks) goes
 
@@ -496,6 +521,7 @@ module _ (first seen new : Memory) (words : ℕ) (enough : min_lines ≤ first.s
         durable = λ tells written before. durable tells written;
         stores = used_stores;
         stops = used_stops;
+        directory_stays = used_keeps;
         recovering = λ tells before all used. leaves tells before all (finds (telling_knows first tells)).finds.opens.logs;
         goes_on = used_goes;
         later = omega (arith, looks.later, later);
@@ -518,6 +544,7 @@ module _ (first seen new : Memory) (words : ℕ) (enough : min_lines ≤ first.s
     put_back = put_back;
     stores = used_stores;
     stops = used_stops;
+    directory_stays = used_keeps;
     recovering = λ tells before all enough used pass. leaves tells before all pass;
     goes_on = used_goes;
     later = omega (arith, looks.later, later);

@@ -1,9 +1,12 @@
 -- What a recovery comes to: an image that is recovered, or one that isn't. Of this project's own format.
-use Rattle.std.specs.Prelude.{◌≡◌, ◌≢◌, ◌≤◌, ℕ, List, None}
+use Rattle.std.specs.Prelude.{◌≡◌, ◌≢◌, ◌⊎◌, ◌≤◌, ℕ, List, None}
 use Rattle.ap_base.specs.Causes.{Rose}
 use Rattle.graph_model.specs.declared.types.Graph.{Graph}
 use Rattle.line_memory.specs.Memory.{Memory, shown}
-use Rattle.image_layout.specs.Places.{min_lines}
+use Rattle.image_layout.specs.Places.{max_lines, min_lines}
+use Rattle.image_meaning.specs.Checks.{Words}
+use Rattle.image_meaning.specs.Directories.{Directory, no_entries}
+use Rattle.image_meaning.specs.Laws.{Opens}
 use Rattle.image_meaning.specs.Logs.{NoneLogged, logs_fault}
 use Rattle.image_meaning.specs.Meaning.{meaning, StandsFor, IsWellFormed}
 use Rattle.word_changes.specs.Changes.{Nothing, Tells, AllKnown, ChangesTo, StopsLeave, GoesOn}
@@ -20,6 +23,16 @@ use Rattle.image_recovery.specs.Recovered.{FailsFirst, FindsImage, FindsNothing,
 abbrev pub StopsKeepTheGraph : Memory → Memory → Type 0
 StopsKeepTheGraph old new = Tells old → AllDurable old → AllWritten old → (graph : Graph)
     → StandsFor old.size (shown old) graph → StopsLeave old new (λ c. StandsFor old.size c graph)
+
+-- The image opens with this directory; a blank one has none of its entries.
+abbrev pub HasDirectory : ℕ → Words → Directory → Type 0
+HasDirectory size words directory = ((words 0 0 ≡ 0) × (directory ≡ no_entries)) ⊎ Opens size words directory
+
+-- Likewise one that has the directory that it had.
+abbrev pub StopsKeepTheDirectory : Memory → Memory → Type 0
+StopsKeepTheDirectory old new = Tells old → AllDurable old → AllWritten old → min_lines ≤ old.size → old.size ≤ max_lines
+    → (directory : Directory) → HasDirectory old.size (shown old) directory
+    → StopsLeave old new (λ c. HasDirectory old.size c directory)
 
 -- What is stored, whatever comes of it: in a blank image the words of the layout; in any other words are put back and counts of
 -- logs cleared, alone. Where the superblock, the directory or the logs fail their checks nothing is.
@@ -45,6 +58,7 @@ pub record Recovers (old new : Memory) (directory : Kept) (graph : Graph) (lines
   pub stores : StoresItsOwn old new
   -- what stops leave, meanwhile and from now on
   pub stops : StopsKeepTheGraph old new
+  pub directory_stays : StopsKeepTheDirectory old new
   pub recovering : Tells old → AllDurable old → AllWritten old → shown old 0 0 ≢ 0
       → StopsLeave old new (IsRecoveringIn old.size (shown old))
   -- the memory goes on, and its image's count of faults never falls
@@ -60,6 +74,7 @@ pub record FailsToRecover (old new : Memory) (fault : RecoverFault) : Type 0 whe
   pub stores : StoresItsOwn old new
   -- what stops leave, meanwhile and from now on
   pub stops : StopsKeepTheGraph old new
+  pub directory_stays : StopsKeepTheDirectory old new
   pub recovering : Tells old → AllDurable old → AllWritten old → min_lines ≤ old.size → shown old 0 0 ≢ 0
       → logs_fault old.size (shown old) ≡ None → StopsLeave old new (IsRecoveringIn old.size (shown old))
   -- the memory goes on, and its image's count of faults never falls

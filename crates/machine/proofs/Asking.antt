@@ -55,6 +55,7 @@ use Rattle.machine.specs.Events.{Comes, AsksOn}
 use Rattle.machine.specs.Laws.{Laws}
 use Rattle.machine.specs.Running.{HadNoFault}
 use Rattle.machine.proofs.Basics.{doing-set, not-longer, shared-is}
+use Rattle.machine.proofs.Bound.{act-bound, quiet-bound}
 use Rattle.machine.proofs.Faults.{none-more}
 use Rattle.machine.proofs.Freely.{freely-volatile}
 use Rattle.machine.proofs.Leaving.{ends-same, few, goes-on, same-room, same-size, happened, as-they-were, Kept, asks-by, converts-now}
@@ -160,6 +161,8 @@ module _ (laws : Laws) (o : Opening) (first : ℕ) (set : SetFacts) (s : Shared)
           numbers = refl;
           quiet = λ micro same. not-longer s.history.acts act same;
           waits = λ on no. absurd (let e = no in cc);
+          work = act-bound s asked_now Micro act refl (let same = laws.work.asked o s.machine es h.due.running.keeps
+              h.due.running.unwritten t request goal store.kept asks-for in omega (arith, same));
           asks = refl;
           noted = refl;
         }
@@ -279,6 +282,8 @@ module _ (laws : Laws) (o : Opening) (first : ℕ) (set : SetFacts) (s : Shared)
             (begins-on begun.Claimed b) in
             omega (arith, less));
         waits = λ on no. absurd (let e = no in cc);
+        work = quiet-bound s new (laws.work.begins o s.machine es h.due.running.keeps h.due.running.unwritten
+            new.machine b.after t number (reference_word object) begun.Claimed (begins-on begun.Claimed b));
         asks = ap (λ (y : ThreadNotes). y.asks) b.notes;
         noted = ap (λ (y : ThreadNotes). y.waits) b.notes;
       }
@@ -409,9 +414,11 @@ module _ (laws : Laws) (o : Opening) (first : ℕ) (set : SetFacts) (s : Shared)
         states = ap (λ (r : Rest). r.threads) b.monitors;
         memory = b.begins.memory;
         numbers = ap (λ (x : Spaces). x.numbers) same-spaces;
-        measure = (let less = laws.measure.begins o s.machine es h.due.running.keeps
+        free = b.begins.says.free;
+        work = (let less = laws.work.begins o s.machine es h.due.running.keeps
             h.due.running.unwritten new.machine b.after t number (reference_word object) (begun.Needs u)
-            (begins-on (begun.Needs u) b) in omega (arith, less));
+            (begins-on (begun.Needs u) b) in
+            let free = b.begins.says.free in omega (arith, less, free));
       }
 
 -- ---- of each run

@@ -41,6 +41,7 @@ use Rattle.machine.specs.Events.{Comes, SparesSink}
 use Rattle.machine.specs.Laws.{Laws}
 use Rattle.machine.specs.Running.{HadNoFault, IsDue}
 use Rattle.machine.proofs.Answering.{IsDueFor, spared-serves}
+use Rattle.machine.proofs.Bound.{act-measured}
 use Rattle.machine.proofs.Faults.{none-more}
 use Rattle.machine.proofs.Leaving.{ends-idle, few, happened, asked, Kept, as-answered, answered-on}
 use Rattle.machine.proofs.Marks.{IsRegional, begins, marks, regional-whole}
@@ -190,6 +191,10 @@ module _ (laws : Laws) (o : Opening) (first : ℕ) (set : SetFacts) (s : Shared)
         numbers = stays.numbers;
         quiet = λ micro same. absurd (let no = micro in cc);
         waits = λ on no. absurd (let e = no in cc);
+        work = act-measured s opened (opened-keeps.keeps.heap.size ∙ sym due.running.keeps.heap.size) does.free
+            (Did reply) act new-acts (let same = laws.work.guards.begun o s.machine es due.running.keeps
+            due.running.unwritten opened.machine t request reply region-begins opened-keeps.keeps in
+            omega (arith, same));
         asks = ap (λ (n : ThreadNotes). n.asks) steps.notes ∙ noted-asks request op.Begin reply s.notes;
         noted = ap (λ (n : ThreadNotes). n.waits) steps.notes ∙ noted-waits request op.Begin reply s.notes;
       }

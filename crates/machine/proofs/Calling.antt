@@ -51,6 +51,7 @@ use Rattle.machine.specs.Laws.{Laws}
 use Rattle.machine_threads.specs.Keeping.{AsksItsEnd, AsksSomeStore, KeepsThread, LagsByItsStore}
 use Rattle.machine.specs.Running.{IsDue, Runs}
 use Rattle.machine.proofs.Basics.{doing-set, shared-is, some-same}
+use Rattle.machine.proofs.Bound.{act-bound, quiet-bound}
 use Rattle.machine.proofs.Faults.{none-more}
 use Rattle.machine.proofs.Leaving.{AsksStill, Kept, as-set, as-they-were, few, goes-on, happened, lives, same-room}
 use Rattle.machine.proofs.Steps.{given-whole}
@@ -135,6 +136,8 @@ module _ (laws : Laws) (o : Opening) (first : ℕ) (set : SetFacts) (s : Shared)
           quiet = λ micro same. (let less = laws.measure.writes o s.machine es due.running.keeps
               due.running.unwritten w.twin t w.wrote in omega (arith, less));
           waits = λ on no. absurd (let e = no in cc);
+          work = quiet-bound s written (let one = laws.work.writes o s.machine es due.running.keeps
+              due.running.unwritten w.twin t w.wrote in omega (arith, one));
           asks = refl;
           noted = refl;
         }
@@ -223,6 +226,9 @@ module _ (laws : Laws) (o : Opening) (first : ℕ) (set : SetFacts) (s : Shared)
       numbers = refl;
       quiet = λ micro same. absurd (let no = micro in cc);
       waits = λ on no. absurd (let e = no in cc);
+      work = act-bound s fenced_now (Did reply.Done) fence_recorded refl
+          (let less = laws.work.fences o s.machine es due.running.keeps due.running.unwritten f.twin t f.made in
+          omega (arith, less));
       asks = refl;
       noted = refl;
     }
@@ -271,6 +277,7 @@ module _ (laws : Laws) (o : Opening) (first : ℕ) (set : SetFacts) (s : Shared)
           numbers = refl;
           quiet = λ micro same. absurd (let no = micro in cc);
           waits = λ on no. absurd (let e = no in cc);
+          work = tt;
           asks = refl;
           noted = refl;
         }

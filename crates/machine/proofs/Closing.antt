@@ -57,6 +57,7 @@ use Rattle.machine.specs.Laws.{Laws}
 use Rattle.machine.specs.Running.{HadNoFault, IsDue}
 use Rattle.machine.proofs.Answering.{IsDueFor, spared-serves}
 use Rattle.machine.proofs.Basics.{not-longer, shared-is, some-same}
+use Rattle.machine.proofs.Bound.{act-measured, quiet-measured}
 use Rattle.machine.proofs.Faults.{none-more}
 use Rattle.machine.proofs.Given.{counts}
 use Rattle.machine.proofs.Leaving.{asked, ends-idle, few, fits, lives, happened, as-they-were, stays-on, Kept, as-answered}
@@ -184,6 +185,12 @@ module _ (laws : Laws) (o : Opening) (first : ℕ) (set : SetFacts) (s : Shared)
                 l.twin t request l.log part on in omega (arith, less))
           ];
           waits = λ on no. absurd (let e = no in cc);
+          work = elim l.made [
+            | inl touches ↦ absurd (laws.ending.untouched o s.machine es due.running.keeps
+                due.running.unwritten l.twin t request l.log part touches)
+            | inr on ↦ quiet-measured s part_now l.call.call.steps.size refl (laws.ending.made o s.machine es
+                due.running.keeps due.running.unwritten l.twin t request l.log part on)
+          ];
           asks = refl;
           noted = refl;
         }
@@ -236,6 +243,8 @@ module _ (laws : Laws) (o : Opening) (first : ℕ) (set : SetFacts) (s : Shared)
           numbers = refl;
           quiet = λ micro same. not-longer s.history.acts act same;
           waits = λ on no. absurd (let e = no in cc);
+          work = act-measured s closed_now l.call.call.steps.size refl Micro act refl (let less = laws.ending.closed o
+              s.machine es due.running.keeps due.running.unwritten l.twin t request l.log closes in omega (arith, less));
           asks = refl;
           noted = refl;
         }
@@ -288,6 +297,7 @@ module _ (laws : Laws) (o : Opening) (first : ℕ) (set : SetFacts) (s : Shared)
           numbers = refl;
           quiet = λ micro same. absurd (let no = micro in cc);
           waits = λ on no. absurd (let e = no in cc);
+          work = tt;
           asks = refl;
           noted = refl;
         }
@@ -485,6 +495,9 @@ module _ (laws : Laws) (o : Opening) (first : ℕ) (set : SetFacts) (s : Shared)
         numbers = ap (λ (y : Spaces). y.numbers) same-spaces;
         quiet = λ micro same. absurd (let no = micro in cc);
         waits = λ on no. absurd (let e = no in cc);
+        work = act-measured s new (ended-keeps.keeps.heap.size ∙ sym due.running.keeps.heap.size) does.free (Did reply)
+            end_act new-history (let less = laws.work.guards.ended o s.machine es due.running.keeps
+            due.running.unwritten new.machine t request reply region-ends ended-keeps.keeps in omega (arith, less));
         asks = ap (λ (n : ThreadNotes). n.asks) steps.notes ∙ noted-asks request op.End reply between.notes
             ∙ ap (λ (n : ThreadNotes). n.asks) l.left.notes;
         noted = ap (λ (n : ThreadNotes). n.waits) steps.notes ∙ noted-waits request op.End reply between.notes

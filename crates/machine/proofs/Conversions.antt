@@ -32,7 +32,7 @@ use Rattle.machine_forms.specs.Events.{Converted, act_in, value_in, with_joined}
 use Rattle.machine_forms.specs.Happening as event
 use Rattle.machine_forms.specs.Naming.{group_names}
 use Rattle.machine_threads.proofs.Passed.{counted}
-use Rattle.machine_threads.specs.Passed.{lowering}
+use Rattle.machine_threads.specs.Passed.{work_left}
 use Rattle.machine_threads.specs.Passed.{StoresFreely}
 use Rattle.machine_threads.specs.Claiming.{HasForwarded}
 use Rattle.machine_threads.specs.Keeping.{LagsByItsStore}
@@ -53,12 +53,13 @@ use Rattle.machine.specs.Ended.{HasPlanned, HasSomePlanned, IsThread, StoreComes
 use Rattle.machine.specs.Events.{AsksOn, Comes, SparesSink, KeepsRows, KeepsRowsByNeed}
 use Rattle.convert_waits.specs.Rows.{InRow, Why, with_wait}
 use Rattle.convert_waits.specs.Rows.Why.{Member}
-use Rattle.converter.specs.Laws.{AreUnwritten}
+use Rattle.converter.specs.Laws.{AreUnwritten, quiet}
 use Rattle.std.proofs.Common.{Option}
 use Rattle.convert_waits.proofs.Rows.{converting_waits_keep, needing_waits_keep}
 use Rattle.machine.specs.Laws.{Laws}
 use Rattle.machine.specs.Running.{HadNoFault}
 use Rattle.machine.proofs.Basics.{not-longer}
+use Rattle.machine.proofs.Bound.{act-bound, quiet-bound, wait-bound}
 use Rattle.machine.proofs.Faults.{none-more}
 use Rattle.machine.proofs.Freely.{freely-volatile}
 use Rattle.machine.proofs.Leaving.{AsksStill, Kept, as-they-were, asks-by, converts-now, ends-same, few, goes-on, happened}
@@ -140,8 +141,8 @@ module _ (laws : Laws) (o : Opening) (first : ℕ) (set : SetFacts) (s : Shared)
   -- ---- a step
 
   module _ (answer : ConvertStep) (g : GoesOnce t answer s new es) where
-    -- each step that moves on lowers the measure: a touch never comes, for each line is resident
-    lowers : (a : ConvertStep) → MovesOn a → answer ≡ a → lowering a ≡ 1
+    -- each step that moves on is a quiet one: a touch never comes, for each line is resident
+    lowers : (a : ConvertStep) → MovesOn a → answer ≡ a → quiet a ≡ 1
     lowers (step.Sealed set) moves is = absurd moves
     lowers (step.Wait u) moves is = absurd moves
     lowers (step.Full need left) moves is = absurd moves
@@ -215,6 +216,9 @@ module _ (laws : Laws) (o : Opening) (first : ℕ) (set : SetFacts) (s : Shared)
           h.due.running.unwritten new.machine t answer g.on in
           let one = lowers answer moves refl in omega (arith, less, one));
       waits = λ on no. absurd (let e = no in cc);
+      work = quiet-bound s new (let less = laws.work.steps o s.machine es h.due.running.keeps
+          h.due.running.unwritten new.machine t answer g.on in
+          let one = lowers answer moves refl in omega (arith, less, one));
       asks = ap (λ (y : ThreadNotes). y.asks) g.notes;
       noted = ap (λ (y : ThreadNotes). y.waits) g.notes;
     }
@@ -239,6 +243,7 @@ module _ (laws : Laws) (o : Opening) (first : ℕ) (set : SetFacts) (s : Shared)
           numbers = numbers-stay new.machine g.on.same;
           quiet = λ micro none. absurd (let no = micro in cc);
           waits = λ on no. absurd (let e = no in cc);
+          work = tt;
           asks = ap (λ (y : ThreadNotes). y.asks) g.notes;
           noted = ap (λ (y : ThreadNotes). y.waits) g.notes;
         }
@@ -337,6 +342,9 @@ module _ (laws : Laws) (o : Opening) (first : ℕ) (set : SetFacts) (s : Shared)
       quiet = λ micro none. absurd (let no = micro in cc);
       waits = λ on is. (let less = laws.measure.steps o s.machine es h.due.running.keeps
           h.due.running.unwritten new.machine t (step.Wait u) g.on in omega (arith, less));
+      work = wait-bound s new (on.Conversion u) (let less = laws.work.steps o s.machine es h.due.running.keeps
+          h.due.running.unwritten new.machine t (step.Wait u) g.on in
+          let same = ap (λ (x : Scene). x.free) same-at ∙ g.on.event.goes_on.free in omega (arith, less, same));
       asks = ap (λ (y : ThreadNotes). y.asks) g.notes;
       noted = ap (λ (y : ThreadNotes). y.waits) g.notes;
     }
@@ -427,6 +435,10 @@ module _ (laws : Laws) (o : Opening) (first : ℕ) (set : SetFacts) (s : Shared)
           numbers = ap (λ (m : Machine). m.spaces.numbers) j.machine ∙ numbers-stay j.between between-same;
           quiet = λ micro none. not-longer s.history.acts joined (sym history-now ∙ none);
           waits = λ on no. absurd (let e = no in cc);
+          work = act-bound s new Micro joined history-now
+              (subst (λ (m : Machine). work_left m ≤ work_left s.machine + 16) (sym j.machine)
+              (let none = laws.work.seals o s.machine es h.due.running.keeps h.due.running.unwritten j.between t j.set
+              named j.seals in omega (arith, none)));
           asks = ap (λ (y : ThreadNotes). y.asks) j.notes;
           noted = ap (λ (y : ThreadNotes). y.waits) j.notes;
         }
@@ -465,6 +477,7 @@ module _ (laws : Laws) (o : Opening) (first : ℕ) (set : SetFacts) (s : Shared)
           numbers = numbers-stay new.machine c.same;
           quiet = λ micro none. absurd (let no = micro in cc);
           waits = λ on no. absurd (let e = no in cc);
+          work = tt;
           asks = ap (λ (y : ThreadNotes). y.asks) f.notes;
           noted = ap (λ (y : ThreadNotes). y.waits) f.notes;
         }

@@ -23,6 +23,7 @@ use Rattle.region_log.specs.Log.{Log}
 use Rattle.machine_forms.specs.Machines.{Opening, doing_of, empty_log, log_of}
 use Rattle.machine_forms.specs.Events.{ActsBeside, act_in, left_by}
 use Rattle.machine_forms.specs.Happening as event
+use Rattle.machine_forms.proofs.Happening.{table-is}
 use Rattle.machine_forms.specs.Happening.{table_after}
 use Rattle.machine_threads.specs.Stuck.{plain_waits}
 use Rattle.machine_threads.specs.Passed.{Begins}
@@ -33,6 +34,7 @@ use Rattle.machine.specs.Events.{Comes, IsBroken, NotesStart, StartsNone}
 use Rattle.machine.specs.Laws.{Laws}
 use Rattle.machine.specs.Running.{HadNoFault, IsDue, Runs}
 use Rattle.machine.proofs.Basics.{doing-set}
+use Rattle.machine.proofs.Bound.{act-bound}
 use Rattle.machine.proofs.Faults.{none-more}
 use Rattle.machine.proofs.Leaving.{AsksStill, Kept, as-answered, ends-idle, goes-on, happened, same-room}
 use Rattle.machine.proofs.Memory.{StaysPut, does-stay}
@@ -111,6 +113,9 @@ module _ (laws : Laws) (o : Opening) (first : ℕ) (set : SetFacts) (s : Shared)
                 (none-more o.launch s.machine.acts act due.running.unfaulted a.meets);
           })
 
+    new-acts : new.history.acts ≡ s.history.acts ++ act ∷ []
+    new-acts = a.history ∙ acts.does.acts ∙ ap (λ (xs : List Recorded). xs ++ act ∷ []) (sym due.running.acts)
+
     pub answers : Comes o first es threads t fs request (Did r) s new
     answers = record {
       goes = record {
@@ -126,8 +131,7 @@ module _ (laws : Laws) (o : Opening) (first : ℕ) (set : SetFacts) (s : Shared)
       acts = record {
         act = act;
         thread = refl;
-        acts = a.history ∙ acts.does.acts
-            ∙ ap (λ (xs : List Recorded). xs ++ act ∷ []) (sym due.running.acts);
+        acts = new-acts;
       };
       calls = inl stays.image;
       cause = (let same = stays.image.faults in omega (arith, same));
@@ -136,6 +140,10 @@ module _ (laws : Laws) (o : Opening) (first : ℕ) (set : SetFacts) (s : Shared)
       numbers = stays.numbers;
       quiet = λ micro same. absurd (let no = micro in cc);
       waits = λ on no. absurd (let e = no in cc);
+      work = act-bound s new (Did r) act new-acts (let two = laws.work.beside o s.machine es due.running.keeps
+          due.running.unwritten new.machine es' t request operation r acts (table-is s.machine operation es)
+          (laws.keep o t s.machine new.machine es es' due.running.keeps
+          (event.acted new.machine request operation r acts)) in omega (arith, two));
       asks = a.asks;
       noted = a.noted;
     }

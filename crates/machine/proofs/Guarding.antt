@@ -48,6 +48,7 @@ use Rattle.machine.specs.Ended.{HasPlanned, HasSomePlanned, StoreComesTo}
 use Rattle.machine.specs.Events.{Comes, HasImageCause}
 use Rattle.machine.specs.Laws.{Laws}
 use Rattle.machine.proofs.Basics.{not-longer, shared-is}
+use Rattle.machine.proofs.Bound.{act-measured}
 use Rattle.machine.proofs.Faults.{none-more}
 use Rattle.machine.proofs.Freely.{freely, guarded-by}
 use Rattle.machine.proofs.Leaving.{few, happened, as-they-were, stays-on, AsksStill}
@@ -107,6 +108,7 @@ module _ (laws : Laws) (o : Opening) (first : ℕ) (set : SetFacts) (s : Shared)
     numbers = refl;
     quiet = λ micro same. absurd (let no = micro in cc);
     waits = λ on no. absurd (let e = no in cc);
+    work = tt;
     asks = refl;
     noted = refl;
   }
@@ -227,6 +229,8 @@ module _ (laws : Laws) (o : Opening) (first : ℕ) (set : SetFacts) (s : Shared)
             numbers = refl;
             quiet = λ micro same. not-longer s.history.acts act same;
             waits = λ on no. absurd (let e = no in cc);
+            work = act-measured s guarded_now refl refl Micro act refl (let more = laws.work.guards.guarded o s.machine es
+                h.due.running.keeps h.due.running.unwritten t request goal store.kept word guards in omega (arith, more));
             asks = refl;
             noted = refl;
           }

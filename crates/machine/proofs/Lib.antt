@@ -4,6 +4,7 @@ pub mod Aside
 pub mod Asking
 pub mod Beginning
 pub mod Basics
+pub mod Bound
 pub mod Calling
 pub mod Closing
 pub mod Conversions

@@ -31,6 +31,7 @@ use Rattle.machine.specs.Events.{Comes}
 use Rattle.machine.specs.Laws.{Laws}
 use Rattle.machine.specs.Running.{IsDue}
 use Rattle.machine.proofs.Basics.{shared-is}
+use Rattle.machine.proofs.Bound.{quiet-measured}
 use Rattle.machine.proofs.Leaving.{few, lives, happened, as-they-were, stays-on, AsksStill}
 use Rattle.machine_forms.specs.Happening as event
 use Rattle.machine_threads.specs.Keeping.{AsksItsEnd}
@@ -105,6 +106,12 @@ module _ (laws : Laws) (o : Opening) (first : ℕ) (set : SetFacts) (s : Shared)
                   due.running.unwritten l.twin t l.log l.logs made in omega (arith, less))
             ];
             waits = λ on no. absurd (let e = no in cc);
+            work = elim l.made [
+              | inl touches ↦ absurd (laws.logging.untouched o s.machine es due.running.keeps
+                  due.running.unwritten l.twin t l.log l.logs touches)
+              | inr made ↦ quiet-measured s logged_now l.logs.logs.steps.size refl (laws.logging.made o s.machine es
+                  due.running.keeps due.running.unwritten l.twin t l.log l.logs made)
+            ];
             asks = refl;
             noted = refl;
           }
@@ -176,6 +183,7 @@ module _ (laws : Laws) (o : Opening) (first : ℕ) (set : SetFacts) (s : Shared)
             numbers = refl;
             quiet = λ micro same. absurd (let no = micro in cc);
             waits = λ on no. absurd (let e = no in cc);
+            work = tt;
             asks = refl;
             noted = refl;
           }

@@ -1,5 +1,5 @@
 -- A conversion that begins by a need goes on in the same event: what comes of the heap then comes of the whole event.
-use Rattle.std.proofs.Common.{◌≡◌, ◌⊎◌, ℕ, ◌≤◌, List, [], ◌∷◌, ◌++◌, length, sym, ◌∙◌, ap, subst, arith}
+use Rattle.std.proofs.Common.{◌≡◌, ◌⊎◌, ℕ, ◌-◌, ◌≤◌, List, [], ◌∷◌, ◌++◌, length, sym, ◌∙◌, ap, subst, arith}
 use Rattle.ap_base.specs.declared.reference.Ref.{Ref}
 use Rattle.ap_base.specs.declared.reference.Item.{Item}
 use Rattle.run_types.specs.declared.wait.On.{On}
@@ -13,7 +13,7 @@ use Rattle.line_memory.specs.Memory.{Memory, OneCall, SameImage}
 use Rattle.twin_forms.specs.Table.{Entry}
 use Rattle.object_steps.specs.declared.storing.Store.{Store}
 use Rattle.machine_forms.specs.Machines.{Opening, Machine, doing_of, memory_of, scene_of}
-use Rattle.machine_threads.specs.Passed.{measure}
+use Rattle.machine_threads.specs.Passed.{measure, work_left}
 use Rattle.convert_waits.specs.Rows.{BeginsToNeed, InRow}
 use Rattle.convert_words.specs.Scenes.{AgreesAt}
 use Rattle.converter.specs.Laws.{AreUnwritten}
@@ -27,6 +27,7 @@ use Rattle.machine.specs.declared.events.Event.TheVariants.{Did, Micro, WouldWai
 use Rattle.machine.specs.declared.events.Halt.TheVariants.{Met, Stuck}
 use Rattle.machine.specs.Ended.{HasPlanned, StoreComesTo}
 use Rattle.machine.specs.Events.{AddsActs, AsksOn, Comes, GoesTo, HasImageCause, SparesOthers, SparesSink, KeepsRows, KeepsRowsByNeed, FindsWait, logs_word}
+use Rattle.machine.proofs.Bound.{bound-alike}
 
 -- ---- one after another
 
@@ -62,7 +63,8 @@ pub record NeedsFirst (o : Opening) (first : ℕ) (set : SetFacts) (s mid : Shar
     pub states : mid.machine.rest.threads ≡ s.machine.rest.threads
     pub memory : memory_of mid.machine ≡ memory_of s.machine
     pub numbers : mid.machine.spaces.numbers ≡ s.machine.spaces.numbers
-    pub measure : measure mid.machine ≤ measure s.machine
+    pub free : mid.machine.free ≡ s.machine.free
+    pub work : work_left mid.machine ≤ work_left s.machine
 
 module _ (o : Opening) (first : ℕ) (set : SetFacts) (s mid new : Shared) (es : List Entry)
     (threads : List ThreadFrames) (t : ℕ) (fs : ThreadFrames) (request : Request Ref Item) (store : Store)
@@ -143,6 +145,13 @@ module _ (o : Opening) (first : ℕ) (set : SetFacts) (s mid new : Shared) (es :
   finds-then (WouldWait (on.Init u)) found = sym same-waits ∙ found
   finds-then (Over halt) found = tt
 
+  first-less : measure mid.machine ≤ measure s.machine
+  first-less =
+      let work = n.work in
+      let free = n.free in
+      let size = ap (λ (m : Memory). m.size) n.memory in
+      omega (arith, work, free, size)
+
   comes-then : (result : Event) → Comes o first n.asks.after threads t fs request result mid new
       → Comes o first es threads t fs request result s new
   comes-then result c = record {
@@ -155,8 +164,11 @@ module _ (o : Opening) (first : ℕ) (set : SetFacts) (s mid new : Shared) (es :
     finds = finds-then result c.finds;
     numbers = c.numbers ∙ n.numbers;
     quiet = λ micro same. (let less = c.quiet micro (same ∙ sym (ap (λ (h : History). h.acts) n.history)) in
-        let first = n.measure in omega (arith, less, first));
-    waits = λ on is. (let less = c.waits on is in let first = n.measure in omega (arith, less, first));
+        let first = first-less in omega (arith, less, first));
+    waits = λ on is. (let less = c.waits on is in let first = first-less in omega (arith, less, first));
+    work = bound-alike result mid new s new
+        (sym (ap (λ (h : History). length new.history.acts - length h.acts) n.history))
+        (sym (ap (λ free. new.machine.free - free) n.free)) n.work (omega arith) c.work;
     asks = c.asks ∙ ap (λ (x : ThreadNotes). x.asks) n.notes;
     noted = c.noted ∙ ap (λ (x : ThreadNotes). x.waits) n.notes;
   }

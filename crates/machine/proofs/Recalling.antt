@@ -21,7 +21,7 @@ use Rattle.run_forms.specs.Views.{ThreadFrames}
 use Rattle.twin_forms.specs.Table.{Entry}
 use Rattle.twin_forms.proofs.Led.{below_or_not}
 use Rattle.machine_forms.specs.Machines.{Opening, Machine, memory_of, roots_in}
-use Rattle.machine_threads.specs.Passed.{Asks, Begins}
+use Rattle.machine_threads.specs.Passed.{Asks, Begins, work_left}
 use Rattle.machine_threads.specs.Testing.{IsLive}
 use Rattle.convert_waits.specs.Stuck.{IsPlain}
 use Rattle.shared_heap.specs.Notes.{AreOf64, ThreadNotes, answered, asked_by, asking, waiting, waits_on}
@@ -30,13 +30,14 @@ use Rattle.machine.specs.declared.events.Event.{Event}
 use Rattle.machine.specs.declared.events.Event.TheVariants.{Did, Micro, WouldWait, Over}
 use Rattle.machine.specs.declared.events.Halt.TheVariants.{Met, Stuck}
 use Rattle.machine.specs.Events.{AddsActs, Comes, FindsWait, HasImageCause, HasSinkCause, IsAnswerTo, IsUnanswered, LeavesOthers, NotesStart}
-use Rattle.machine.specs.Events.{IsBelow, IsOver, SparesOthers}
+use Rattle.machine.specs.Events.{IsBelow, IsOver, KeepsBound, SparesOthers}
 use Rattle.machine.specs.Halts.{fault_of_halt, lacks}
 use Rattle.machine.specs.Laws.{Laws}
 use Rattle.machine.specs.Remembering.{AllWait, Answers, GoesOnAsking, GoesOnWaiting, IsNext, IsStuckIn, IsStuckNow, LeadsTo}
 use Rattle.machine.specs.Remembering.{IsSomeRunning, NotesEvent, Remembers}
 use Rattle.machine.specs.Running.{IsDue, IsRunning, RemembersAsked}
 use Rattle.machine.proofs.Basics.{some-same}
+use Rattle.machine.proofs.Bound.{bound-alike}
 use Rattle.machine.proofs.Leaving.{lives}
 use Rattle.machine.proofs.Noted.{no-some, remembers, runs-noted, set-none, set-some}
 
@@ -420,6 +421,15 @@ module _ (set : SetFacts) (t : ℕ) (request : Request Ref Item) (came result : 
 
   pub noted-finds : (logging : Bool) (waits : Option On) → FindsWait logging came waits → FindsWait logging result waits
   noted-finds logging waits = becomes (λ e. FindsWait logging e waits) (λ w found. tt) came result same-result
+
+  pub noted-work : (s : Shared) → KeepsBound came s mid → KeepsBound result s new
+  noted-work s bound =
+      let machine = noted-machine set t request came result mid new n in
+      let history = noted-history set t request came result mid new n in
+      let work = ap work_left machine in
+      bound-alike result s mid s new (ap (λ (h : History). length h.acts - length s.history.acts) history)
+      (ap (λ (m : Machine). m.free - s.machine.free) machine) (omega arith) (omega (arith, work))
+      (becomes (λ e. KeepsBound e s mid) (λ w bound. tt) came result same-result bound)
 
   pub noted-others : (old : Machine) → LeavesOthers came t old mid.machine → LeavesOthers result t old new.machine
   noted-others old left = subst (λ (m : Machine). LeavesOthers result t old m)

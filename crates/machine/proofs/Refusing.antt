@@ -105,6 +105,7 @@ module _ (laws : Laws) (o : Opening) (first : ℕ) (set : SetFacts) (s : Shared)
           numbers = ap (λ (m : Machine). m.spaces.numbers) b.same;
           quiet = λ micro none. absurd (let no = micro in cc);
           waits = λ on no. absurd (let e = no in cc);
+          work = tt;
           asks = ap (λ (y : ThreadNotes). y.asks) b.notes;
           noted = ap (λ (y : ThreadNotes). y.waits) b.notes;
         }

@@ -61,6 +61,7 @@ use Rattle.machine.specs.Laws.{Laws}
 use Rattle.machine.specs.Running.{IsDue, HadNoFault}
 use Rattle.machine.proofs.Aside.{keeps-aside, plain-aside}
 use Rattle.machine.proofs.Basics.{doing-same, not-longer, some-same}
+use Rattle.machine.proofs.Bound.{wait-bound}
 use Rattle.machine.proofs.Doing.{answers}
 use Rattle.machine.proofs.Finding.{does-waits-none, finds-plain, waits-silent}
 use Rattle.machine.proofs.Leaving.{asked, few, fits, Kept, goes-on, same-room}
@@ -72,7 +73,7 @@ use Rattle.graph_model.specs.declared.types.Value.TheVariants.{Obj as Object}
 use Rattle.machine.proofs.Noting.{noted-asks, noted-waits, noted-wait, noted-wrong, noted-over}
 use Rattle.machine_threads.specs.Passed.{TakesLines}
 use Rattle.machine_threads.specs.Passed.{HasUnwritten}
-use Rattle.machine_threads.specs.Passed.{measure}
+use Rattle.machine_threads.specs.Passed.{measure, work_left}
 use Rattle.machine_forms.specs.Machines.{scene_of}
 use Rattle.machine_threads.specs.Keeping.{KeepsThread, IsUnbegun}
 use Rattle.machine_threads.specs.Stuck.{plain_waits, requests_in}
@@ -433,6 +434,7 @@ module _ (laws : Laws) (o : Opening) (first : ℕ) (set : SetFacts) (s : Shared)
           numbers = put.numbers;
           quiet = λ micro same. absurd (let no = micro in cc);
           waits = λ on no. absurd (let e = no in cc);
+          work = tt;
           asks = ap (λ (n : ThreadNotes). n.asks) noted;
           noted = ap (λ (n : ThreadNotes). n.waits) noted;
         }
@@ -550,6 +552,8 @@ module _ (laws : Laws) (o : Opening) (first : ℕ) (set : SetFacts) (s : Shared)
         numbers = (put (stepped.Waits on) x st).numbers;
         quiet = λ micro same. absurd (let no = micro in cc);
         waits = λ on2 is. subst (λ (m : Machine). measure m ≤ measure s.machine) (sym st.machine) (omega arith);
+        work = wait-bound s new on
+            (subst (λ (m : Machine). work_left m ≤ work_left s.machine) (sym st.machine) (omega arith));
         asks = ap (λ (n : ThreadNotes). n.asks) (x.notes ∙ noted-wait request on s.notes);
         noted = ap (λ (n : ThreadNotes). n.waits) (x.notes ∙ noted-wait request on s.notes);
       }

@@ -40,6 +40,7 @@ use Rattle.machine.specs.Events.{Comes, IsNoSinkFault}
 use Rattle.machine.specs.Laws.{Laws}
 use Rattle.machine.specs.Running.{HadNoFault}
 use Rattle.machine.proofs.Basics.{doing-set, no-some, not-longer, some-same}
+use Rattle.machine.proofs.Bound.{act-bound, act-measured}
 use Rattle.machine.proofs.Doing.{answers}
 use Rattle.machine.proofs.Faults.{none-more}
 use Rattle.machine.proofs.Freely.{freely-outside, true-or-false}
@@ -240,6 +241,8 @@ module _ (laws : Laws) (o : Opening) (first : ℕ) (set : SetFacts) (s : Shared)
           numbers = stays.numbers;
           quiet = λ micro same. not-longer s.history.acts act (sym new-acts ∙ same);
           waits = λ on no. absurd (let e = no in cc);
+          work = act-bound s new Micro act new-acts (let two = laws.work.durable o s.machine es h.due.running.keeps
+              h.due.running.unwritten new.machine t request goal store.kept stores now.keeps in omega (arith, two));
           asks = ap (λ (y : ThreadNotes). y.asks) x.noted;
           noted = ap (λ (y : ThreadNotes). y.waits) x.noted;
         }
@@ -310,6 +313,10 @@ module _ (laws : Laws) (o : Opening) (first : ℕ) (set : SetFacts) (s : Shared)
           numbers = stays.numbers;
           quiet = λ micro same. absurd (let no = micro in cc);
           waits = λ on no. absurd (let e = no in cc);
+          work = act-measured s new (logged-keeps.keeps.heap.size ∙ sym h.due.running.keeps.heap.size) does.free
+              (Did reply.Done) act new-acts (let less = laws.work.guards.stored o s.machine es h.due.running.keeps
+              h.due.running.unwritten new.machine t request goal store.kept logs-store logged-keeps.keeps in
+              omega (arith, less));
           asks = ap (λ (y : ThreadNotes). y.asks) x.noted;
           noted = ap (λ (y : ThreadNotes). y.waits) x.noted;
         }

@@ -1,5 +1,5 @@
 -- What an event of a thread over a shared heap comes to.
-use Rattle.std.specs.Prelude.{◌≡◌, ◌≢◌, ◌⊎◌, ℕ, ◌-◌, ◌<◌, ◌≤◌, Bool, false, List, [], ◌∷◌, ◌++◌, length, Option, Some, None, IfSome}
+use Rattle.std.specs.Prelude.{◌≡◌, ◌≢◌, ◌⊎◌, ℕ, ◌+◌, ◌-◌, ◌*◌, ◌<◌, ◌≤◌, Bool, false, List, [], ◌∷◌, ◌++◌, length, Option, Some, None, IfSome}
 use Rattle.ap_base.specs.Causes.{Rose}
 use Rattle.ap_base.specs.Sinks.{with_bytes}
 use Rattle.ap_base.specs.declared.reference.Ref.{Ref}
@@ -31,7 +31,7 @@ use Rattle.machine_forms.specs.declared.doing.Doing.TheVariants.{Nothing, Conver
 use Rattle.machine_forms.specs.Machines.{Opening, Machine, doing_of, log_of, memory_of, scene_of}
 use Rattle.machine_forms.specs.Keeping.{KeepsRun}
 use Rattle.machine_threads.specs.Passed.{Asks, Begins, IsReady, RunsAsPlain}
-use Rattle.machine_threads.specs.Passed.{measure}
+use Rattle.machine_threads.specs.Passed.{measure, work_left}
 use Rattle.machine_threads.specs.Claiming.{HasForwarded}
 use Rattle.machine_threads.specs.Stuck.{plain_waits}
 use Rattle.shared_heap.specs.Conversions.{HasBegun}
@@ -223,6 +223,26 @@ CallsAtMostOnce old new =
     SameImage (memory_of old.machine) (memory_of new.machine)
     ⊎ OneCall (memory_of old.machine) (memory_of new.machine)
 
+-- ---- the work that is left
+
+-- how many acts it adds
+abbrev pub acts_added : Shared → Shared → ℕ
+acts_added old new = length new.history.acts - length old.history.acts
+
+-- how many lines it takes, by a claim
+abbrev pub lines_taken : Shared → Shared → ℕ
+lines_taken old new = new.machine.free - old.machine.free
+
+-- A quiet step is a `Micro` that adds no act. The work left is at most that before, less one where the event is a
+-- quiet step, and 16 more for each act that it adds and each line that it takes. So over any run there are at most 16
+-- quiet steps for each act and each line taken. Nothing comes after a run that is over.
+abbrev pub KeepsBound : Event → Shared → Shared → Type 0
+KeepsBound (Over halt) old new = Unit {0}
+KeepsBound Micro old new = work_left new.machine + (1 - acts_added old new)
+    ≤ work_left old.machine + 16 * (acts_added old new + lines_taken old new)
+KeepsBound result old new = work_left new.machine
+    ≤ work_left old.machine + 16 * (acts_added old new + lines_taken old new)
+
 -- ---- all of it
 
 -- What an event does to the heap. One that neither acts nor replies lowers the measure, unless the thread waits, which
@@ -239,6 +259,7 @@ pub record Comes (o : Opening) (first : ℕ) (es : List Entry) (threads : List T
   pub quiet : result ≡ Micro → new.history.acts ≡ old.history.acts
       → measure new.machine < measure old.machine
   pub waits : (on : On) → result ≡ WouldWait on → measure new.machine ≤ measure old.machine
+  pub work : KeepsBound result old new
   pub asks : new.notes.asks ≡ old.notes.asks
   pub noted : new.notes.waits ≡ old.notes.waits
 

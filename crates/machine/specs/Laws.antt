@@ -7,7 +7,9 @@ use Rattle.run_forms.specs.Views.{PlainFrames}
 use Rattle.machine_threads.specs.Passed.{ActsArePlainRuns, EventsGoOnAsPlain, ReadyThreadsAskAlike}
 use Rattle.machine_threads.specs.Passed.{EventsKeepLines, RefusalsEndTheRun, RefusedBeginningsFillTheImage}
 use Rattle.machine_threads.specs.Passed.{RefusedStepsFillTheImage}
-use Rattle.machine_threads.specs.Passed.{EndingLowersTheMeasure, LoggingLowersTheMeasure}
+use Rattle.machine_threads.specs.Passed.{ActsAddTwo, AskedAddsNone, BeginningsAddLines, ConversionsTakeWork}
+use Rattle.machine_threads.specs.Passed.{DurableStoresAddTwo, FencesTakeOne, SealsAddNone, WritesTakeOne}
+use Rattle.machine_threads.specs.Passed.{EndingLowersTheMeasure, GuardsAddEightToTheMeasure, LoggingLowersTheMeasure}
 use Rattle.machine_threads.specs.Passed.{EventsLeaveUnwritten}
 use Rattle.machine_threads.specs.Passed.{QuietEventsLowerTheMeasure}
 use Rattle.machine_threads.specs.Passed.{EndsMeetNoFault, FencesMeetNoFault, FullHistoriesEnd, FullLogsEnd, ImageFaultsEnd, RacesEnd}
@@ -63,6 +65,18 @@ pub record ThreadsGoOn : Type 0 where
   pub tested : TestedWaitsAreStuck
   pub end : TestedWaitsEnd
 
+-- what events leave of the work; of regions' acts by the measure
+pub record WorkIsLeft : Type 0 where
+  pub writes : WritesTakeOne
+  pub fences : FencesTakeOne
+  pub steps : ConversionsTakeWork
+  pub begins : BeginningsAddLines
+  pub seals : SealsAddNone
+  pub asked : AskedAddsNone
+  pub beside : ActsAddTwo
+  pub durable : DurableStoresAddTwo
+  pub guards : GuardsAddEightToTheMeasure
+
 abbrev pub AreResident : Type 0
 AreResident = (m : Memory) (l : ℕ) → l < m.size → IsResident m l
 
@@ -77,6 +91,7 @@ pub record Laws : Type 0 where
   pub unwritten : EventsLeaveUnwritten
   pub ends : RunsEnd
   pub barriers : BarriersServe
+  pub work : WorkIsLeft
   pub measure : QuietEventsLowerTheMeasure
   pub logging : LoggingLowersTheMeasure
   pub ending : EndingLowersTheMeasure

@@ -1,4 +1,5 @@
 -- What crates above name of the crates below this one: they stand on this one alone.
+pub use Rattle.line_memory.specs.Memory.{SameImage}
 pub use Rattle.convert_waits.specs.Passes.{HaveWaited, PassesBegin, PassesFill, PassesGoOn, PassesSkip}
 pub use Rattle.convert_waits.specs.Rows.{InRow, Why, none_waited, on_of, with_wait}
 pub use Rattle.convert_waits.specs.Rows.Why.{Plain}
@@ -18,6 +19,7 @@ pub use Rattle.machine_threads.specs.Stuck.{AllAskStores, ClaimersLive, Machines
 pub use Rattle.machine_threads.specs.Testing.{AreNoted, IsLive, LiveThreadsAsk}
 pub use Rattle.shared_heap.specs.First.{first_shared}
 pub use Rattle.shared_heap.specs.Notes.{AreOf64, ThreadNotes, answered, asked_by, no_notes, started_as, taken, waits_on}
+pub use Rattle.shared_heap.specs.Passed.{IsSilent}
 pub use Rattle.shared_heap.specs.Shared.{Shared}
 pub use Rattle.step_forms.specs.Becomes.{given}
 pub use Rattle.machine_forms.specs.Events.{IsListed}

@@ -10,6 +10,7 @@ pub(crate) fn laws()
     machine_threads::machines_end_by_their_faults();
     machine_threads::calls_of_regions_lower_the_measure();
     machine_threads::events_keep_lines();
+    machine_threads::events_take_work();
     machine_threads::lines_stay_unwritten();
     machine_threads::quiet_events_lower_the_measure();
     machine_threads::refusals_fill_the_image();

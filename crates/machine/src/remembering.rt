@@ -83,6 +83,7 @@ fn all_wait<C: Types, I: Image>(heap: &SharedHeap<I>, set: &C) -> bool
 }
 
 // Notes the request of an event that waits, and for what; and tells whether all threads wait.
+#[inline(never)]
 fn note_wait<C: Types, I: Image>(
     heap: &mut SharedHeap<I>,
     set: &C,
@@ -104,6 +105,7 @@ fn note_wait<C: Types, I: Image>(
 
 // Notes the request of an event that isn't answered, and what the thread waits for; and tells whether all threads wait. The
 // request is moved only where it is noted: as a rule it is answered.
+#[inline(always)]
 fn note<C: Types, I: Image>(
     heap: &mut SharedHeap<I>,
     set: &C,
@@ -135,6 +137,7 @@ fn note<C: Types, I: Image>(
 }
 
 /// Notes an event, and tells what it comes to: the run is over where it waits and all others do.
+#[inline(always)]
 pub(crate) fn remember<C: Types, I: Image>(
     heap: &mut SharedHeap<I>,
     set: &C,

@@ -15,7 +15,7 @@ ghost use Rattle.machine.specs.Ended.{ComesTo, IsOutside, IsSomeDue, Serves};
 ghost use Rattle.machine.specs.Remembering.{IsNext, LeadsTo, Remembers};
 ghost use Rattle.run_types.specs.declared.wait.On.{On as OnOf};
 ghost use Rattle.machine.specs.Events.{AddsActs, CallsAtMostOnce, HasImageCause, HasSinkCause, IsAnswerTo, IsShare};
-ghost use Rattle.machine.specs.Events.{FindsWait, IsUnanswered, LeavesOthers, TakesOutput, logs_word};
+ghost use Rattle.machine.specs.Events.{FindsWait, IsUnanswered, KeepsBound, LeavesOthers, TakesOutput, logs_word};
 ghost use Rattle.line_memory.specs.Memory.{SameImage};
 ghost use Rattle.shared_heap.specs.Passed.{IsSilent};
 ghost use Rattle.machine_threads.specs.Stuck.{plain_waits};
@@ -35,13 +35,16 @@ use run_types::{Full, StepFault, Which};
 use shared_heap::{Plan, SharedHeap};
 use shared_objects::Types;
 
-/// One event of thread `t`, for the request that its turn asks: at most one call of the image or of the sink, and at most
-/// one act. A durable store is asked where its value isn't durable, converted, made, written back and fenced, each in events
-/// of its own; in a failure-atomic region it is logged before it is made, and its line is written back as the region ends
-/// (Shull, Huang and Torrellas, "AutoPersist", PLDI 2019). An event waits for a monitor that another thread holds (JVMS
-/// 2.11.10), for the end of a thread, for a class that another thread initialises (JVMS 5.5), or for another thread's
-/// conversion; a run of which all threads wait is over. A request that isn't answered is noted until it is: it is moved there, and
-/// one that is answered isn't copied.
+/// One event of thread `t`, for the request that its turn asks: at most one call of the image, or else calls of the sink
+/// (the puts of one print), and at most one act. A durable store is asked where its value isn't durable, converted, made,
+/// written back and fenced, each in events of its own; in a failure-atomic region it is logged before it is made, and its
+/// line is written back as the region ends (Shull, Huang and Torrellas, "AutoPersist", PLDI 2019). An event waits for a
+/// monitor that another thread holds (JVMS 2.11.10), for the end of a thread, for a class that another thread initialises
+/// (JVMS 5.5), or for another thread's conversion; a run of which all threads wait is over.
+///
+/// A request that isn't answered is noted until it is: it is moved there, and `Request::Pause` is left in its place. One
+/// that is answered stays where it is, and so does one whose event meets a fault: neither is copied.
+#[inline(always)]
 pub fn event<C: Types, I: Image, S: Sink>(
     heap: &mut SharedHeap<I>,
     set: &C,
@@ -83,6 +86,8 @@ pub fn event<C: Types, I: Image, S: Sink>(
     ensures quiet { result ≡ Event.Micro → heap.new.history.acts ≡ heap.old.history.acts
         → measure heap.new.machine < measure heap.old.machine }
     ensures waits { (on : OnOf) → result ≡ Event.WouldWait on → measure heap.new.machine ≤ measure heap.old.machine }
+    // A quiet step is a `Micro` without an act: a run has at most 16 for each of its acts, and each line that it takes.
+    ensures work { KeepsBound result heap.old heap.new }
 {
     laws();
     if heap.is_full() {
@@ -97,6 +102,7 @@ pub fn event<C: Types, I: Image, S: Sink>(
 }
 
 // What the thread's event comes to, before it is noted: it is never told there that the run is stuck.
+#[inline(always)]
 fn attempt<C: Types, I: Image, S: Sink>(
     heap: &mut SharedHeap<I>,
     set: &C,
@@ -150,6 +156,7 @@ fn fence<I: Image>(heap: &mut SharedHeap<I>, t: ThreadNo) -> Event
 }
 
 // What is under way in the thread's log goes on, or else the request does.
+#[inline(always)]
 fn go_on<C: Types, I: Image, S: Sink>(
     heap: &mut SharedHeap<I>,
     set: &C,

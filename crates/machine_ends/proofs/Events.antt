@@ -8,7 +8,7 @@ use Rattle.twin_forms.specs.Table.{Entry, entry, Lies}
 use Rattle.twin_forms.specs.Moves.{SameHeap, one_more, forwarded}
 use Rattle.twin_forms.specs.Sights.{view_of}
 use Rattle.twin_forms.proofs.Tables.{alike}
-use Rattle.two_spaces.proofs.Shifting.{object_is, values_long}
+use Rattle.machine_laws.proofs.Passed.{object_is, values_long}
 use Rattle.convert_words.specs.declared.step.ConvertStep.{ConvertStep}
 use Rattle.convert_words.specs.declared.step.ConvertStep.TheVariants as step
 use Rattle.convert_words.specs.Scenes.{Scene}

@@ -105,7 +105,7 @@ module _ (o : Opening) (m : Machine) (es : List Entry) (k : KeepsRun o m es) (t 
           ≡ measure m + log_work log' + line_work (told_of_log m.queue (log_of m t) log').marks
       measure-after =
           let work = work-after in
-          let lines = ap (λ x. 17 * (x - m.free)) size in
+          let lines = ap (λ x. 16 * (x - m.free)) size in
           omega (arith, work, lines)
 
       pub less-left : log_work log' + 1 ≤ log_work (log_of m t)
@@ -161,10 +161,10 @@ ending-lowers = record {
 
 -- the lines that are left are as many
 same-lines : (o : Opening) (m m' : Machine) (es : List Entry) → KeepsRun o m es → KeepsRun o m' es
-    → m'.free ≡ m.free → 17 * ((memory_of m').size - m'.free) ≡ 17 * ((memory_of m).size - m.free)
+    → m'.free ≡ m.free → 16 * ((memory_of m').size - m'.free) ≡ 16 * ((memory_of m).size - m.free)
 same-lines o m m' es k k' free =
     let size : (memory_of m').size ≡ (memory_of m).size = k'.heap.size ∙ sym k.heap.size in
-    ap (λ x. 17 * (x - m'.free)) size ∙ ap (λ x. 17 * ((memory_of m).size - x)) free
+    ap (λ x. 16 * (x - m'.free)) size ∙ ap (λ x. 16 * ((memory_of m).size - x)) free
 
 -- how an end leaves the log
 leaves-less : (o : Opening) (m : Machine) (twin : Twin) (t : ℕ) (request : Request Ref Item) (log : Log)

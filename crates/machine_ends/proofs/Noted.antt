@@ -13,7 +13,7 @@ use Rattle.run_history.specs.declared.act.Op.TheVariants as op
 use Rattle.twin_forms.specs.Table.{Entry, entry, no_entry, HasCopied, line_of, IsClaimed, InP}
 use Rattle.twin_forms.specs.Moves.{fresh}
 use Rattle.twin_forms.proofs.Led.{same_or_not}
-use Rattle.two_spaces.proofs.Keeping.{copied_or_not}
+use Rattle.machine_laws.proofs.Passed.{copied_or_not}
 use Rattle.convert_queue.specs.Queues.{Queues}
 use Rattle.convert_words.specs.Converting.{IsLineOf}
 use Rattle.convert_words.specs.Steps.{told}

@@ -10,7 +10,7 @@ use Rattle.plain_model.proofs.Durable.{durable_stays, has_number_from_below}
 use Rattle.twin_forms.specs.Table.{Entry, entry, no_entry, lines_of, InP}
 use Rattle.twin_forms.specs.Moves.{fresh}
 use Rattle.twin_forms.specs.Sights.{view_of}
-use Rattle.two_spaces.proofs.Shifting.{objects_long}
+use Rattle.machine_laws.proofs.Passed.{objects_long}
 use Rattle.convert_words.specs.Steps.{OneBecomes, claimed_at}
 use Rattle.convert_words.specs.Sealing.{AreSealed}
 use Rattle.machine_forms.specs.Machines.{Opening, Machine, first_of}

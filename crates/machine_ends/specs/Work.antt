@@ -10,10 +10,8 @@ use Rattle.volatile_space.specs.Spaces.{Space}
 use Rattle.twin_forms.specs.Table.{Entry}
 use Rattle.twin_forms.specs.Sights.{Twin}
 use Rattle.convert_words.specs.declared.step.ConvertStep.{ConvertStep}
-use Rattle.convert_words.specs.declared.step.ConvertStep.TheVariants as step
 use Rattle.converter.specs.declared.begin.Begun.{Begun}
-use Rattle.converter.specs.declared.begin.Begun.TheVariants as begun
-use Rattle.converter.specs.Laws.{work_of, quiet}
+use Rattle.converter.specs.Laws.{work_of, quiet, quiet_begun}
 use Rattle.machine_forms.specs.declared.doing.Doing.{Doing}
 use Rattle.machine_forms.specs.declared.doing.Doing.TheVariants.{Nothing, Converting, Writing, Fencing}
 use Rattle.region_log.specs.declared.entry.Entry.{Entry as LogEntry}
@@ -81,9 +79,9 @@ abbrev pub work_left : Machine → ℕ
 work_left m = work_of (lines_at m.spaces.twin.space) (scene_of m) + sum_by store_work m.doing
     + sum_by log_work m.logs
 
--- A line that is left makes work of 16 at most once it is taken: with 17 for each, a claim lowers this too.
+-- A line that is left makes work of 16 at most, once it is taken.
 abbrev pub measure : Machine → ℕ
-measure m = work_left m + 17 * ((memory_of m).size - m.free)
+measure m = work_left m + 16 * ((memory_of m).size - m.free)
 
 -- ---- what events leave of it
 
@@ -99,14 +97,15 @@ abbrev pub FencesTakeOne : Type 0
 FencesTakeOne = OfUnwritten (λ o m es. (twin : Twin) (t : ℕ) → MakesFence m twin t
     → work_left (with_fence m twin t) + 1 ≤ work_left m)
 
--- A quiet step takes one at least, and a claim adds 16 at most for each line that it takes.
+-- A quiet step takes one at least. A claim is one, and adds 16 at most for each line that it takes.
 abbrev pub ConversionsTakeWork : Type 0
 ConversionsTakeWork = OfUnwritten (λ o m es. (m' : Machine) (t : ℕ) (answer : ConvertStep)
     → ConvertsOn t answer m m' es → work_left m' + quiet answer ≤ work_left m + 16 * (m'.free - m.free))
 
 abbrev pub BeginningsAddLines : Type 0
 BeginningsAddLines = OfUnwritten (λ o m es. (m' : Machine) (es' : List Entry) (t n word : ℕ) (answer : Begun)
-    → BeginsOn t n word answer o m m' es es' → work_left m' ≤ work_left m + 16 * (m'.free - m.free))
+    → BeginsOn t n word answer o m m' es es'
+    → work_left m' + quiet_begun answer ≤ work_left m + 16 * (m'.free - m.free))
 
 abbrev pub SealsAddNone : Type 0
 SealsAddNone = OfUnwritten (λ o m es. (m' : Machine) (t set : ℕ) (named : List ℕ)
@@ -129,23 +128,13 @@ DurableStoresAddTwo = OfUnwritten (λ o m es. (m' : Machine) (t : ℕ) (request 
 
 -- ---- the measure
 
--- one for a quiet step, and for a claim
-abbrev pub lowering : ConvertStep → ℕ
-lowering step.Claimed = 1
-lowering answer = quiet answer
-
-abbrev pub begun_lowering : Begun → ℕ
-begun_lowering begun.Claimed = 1
-begun_lowering (begun.Needs u) = 0
-begun_lowering (begun.Full need left) = 0
-
--- Each quiet event lowers the measure, and so does each claim; no step of a conversion and no call of the
--- image raises it. So a loop over such events ends.
+-- Each quiet event lowers the measure, and no step of a conversion and no call of the image raises it. So a loop
+-- over such events ends.
 pub record QuietEventsLowerTheMeasure : Type 0 where
   pub steps : OfUnwritten (λ o m es. (m' : Machine) (t : ℕ) (answer : ConvertStep)
-      → ConvertsOn t answer m m' es → measure m' + lowering answer ≤ measure m)
+      → ConvertsOn t answer m m' es → measure m' + quiet answer ≤ measure m)
   pub begins : OfUnwritten (λ o m es. (m' : Machine) (es' : List Entry) (t n word : ℕ) (answer : Begun)
-      → BeginsOn t n word answer o m m' es es' → measure m' + begun_lowering answer ≤ measure m)
+      → BeginsOn t n word answer o m m' es es' → measure m' + quiet_begun answer ≤ measure m)
   pub calls : OfUnwritten (λ o m es. (twin : Twin) → CallsImage m twin
       → measure (with_twin m twin) ≡ measure m)
   pub writes : OfUnwritten (λ o m es. (twin : Twin) (t : ℕ) → WritesBack m twin t

@@ -30,8 +30,8 @@ pub fn lines_stay_unwritten()
     ensures events { EventsLeaveUnwritten }
 {}
 
-/// Quiet events take one at least of the work that is left, a claim adds sixteen at most for each line
-/// that it takes, and an act two at most.
+/// Quiet events take one at least of the work that is left; a claim, which is one, adds sixteen at most for
+/// each line that it takes, and an act two at most.
 pub fn events_take_work()
     ensures calls { CallsLeaveWork }
     ensures writes { WritesTakeOne }
@@ -44,7 +44,7 @@ pub fn events_take_work()
     ensures durable { DurableStoresAddTwo }
 {}
 
-/// With seventeen for each line that is left, each quiet event and each claim lowers the measure.
+/// With sixteen for each line that is left, each quiet event lowers the measure: a claim is one.
 pub fn quiet_events_lower_the_measure()
     ensures quiet { QuietEventsLowerTheMeasure }
     ensures acts { ActsAddTwoToTheMeasure }

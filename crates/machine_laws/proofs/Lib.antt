@@ -77,3 +77,4 @@ pub mod Waiting
 pub mod Wishes
 pub mod Words
 pub mod Worlds
+pub mod Passed

@@ -3,14 +3,14 @@ use Rattle.std.proofs.Common.{◌≡◌, ℕ, List, [], ◌∷◌, ◌++◌, ref
 use Rattle.std.specs.Prelude.{Option, Some, None}
 use Rattle.run_history.specs.Recorded.{Recorded}
 use Rattle.twin_forms.specs.Table.{Entry}
-use Rattle.machine_forms.specs.Machines.{Opening, Machine}
+use Rattle.machine_ends.specs.Passed.{Opening, Machine}
 use Rattle.run_history.specs.declared.act.Op.TheVariants as op
-use Rattle.machine_forms.specs.Events.{RegionStep, act_in}
-use Rattle.machine_forms.specs.Events as step
-use Rattle.machine_forms.specs.Happening.{Happens, act_of, region_act}
-use Rattle.machine_forms.specs.Happening.{called, written, fenced, converted, failed, begun, sealed, asked, acted}
-use Rattle.machine_forms.specs.Happening.{stored}
-use Rattle.machine_forms.specs.Happening.{region}
+use Rattle.machine_ends.specs.Passed.{RegionStep, act_in}
+use Rattle.machine_ends.specs.RegionSteps as step
+use Rattle.machine_ends.specs.Passed.{Happens, act_of, region_act}
+use Rattle.machine_ends.specs.Passed.{called, written, fenced, converted, failed, begun, sealed, asked, acted}
+use Rattle.machine_ends.specs.Passed.{stored}
+use Rattle.machine_ends.specs.Passed.{region}
 
 -- the acts with one more, if there is one
 abbrev pub with_one : List Recorded → Option Recorded → List Recorded

@@ -14,13 +14,13 @@ use Rattle.run_forms.specs.Views.{ThreadFrames}
 use Rattle.frames.specs.Turns.{answer, turn}
 use Rattle.run_forms.specs.Standing.{IsRun, Launch, setting_of}
 use Rattle.run_forms.specs.Laws.{answered_threads}
-use Rattle.machine_forms.specs.Machines.{Opening, Machine}
-use Rattle.machine_forms.specs.Keeping.{KeepsRun}
-use Rattle.machine_forms.specs.Events.{RegionStep}
-use Rattle.machine_forms.specs.Events as step
-use Rattle.machine_forms.specs.Happening.{Happens}
-use Rattle.machine_forms.specs.Happening.{called, written, fenced, converted, failed, begun, sealed, asked, acted, stored}
-use Rattle.machine_forms.specs.Happening.{region}
+use Rattle.machine_ends.specs.Passed.{Opening, Machine}
+use Rattle.machine_ends.specs.Passed.{KeepsRun}
+use Rattle.machine_ends.specs.Passed.{RegionStep}
+use Rattle.machine_ends.specs.RegionSteps as step
+use Rattle.machine_ends.specs.Passed.{Happens}
+use Rattle.machine_ends.specs.Passed.{called, written, fenced, converted, failed, begun, sealed, asked, acted, stored}
+use Rattle.machine_ends.specs.Passed.{region}
 use Rattle.machine_ends.specs.Passed.{frames_by, region_frames}
 use Rattle.machine_threads.specs.Keeping.{AllKeep, EventsKeepAll, IsUnbegun, KeepsThread}
 use Rattle.machine_threads.proofs.Asking.{event-there}

@@ -15,13 +15,13 @@ use Rattle.run_forms.specs.Standing.{Launch}
 use Rattle.run_forms.specs.Laws.{answered_threads}
 use Rattle.twin_forms.specs.Table.{Entry}
 use Rattle.lasting_steps.proofs.Asking.{get-append, threads-other}
-use Rattle.machine_forms.specs.Machines.{Opening, Machine}
-use Rattle.machine_forms.specs.Events.{DoesRequest, RegionStep}
-use Rattle.machine_forms.specs.Events as step
-use Rattle.machine_forms.specs.Happening.{Happens}
-use Rattle.machine_forms.specs.Happening.{called, written, fenced, converted, failed, begun, sealed, asked, acted}
-use Rattle.machine_forms.specs.Happening.{stored}
-use Rattle.machine_forms.specs.Happening.{region}
+use Rattle.machine_ends.specs.Passed.{Opening, Machine}
+use Rattle.machine_ends.specs.Passed.{DoesRequest, RegionStep}
+use Rattle.machine_ends.specs.RegionSteps as step
+use Rattle.machine_ends.specs.Passed.{Happens}
+use Rattle.machine_ends.specs.Passed.{called, written, fenced, converted, failed, begun, sealed, asked, acted}
+use Rattle.machine_ends.specs.Passed.{stored}
+use Rattle.machine_ends.specs.Passed.{region}
 use Rattle.machine_ends.specs.Passed.{frames_by, region_frames}
 use Rattle.machine_threads.specs.Keeping.{OthersAskOn}
 

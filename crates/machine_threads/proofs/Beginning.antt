@@ -2,10 +2,10 @@
 use Rattle.std.proofs.Common.{◌≡◌, sym, ◌∙◌, subst}
 use Rattle.std.specs.Prelude.{Option, Some, None}
 use Rattle.run_history.specs.Knowing.{Pending, pending_of}
-use Rattle.machine_forms.specs.declared.doing.Doing.{Doing}
-use Rattle.machine_forms.specs.declared.doing.Doing.TheVariants.{Nothing}
-use Rattle.machine_forms.specs.Machines.{known_in, layout_in}
-use Rattle.machine_forms.specs.Keeping.{IsDoing}
+use Rattle.machine_ends.specs.Passed.{Doing}
+use Rattle.machine_ends.specs.Passed.{Nothing}
+use Rattle.machine_ends.specs.Passed.{known_in, layout_in}
+use Rattle.machine_ends.specs.Passed.{IsDoing}
 use Rattle.machine_threads.specs.Keeping.{AsksItsEnd, BeginnersKeepTheirs, LagsByItsStore}
 
 none-some : {P : Type 0} (p : Pending) (at : Option Pending) → at ≡ None → at ≡ Some p → P

@@ -2,10 +2,10 @@
 use Rattle.std.proofs.Common.{◌≡◌, ℕ, refl, sym, ◌∙◌}
 use Rattle.std.specs.Prelude.{Option, Some, None}
 use Rattle.run_history.specs.Knowing.{Knowledge, Pending, pending_of}
-use Rattle.machine_forms.specs.declared.doing.Doing.{Doing}
-use Rattle.machine_forms.specs.declared.doing.Doing.TheVariants.{Nothing, Converting, Writing, Fencing}
-use Rattle.machine_forms.specs.Machines.{known_in, doing_of, layout_in}
-use Rattle.machine_forms.specs.Keeping.{IsDoing}
+use Rattle.machine_ends.specs.Passed.{Doing}
+use Rattle.machine_ends.specs.Passed.{Nothing, Converting, Writing, Fencing}
+use Rattle.machine_ends.specs.Passed.{known_in, doing_of, layout_in}
+use Rattle.machine_ends.specs.Passed.{IsDoing}
 use Rattle.stop_theorem.specs.Layouts.{Layout}
 use Rattle.machine_threads.specs.Claiming.{ClaimersHaveAsked, ClaimersConvert, OthersHaveNothing}
 

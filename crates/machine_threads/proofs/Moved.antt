@@ -2,13 +2,13 @@
 use Rattle.std.proofs.Common.{ℕ, List, refl}
 use Rattle.convert_words.specs.declared.step.ConvertStep.TheVariants as answer
 use Rattle.twin_forms.specs.Table.{Entry}
-use Rattle.machine_forms.specs.Machines.{Opening, Machine, scene_of}
-use Rattle.machine_forms.specs.Keeping.{KeepsRun}
-use Rattle.machine_forms.specs.Happening.{Happens}
-use Rattle.machine_forms.specs.Happening.{called, written, fenced, converted, failed, begun, sealed, asked, acted}
-use Rattle.machine_forms.specs.Happening.{stored}
-use Rattle.machine_forms.specs.Happening.{region}
-use Rattle.machine_forms.proofs.Happening.{table-is}
+use Rattle.machine_ends.specs.Passed.{Opening, Machine, scene_of}
+use Rattle.machine_ends.specs.Passed.{KeepsRun}
+use Rattle.machine_ends.specs.Passed.{Happens}
+use Rattle.machine_ends.specs.Passed.{called, written, fenced, converted, failed, begun, sealed, asked, acted}
+use Rattle.machine_ends.specs.Passed.{stored}
+use Rattle.machine_ends.specs.Passed.{region}
+use Rattle.machine_ends.proofs.Passed.{table-is}
 use Rattle.machine_ends.proofs.Noted.{table-adds}
 use Rattle.machine_threads.proofs.Tables.{Goes, same-goes, converts-goes, begins-goes, adds-goes}
 

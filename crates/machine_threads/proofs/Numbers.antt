@@ -4,14 +4,14 @@ use Rattle.shared_objects.specs.Shown.{Keeps, Numbers}
 use Rattle.convert_words.specs.declared.step.ConvertStep.TheVariants as answer
 use Rattle.twin_forms.specs.Sights.{Twin}
 use Rattle.twin_forms.specs.Table.{Entry}
-use Rattle.two_spaces.proofs.Moved.{shows}
+use Rattle.machine_ends.proofs.Passed.{shows}
 use Rattle.region_log.specs.Log.{Log}
-use Rattle.machine_forms.specs.Machines.{Opening, Machine, shown_in}
-use Rattle.machine_forms.specs.Keeping.{KeepsRun}
-use Rattle.machine_forms.specs.Events.{CallsImage, RegionStep, with_logged, with_twin}
-use Rattle.machine_forms.specs.Events as step
-use Rattle.machine_forms.specs.Happening.{called, written, fenced, converted, failed, begun, sealed, asked, acted, stored}
-use Rattle.machine_forms.specs.Happening.{region}
+use Rattle.machine_ends.specs.Passed.{Opening, Machine, shown_in}
+use Rattle.machine_ends.specs.Passed.{KeepsRun}
+use Rattle.machine_ends.specs.Passed.{CallsImage, RegionStep, with_logged, with_twin}
+use Rattle.machine_ends.specs.RegionSteps as step
+use Rattle.machine_ends.specs.Passed.{called, written, fenced, converted, failed, begun, sealed, asked, acted, stored}
+use Rattle.machine_ends.specs.Passed.{region}
 use Rattle.machine_ends.proofs.Passed.{quiet}
 use Rattle.machine_ends.proofs.Passed.{failed_move, move_begun}
 use Rattle.machine_ends.proofs.Passed.{move}

@@ -16,10 +16,10 @@ use Rattle.region_log.specs.Log.{Log}
 use Rattle.twin_forms.specs.Table.{Entry}
 use Rattle.lasting_steps.specs.Asking.{AsksItsStore}
 use Rattle.lasting_steps.proofs.Asking.{other_acts_keep_asking}
-use Rattle.machine_forms.specs.declared.doing.Doing.{Doing}
-use Rattle.machine_forms.specs.Machines.{Opening, Machine}
-use Rattle.machine_forms.specs.Keeping.{KeepsRun}
-use Rattle.machine_forms.specs.Happening.{Happens, act_of}
+use Rattle.machine_ends.specs.Passed.{Doing}
+use Rattle.machine_ends.specs.Passed.{Opening, Machine}
+use Rattle.machine_ends.specs.Passed.{KeepsRun}
+use Rattle.machine_ends.specs.Passed.{Happens, act_of}
 use Rattle.machine_ends.proofs.Passed.{durable-kept, pending-kept}
 use Rattle.machine_threads.specs.Claiming.{HasForwarded}
 use Rattle.machine_threads.specs.Keeping.{AsksItsEnd, IsToHoldDurable, IsUnbegun, KeepsThread}

@@ -26,15 +26,15 @@ use Rattle.shared_objects.specs.Worlds.{world_of}
 use Rattle.shared_objects.specs.Shown.{item_value, number_value}
 use Rattle.twin_forms.specs.Table.{Entry}
 use Rattle.twin_forms.specs.Sights.{view_of}
-use Rattle.two_spaces.proofs.Numbering.{number_named}
+use Rattle.machine_ends.proofs.Passed.{number_named}
 use Rattle.lasting_steps.specs.Asking.{AsksThere}
 use Rattle.lasting_steps.proofs.Asking.{acts_keep_asking}
-use Rattle.machine_forms.specs.Machines.{Opening, Machine, known_in, layout_in, shown_in}
-use Rattle.machine_forms.specs.Keeping.{IsDoing, KeepsRun}
-use Rattle.machine_forms.specs.Events.{AsksFor, DoesRequest, RegionStep, act_in, value_in}
-use Rattle.machine_forms.specs.Events as step
-use Rattle.machine_forms.specs.Happening.{Happens, act_of, region_act}
-use Rattle.machine_forms.specs.Happening.{called, written, fenced, converted, failed, begun, sealed, asked, acted, stored, region}
+use Rattle.machine_ends.specs.Passed.{Opening, Machine, known_in, layout_in, shown_in}
+use Rattle.machine_ends.specs.Passed.{IsDoing, KeepsRun}
+use Rattle.machine_ends.specs.Passed.{AsksFor, DoesRequest, RegionStep, act_in, value_in}
+use Rattle.machine_ends.specs.RegionSteps as step
+use Rattle.machine_ends.specs.Passed.{Happens, act_of, region_act}
+use Rattle.machine_ends.specs.Passed.{called, written, fenced, converted, failed, begun, sealed, asked, acted, stored, region}
 use Rattle.machine_ends.proofs.Passed.{asked_after, asked-next, pending-own, pending-without_own}
 use Rattle.machine_ends.proofs.Passed.{lies, objects_many}
 use Rattle.machine_threads.specs.Keeping.{AsksToHold, IsToHoldDurable, KeepsThread, OwnersKeepTheirs}

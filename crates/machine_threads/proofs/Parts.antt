@@ -4,15 +4,15 @@ use Rattle.std.specs.Prelude.{slice_index_or, slice_set}
 use Rattle.std.proofs.lemmas.List.{get_or-set_other}
 use Rattle.twin_forms.specs.Table.{Entry}
 use Rattle.region_log.specs.Log.{Log}
-use Rattle.machine_forms.specs.declared.doing.Doing.{Doing}
-use Rattle.machine_forms.specs.declared.doing.Doing.TheVariants.{Nothing, Converting, Fencing}
-use Rattle.machine_forms.specs.Machines.{Opening, Machine, doing_of, empty_log, log_of}
-use Rattle.machine_forms.specs.Events.{RegionStep}
-use Rattle.machine_forms.specs.Events as step
-use Rattle.machine_forms.specs.Happening.{Happens}
-use Rattle.machine_forms.specs.Happening.{called, written, fenced, converted, failed, begun, sealed, asked, acted}
-use Rattle.machine_forms.specs.Happening.{stored}
-use Rattle.machine_forms.specs.Happening.{region}
+use Rattle.machine_ends.specs.Passed.{Doing}
+use Rattle.machine_ends.specs.Passed.{Nothing, Converting, Fencing}
+use Rattle.machine_ends.specs.Passed.{Opening, Machine, doing_of, empty_log, log_of}
+use Rattle.machine_ends.specs.Passed.{RegionStep}
+use Rattle.machine_ends.specs.RegionSteps as step
+use Rattle.machine_ends.specs.Passed.{Happens}
+use Rattle.machine_ends.specs.Passed.{called, written, fenced, converted, failed, begun, sealed, asked, acted}
+use Rattle.machine_ends.specs.Passed.{stored}
+use Rattle.machine_ends.specs.Passed.{region}
 
 -- ---- one place of a list
 

@@ -14,9 +14,9 @@ use Rattle.plain_model.specs.Runs.{request_after}
 use Rattle.plain_model.specs.Ends.{wait_at, wait_of, waits_from, waits_of}
 use Rattle.run_forms.specs.Standing.{Launch, known_at, plain_code}
 use Rattle.run_forms.specs.Ends.{IsEndedBy}
-use Rattle.machine_forms.specs.declared.doing.Doing.{Doing}
-use Rattle.machine_forms.specs.Machines.{doing_of, known_in, layout_in, scene_of}
-use Rattle.machine_forms.specs.Keeping.{IsDoing}
+use Rattle.machine_ends.specs.Passed.{Doing}
+use Rattle.machine_ends.specs.Passed.{doing_of, known_in, layout_in, scene_of}
+use Rattle.machine_ends.specs.Passed.{IsDoing}
 use Rattle.stop_theorem.specs.Layouts.{Layout}
 use Rattle.machine_ends.specs.Passed.{IsReady, ReadyThreadsAskAlike}
 use Rattle.machine_ends.proofs.Passed.{owes_some}

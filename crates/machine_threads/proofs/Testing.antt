@@ -29,10 +29,10 @@ use Rattle.convert_waits.specs.Stuck.{HoldsWait, IsPlain, IsStuckAt}
 use Rattle.convert_waits.proofs.Stuck.{stuck_runs_wait_plainly}
 use Rattle.stop_theorem.specs.Layouts.{Layout}
 use Rattle.twin_forms.specs.Table.{Entry}
-use Rattle.machine_forms.specs.declared.doing.Doing.{Doing}
-use Rattle.machine_forms.specs.declared.doing.Doing.TheVariants.{Nothing}
-use Rattle.machine_forms.specs.Machines.{Opening, Machine, doing_of, known_in, layout_in, roots_in, scene_of, shown_in}
-use Rattle.machine_forms.specs.Keeping.{IsDoing, KeepsRun}
+use Rattle.machine_ends.specs.Passed.{Doing}
+use Rattle.machine_ends.specs.Passed.{Nothing}
+use Rattle.machine_ends.specs.Passed.{Opening, Machine, doing_of, known_in, layout_in, roots_in, scene_of, shown_in}
+use Rattle.machine_ends.specs.Passed.{IsDoing, KeepsRun}
 use Rattle.machine_ends.specs.Passed.{ReadyThreadsAskAlike, RunsAsPlain, all_acted}
 use Rattle.machine_threads.specs.Keeping.{AllKeep}
 use Rattle.machine_threads.specs.Plain.{asks_some}

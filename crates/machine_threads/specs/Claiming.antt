@@ -3,9 +3,9 @@ use Rattle.std.specs.Prelude.{◌≡◌, ◌≢◌, ℕ, List, Some}
 use Rattle.run_history.specs.Knowing.{Pending, pending_of}
 use Rattle.twin_forms.specs.Table.{Entry, entry, IsClaimed}
 use Rattle.convert_waits.specs.Rows.{HasNothing}
-use Rattle.machine_forms.specs.declared.doing.Doing.TheVariants.{Converting}
-use Rattle.machine_forms.specs.Machines.{Opening, Machine, known_in, doing_of}
-use Rattle.machine_forms.specs.Keeping.{KeepsRun}
+use Rattle.machine_ends.specs.Passed.{Converting}
+use Rattle.machine_ends.specs.Passed.{Opening, Machine, known_in, doing_of}
+use Rattle.machine_ends.specs.Passed.{KeepsRun}
 
 -- It has asked a value, and hasn't made the store yet.
 abbrev pub ClaimersHaveAsked : Type 0

@@ -19,11 +19,11 @@ use Rattle.region_log.specs.declared.entry.Underway.{Underway}
 use Rattle.region_log.specs.declared.entry.Underway.TheVariants.{Nothing as Idle, Adding, Ending}
 use Rattle.twin_forms.specs.Table.{Entry, entry, HasCopied}
 use Rattle.lasting_steps.specs.Asking.{AsksItsStore}
-use Rattle.machine_forms.specs.declared.doing.Doing.{Doing}
-use Rattle.machine_forms.specs.declared.doing.Doing.TheVariants.{Nothing, Converting, Writing, Fencing}
-use Rattle.machine_forms.specs.Machines.{Opening, Machine, known_in, shown_in, doing_of, log_of}
-use Rattle.machine_forms.specs.Keeping.{KeepsRun}
-use Rattle.machine_forms.specs.Happening.{Happens, asked}
+use Rattle.machine_ends.specs.Passed.{Doing}
+use Rattle.machine_ends.specs.Passed.{Nothing, Converting, Writing, Fencing}
+use Rattle.machine_ends.specs.Passed.{Opening, Machine, known_in, shown_in, doing_of, log_of}
+use Rattle.machine_ends.specs.Passed.{KeepsRun}
+use Rattle.machine_ends.specs.Passed.{Happens, asked}
 use Rattle.machine_ends.specs.Passed.{Asks, frames_by}
 use Rattle.machine_threads.specs.Claiming.{HasForwarded}
 use Rattle.machine_threads.specs.Stuck.{requests_in}

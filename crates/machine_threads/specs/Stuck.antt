@@ -18,8 +18,8 @@ use Rattle.run_forms.specs.Ends.{IsEndedBy}
 use Rattle.twin_forms.specs.Table.{Entry, IsClaimed}
 use Rattle.converter.specs.Laws.{AreUnwritten}
 use Rattle.lasting_steps.specs.Asking.{AsksItsStore}
-use Rattle.machine_forms.specs.Machines.{Opening, Machine, known_in, scene_of, shown_in, doing_of}
-use Rattle.machine_forms.specs.Keeping.{KeepsRun}
+use Rattle.machine_ends.specs.Passed.{Opening, Machine, known_in, scene_of, shown_in, doing_of}
+use Rattle.machine_ends.specs.Passed.{KeepsRun}
 use Rattle.machine_ends.specs.Passed.{Asks, IsReady, OfPlain}
 use Rattle.machine_ends.specs.Laws.{OwesFence}
 use Rattle.convert_waits.specs.Rows.{Why, InRow, none_waited}

@@ -17,7 +17,7 @@ use Rattle.run_forms.specs.Views.{ThreadFrames}
 use Rattle.run_forms.specs.Ends.{IsEndedBy}
 use Rattle.convert_waits.specs.Stuck.{IsPlain, IsStuckAt}
 use Rattle.twin_forms.specs.Table.{Entry}
-use Rattle.machine_forms.specs.Machines.{Opening, Machine, doing_of, roots_in, scene_of, shown_in}
+use Rattle.machine_ends.specs.Passed.{Opening, Machine, doing_of, roots_in, scene_of, shown_in}
 use Rattle.machine_ends.specs.Passed.{Asks, IsReady, OfPlain}
 use Rattle.machine_threads.specs.Keeping.{AllKeep}
 use Rattle.machine_threads.specs.Plain.{asks_some}

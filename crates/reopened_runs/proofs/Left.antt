@@ -30,8 +30,8 @@ use Rattle.autopersist.specs.Asked.{of_top}
 use Rattle.autopersist.specs.Meets.{Does, IsIdle, Meets}
 use Rattle.autopersist.specs.Outside.{Outside}
 use Rattle.autopersist.specs.Passed as top
-use Rattle.autopersist.specs.Passed.{AreRead, Choice, ComesTo, OfChoice, RunsAs, StandsAllowed, StandsAsBefore, StandsRightly, StandsWithNew}
-use Rattle.autopersist.specs.Passed.{Status, facts_of, lacking, over}
+use Rattle.autopersist.specs.Passed.{AreRead, Choice, ComesTo, OfChoice, RunsAs, StandsAllowed, StandsAsBefore, StandsRightly, StandsStill}
+use Rattle.autopersist.specs.Passed.{StandsWithNew, Status, facts_of, lacking, over}
 use Rattle.autopersist.specs.Runs.{RunsClass}
 use Rattle.autopersist.proofs.Passed.{come_so, fenced_as_read, not_both, one_read, same_graph, stands_alike}
 use Rattle.reopened_runs.specs.Left.{AreAsked, AsksRun, IsNoBadImage, IsSomeLeft, RecoversAllowed, RecoversAsBefore, Recovers}
@@ -84,7 +84,7 @@ if_found (Err why) graph P is has = tt
 abbrev some_bytes : List ℕ → Option (List ℕ)
 some_bytes bytes = Some bytes
 
-same_bytes : (a b : List ℕ) → some_bytes a ≡ some_bytes b → a ≡ b
+pub same_bytes : (a b : List ℕ) → some_bytes a ≡ some_bytes b → a ≡ b
 same_bytes a b is = cc
 
 -- there was no memory for what the stop left
@@ -187,8 +187,8 @@ module _ (words : List (List ℕ)) (before after : Outside) (SameSource SameImag
           of_new : (of : Ran run asked) (seen : Words) → AreRead before.image seen
               → StandsAsBefore of.choice.set before.image.size seen c → (graph : Graph) → StandsFor before.image.size c graph → New graph
           of_new of seen read as_before graph stands = ⊎_elim
-              (λ (still : StandsFor before.image.size c prior).
-              inl (same_graph (meaning before.image.size c) graph prior stands still))
+              (λ (still : StandsStill before.image.size seen prior c).
+              inl (same_graph (meaning before.image.size c) graph prior stands still.stands))
               (λ (new : StandsWithNew of.choice.set before.image.size seen prior c). inr (record {
                 choice = of.choice;
                 given = given run asked files told of.choice of.given;
@@ -199,10 +199,10 @@ module _ (words : List (List ℕ)) (before after : Outside) (SameSource SameImag
                   found_is = new.found_is;
                   entries = new.entries;
                   are_its = new.are_its;
-                  count = new.first.0;
-                  few = new.first.1;
+                  count = new.first.count;
+                  few = new.first.few;
                   is = same_graph (meaning before.image.size c) graph
-                      (with_all_too prior (take new.first.0 (lacking new.found new.entries))) stands new.first.2;
+                      (with_all_too prior (take new.first.count (lacking new.found new.entries))) stands new.first.stands;
                 };
               }))
               (as_before prior (read_stands before.image telling prior stood seen read))
@@ -228,8 +228,8 @@ module _ (words : List (List ℕ)) (before after : Outside) (SameSource SameImag
               ⊎_elim
               (λ (so : StandsAllowed of.choice.set before.image opening all acts c). (so.allowed.graph, so.allowed.stands))
               (λ early. ⊎_elim
-              (λ (still : StandsFor before.image.size c prior). (prior, still))
-              (λ (new : StandsWithNew of.choice.set before.image.size is.0 prior c). (_, new.first.2))
+              (λ (still : StandsStill before.image.size is.0 prior c). (prior, still.stands))
+              (λ (new : StandsWithNew of.choice.set before.image.size is.0 prior c). (_, new.first.stands))
               (early.1 prior (read_stands before.image telling prior stood is.0 is.1)))
               is.2)
               (λ unrun. (prior, unchanged unrun.0))

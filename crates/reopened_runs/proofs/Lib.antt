@@ -1,3 +1,4 @@
 pub mod Left
 pub mod Reopening
 pub mod Output
+pub mod EndsWhole

@@ -1,5 +1,5 @@
 -- A run on what a stop of another one left.
-use Rattle.std.proofs.Common.{◌≡◌, inl, inr, ⊎_elim, ℕ, List, [], Some, Result, Ok, sym, ap, ◌∙◌, subst}
+use Rattle.std.proofs.Common.{◌≡◌, ◌⊎◌, inl, inr, ⊎_elim, ℕ, List, [], ◌∷◌, Some, Result, Ok, refl, sym, ap, ◌∙◌, subst}
 use Rattle.std.specs.Prelude.{◌≢◌}
 use Rattle.ap_base.specs.declared.source.NamedBytes.{NamedBytes}
 use Rattle.graph_model.specs.declared.types.Graph.{Graph}
@@ -12,16 +12,23 @@ use Rattle.run_history.specs.Recorded.{Recorded}
 use Rattle.command_words.specs.declared.command.Run.{Run as RunWords}
 use Rattle.autopersist.specs.Meets.{Meets}
 use Rattle.autopersist.specs.Outside.{Outside}
-use Rattle.autopersist.specs.Passed.{CannotOpen, Choice, ComesTo, EndsOver, HasEndedSo, ImageFault, IsCauseAt, IsCauseOf, IsLeftBy}
-use Rattle.autopersist.specs.Passed.{IsOpenedSo, Linked, OfChoice, OfMemory, OfOpening, OutOfMemory, ShapeChanged, Stage, StandsAllowed}
+use Rattle.autopersist.specs.Passed.{AreRead, CannotOpen, Choice, ComesTo, EndsOver, HasEndedSo, ImageFault, IsCauseAt, IsCauseOf, IsLeftBy}
+use Rattle.autopersist.specs.Passed.{IsOpenedSo, IsRefusedStill, Linked, OfChoice, OfMemory, OfOpening, OutOfMemory, ShapeChanged, Stage, StandsAllowed}
 use Rattle.autopersist.specs.Passed.{StandsRightly, Status, StoppedRunsOpenAgain, over, stage_of}
-use Rattle.autopersist.proofs.Passed.{one_of_files}
-use Rattle.reopened_runs.specs.Again.{IsForSet, IsForWords, RunsAgain}
+use Rattle.autopersist.proofs.Passed.{fenced_as_read, one_of_files, still_stands}
+use Rattle.reopened_runs.specs.Again.{HadOther, IsForWords, RunsAgain, StoodFenced}
 use Rattle.reopened_runs.specs.Left.{AreAsked, AsksRun, IsSomeLeft, RecoversAllowed}
-use Rattle.reopened_runs.proofs.Left.{Ran, allowed_graph, done, fenced_stands, given, ran, ran_or_same, read_stands}
+use Rattle.reopened_runs.proofs.Left.{Ran, allowed_graph, done, given, ran, ran_or_same, read_stands}
 
 abbrev ok : Choice → Result Choice Status
 ok choice = Ok choice
+
+same_choice : (a b : Choice) → ok a ≡ ok b → a ≡ b
+same_choice a b is = cc
+
+none_or_some : (acts : List Recorded) → (acts ≡ []) ⊎ (acts ≢ [])
+none_or_some [] = inl refl
+none_or_some (a ∷ acts) = inr (λ none. cc)
 
 -- ---- the second run
 
@@ -59,6 +66,16 @@ module _ (law : StoppedRunsOpenAgain) (words : List (List ℕ))
             subst (λ (stage : Stage). IsCauseAt stage (ComesTo run.main again.left) run.limits
             (over again.image opening' acts' end.image) s) staged cause
 
+    -- what the first run was given, in what the files give
+    mine : (choice : Choice) → ComesTo run.main before.left (Ok choice) → AreAsked run files (Ok choice)
+    mine choice comes = given words before after SameSource SameImage how opening acts meets run asked files told choice comes
+
+    -- the same files give one set
+    one_choice : files' ≡ files → (a b : Choice) → AreAsked run files' (Ok a) → AreAsked run files (Ok b) → a ≡ b
+    one_choice files_are a b gives other =
+        same_choice a b (one_of_files run.main files (Ok a) (Ok b)
+        (subst (λ (fs : List NamedBytes). AreAsked run fs (Ok a)) files_are gives) other)
+
     -- ---- it is no bad image
 
     bad_so : (set : Linked) (seen : Words) (stood : Graph) → StandsFor before.image.size seen stood
@@ -78,67 +95,140 @@ module _ (law : StoppedRunsOpenAgain) (words : List (List ℕ))
           (λ early. absurd (some early.0))
           ((of.holds.stops telling).now (λ none. absurd (some none)) c left)
 
-      opens : IsForWords how' → ⊥
-      opens bad = bad_so of.choice.set c allowed.allowed.graph allowed.allowed.stands (inl allowed) bad
+      opens_behind : IsForWords how' → ⊥
+      opens_behind bad = bad_so of.choice.set c allowed.allowed.graph allowed.allowed.stands (inl allowed) bad
 
       -- ---- nor another set's
 
       module _ (files_are : files' ≡ files) where
-        -- the files give one set
-        one_choice : (choice : Choice) → AreAsked run files' (Ok choice) → choice ≡ of.choice
-        one_choice choice gives =
-            let mine = given words before after SameSource SameImage how opening acts meets run asked files told of.choice of.given in
-            same_choice (one_of_files run.main files (Ok choice) (Ok of.choice)
-            (subst (λ (fs : List NamedBytes). AreAsked run fs (Ok choice)) files_are gives) mine)
-          where
-            same_choice : ok choice ≡ ok of.choice → choice ≡ of.choice
-            same_choice e = cc
-
-        agrees : IsForSet how' → ⊥
-        agrees (shape, changed) =
+        agrees_behind : (shape : List ℕ) → how' ≡ ShapeChanged shape → ⊥
+        agrees_behind shape changed =
             let at = refused (ap stage_of changed) in
             let cannot : CannotOpen of.choice.set again.image end.image how' =
-            subst (λ (choice : Choice). CannotOpen choice.set again.image end.image how') (one_choice at.choice at.given) at.holds in
+            subst (λ (choice : Choice). CannotOpen choice.set again.image end.image how')
+            (one_choice files_are at.choice of.choice at.given (mine of.choice of.given)) at.holds in
             ⊎_elim
             (λ (fault : how' ≡ ImageFault). let no : ShapeChanged shape ≡ ImageFault = sym changed ∙ fault in cc)
             (λ (memory : how' ≡ OutOfMemory). let no : ShapeChanged shape ≡ OutOfMemory = sym changed ∙ memory in cc)
-            (law.unrefused of.choice.set before.image opening acts acts c allowed again.image end.image is how' cannot)
+            (law.unrefused_behind of.choice.set before.image opening acts acts c allowed again.image end.image is how' cannot)
 
         -- the second run begins with what the first one left
         goes_on : acts' ≢ [] → RecoversAllowed (AreAsked run files) before.image opening acts acts opening'
         goes_on more =
             let of' = ran words again end SameSource' SameImage' how' opening' acts' meets' run asked more in
-            let mine = given words again end SameSource' SameImage' how' opening' acts' meets' run asked files' told' of'.choice of'.given in
+            let theirs = given words again end SameSource' SameImage' how' opening' acts' meets' run asked files' told' of'.choice of'.given in
             let ended : HasEndedSo of'.choice.set of'.choice.main run.limits again.image opening' acts' how' = ⊎_elim
             (λ unrun. absurd (more unrun.0))
             (λ (so : HasEndedSo of'.choice.set of'.choice.main run.limits again.image opening' acts' how'). so)
             of'.holds.ends in
             let opened : IsOpenedSo of.choice.set again.image ended.graph =
-            subst (λ (choice : Choice). IsOpenedSo choice.set again.image ended.graph) (one_choice of'.choice mine) ended.of in
+            subst (λ (choice : Choice). IsOpenedSo choice.set again.image ended.graph) (one_choice files_are of'.choice of.choice theirs (mine of.choice of.given)) ended.of in
             let begins : opening' ≡ allowed.allowed.graph =
             ended.from more
             ∙ law.goes_on of.choice.set before.image opening acts acts c allowed again.image is ended.graph opened in
             allowed_graph words before after SameSource SameImage how opening acts meets files told acts (λ none. none) c run asked of allowed
             opening' (subst (λ (g : Graph). StandsFor before.image.size c g) (sym begins) allowed.allowed.stands)
 
+    -- ---- where there are none
+
     module _ (fenced : IsAllFenced before.image.trace) (prior : Graph) (stood : IsSomeLeft before.image prior) where
-      opens_still : IsForWords how' → ⊥
-      opens_still bad = ⊎_elim
+      -- these words are read, and what the stop left stands rightly where they were there before
+      abbrev Early : Linked → Type 0
+      Early set = (seen : Words) × AreRead before.image seen × StandsFor before.image.size seen prior
+          × StandsRightly set before.image opening acts acts seen c
+
+      -- so it is for the set that ran, or for each where the image is as it was
+      early : OfChoice (ComesTo run.main before.left) (λ choice. Early choice.set) ⊎ ((set : Linked) → Early set)
+      early = ⊎_elim
           (λ of.
           let stops = of.holds.stops telling in
-          bad_so of.choice.set stops.words prior (read_stands before.image telling prior stood stops.words stops.read)
-          (stops.now (λ none. fenced) c left) bad)
+          inl (record {
+            choice = of.choice;
+            given = of.given;
+            holds = (
+              stops.words,
+              stops.read,
+              read_stands before.image telling prior stood stops.words stops.read,
+              stops.now (λ none. fenced) c left,
+            );
+          }))
           (λ unrun.
-          let stands : StandsFor before.image.size c prior =
-          fenced_stands before.image telling fenced prior stood c (subst (λ (t : Told). LeavesNow t.trace c) (same unrun.0) left) in
-          let at = refused (ap stage_of bad.2) in
-          bad_so at.choice.set c prior stands (inr (unrun.1, λ graph so. inl so)) bad)
+          let still : LeavesNow before.image.trace c = subst (λ (t : Told). LeavesNow t.trace c) (same unrun.0) left in
+          inr (λ set. (
+            stood.0,
+            stood.1,
+            stood.2,
+            inr (
+              unrun.1,
+              λ graph so. inl (still_stands before.image.size stood.0 c graph so (λ l w below.
+                  fenced_as_read before.image.trace telling fenced c still l w (stood.0 l w) (stood.1 l w below))),
+            ),
+          )))
           (ran_or_same words before after SameSource SameImage how opening acts meets run asked)
+
+      opens_still : IsForWords how' → ⊥
+      opens_still bad = ⊎_elim
+          (λ of. bad_so of.choice.set of.holds.0 prior of.holds.2 of.holds.3 bad)
+          (λ any.
+          let so = any (refused (ap stage_of bad.2)).choice.set in
+          bad_so (refused (ap stage_of bad.2)).choice.set so.0 prior so.2 so.3 bad)
+          early
+
+      module _ (files_are : files' ≡ files) (shape : List ℕ) (changed : how' ≡ ShapeChanged shape) where
+        abbrev at : OfChoice (AreAsked run files') Refused
+        at = refused (ap stage_of changed)
+
+        had_so : Early at.choice.set → (acts ≡ []) × HadOther at.choice.set before.image shape
+        had_so so = elim (law.unrefused at.choice.set before.image opening acts acts so.0 prior c so.2 so.3 again.image end.image
+            is how' at.holds) [
+              | inl fault ↦ let no : ShapeChanged shape ≡ ImageFault = sym changed ∙ fault in cc
+              | inr rest ↦ elim rest [
+                | inl memory ↦ let no : ShapeChanged shape ≡ OutOfMemory = sym changed ∙ memory in cc
+                | inr still ↦ (
+                  still.0,
+                  (
+                    so.0,
+                    so.1,
+                    (let had : IsRefusedStill at.choice.set so.0 (ShapeChanged shape) =
+                        subst (λ (s : Status). IsRefusedStill at.choice.set so.0 s) changed still.1 in had),
+                  ),
+                )
+              ]
+            ]
+
+        agrees_still : (acts ≡ []) × OfChoice (AreAsked run files) (λ choice. HadOther choice.set before.image shape)
+        agrees_still =
+            let had : (acts ≡ []) × HadOther at.choice.set before.image shape = ⊎_elim
+            (λ of. had_so (subst (λ (choice : Choice). Early choice.set)
+            (sym (one_choice files_are at.choice of.choice at.given (mine of.choice of.given))) of.holds))
+            (λ any. had_so (any at.choice.set))
+            early in (
+              had.0,
+              record {
+                choice = at.choice;
+                given = subst (λ (fs : List NamedBytes). AreAsked run fs (Ok at.choice)) files_are at.given;
+                holds = had.1;
+              },
+            )
+
+    -- ---- whether there are or not
+
+    opens : (acts ≡ [] → StoodFenced before.image) → IsForWords how' → ⊥
+    opens premise bad = ⊎_elim
+        (λ (none : acts ≡ []). let so = premise none in opens_still so.0 so.1 so.2 bad)
+        (λ (some : acts ≢ []). opens_behind some bad)
+        (none_or_some acts)
+
+    agrees : (acts ≡ [] → StoodFenced before.image) → files' ≡ files → (shape : List ℕ) → how' ≡ ShapeChanged shape
+        → (acts ≡ []) × OfChoice (AreAsked run files) (λ choice. HadOther choice.set before.image shape)
+    agrees premise files_are shape changed = ⊎_elim
+        (λ (none : acts ≡ []). let so = premise none in agrees_still so.0 so.1 so.2 files_are shape changed)
+        (λ (some : acts ≢ []). absurd (agrees_behind some files_are shape changed))
+        (none_or_some acts)
 
   pub runs_again : RunsAgain words files files' before.image opening acts opening' acts' how'
   runs_again = record {
     opens = opens;
-    opens_still = opens_still;
     agrees = agrees;
     goes_on = goes_on;
   }

@@ -1,3 +1,4 @@
 pub mod Left
 pub mod Again
 pub mod Printed
+pub mod Whole

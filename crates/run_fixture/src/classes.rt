@@ -18,17 +18,13 @@ pub const PRINTS: &str = "getstatic java/lang/System out Ljava/io/PrintStream;\n
     getstatic Main data [I\niconst_1\niaload\n\
     invokevirtual java/io/PrintStream println (I)V\n";
 
-/// A class whose `main` does nothing.
-pub const EMPTY: &str = ".class Main\n.super java/lang/Object\n\
-    .method main ([Ljava/lang/String;)V 6 4 static\nreturn\n.end\n";
-
 /// A file of a source, with all its bytes.
 pub fn file(alloc: Global, name: &[u8], bytes: &[u8]) -> Result<NamedBytes, AllocError> {
     Ok(NamedBytes::whole(Bytes::copy(alloc, name)?, Bytes::copy(alloc, bytes)?))
 }
 
 /// The bytes of the first class of a listing; none where it is no listing.
-pub fn class_bytes(alloc: Global, listing: &[u8]) -> Result<Option<Vec<u8>>, AllocError> {
+fn class_bytes(alloc: Global, listing: &[u8]) -> Result<Option<Vec<u8>>, AllocError> {
     let Ok(classes) = assemble(alloc, listing) else {
         return Ok(None);
     };
@@ -38,14 +34,16 @@ pub fn class_bytes(alloc: Global, listing: &[u8]) -> Result<Option<Vec<u8>>, All
     }
 }
 
-/// The bytes of the classes of a listing.
-pub fn listed_classes(alloc: Global, listing: &[u8]) -> Result<Vec<Vec<u8>>, Fail> {
-    let classes = assemble(alloc, listing).ok().ok_or("a listing")?;
+/// The bytes of the classes of a listing; none where it is no listing.
+pub fn listed_classes(alloc: Global, listing: &[u8]) -> Result<Option<Vec<Vec<u8>>>, AllocError> {
+    let Ok(classes) = assemble(alloc, listing) else {
+        return Ok(None);
+    };
     let mut all = Vec::new(alloc);
     for class in &classes {
         all.push(write_class(alloc, class)?)?;
     }
-    Ok(all)
+    Ok(Some(all))
 }
 
 /// The bytes of a class Main with the durable root `data` and these instructions in `main`.
@@ -67,8 +65,9 @@ pub fn source(alloc: Global, bytes: &[u8]) -> Result<MemorySource, AllocError> {
 
 /// A source of the classes of a listing, a file each.
 pub fn listed(alloc: Global, listing: &str) -> Result<MemorySource, Fail> {
+    let classes = listed_classes(alloc, listing.as_bytes())?.ok_or("a listing")?;
     let mut files = Vec::new(alloc);
-    for bytes in &listed_classes(alloc, listing.as_bytes())? {
+    for bytes in &classes {
         files.push(file(alloc, b"A.class", bytes.as_slice())?)?;
     }
     Ok(MemorySource::new(files, Vec::new(alloc)))

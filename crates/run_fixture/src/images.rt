@@ -1,25 +1,17 @@
-// Images in memory: how they fail, what they hold, and what is found in them.
-use image_recovery::{Recovered, recover};
+// Images in memory, and what they hold.
 use line_image::{Fails, Image, MemoryImage};
-use line_memory::LineMemory;
 use std::alloc::{AllocError, Global};
-use std::test::Fail;
 
 /// The lines of an image.
 pub const LINES: u64 = 32_768;
 
-/// An image's calls fail from this one on.
-pub fn fails_from(alloc: Global, since: u64) -> Fails {
-    Fails {
-        calls: Vec::new(alloc),
-        since,
-        room: 20_000,
-    }
-}
-
 /// No call of an image fails.
 pub fn no_fails(alloc: Global) -> Fails {
-    fails_from(alloc, u64::MAX)
+    Fails {
+        calls: Vec::new(alloc),
+        since: u64::MAX,
+        room: 20_000,
+    }
 }
 
 /// An image of zeros.
@@ -43,15 +35,4 @@ pub fn line_of(image: &MemoryImage, line: u64) -> [u64; 8] {
         words[word as usize] = word_of(image, line, word).unwrap_or(0);
     }
     words
-}
-
-/// What is found in an image.
-pub fn recovered(alloc: Global, image: MemoryImage) -> Result<Recovered<MemoryImage>, Fail> {
-    let Ok(memory) = LineMemory::attach(alloc, image) else {
-        return Err(Fail::from("an image that is attached"));
-    };
-    match recover(alloc, memory) {
-        Ok(found) => Ok(found),
-        Err(_) => Err(Fail::from("an image that is recovered")),
-    }
 }

@@ -7,11 +7,8 @@ mod images;
 mod rings;
 mod runs;
 
-pub use autopersist::{Ended, Status, autopersist, run_and_save, status_text};
-pub use classes::{
-    EMPTY, PRINTS, STORES, class_bytes, file, listed, listed_classes, main_class, source,
-};
-pub use images::{LINES, blank, fails_from, line_of, no_fails, recovered, word_of};
-pub use rings::{RING, has_null_root, is_ring};
-pub use run_history::NoWatch;
-pub use runs::{RUN, Run, has_output, run, run_class, run_words, sink, words};
+pub use autopersist::{Saved, Status, run_and_save, status_text};
+pub use classes::{PRINTS, STORES, file, listed, listed_classes, main_class, source};
+pub use images::{LINES, blank, line_of, no_fails, word_of};
+pub use rings::RING;
+pub use runs::{EndedOn, RUN, Run, has_output, run_watched, run_words, sink};

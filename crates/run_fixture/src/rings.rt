@@ -1,6 +1,4 @@
-// A ring that runs make, and what graphs have of it.
-use graph_model::Value;
-use shared_graph::{SharedGraph, SharedNode};
+// A ring that runs make.
 
 /// A ring of three nodes with the values 1, 2 and 3, made where `head` is null, and else walked once around, each value printed.
 pub const RING: &str = ".class Node\n.super java/lang/Object\n.field v I\n.field next LNode;\n\
@@ -21,32 +19,3 @@ pub const RING: &str = ".class Node\n.super java/lang/Object\n.field v I\n.field
     invokevirtual java/io/PrintStream println (I)V\n\
     aload_1\ngetfield Node next LNode;\nastore_1\n\
     iinc 2 -1\niload_2\nifgt STEP\nreturn\n.end\n";
-
-/// Whether a node has this value and this successor.
-fn is_link(node: &SharedNode, value: i32, next: u32) -> bool {
-    let values = [Value::Int(value), Value::Obj(next)];
-    node.shape().name.as_slice() == b"Node".as_slice() && node.values() == values.as_slice()
-}
-
-/// Whether a graph is the ring, to which its one root refers.
-pub fn is_ring(graph: &SharedGraph) -> bool {
-    let is_root = match graph.roots() {
-        [root] => root.name.as_slice() == b"Main.head".as_slice() && root.value == Value::Obj(0),
-        _ => false,
-    };
-    let are_nodes = match graph.nodes() {
-        [first, second, third] => {
-            is_link(first, 1, 1) && is_link(second, 2, 2) && is_link(third, 3, 0)
-        }
-        _ => false,
-    };
-    is_root && are_nodes
-}
-
-/// Whether a graph has one root, which is null.
-pub fn has_null_root(graph: &SharedGraph) -> bool {
-    match graph.roots() {
-        [root] => root.value == Value::Null,
-        _ => false,
-    }
-}

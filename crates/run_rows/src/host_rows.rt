@@ -1,9 +1,8 @@
 // Runs of the top call on an image file, and what the adapters do at the edges: a second opening, odd files.
-use ap_base::{ClassSource, MemorySink, NoGate, Sink, SourceError};
+use ap_base::{ClassSource, Sink, SourceError};
 use host_edges::{FileImage, FileSink, HostSource, Trouble, class_names, hold_streams};
 use line_image::Image;
-use run_fixture::{PRINTS, RUN, STORES, autopersist, main_class, source, status_text, words};
-use run_history::NoWatch;
+use run_fixture::{PRINTS, RUN, STORES, has_output, main_class, run_words, sink, source};
 use std::alloc::Global;
 use std::io::Write;
 use std::os::fd::AsRawFd;
@@ -21,17 +20,22 @@ fn blank_file(rt: HostRuntime) -> Result<(), Fail> {
     Ok(fs::File::create(&rt, IMAGE)?.set_len(64 * 32_768)?)
 }
 
-/// Whether a run of a class Main with this body on the image file ends well, and prints 7.
-fn prints_seven<R>(rt: &R, alloc: Global, body: &[&str], image: FileImage) -> Result<bool, Fail>
+/// Whether a run of a class Main with this body on an image file prints this, with the status line behind it.
+fn prints<R>(
+    rt: &R,
+    alloc: Global,
+    body: &[&str],
+    image: FileImage,
+    text: &str,
+) -> Result<bool, Fail>
 where
     R: Threads + Wait + Clone + Send + Sync + Drop,
 {
-    let words = words(alloc, &RUN)?;
     let class = main_class(alloc, body)?;
     let source = source(alloc, &class)?;
-    let sink = MemorySink::new(alloc, 100, 24, Vec::new(alloc))?;
-    let ended = autopersist(rt, alloc, &words, source, image, sink, &NoGate, NoWatch);
-    Ok(ended.status.number() == 0 && ended.sink.as_slice() == b"7\n".as_slice())
+    let sink = sink(alloc, 24, u64::MAX)?;
+    let ended = run_words(rt, alloc, &RUN, source, image, sink)?;
+    Ok(has_output(alloc, &ended, text)?)
 }
 
 /// One stores 7 and prints it, and one prints what is stored.
@@ -42,7 +46,10 @@ fn two_runs_on_one_file(rt: HostRuntime) -> Result<(), Fail> {
     blank_file(rt)?;
     for (number, body) in BODIES.iter().enumerate() {
         let image = FileImage::at(&rt, rt.alloc(), IMAGE, None)?;
-        assert!(rt; prints_seven(&rt, rt.alloc(), body, image)?, "run {number}");
+        assert!(rt;
+            prints(&rt, rt.alloc(), body, image, "7\n")?,
+            "run {number}"
+        );
     }
     Ok(())
 }
@@ -56,27 +63,10 @@ fn short_files_are_no_images(rt: HostRuntime) -> Result<(), Fail> {
         fs::File::create(&rt, IMAGE)?.set_len(*length)?;
         let image = FileImage::at(&rt, rt.alloc(), IMAGE, None)?;
         let is_short = image.trouble() == Some(Trouble::TooShort(*length));
-        let text = b"autopersist: image 0 Size\n".as_slice();
-        assert!(rt;
-            is_short && is_told(&rt, rt.alloc(), image, text)?,
-            "{length} bytes"
-        );
+        let is_told = prints(&rt, rt.alloc(), &[], image, "autopersist: image 0 Size\n")?;
+        assert!(rt; is_short && is_told, "{length} bytes");
     }
     Ok(())
-}
-
-/// Whether a run on an image file prints nothing, and ends by this status line.
-fn is_told<R>(rt: &R, alloc: Global, image: FileImage, text: &[u8]) -> Result<bool, Fail>
-where
-    R: Threads + Wait + Clone + Send + Sync + Drop,
-{
-    let words = words(alloc, &RUN)?;
-    let class = main_class(alloc, &[])?;
-    let source = source(alloc, &class)?;
-    let sink = MemorySink::new(alloc, 100, 24, Vec::new(alloc))?;
-    let ended = autopersist(rt, alloc, &words, source, image, sink, &NoGate, NoWatch);
-    let line = status_text(alloc, &ended.status)?;
-    Ok(line.as_slice() == text && ended.sink.as_slice().is_empty())
 }
 
 /// A stream that was closed takes no byte, so that a print to it is a fault of the sink.

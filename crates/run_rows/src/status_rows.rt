@@ -335,10 +335,12 @@ enum End {
     NoMain(LinkKind),
     /// The file A.class is refused.
     Refused(ClassRefusal),
+    NoMemory,
 }
 
 /// Ends, the numbers of their statuses, and the lines behind the program's name.
-static ENDS: [(End, u8, &str); 29] = [
+static ENDS: [(End, u8, &str); 30] = [
+    (End::NoMemory, 13, "no memory"),
     (
         End::Uncaught(5 + 3),
         1,
@@ -502,6 +504,7 @@ fn status_of_end(alloc: Global, set: &ClassSet, end: End) -> Result<Status, Allo
         End::Thrown(throws) => thrown_status(ThreadNo::main(), throws, room),
         End::NoMain(kind) => main_status(kind, b"A", room),
         End::Refused(refusal) => Status::BadClass { file, refusal },
+        End::NoMemory => Status::OutOfMemory,
     })
 }
 

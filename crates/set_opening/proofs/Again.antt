@@ -1,11 +1,11 @@
 -- An image that was opened for a class set and has its directory still opens for the set again.
 use Rattle.std.proofs.Common.{◌≡◌, ◌≢◌, inl, inr, ℕ, ◌+◌, ◌<◌, ◌≤◌, true, false, ◌||◌, List, [], ◌∷◌, ◌++◌, Option, Some, None}
-use Rattle.std.proofs.Common.{Result, Ok, Err, map, length, slice_index_or, refl, sym, ap, ◌∙◌, subst, arith, append_assoc, ⊎_elim, if◌then◌else◌}
+use Rattle.std.proofs.Common.{Result, Ok, Err, map, length, take, drop, slice_index_or, refl, sym, ap, ◌∙◌, subst, arith, append_assoc, ⊎_elim, if◌then◌else◌}
 use Rattle.std.specs.Prelude.{All, Contains, is_some}
 use Rattle.std.specs.List.{list_any}
 use Rattle.std.specs.Str.{bytes_eq}
 use Rattle.std.proofs.lemmas.Bool.{false≢true, le-ltb}
-use Rattle.std.proofs.lemmas.List.{append-nil}
+use Rattle.std.proofs.lemmas.List.{append-nil, take-append-drop}
 use Rattle.std.proofs.lemmas.List.Elements.{All-append, All-head, All-map, All-tail, Contains-append_left, Contains-append_right}
 use Rattle.std.proofs.lemmas.List.Elements.{Contains-get_or}
 use Rattle.std.proofs.lemmas.Slice.Eq.{bytes_eq-Decides}
@@ -17,16 +17,12 @@ use Rattle.run_types.specs.declared.fault.Full.{Full}
 use Rattle.line_image.specs.Told.{Told}
 use Rattle.line_image.specs.Trace.{Trace}
 use Rattle.line_memory.specs.Memory.{IsTelling, Memory, ReadsWord, shown}
-use Rattle.image_layout.specs.Places.{directory_line, directory_word, directory_words, log_entries, log_entry_line, log_entry_word}
-use Rattle.image_layout.specs.Places.{log_head_line, logs, max_lines, min_lines}
+use Rattle.image_layout.specs.Places.{max_lines, min_lines}
 use Rattle.image_meaning.specs.Appending.{with_all_too}
 use Rattle.image_meaning.specs.Checks.{Bad}
-use Rattle.image_meaning.specs.Directories.{Directory, directory_of, with_all, with_entry}
+use Rattle.image_meaning.specs.Directories.{Directory, with_all, with_entry}
 use Rattle.image_meaning.specs.Entries.{DirectoryEntry, RootEntry, ShapeEntry, is_array_name}
-use Rattle.image_meaning.specs.Laws.{Opens}
 use Rattle.image_meaning.specs.Meaning.{StandsFor, meaning}
-use Rattle.image_meaning.proofs.Opened.{opens-same}
-use Rattle.image_meaning.proofs.Standing.{use-within}
 use Rattle.image_meaning.proofs.Standings.{stands-within}
 use Rattle.text_table.specs.Texts.{place_from}
 use Rattle.plain_model.specs.Classes.{no_class}
@@ -41,18 +37,20 @@ use Rattle.directories.specs.ClassSets.{Agrees, AreEntriesOf, LacksRoomFor}
 use Rattle.directories.specs.Kept.{Kept}
 use Rattle.directories.specs.Planning.{has_entry, lacking, no_room, roots_left, words_left}
 use Rattle.image_recovery.specs.Recovered.{entries_in}
-use Rattle.image_recovery.proofs.PutSteps.{counted_few, same_logged}
+use Rattle.image_recovery.proofs.Directories.{has_by_lines}
+use Rattle.image_recovery.proofs.Recovers.{sized}
 use Rattle.set_opening.specs.declared.unopened.Unopened.{Unopened}
 use Rattle.set_opening.specs.declared.unopened.Unopened.TheVariants.{BadImage, ShapeChanged, Full as FullOf, ImageFailed, OutOfMemory}
 use Rattle.set_opening.specs.Again.{HoldsGraph, IsNoRefusal}
 use Rattle.set_opening.specs.Arrays.{with_array_of, with_arrays_of}
 use Rattle.set_opening.specs.Attached.{IsAttached}
 use Rattle.set_opening.specs.Fitted.{IsOtherShape, IsUnfit}
-use Rattle.set_opening.specs.Found.{IsDirectoryIn}
+use Rattle.set_opening.specs.Found.{HasDirectory, IsDirectoryIn}
 use Rattle.set_opening.specs.Opened.{IsKnownIn, IsOpenedFor}
 use Rattle.set_opening.specs.Unopened.{IsAttachFault, IsRecoveryFault, IsUnopened}
 use Rattle.set_opening.proofs.Arrays.{arrays_files}
 use Rattle.set_opening.proofs.Names.{HasEntry, each_there}
+use Rattle.set_opening.proofs.Recovered.{has_spells, one_directory}
 use Rattle.set_opening.proofs.Suits.{agrees_on, name_of_named}
 
 -- ---- array types that have numbers get none
@@ -113,6 +111,26 @@ shapes_behind directory (ShapeEntry shape ∷ entries) =
     ∙ append_assoc directory.shapes (shape ∷ []) (shapes_in entries)
 shapes_behind directory (RootEntry root ∷ entries) = shapes_behind (with_entry directory (RootEntry root)) entries
 
+shapes_both : (entries later : List DirectoryEntry) → shapes_in (entries ++ later) ≡ shapes_in entries ++ shapes_in later
+unfolding shapes_in
+shapes_both [] later = refl
+shapes_both (ShapeEntry shape ∷ entries) later = ap (λ (shapes : List Shape). shape ∷ shapes) (shapes_both entries later)
+shapes_both (RootEntry root ∷ entries) later = shapes_both entries later
+
+-- the shapes with the first entries begin those with all of them
+pub shapes_first : (directory : Directory) (entries : List DirectoryEntry) (k : ℕ)
+    → (more : List Shape) × ((with_all directory entries).shapes ≡ (with_all directory (take k entries)).shapes ++ more)
+shapes_first directory entries k =
+    let later = drop k entries in
+    let first = take k entries in (
+      shapes_in later,
+      shapes_behind directory entries
+          ∙ ap (λ (es : List DirectoryEntry). directory.shapes ++ shapes_in es) (sym (take-append-drop k entries))
+          ∙ ap (λ (shapes : List Shape). directory.shapes ++ shapes) (shapes_both first later)
+          ∙ sym (append_assoc directory.shapes (shapes_in first) (shapes_in later))
+          ∙ ap (λ (shapes : List Shape). shapes ++ shapes_in later) (sym (shapes_behind directory first)),
+    )
+
 All-right : {A : Type 0} (P : A → Type 0) (xs ys : List A) → All P (xs ++ ys) → All P ys
 All-right P [] ys all = all
 All-right P (x ∷ xs) ys all = All-right P xs ys (All-tail P x (xs ++ ys) all)
@@ -159,16 +177,58 @@ one_read : (o : Option Trace) → IsTelling o → (l w u v : ℕ) → ReadsWord 
 one_read None telling l w u v a b = absurd telling
 one_read (Some h) telling l w u v a b = b ∙ sym a
 
+-- ---- an image that has a directory
+
+module _ (size : ℕ) (directory : Directory) (again : Told) (stood : Graph) (holds : HoldsGraph again size directory stood) where
+  enough : min_lines ≤ size
+  enough = (sized size holds.words stood holds.stands).0
+
+  most : size ≤ max_lines
+  most = (sized size holds.words stood holds.stands).1
+
+  module _ (before : Memory) (at : IsAttached again before) where
+    size_is : before.size ≡ size
+    size_is = at.size ∙ holds.size_is
+
+    same : (l w : ℕ) → l < size → shown before l w ≡ holds.words l w
+    same l w below =
+        let sized_as = holds.size_is in
+        let here : l < again.size = omega (arith, below, sized_as) in
+        one_read again.trace holds.telling l w (holds.words l w) (shown before l w) (holds.read l w here) (at.shows l w here)
+
+    has : HasDirectory size (shown before) directory
+    has = has_by_lines size holds.words (shown before) directory enough holds.has same
+
+    stands : StandsFor before.size (shown before) stood
+    stands =
+        subst (λ n. StandsFor n (shown before) stood) (sym size_is)
+        (stands-within size holds.words (shown before) stood enough most holds.stands same)
+
+    -- what is found is the directory
+    same_directory : (found : Directory) → IsDirectoryIn (shown before) found → found ≡ directory
+    same_directory found is = one_directory (shown before) found directory is (has_spells size (shown before) directory has)
+
+  -- it is refused for no shape but one of its own
+  refused_in : (found : Kept) → entries_in found ≡ directory → (set : Linked) (name : List ℕ)
+      → IsOtherShape (facts_of set) found.shapes name → IsOtherShape (facts_of set) directory.shapes name
+  refused_in found same_as set name is =
+      subst (λ (d : Directory). IsOtherShape (facts_of set) d.shapes name) same_as is
+
+  pub refused_so : (set : Linked) (after : Told) (now : Linked) (name : List ℕ) → IsUnopened again after set now (ShapeChanged name)
+      → IsOtherShape (facts_of set) directory.shapes name
+  refused_so set after now name (inl (is, same_set)) = let cause : IsAttachFault again (ShapeChanged name) = is.cause in absurd cause
+  refused_so set after now name (inr (inl (is, same_set))) =
+      let cause : IsRecoveryFault is.before is.memory (ShapeChanged name) = is.cause in absurd cause
+  refused_so set after now name (inr (inr is)) =
+      let at = is.left.found.attached in
+      let cause : IsUnfit set now is.directory (ShapeChanged name) = is.cause in
+      refused_in is.directory (same_directory is.left.before at (entries_in is.directory) is.left.found.found_is) set name
+      cause.0
+
 module _ (start : Told) (set numbered : Linked) (m : Memory) (kept : Kept) (lines : List ℕ) (graph : Graph) (free : ℕ)
     (opened : IsOpenedFor start set numbered m kept lines graph free) where
-  abbrev directory : Directory
-  directory = entries_in kept
-
-  enough : min_lines ≤ start.size
-  enough = let e = opened.attached.enough in let s = opened.attached.size in omega (arith, e, s)
-
-  most : start.size ≤ max_lines
-  most = let e = opened.attached.most in let s = opened.attached.size in omega (arith, e, s)
+  abbrev directory_now : Directory
+  directory_now = entries_in kept
 
   -- its array types have the numbers that the directory asks for
   numbers_stay : with_arrays_of set kept.shapes ≡ numbered
@@ -201,62 +261,35 @@ module _ (start : Told) (set numbered : Linked) (m : Memory) (kept : Kept) (line
         (Contains-append_right (map ShapeEntry old.shapes) (map RootEntry old.roots) (RootEntry root)
         (contains_map RootEntry old.roots root ((old.all_roots root).1 ((its.all_roots root).0 (Contains-get_or its.roots k d below))))))))
 
-    nothing_lacking : lacking directory entries ≡ []
-    nothing_lacking = none_lacking directory entries (λ k d below.
+    nothing_lacking : lacking directory_now entries ≡ []
+    nothing_lacking = none_lacking directory_now entries (λ k d below.
         let entry = slice_index_or entries k d in
-        has_by directory entry
+        has_by directory_now entry
         (subst (λ (d : Directory). HasEntry d entry) (sym opened.directory_is)
         (each_there opened.found opened.entries entry (all_there k d below))))
 
-  module _ (again : Told) (stood : Graph) (holds : HoldsGraph again start.size directory stood) where
-    module _ (before : Memory) (at : IsAttached again before) where
-      size_is : before.size ≡ start.size
-      size_is = at.size ∙ holds.size_is
+  module _ (again : Told) (stood : Graph) (holds : HoldsGraph again start.size directory_now stood) where
+    enough_lines : min_lines ≤ start.size
+    enough_lines = (sized start.size holds.words stood holds.stands).0
 
-      same : (l w : ℕ) → l < start.size → shown before l w ≡ holds.words l w
-      same l w below =
-          let size = holds.size_is in
-          let here : l < again.size = omega (arith, below, size) in
-          one_read again.trace holds.telling l w (holds.words l w) (shown before l w) (holds.read l w here) (at.shows l w here)
+    most_lines : start.size ≤ max_lines
+    most_lines = (sized start.size holds.words stood holds.stands).1
 
-      opens : Opens start.size (shown before) directory
-      opens =
-          let in_use : holds.words 0 3 ≤ directory_words = use-within start.size (holds.words 0) holds.opens.used holds.opens.super in
-          opens-same start.size holds.words (shown before) directory holds.opens
-          (record {
-            super = λ word h. same 0 word (omega (arith, enough));
-            directory = λ i h. same (directory_line i) (directory_word i) (omega (arith, enough, h, in_use));
-          })
-          (record {
-            counts = λ t h. same (log_head_line t) 0 (omega (arith, enough, h));
-            entries = λ t n h below.
-                let few : n < log_entries =
-                (let count = counted_few start.size holds.words t holds.opens.logs h in omega (arith, below, count)) in
-                let entry : log_entry_line t n < start.size = omega (arith, enough, h, few) in
-                same_logged (shown before (log_entry_line t n) (log_entry_word n)) (holds.words (log_entry_line t n) (log_entry_word n))
-                (shown before (log_entry_line t n) (log_entry_word n + 1)) (holds.words (log_entry_line t n) (log_entry_word n + 1))
-                (same (log_entry_line t n) (log_entry_word n) entry) (same (log_entry_line t n) (log_entry_word n + 1) entry);
-          })
+    found_same : (before : Memory) → IsAttached again before → (found : Directory) → IsDirectoryIn (shown before) found
+        → found ≡ directory_now
+    found_same before at found is = same_directory start.size directory_now again stood holds before at found is
 
-      stands : StandsFor before.size (shown before) stood
-      stands =
-          subst (λ n. StandsFor n (shown before) stood) (sym size_is)
-          (stands-within start.size holds.words (shown before) stood enough most holds.stands same)
-
-      -- what is found is the directory
-      same_directory : (found : Directory) → IsDirectoryIn (shown before) found → found ≡ directory
-      same_directory found is = same_value (directory_of (shown before)) found directory (is.1 opens.used) opens.entries
-
-      same_numbers : (found : Directory) → IsDirectoryIn (shown before) found → with_arrays_of set found.shapes ≡ numbered
-      same_numbers found is =
-          ap (λ (d : Directory). with_arrays_of set d.shapes) (same_directory found is) ∙ numbers_stay
+    same_numbers : (before : Memory) → IsAttached again before → (found : Directory) → IsDirectoryIn (shown before) found
+        → with_arrays_of set found.shapes ≡ numbered
+    same_numbers before at found is =
+        ap (λ (d : Directory). with_arrays_of set d.shapes) (found_same before at found is) ∙ numbers_stay
 
     -- ---- it isn't refused
 
     unattached : (why : Unopened) → IsAttachFault again why → IsNoRefusal why
     unattached (BadImage line reason) cause = ⊎_elim
-        (λ (few : again.size < min_lines). absurd (let s = holds.size_is in omega (arith, few, s, enough)))
-        (λ (many : max_lines < again.size). absurd (let s = holds.size_is in omega (arith, many, s, most)))
+        (λ (few : again.size < min_lines). absurd (let s = holds.size_is in omega (arith, few, s, enough_lines)))
+        (λ (many : max_lines < again.size). absurd (let s = holds.size_is in omega (arith, many, s, most_lines)))
         cause.2
     unattached (ShapeChanged other) cause = absurd cause
     unattached (FullOf full) cause = absurd cause
@@ -265,14 +298,14 @@ module _ (start : Told) (set numbered : Linked) (m : Memory) (kept : Kept) (line
 
     unrecovered : (before n : Memory) (at : IsAttached again before) (why : Unopened) → IsRecoveryFault before n why → IsNoRefusal why
     unrecovered before n at (BadImage line reason) cause =
-        absurd (not_both (meaning before.size (shown before)) stood (line, reason) (stands before at) cause.0)
+        absurd (not_both (meaning before.size (shown before)) stood (line, reason) (stands start.size directory_now again stood holds before at) cause.0)
     unrecovered before n at (ShapeChanged other) cause = absurd cause
     unrecovered before n at (FullOf full) cause = absurd cause
     unrecovered before n at ImageFailed cause = tt
     unrecovered before n at OutOfMemory cause = tt
 
     -- each of its shapes agrees with the set
-    no_other : (found : Kept) → entries_in found ≡ directory → (other : List ℕ) → IsOtherShape (facts_of set) found.shapes other → ⊥
+    no_other : (found : Kept) → entries_in found ≡ directory_now → (other : List ℕ) → IsOtherShape (facts_of set) found.shapes other → ⊥
     no_other found same_as other is =
         let shapes : found.shapes ≡ kept.shapes = ap (λ (d : Directory). d.shapes) same_as in
         let there : is.at < length kept.shapes =
@@ -284,7 +317,7 @@ module _ (start : Told) (set numbered : Linked) (m : Memory) (kept : Kept) (line
         (opened.agree is.at there)))
 
     -- and there is room for no entry
-    no_want : (found : Kept) → entries_in found ≡ directory → (now : Linked) → now ≡ numbered → (full : Full)
+    no_want : (found : Kept) → entries_in found ≡ directory_now → (now : Linked) → now ≡ numbered → (full : Full)
         → LacksRoomFor (facts_of now) (made_of now) found full → ⊥
     no_want found same_as now numbers full lacks =
         let its : AreEntriesOf (facts_of numbered) (made_of numbered) lacks.entries =
@@ -295,7 +328,7 @@ module _ (start : Told) (set numbered : Linked) (m : Memory) (kept : Kept) (line
         let wrong : None ≡ Some full = sym (room_for_none found) ∙ room in
         cc
 
-    unfit : (found : Kept) → entries_in found ≡ directory → with_arrays_of set found.shapes ≡ numbered → (now : Linked) (why : Unopened)
+    unfit : (found : Kept) → entries_in found ≡ directory_now → with_arrays_of set found.shapes ≡ numbered → (now : Linked) (why : Unopened)
         → IsUnfit set now found why → IsNoRefusal why
     unfit found same_as numbers now (BadImage line reason) cause = absurd cause
     unfit found same_as numbers now (ShapeChanged other) cause = absurd (no_other found same_as other cause.0)
@@ -309,7 +342,7 @@ module _ (start : Told) (set numbered : Linked) (m : Memory) (kept : Kept) (line
     unrefused after now why (inr (inr is)) =
         let at = is.left.found.attached in
         let found = is.left.found.found_is in
-        unfit is.directory (same_directory is.left.before at (entries_in is.directory) found)
+        unfit is.directory (found_same is.left.before at (entries_in is.directory) found)
         (same_numbers is.left.before at (entries_in is.directory) found) now why is.cause
 
     -- ---- it opens as it was left
@@ -319,8 +352,8 @@ module _ (start : Told) (set numbered : Linked) (m : Memory) (kept : Kept) (line
       abbrev had : Directory
       had = reopened.found
 
-      had_is : had ≡ directory
-      had_is = same_directory reopened.before reopened.attached had reopened.found_is
+      had_is : had ≡ directory_now
+      had_is = found_same reopened.before reopened.attached had reopened.found_is
 
       now_is : now ≡ numbered
       now_is = reopened.set_is ∙ same_numbers reopened.before reopened.attached had reopened.found_is
@@ -331,11 +364,11 @@ module _ (start : Told) (set numbered : Linked) (m : Memory) (kept : Kept) (line
           ∙ nothing_lacking reopened.entries
           (subst (λ (s : Linked). AreEntriesOf (facts_of s) (made_of s) reopened.entries) now_is reopened.are_its)
 
-      pub left_so : (entries_in found ≡ directory) × (opening ≡ stood) × (now ≡ numbered)
+      pub left_so : (entries_in found ≡ directory_now) × (opening ≡ stood) × (now ≡ numbered)
       left_so = (
         reopened.directory_is ∙ ap (λ es. with_all had es) nothing ∙ had_is,
         reopened.graph_is ∙ ap (λ es. with_all_too reopened.stood es) nothing
             ∙ same_value (meaning reopened.before.size (shown reopened.before)) reopened.stood stood reopened.stands
-            (stands reopened.before reopened.attached),
+            (stands start.size directory_now again stood holds reopened.before reopened.attached),
         now_is,
       )

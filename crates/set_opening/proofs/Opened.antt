@@ -16,18 +16,19 @@ use Rattle.image_meaning.specs.Directories.{AreEntries, Directory, spelled_all, 
 use Rattle.image_meaning.specs.Entries.{DirectoryEntry, IsShape, is_array_name}
 use Rattle.image_meaning.specs.Meaning.{StandsFor, meaning}
 use Rattle.word_changes.specs.Changes.{AllKnown, GoesOn, StopsLeave}
-use Rattle.word_changes.proofs.Changing.{stops_then, stops_weaker}
+use Rattle.word_changes.proofs.Changing.{stops_then}
 use Rattle.word_changes.proofs.Going.{goes_more}
 use Rattle.class_set.specs.Linked.{Linked, names_of}
 use Rattle.class_set.specs.Facts.{facts_of}
 use Rattle.class_set.specs.Sets.{made_of}
-use Rattle.directories.specs.ClassSets.{Agrees, IsPlannedFor}
+use Rattle.directories.specs.ClassSets.{IsPlannedFor}
 use Rattle.directories.specs.Growing.{HasAppended, HasDurable}
 use Rattle.directories.specs.Kept.{Continues, Kept, SameEntries}
 use Rattle.directories.specs.Planning.{lacking}
 use Rattle.image_recovery.specs.Recovered.{entries_in}
+use Rattle.set_opening.specs.Arrays.{with_arrays_of}
 use Rattle.set_opening.specs.Fitted.{AllAgree, IsFitted, with_null_roots}
-use Rattle.set_opening.specs.Found.{IsFound}
+use Rattle.set_opening.specs.Found.{HasDirectory, IsDirectoryIn, IsFound}
 use Rattle.set_opening.specs.Opened.{IsOpenedFor, StandsWithFirst, SuitsSet}
 use Rattle.first_spaces.specs.Laws.{AppendedImagesAreOpened}
 use Rattle.first_spaces.specs.Opened.{IsOpened}
@@ -35,11 +36,18 @@ use Rattle.set_opening.specs.Unopened.{IsLeft, IsLeftAsFound}
 use Rattle.set_opening.proofs.Arrays.{arrays_files, arrays_named}
 use Rattle.set_opening.proofs.Names.{roots_added}
 use Rattle.set_opening.proofs.Openings.{opened_names}
+use Rattle.set_opening.proofs.Recovered.{one_directory, stops_with_none}
 use Rattle.set_opening.proofs.Ready.{are_added, directory_is, ready, roots_apart, shapes_apart, shapes_are, stops_behind}
 use Rattle.set_opening.proofs.Suits.{agrees_on, all_agree, suits}
 
 same_graph : {A : Type 0} (given : Result A checks.Bad) (x y : A) → given ≡ Ok x → given ≡ Ok y → x ≡ y
 same_graph {A} given x y a b = let left : Result A checks.Bad = Ok x in let e : left ≡ Ok y = sym a ∙ b in cc
+
+-- array types that have numbers have no part in which shapes agree
+pub agree_before : (old : Linked) (numbered shapes : List Shape) → AllAgree (facts_of (with_arrays_of old numbered)) shapes
+    → AllAgree (facts_of old) shapes
+agree_before old numbered shapes agree k below =
+    agrees_on (with_arrays_of old numbered) old (slice_index_or shapes k no_shape) (sym (arrays_files old numbered)) (agree k below)
 
 -- ---- what was found
 
@@ -51,16 +59,17 @@ module _ (start : Told) (before m : Memory) (directory : Kept) (graph : Graph) (
   pub found_roots : map (λ (root : NamedValue). root.name) graph.roots ≡ directory.roots
   found_roots = opened_names m (entries_in directory) lines graph is.opened
 
-  -- each stop leaves an image that stands for the same graph
-  pub found_stops : IsTelling start.trace → (entries : List DirectoryEntry) (other : Graph)
-      → StandsFor before.size (shown before) other
-      → StopsLeave before m (StandsWithFirst before.size other entries)
-  found_stops tells entries other stands =
-      let same : graph ≡ other = same_graph (meaning before.size (shown before)) graph other is.stands stands
-      in
-      stops_weaker before m (λ c. StandsFor before.size c graph) (StandsWithFirst before.size other entries)
-      (is.stops tells)
-      (λ c so. (0, omega arith, subst (λ (g : Graph). StandsFor before.size c g) same so))
+  -- each stop leaves an image that has the same directory, and stands for the same graph
+  pub found_stops : IsTelling start.trace → (entries : List DirectoryEntry) (other : Graph) (spelled : Directory)
+      → StandsFor before.size (shown before) other → IsDirectoryIn (shown before) spelled
+      → StopsLeave before m (StandsWithFirst before.size spelled other entries)
+  found_stops tells entries other spelled stands spells =
+      let same : graph ≡ other = same_graph (meaning before.size (shown before)) graph other is.stands stands in
+      let one : entries_in directory ≡ spelled =
+      one_directory (shown before) (entries_in directory) spelled is.found_is spells in
+      stops_with_none before m spelled other entries
+      (subst (λ (g : Graph). StopsLeave before m (λ c. StandsFor before.size c g)) same (is.stops tells))
+      (subst (λ (d : Directory). StopsLeave before m (λ c. HasDirectory before.size c d)) one (is.directory_stays tells))
 
   pub found_left : (after : Told) → after.size ≡ m.size → after ≡ m.image → IsLeftAsFound start after directory graph
   found_left after sized told = record {
@@ -74,7 +83,7 @@ module _ (start : Told) (before m : Memory) (directory : Kept) (graph : Graph) (
       size = sized ∙ is.goes_on.size ∙ is.attached.size;
       told = told;
       goes_on = is.goes_on;
-      stops = λ tells other stands. found_stops tells [] other stands;
+      stops = λ tells other spelled stands spells. found_stops tells [] other spelled stands spells;
     };
   }
 
@@ -118,17 +127,20 @@ module _ (start : Told) (before m n : Memory) (found directory now : Kept) (stoo
         (ap (λ (d : Directory). d.roots) plan.planned.directory)
         ∙ roots_added stood (entries_in found) added many_roots
 
-    -- each stop leaves some of the new null roots, in order
-    pub all_stops : IsTelling start.trace → (other : Graph) → StandsFor before.size (shown before) other
-        → StopsLeave before n (StandsWithFirst before.size other added)
-    all_stops tells other stands =
+    -- each stop leaves some of the new entries, in order
+    pub all_stops : IsTelling start.trace → (other : Graph) (spelled : Directory) → StandsFor before.size (shown before) other
+        → IsDirectoryIn (shown before) spelled → StopsLeave before n (StandsWithFirst before.size spelled other added)
+    all_stops tells other spelled stands spells =
         let alike : stood ≡ other = same_graph (meaning before.size (shown before)) stood other is.stands
         stands in
-        stops_then before m n (StandsWithFirst before.size other added)
-        (found_stops start before m found stood lines free is tells added other stands)
-        (subst (λ (g : Graph). StopsLeave m n (StandsWithFirst before.size g added)) alike
+        let one : entries_in found ≡ spelled =
+        one_directory (shown before) (entries_in found) spelled is.found_is spells in
+        stops_then before m n (StandsWithFirst before.size spelled other added)
+        (found_stops start before m found stood lines free is tells added other spelled stands spells)
+        (subst (λ (d : Directory). StopsLeave m n (StandsWithFirst before.size d other added)) one
+        (subst (λ (g : Graph). StopsLeave m n (StandsWithFirst before.size (entries_in found) g added)) alike
         (stops_behind start before m n found directory now stood lines free added is plan.planned plan.room
-        continues same goes appended is.durable))
+        continues same goes appended is.durable)))
 
     pub unappended : (after : Told) → after.size ≡ n.size → after ≡ n.image
         → IsLeft start after before n added
@@ -139,6 +151,23 @@ module _ (start : Told) (before m n : Memory) (found directory now : Kept) (stoo
       goes_on = goes_more before m n is.goes_on goes;
       stops = all_stops;
     }
+
+    agree : AllAgree (facts_of set) found.shapes
+    agree k below =
+        agrees_on old set (slice_index_or found.shapes k no_shape)
+        (ap (λ (s : Linked). s.files) fitted.set_is ∙ arrays_files old found.shapes) (fitted.agree k below)
+
+    numbered : (shape : Shape) → Contains found.shapes shape → is_array_name shape.name ≡ true
+        → Contains (names_of set) shape.name
+    numbered shape there array =
+        subst (λ (s : Linked). Contains (names_of s) shape.name) (sym fitted.set_is)
+        (arrays_named old found.shapes shape there array)
+
+    -- each shape of the whole directory agrees with the set
+    pub agree_whole : AllAgree (facts_of set) whole.shapes
+    agree_whole n below =
+        all_agree set fitted.linked (entries_in found) plan.entries
+        (found_shapes start before m found stood lines free is) agree numbered plan.are_its n no_shape below
 
     module _ (law : AppendedImagesAreOpened) where
       opens : IsOpened m whole lines (with_all_too stood added)
@@ -151,17 +180,6 @@ module _ (start : Told) (before m n : Memory) (found directory now : Kept) (stoo
       opened : IsOpened m whole lines graph
       opened = subst (λ (g : Graph). IsOpened m whole lines g) (sym graph_grown) opens
 
-      agree : AllAgree (facts_of set) found.shapes
-      agree k below =
-          agrees_on old set (slice_index_or found.shapes k no_shape)
-          (ap (λ (s : Linked). s.files) fitted.set_is ∙ arrays_files old found.shapes) (fitted.agree k below)
-
-      numbered : (shape : Shape) → Contains found.shapes shape → is_array_name shape.name ≡ true
-          → Contains (names_of set) shape.name
-      numbered shape there array =
-          subst (λ (s : Linked). Contains (names_of s) shape.name) (sym fitted.set_is)
-          (arrays_named old found.shapes shape there array)
-
       suited : SuitsSet set whole graph
       suited =
           suits set fitted.linked (entries_in found) plan.entries
@@ -172,10 +190,7 @@ module _ (start : Told) (before m n : Memory) (found directory now : Kept) (stoo
           (roots_apart m found is.opens is.unplanned is.begins is.used)
 
       all_agree_now : AllAgree (facts_of set) now.shapes
-      all_agree_now n below =
-          subst (λ (d : Directory). All (Agrees (facts_of set)) d.shapes) (sym is_whole)
-          (all_agree set fitted.linked (entries_in found) plan.entries
-          (found_shapes start before m found stood lines free is) agree numbered plan.are_its) n no_shape below
+      all_agree_now = subst (λ (d : Directory). AllAgree (facts_of set) d.shapes) (sym is_whole) agree_whole
 
       pub is_opened_for : now.left ≡ [] → AllKnown n → IsOpenedFor start old set n now lines graph free
       is_opened_for nothing_left known = record {
@@ -191,7 +206,7 @@ module _ (start : Told) (before m n : Memory) (found directory now : Kept) (stoo
         directory_is = is_whole;
         nothing_left = nothing_left;
         graph_is = graph_grown;
-        stops = λ tells. all_stops tells stood is.stands;
+        stops = λ tells. all_stops tells stood (entries_in found) is.stands is.found_is;
         ready =
             ready start before m n found directory now stood lines free added is plan.planned plan.room
             continues same goes appended

@@ -51,6 +51,11 @@ pub are_later : (directory : Directory) (entries later : List DirectoryEntry)
 are_later directory [] later are = are
 are_later directory (e ∷ entries) later are = are_later (with_entry directory e) entries later are.2
 
+with_both : (directory : Directory) (xs ys : List DirectoryEntry)
+    → with_all directory (xs ++ ys) ≡ with_all (with_all directory xs) ys
+with_both directory [] ys = refl
+with_both directory (x ∷ xs) ys = with_both (with_entry directory x) xs ys
+
 -- ---- what was read of the directory
 
 module _ (m : Memory) (directory : Kept) (opens : Opens m.size (shown m) (entries_in directory))
@@ -206,20 +211,32 @@ module _ (start : Told) (before m n : Memory) (found directory now : Kept) (stoo
 
       -- ---- stops
 
-      pub stops_behind : StopsLeave m n (StandsWithFirst before.size stood entries)
+      -- the directory that was found, with the first of what is planned
+      with_first : (k : ℕ)
+          → with_all no_entries (had ++ take k directory.left) ≡ with_all (entries_in found) (take k directory.left)
+      with_first k =
+          with_both no_entries had (take k directory.left)
+          ∙ ap (λ (d : Directory). with_all d (take k directory.left)) found_is
+
+      pub stops_behind : StopsLeave m n (StandsWithFirst before.size (entries_in found) stood entries)
       stops_behind =
           stops_weaker m n (StandsWithSome m.size stood had directory.left)
-          (StandsWithFirst before.size stood entries)
+          (StandsWithFirst before.size (entries_in found) stood entries)
           (growing_stops had directory now stood m n has_appended continues_now leaves)
           (λ c some.
-          let long : length directory.left ≡ length entries = ap length left_is in (
-            some.0,
-            (let le = some.1 in omega (arith, le, long)),
-            subst (λ (l : List DirectoryEntry). StandsFor before.size c (with_all_too stood (take some.0 l)))
+          let long : length directory.left ≡ length entries = ap length left_is in record {
+            count = some.0;
+            few = (let le = some.1 in omega (arith, le, long));
+            stands =
+                subst (λ (l : List DirectoryEntry). StandsFor before.size c (with_all_too stood (take some.0 l)))
                 left_is
                 (subst (λ k. StandsFor k c (with_all_too stood (take some.0 directory.left))) size
-                some.2.stands),
-          ))
+                some.2.stands);
+            has =
+                inr (subst (λ k. Opens k c (with_all (entries_in found) (take some.0 entries))) size
+                (subst (λ (l : List DirectoryEntry). Opens m.size c (with_all (entries_in found) (take some.0 l))) left_is
+                (subst (λ (d : Directory). Opens m.size c d) (with_first some.0) some.2.opens)));
+          })
 
       -- ---- what is shown
 

@@ -5,14 +5,16 @@ use Rattle.line_image.specs.Told.{Told}
 use Rattle.line_memory.specs.Memory.{IsTelling, Memory}
 use Rattle.image_meaning.specs.Checks.{Words}
 use Rattle.image_meaning.specs.Directories.{Directory}
-use Rattle.image_meaning.specs.Laws.{Opens}
 use Rattle.image_meaning.specs.Meaning.{StandsFor}
+use Rattle.class_set.specs.Facts.{facts_of}
 use Rattle.class_set.specs.Linked.{Linked}
 use Rattle.directories.specs.Kept.{Kept}
 use Rattle.image_recovery.specs.Recovered.{entries_in}
 use Rattle.set_opening.specs.declared.unopened.Unopened.{Unopened}
 use Rattle.set_opening.specs.declared.unopened.Unopened.TheVariants.{BadImage, ShapeChanged, Full, ImageFailed, OutOfMemory}
 use Rattle.set_opening.specs.Attached.{AreRead}
+use Rattle.set_opening.specs.Fitted.{IsOtherShape}
+use Rattle.set_opening.specs.Found.{HasDirectory}
 use Rattle.set_opening.specs.Opened.{IsOpenedFor}
 use Rattle.set_opening.specs.Unopened.{IsUnopened}
 
@@ -24,13 +26,13 @@ IsNoRefusal (Full full) = ⊥
 IsNoRefusal ImageFailed = Unit {0}
 IsNoRefusal OutOfMemory = Unit {0}
 
--- The image tells what is done to it, and what reads of it give opens with this directory and stands for this graph.
+-- The image tells what is done to it, and what reads of it give has this directory and stands for this graph.
 pub record HoldsGraph (image : Told) (size : ℕ) (directory : Directory) (graph : Graph) : Type 0 where
   pub size_is : image.size ≡ size
   pub telling : IsTelling image.trace
   pub words : Words
   pub read : AreRead image words
-  pub opens : Opens size words directory
+  pub has : HasDirectory size words directory
   pub stands : StandsFor size words graph
 
 -- An image was opened for a set. One of as many lines that has the directory of then, and any graph, isn't refused for the set. Where
@@ -46,3 +48,7 @@ pub record OpenedImagesOpenAgain : Type 0 where
       → (now : Linked) (n : Memory) (found : Kept) (places : List ℕ) (opening : Graph) (behind : ℕ)
       → IsOpenedFor again set now n found places opening behind
       → (entries_in found ≡ entries_in directory) × (opening ≡ stood) × (now ≡ numbered)
+  -- Any image that is refused for a shape has it in its directory: the first that doesn't agree with the set.
+  pub refused : (set : Linked) (again after : Told) (size : ℕ) (directory : Directory) (stood : Graph)
+      → HoldsGraph again size directory stood → (now : Linked) (name : List ℕ) → IsUnopened again after set now (ShapeChanged name)
+      → IsOtherShape (facts_of set) directory.shapes name

@@ -32,21 +32,26 @@ use Rattle.first_spaces.specs.Opened.{IsOpened}
 use Rattle.set_opening.specs.Arrays.{with_arrays_of}
 use Rattle.set_opening.specs.Attached.{IsAttached}
 use Rattle.set_opening.specs.Fitted.{AllAgree, IsFitted}
-use Rattle.set_opening.specs.Found.{IsDirectoryIn, IsFound}
+use Rattle.set_opening.specs.Found.{HasDirectory, IsDirectoryIn, IsFound}
 
--- the image stands for the graph with the first of these entries: the roots among these are null
-abbrev pub StandsWithFirst : ℕ → Graph → List DirectoryEntry → Outcome → Type 0
-StandsWithFirst size graph entries c =
-    (k : ℕ) × (k ≤ length entries) × StandsFor size c (with_all_too graph (take k entries))
+-- The image has this directory with the first of these entries, and stands for the graph with the roots among these, which are null.
+-- One that is blank has none of them.
+pub record StandsWithFirst (size : ℕ) (found : Directory) (graph : Graph) (entries : List DirectoryEntry) (c : Outcome) : Type 0 where
+  pub count : ℕ
+  pub few : count ≤ length entries
+  pub stands : StandsFor size c (with_all_too graph (take count entries))
+  pub has : HasDirectory size c (with_all found (take count entries))
 
--- The image stands for the graph with the first of the entries that the directory, which these words spelled, lacked of the set once its
--- array types had numbers: in order, and the roots among these are null.
+-- The image has the directory, which these words spelled, with the first of the entries that this lacked of the set once its array types
+-- had numbers, in order; and it stands for the graph with the roots among these, which are null.
 pub record StandsWithNew (set : Linked) (size : ℕ) (before : Words) (graph : Graph) (c : Outcome) : Type 0 where
   pub found : Directory
   pub found_is : IsDirectoryIn before found
   pub entries : List DirectoryEntry
   pub are_its : AreEntriesOf (facts_of (with_arrays_of set found.shapes)) (made_of (with_arrays_of set found.shapes)) entries
-  pub first : StandsWithFirst size graph (lacking found entries) c
+  pub first : StandsWithFirst size found graph (lacking found entries) c
+  -- each shape of the directory, with all of these entries too, agrees with the set
+  pub agree : AllAgree (facts_of set) (with_all found (lacking found entries)).shapes
 
 -- What says something of an image is durable: the superblock, the directory as far as it is in use, the
 -- root slots, the lines of objects and the logs' counts.
@@ -112,7 +117,7 @@ pub record IsFoundFor (start : Told) (old set : Linked) (m : Memory) (directory 
 
 -- It was attached and recovered. Then the array types of the directory that was found got numbers in the
 -- set, and those of the set's entries that the directory lacked were appended: each stop since leaves an
--- image that stands for the graph for which it stood, with some of the new null roots, in order.
+-- image that has that directory with the first of these, in order, and stands for the graph for which it stood with the roots among them.
 pub record IsOpenedFor (start : Told) (old set : Linked) (m : Memory) (directory : Kept) (lines : List ℕ)
     (graph : Graph) (free : ℕ) : Type 0 where
   pub before : Memory
@@ -128,7 +133,7 @@ pub record IsOpenedFor (start : Told) (old set : Linked) (m : Memory) (directory
   pub nothing_left : directory.left ≡ []
   pub graph_is : graph ≡ with_all_too stood (lacking found entries)
   pub stops : IsTelling start.trace
-      → StopsLeave before m (StandsWithFirst before.size stood (lacking found entries))
+      → StopsLeave before m (StandsWithFirst before.size found stood (lacking found entries))
   pub ready : IsReadyImage start m (entries_in directory) lines graph free
   pub suits : SuitsSet set (entries_in directory) graph
   -- each shape of the directory agrees with the set

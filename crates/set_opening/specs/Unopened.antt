@@ -7,7 +7,7 @@ use Rattle.line_image.specs.Trace.{LeavesNow}
 use Rattle.line_memory.specs.Memory.{Memory, IsTelling, shown}
 use Rattle.line_memory.specs.Moments.{Goes}
 use Rattle.image_layout.specs.declared.superblock.BadReason.TheVariants.{Size}
-use Rattle.image_meaning.specs.Directories.{Directory}
+use Rattle.image_meaning.specs.Directories.{Directory, with_all}
 use Rattle.image_meaning.specs.Entries.{DirectoryEntry}
 use Rattle.image_meaning.specs.Meaning.{meaning, StandsFor}
 use Rattle.word_changes.specs.Changes.{ChangesTo, GoesOn, StopsLeave}
@@ -25,7 +25,7 @@ use Rattle.set_opening.specs.declared.unopened.Unopened.TheVariants.{BadImage, S
 use Rattle.set_opening.specs.Arrays.{with_arrays_of}
 use Rattle.set_opening.specs.Attached.{IsAttached}
 use Rattle.set_opening.specs.Found.{IsDirectoryIn, IsFound}
-use Rattle.set_opening.specs.Fitted.{IsFitted, IsUnfit}
+use Rattle.set_opening.specs.Fitted.{AllAgree, IsFitted, IsUnfit}
 use Rattle.set_opening.specs.Opened.{StandsWithFirst}
 
 -- ---- faults, as they are passed on
@@ -64,14 +64,14 @@ IsRecoveryFault before m (Full full) = ⊥
 IsRecoveryFault before m ImageFailed = Unit {0}
 IsRecoveryFault before m OutOfMemory = Unit {0}
 
--- Each stop leaves an image that stands for the graph for which it stood, if there is one.
+-- Each stop leaves an image that has the directory and stands for the graph that it had, if there are any, with the first of these entries.
 pub record IsLeft (start after : Told) (before m : Memory) (added : List DirectoryEntry) : Type 0 where
   pub attached : IsAttached start before
   pub size : after.size ≡ start.size
   pub told : after ≡ m.image
   pub goes_on : GoesOn before m
-  pub stops : IsTelling start.trace → (graph : Graph) → StandsFor before.size (shown before) graph
-      → StopsLeave before m (StandsWithFirst before.size graph added)
+  pub stops : IsTelling start.trace → (graph : Graph) (found : Directory) → StandsFor before.size (shown before) graph
+      → IsDirectoryIn (shown before) found → StopsLeave before m (StandsWithFirst before.size found graph added)
 
 -- It couldn't be recovered.
 pub record IsUnrecovered (start after : Told) (why : Unopened) : Type 0 where
@@ -130,3 +130,5 @@ pub record IsUnappended (start after : Told) (old set : Linked) : Type 0 where
   pub added_is : added ≡ lacking found entries
   pub left : IsLeft start after before memory added
   pub set_is : set ≡ with_arrays_of old found.shapes
+  -- each shape of the directory, with all of these too, agrees with the set
+  pub agree : AllAgree (facts_of set) (with_all found added).shapes

@@ -1,6 +1,6 @@
 -- What steps of requests, stores and what is asked before them make of a shared heap.
-use Rattle.std.proofs.Common.{◌≡◌, ℕ, ◌≤◌, List, [], ◌∷◌, ◌++◌, Option, None, Some, refl, sym, ◌∙◌, ap, subst}
-use Rattle.std.specs.Prelude.{slice_set}
+use Rattle.std.proofs.Common.{◌≡◌, ℕ, ◌≤◌, List, [], ◌∷◌, ◌++◌, length, map, Option, None, Some, refl, sym, ◌∙◌, ap, subst}
+use Rattle.std.specs.Prelude.{slice_get, slice_set}
 use Rattle.ap_base.specs.declared.reference.Ref.{Ref}
 use Rattle.ap_base.specs.declared.reference.Item.{Item}
 use Rattle.monitors.specs.Indexed.{AreSound}
@@ -11,7 +11,7 @@ use Rattle.natives.specs.declared.requests.Reply.{Reply}
 use Rattle.run_history.specs.declared.act.Op.{Op}
 use Rattle.run_history.specs.declared.act.Act.{Act}
 use Rattle.run_history.specs.declared.act.Op.TheVariants as op
-use Rattle.run_history.specs.Recorded.{History, Recorded}
+use Rattle.run_history.specs.Recorded.{History, Recorded, acts_of, names_for}
 use Rattle.plain_model.specs.Facts.{SetFacts}
 use Rattle.shared_objects.specs.declared.rest.Rest.{Rest}
 use Rattle.shared_objects.specs.Shown.{item_value}
@@ -37,7 +37,7 @@ use Rattle.store_barrier.specs.Passed.{NotesStore, act_in}
 use Rattle.store_barrier.specs.Barriers.{IsDurablePlace, spaces_of}
 use Rattle.shared_heap.specs.Notes.{ThreadNotes}
 use Rattle.shared_heap.specs.Shared.{Shared}
-use Rattle.shared_heap.specs.Requests.{IsPlannedFor, MayRequest, StepsTo, StoresTo, doing_stored, noted_by, told_at, told_by}
+use Rattle.shared_heap.specs.Requests.{IsPlannedFor, MayRequest, StepsTo, StoresTo, doing_stored, noted_act, noted_by, noted_of, noted_start, told_at, told_by}
 use Rattle.shared_heap.specs.Requests.{value_stored}
 use Rattle.shared_heap.proofs.Here.{is_askable, value_here}
 use Rattle.shared_heap.proofs.Sounding.{stays_sound}
@@ -136,6 +136,40 @@ pub told_after : (t calls : ℕ) (memory : Memory) (before h : History) (result 
 told_after t calls memory before h result is told = told ∙ ap (λ n. told_at t n before result) is
 
 -- ---- what is noted
+
+-- the act behind all others
+act-behind : (acts : List Recorded) (a : Recorded)
+    → slice_get (map (λ (r : Recorded). r.act) (acts ++ a ∷ [])) (length acts) ≡ Some a.act
+act-behind [] a = refl
+act-behind (first ∷ acts) a = act-behind acts a
+
+none-behind : (acts : List Recorded) → slice_get (map (λ (r : Recorded). r.act) acts) (length acts) ≡ None
+none-behind [] = refl
+none-behind (first ∷ acts) = none-behind acts
+
+-- Of a step that did something the act behind those before is its own; of any other there is none.
+start-by-act : (thread : Ref) (result : Stepped) (t calls : ℕ) (h : History) (notes : ThreadNotes)
+    → noted_act thread (slice_get (acts_of (told_at t calls h result)) (length h.acts)) notes ≡ noted_start thread result notes
+start-by-act thread (stepped.Did o r) t calls h notes = ap (λ (a : Option Act). noted_act thread a notes)
+    (act-behind h.acts record {
+      act = record { thread = t; at = calls; op = o };
+      named = names_for o h.named;
+    })
+start-by-act thread (stepped.Waits on) t calls h notes =
+    ap (λ (a : Option Act). noted_act thread a notes) (none-behind h.acts)
+start-by-act thread stepped.Wrong t calls h notes =
+    ap (λ (a : Option Act). noted_act thread a notes) (none-behind h.acts)
+start-by-act thread (stepped.Over f) t calls h notes =
+    ap (λ (a : Option Act). noted_act thread a notes) (none-behind h.acts)
+
+pub noted-by-act : (request : Request Ref Item) (result : Stepped) (t calls before : ℕ) (h now : History)
+    (notes after : ThreadNotes) → now ≡ told_at t calls h result → before ≡ length h.acts
+    → after ≡ noted_of request (slice_get (acts_of now) before) notes → after ≡ noted_by request result notes
+noted-by-act (ask.Start from thread) result t calls before h now notes after told counted noted =
+    noted ∙ ap (λ (n : ℕ). noted_act thread (slice_get (acts_of now) n) notes) counted
+    ∙ ap (λ (y : History). noted_act thread (slice_get (acts_of y) (length h.acts)) notes) told
+    ∙ start-by-act thread result t calls h notes
+noted-by-act request result t calls before h now notes after told counted noted = noted
 
 pub same_request : (a b : Request Ref Item) → ◌≡◌ {A = Option (Request Ref Item)} (Some a) (Some b) → a ≡ b
 same_request a b is = cc

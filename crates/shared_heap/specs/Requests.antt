@@ -10,6 +10,8 @@ use Rattle.line_memory.specs.Memory.{Memory}
 use Rattle.natives.specs.declared.requests.Request.{Request}
 use Rattle.natives.specs.declared.requests.Request.TheVariants as ask
 use Rattle.natives.specs.declared.requests.Reply.TheVariants as reply
+use Rattle.run_history.specs.declared.act.Act.{Act}
+use Rattle.run_history.specs.declared.act.Op.{Op}
 use Rattle.run_history.specs.declared.act.Op.TheVariants as op
 use Rattle.run_history.specs.Recorded.{History, with_act}
 use Rattle.plain_model.specs.Facts.{SetFacts}
@@ -49,15 +51,28 @@ told_at t calls h other = h
 abbrev pub told_by : ℕ → Memory → History → Stepped → History
 told_by t memory h result = told_at t memory.calls h result
 
--- the thread that was started, if one was, is noted with this reference
+-- the thread that an operation started, if it did, is noted with this reference
+abbrev pub noted_op : Ref → Op → ThreadNotes → ThreadNotes
+noted_op thread (op.Start object child) notes = starting notes child thread
+noted_op thread operation notes = notes
+
 abbrev pub noted_start : Ref → Stepped → ThreadNotes → ThreadNotes
-noted_start thread (stepped.Did (op.Start object child) r) notes = starting notes child thread
+noted_start thread (stepped.Did operation r) notes = noted_op thread operation notes
 noted_start thread result notes = notes
 
 -- A thread that was started is noted with the reference to its Thread object that the request gave.
 abbrev pub noted_by : Request Ref Item → Stepped → ThreadNotes → ThreadNotes
 noted_by (ask.Start from thread) result notes = noted_start thread result notes
 noted_by request result notes = notes
+
+-- the same by the act of the request's step, if there is one
+abbrev pub noted_act : Ref → Option Act → ThreadNotes → ThreadNotes
+noted_act thread None notes = notes
+noted_act thread (Some act) notes = noted_op thread act.op notes
+
+abbrev pub noted_of : Request Ref Item → Option Act → ThreadNotes → ThreadNotes
+noted_of (ask.Start from thread) act notes = noted_act thread act notes
+noted_of request act notes = notes
 
 -- The request's step comes to this. The heap becomes what the step says, the act is told if it did something,
 -- and what stands beside the heap may change; nothing else does.

@@ -6,7 +6,7 @@ ghost use Rattle.shared_objects.specs.Worlds.{KnowsMonitors};
 ghost use Rattle.step_forms.specs.Becomes.{IsNoStore, given};
 ghost use Rattle.step_forms.specs.Follows.{Agrees};
 ghost use Rattle.object_steps.specs.Stores.{CanStore, IsKeptOf, place_of};
-ghost use Rattle.shared_steps.specs.Output.{FaultsGo, IsSilent, OutputGoes, SharesGo};
+ghost use Rattle.store_barrier.specs.Passed.{FaultsGo, IsSilent, OutputGoes, SharesGo};
 ghost use Rattle.twin_forms.specs.Table.{Entry};
 ghost use Rattle.two_spaces.specs.Whole.{IsWhole, Stands};
 ghost use Rattle.store_barrier.specs.Passed.{memory_of, shown_in};
@@ -26,9 +26,8 @@ use natives::Request;
 use object_steps::{Planned, Store};
 use run_history::{Act, Op};
 use shared_objects::Types;
-use shared_steps::take_step;
 use step_forms::{Stepped, valued};
-use store_barrier::{Barrier, Doing, ask_store, do_store};
+use store_barrier::{Barrier, Doing, ask_store, do_store, take_step};
 
 /// What the tests of a request come to.
 #[derive(Drop)]
@@ -96,9 +95,10 @@ impl<I: Image> SharedHeap<I> {
         ensures silent { IsSilent request.now → sink.new ≡ sink.old }
     {
         let at = self.spaces.heap.memory.calls();
+        let before = self.acts.len();
         let step = take_step(set, &mut self.spaces, &mut self.rest, sink, t, request);
         tell_step(&mut self.acts, t, at, &step);
-        note_start(&mut self.notes, request, &step);
+        note_start(&mut self.notes, request, &self.acts, before);
         self.notes.are_of_64();
         step
     }

@@ -1,12 +1,12 @@
 // Acts that requests add to a history.
-ghost use Rattle.std.specs.Prelude.{◌≡◌, ◌<◌, ◌&&◌, length, if◌then◌else◌};
+ghost use Rattle.std.specs.Prelude.{◌≡◌, ◌<◌, ◌&&◌, length, slice_get, if◌then◌else◌};
 ghost use Rattle.convert_queue.specs.Marks.{with_fence};
-ghost use Rattle.run_history.specs.Recorded.{with_act};
+ghost use Rattle.run_history.specs.Recorded.{acts_of, with_act};
 ghost use Rattle.object_steps.specs.Stores.{place_of};
-ghost use Rattle.shared_heap.specs.Requests.{doing_stored, noted_by, told_at};
+ghost use Rattle.shared_heap.specs.Requests.{doing_stored, noted_act, noted_of, told_at};
 
 use crate::notes::Notes;
-use ap_base::{Place, ThreadNo};
+use ap_base::{Place, Ref, ThreadNo};
 use convert_queue::Conversions;
 use natives::Request;
 use object_steps::Target;
@@ -24,18 +24,27 @@ pub(crate) fn tell_step(acts: &mut Acts, thread: ThreadNo, at: u64, step: &Stepp
     }
 }
 
-// Notes the thread that a step has started, if it has, with the reference that its request gave.
-pub(crate) fn note_start(notes: &mut Notes, request: &Request, step: &Stepped)
-    ensures noted { notes.new ≡ noted_by request.now step.now notes.old }
+// Notes the thread that the act behind so many others has started, if it has, with this reference to its Thread object. Few
+// requests come here.
+#[inline(never)]
+fn note_child(notes: &mut Notes, thread: Ref, acts: &Acts, before: u32)
+    ensures noted { notes.new ≡ noted_act thread (slice_get (acts_of acts.now) before) notes.old }
 {
-    if let Request::Start { thread, .. } = *request {
-        if let Stepped::Did {
-            op: Op::Start { child, .. },
-            ..
-        } = *step
-        {
+    if let Some(act) = acts.get(before) {
+        if let Op::Start { child, .. } = act.op {
             notes.start(child, thread);
         }
+    }
+}
+
+// Notes the thread that the act of a request has started, if it has, with the reference that the request gave. The act stands
+// behind so many others.
+#[inline(always)]
+pub(crate) fn note_start(notes: &mut Notes, request: &Request, acts: &Acts, before: u32)
+    ensures noted { notes.new ≡ noted_of request.now (slice_get (acts_of acts.now) before) notes.old }
+{
+    if let Request::Start { thread, .. } = *request {
+        note_child(notes, thread, acts, before);
     }
 }
 

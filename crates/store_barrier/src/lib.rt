@@ -7,5 +7,5 @@ mod stores;
 
 pub use barrier::{Barrier, ask_store};
 pub use laws::answers_serve_machines;
-pub use machine_forms::Doing;
+pub use machine_forms::{Doing, take_step};
 pub use stores::do_store;

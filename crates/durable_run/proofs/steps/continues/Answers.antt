@@ -3,11 +3,11 @@ use Rattle.ap_base.specs.declared.reference.Ref.{Ref}
 use Rattle.ap_base.specs.declared.reference.Item.{Item}
 use Rattle.natives.specs.declared.requests.Request.{Request}
 use Rattle.machine.specs.Passed.{Shared, asked_by, taken}
-use Rattle.durable_run.specs.Events.{HasAsked, RemembersAfter, StepsTo}
+use Rattle.durable_run.specs.Events.{FindsItsWait, HasAsked, LeavesAlone, RemembersAfter, StepsTo}
 use Rattle.durable_run.specs.Telling.{AddsShare}
 use Rattle.durable_run.proofs.Going.{goes-still}
 use Rattle.durable_run.proofs.Places.{index-of-get}
-use Rattle.durable_run.proofs.Stepping.{remembers-taken, steps-from}
+use Rattle.durable_run.proofs.Stepping.{alone-taken, remembers-taken, steps-from}
 use Rattle.durable_run.proofs.steps.continues.Goals as goal
 
 pub goes_on-requires : goal.goes_on-requires
@@ -57,3 +57,25 @@ returns-clause-share g c =
     AddsShare q (g.S.Sink.takes c.args.run.now.sink) s.history.acts c.goes_on.new.run.heap.history.acts) (sym asked)
     (subst (λ (y : Shared). AddsShare (Some c.in-Some.request) (g.S.Sink.takes c.args.run.now.sink) y.history.acts
     c.goes_on.new.run.heap.history.acts) c.take_asked.ensures.taken c.goes_on.ensures.share)
+
+pub returns-clause-finds : goal.returns-clause-finds
+returns-clause-finds g c o first ready =
+    let set = g.C.Types.facts c.args.set.now in
+    let x = g.H.Host.setting c.args.host.now in
+    let s = c.args.run.now.heap in
+    let asked = index-of-get s.notes.asks c.args.t (Some c.in-Some.request) c.in-Some.ensures.asked in
+    subst (λ (y : Shared). FindsItsWait o c.args.t c.goes_on.result y) c.take_asked.ensures.taken
+    (c.goes_on.ensures.finds o first
+    (subst (λ (y : Shared). HasAsked o first set x y c.args.run.now.frames.items c.args.t c.in-Some.request)
+    (sym c.take_asked.ensures.taken)
+    (goes-still o first set x s c.args.run.now.frames.items c.args.t ready c.in-Some.request asked)))
+
+pub returns-clause-alone : goal.returns-clause-alone
+returns-clause-alone g c =
+    let s = c.args.run.now.heap in
+    let Same = c.goes_on.new.run.sink ≡ c.args.run.now.sink in
+    let asked = index-of-get s.notes.asks c.args.t (Some c.in-Some.request) c.in-Some.ensures.asked in
+    subst (λ (q : Option (Request Ref Item)). LeavesAlone c.args.t q c.goes_on.result s c.goes_on.new.run.heap Same)
+    (sym asked) (alone-taken c.args.t (Some c.in-Some.request) c.goes_on.result s c.goes_on.new.run.heap (taken s.notes c.args.t) Same
+    (subst (λ (y : Shared). LeavesAlone c.args.t (Some c.in-Some.request) c.goes_on.result y c.goes_on.new.run.heap Same)
+    c.take_asked.ensures.taken c.goes_on.ensures.alone))

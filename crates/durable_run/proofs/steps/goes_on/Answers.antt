@@ -1,11 +1,32 @@
-use Rattle.std.proofs.Common.{◌∙◌, ℕ, List, ap, get_or, length}
+use Rattle.std.proofs.Common.{◌∙◌, ℕ, List, ap, get_or, length, subst, sym}
 use Rattle.std.proofs.lemmas.Option.{get_or_from_slice_get}
 use Rattle.frames.specs.Turns.{answer}
+use Rattle.frame_steps.specs.Sized.{AreOf}
+use Rattle.private_steps.specs.Waits.{Waits}
 use Rattle.shared_objects.specs.declared.threads.ThreadState.{ThreadState}
 use Rattle.run_forms.specs.Views.{ThreadFrames}
-use Rattle.durable_run.proofs.Going.{acts-on, asks-on, ends-so}
-use Rattle.durable_run.proofs.Stepping.{acted-remembers, micro-remembers, over-remembers, wait-remembers}
+use Rattle.machine.specs.Events.{logs_word}
+use Rattle.machine.specs.Passed.{plain_waits}
+use Rattle.durable_run.proofs.Going.{acts-on, asks-on, ends-so, waits-so}
+use Rattle.durable_run.proofs.Stepping.{acted-remembers, micro-remembers, over-remembers, wait-remembers, waits-found}
 use Rattle.durable_run.proofs.steps.goes_on.Goals as goal
+
+pub answer-requires-clause-waits : goal.answer-requires-clause-waits
+answer-requires-clause-waits g c =
+    let h = c.requires.asked.2 in
+    let elem = c.index_mut.result.now in
+    let here = c.index_mut.ensures.value ∙ ap (λ (n : ℕ). get_or c.args.run.now.frames.items n elem) c.number.ensures.same
+    ∙ get_or_from_slice_get c.args.run.now.frames.items c.args.t h.own.now elem h.own.there in
+    subst (λ (fs : ThreadFrames). Waits fs) (sym here)
+    (waits-so c.args.request.now c.in-Did.reply h.own.now c.in-Did.ensures.answers h.own.turned.1)
+
+pub answer-requires-clause-of : goal.answer-requires-clause-of
+answer-requires-clause-of g c =
+    let h = c.requires.asked.2 in
+    let elem = c.index_mut.result.now in
+    let here = c.index_mut.ensures.value ∙ ap (λ (n : ℕ). get_or c.args.run.now.frames.items n elem) c.number.ensures.same
+    ∙ get_or_from_slice_get c.args.run.now.frames.items c.args.t h.own.now elem h.own.there in
+    subst (λ (fs : ThreadFrames). AreOf (g.H.Host.setting c.args.host.now).program fs.frames) (sym here) h.own.of
 
 pub returns-in-Did-clause-goes : goal.returns-in-Did-clause-goes
 returns-in-Did-clause-goes g c o first h =
@@ -60,3 +81,56 @@ returns-in-Over-clause-goes g c o first h =
     ends-so o first (g.C.Types.facts c.args.set.now) (g.H.Host.setting c.args.host.now) c.args.run.now.heap
     c.told_event-went.new.heap c.args.run.now.frames.items c.args.t c.args.request.now h c.in-Over.halt
     (c.in-Over.ensures.leads o first h.table h.threads h.before h.next)
+
+pub returns-in-Did-clause-finds : goal.returns-in-Did-clause-finds
+returns-in-Did-clause-finds g c o first h =
+    c.in-Did.ensures.finds o first h.table h.threads h.before h.next
+
+pub returns-in-Did-clause-alone : goal.returns-in-Did-clause-alone
+returns-in-Did-clause-alone g c = record {
+  calls = c.in-Did.ensures.calls;
+  either = c.in-Did.ensures.either;
+  unanswered = λ still. absurd still;
+  silent = c.in-Did.ensures.silent;
+  others = c.in-Did.ensures.others;
+}
+
+pub returns-in-Micro-clause-finds : goal.returns-in-Micro-clause-finds
+returns-in-Micro-clause-finds g c o first h =
+    c.in-Micro.ensures.finds o first h.table h.threads h.before h.next
+
+pub returns-in-Micro-clause-alone : goal.returns-in-Micro-clause-alone
+returns-in-Micro-clause-alone g c = record {
+  calls = c.in-Micro.ensures.calls;
+  either = c.in-Micro.ensures.either;
+  unanswered = c.in-Micro.ensures.sink;
+  silent = c.in-Micro.ensures.silent;
+  others = c.in-Micro.ensures.others;
+}
+
+pub returns-in-WouldWait-clause-finds : goal.returns-in-WouldWait-clause-finds
+returns-in-WouldWait-clause-finds g c o first h =
+    waits-found (logs_word c.args.run.now.heap.machine c.args.t) c.in-WouldWait.on
+    (plain_waits o c.args.run.now.heap.machine c.args.t) (c.in-WouldWait.ensures.finds o first h.table h.threads h.before h.next)
+
+pub returns-in-WouldWait-clause-alone : goal.returns-in-WouldWait-clause-alone
+returns-in-WouldWait-clause-alone g c = record {
+  calls = c.in-WouldWait.ensures.calls;
+  either = c.in-WouldWait.ensures.either;
+  unanswered = c.in-WouldWait.ensures.sink;
+  silent = c.in-WouldWait.ensures.silent;
+  others = c.in-WouldWait.ensures.others;
+}
+
+pub returns-in-Over-clause-finds : goal.returns-in-Over-clause-finds
+returns-in-Over-clause-finds g c o first h =
+    tt
+
+pub returns-in-Over-clause-alone : goal.returns-in-Over-clause-alone
+returns-in-Over-clause-alone g c = record {
+  calls = c.in-Over.ensures.calls;
+  either = c.in-Over.ensures.either;
+  unanswered = λ still. absurd still;
+  silent = c.in-Over.ensures.silent;
+  others = tt;
+}

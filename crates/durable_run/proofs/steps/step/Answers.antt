@@ -1,4 +1,4 @@
-use Rattle.std.proofs.Common.{◌∙◌, Option, ap, subst, sym}
+use Rattle.std.proofs.Common.{◌≡◌, ◌∙◌, Option, ap, inr, refl, subst, sym}
 use Rattle.std.specs.Prelude.{slice_set}
 use Rattle.std.proofs.lemmas.Option.{slice_get_within}
 use Rattle.ap_base.specs.declared.reference.Ref.{Ref}
@@ -7,7 +7,7 @@ use Rattle.natives.specs.declared.requests.Request.{Request}
 use Rattle.frames.specs.Turns.{turn}
 use Rattle.run_forms.specs.Views.{ThreadFrames}
 use Rattle.machine.specs.Passed.{Shared, asked_by}
-use Rattle.durable_run.specs.Events.{HasBegun, RemembersAfter, StepsTo}
+use Rattle.durable_run.specs.Events.{FindsItsWait, HasBegun, LeavesAlone, RemembersAfter, StepsTo}
 use Rattle.durable_run.specs.Telling.{AddsShare}
 use Rattle.durable_run.specs.Turning.{IsReady, asks_next}
 use Rattle.durable_run.proofs.Places.{some-one}
@@ -247,4 +247,95 @@ returns-clause-share g c fs there =
     (subst (λ (y : Shared). AddsShare (turn x c.index_mut.result.now).asks (g.S.Sink.takes c.args.run.now.sink)
     y.history.acts c.asks.new.run.heap.history.acts) none.1
     (c.asks.ensures.share c.index_mut.result.now c.begun-stop.new.frames c.begun-stop.ensures.come
+    (put-there frames _ c.args.t c.index_mut.result.now c.begun-stop.new.frames begun.there here))))
+
+pub returns-then-has_asked-clause-alone : goal.returns-then-has_asked-clause-alone
+returns-then-has_asked-clause-alone g c fs there =
+    let x = g.H.Host.setting c.args.host.now in
+    let s = c.args.run.now.heap in
+    subst (λ (q : Option (Request Ref Item)). LeavesAlone c.args.t q c.continues.result s c.continues.new.run.heap
+    (c.continues.new.run.sink ≡ c.args.run.now.sink))
+    (sym (next-asked x (asked_by s.notes c.args.t) fs (c.has_asked.ensures.0 c.if-has_asked.true)))
+    c.continues.ensures.alone
+
+pub returns-then-reads_at_once-clause-finds : goal.returns-then-reads_at_once-clause-finds
+returns-then-reads_at_once-clause-finds g c o first ready =
+    let x = g.H.Host.setting c.args.host.now in
+    let set = g.C.Types.facts c.args.set.now in
+    let s = c.args.run.now.heap in
+    let frames = c.args.run.now.frames.items in
+    let unasked = none-asked c.has_asked.result (asked_by s.notes c.args.t) c.if-has_asked.false c.has_asked.ensures in
+    let b = begun-at o first set x s frames c.args.t c.number-at.result c.index_mut.result.now ready c.requires.live
+    c.number-at.ensures.same c.index_mut.ensures.value c.begun-stop.result c.begun-stop.new.frames
+    c.index_mut-2.result.now unasked c.begun-stop.ensures.come c.begun-stop.ensures.of c.index_mut-2.ensures.value in
+    (c.reads_at_once.ensures.acted c.if-reads_at_once.true o first frames c.index_mut.result.now b).unwaiting
+
+pub returns-then-reads_at_once-clause-alone : goal.returns-then-reads_at_once-clause-alone
+returns-then-reads_at_once-clause-alone g c fs there =
+    let x = g.H.Host.setting c.args.host.now in
+    let set = g.C.Types.facts c.args.set.now in
+    let s = c.args.run.now.heap in
+    let frames = c.args.run.now.frames.items in
+    let unasked = none-asked c.has_asked.result (asked_by s.notes c.args.t) c.if-has_asked.false c.has_asked.ensures in
+    let r = c.requires.ready in
+    let b = begun-at r.0 r.1 set x s frames c.args.t c.number-at.result c.index_mut.result.now r.2 c.requires.live
+    c.number-at.ensures.same c.index_mut.ensures.value c.begun-stop.result c.begun-stop.new.frames
+    c.index_mut-2.result.now unasked c.begun-stop.ensures.come c.begun-stop.ensures.of c.index_mut-2.ensures.value in
+    let acted = c.reads_at_once.ensures.acted c.if-reads_at_once.true r.0 r.1 frames c.index_mut.result.now b in
+    record {
+      calls = acted.calls;
+      either = inr refl;
+      unanswered = λ still. absurd still;
+      silent = λ silent. refl;
+      others = acted.others;
+    }
+
+pub returns-clause-finds : goal.returns-clause-finds
+returns-clause-finds g c o first ready =
+    let x = g.H.Host.setting c.args.host.now in
+    let set = g.C.Types.facts c.args.set.now in
+    let s = c.args.run.now.heap in
+    let frames = c.args.run.now.frames.items in
+    let unasked = none-asked c.has_asked.result (asked_by s.notes c.args.t) c.if-has_asked.false c.has_asked.ensures in
+    let none = c.reads_at_once.ensures.none c.if-reads_at_once.false in
+    let begun = begun-so o first set x s frames c.args.t c.number-at.result c.index_mut.result.now ready c.requires.live
+    c.number-at.ensures.same c.index_mut.ensures.value c.begun-stop.result c.begun-stop.new.frames unasked
+    c.begun-stop.ensures.come c.begun-stop.ensures.of in
+    subst (λ (y : Shared). FindsItsWait o c.args.t c.asks.result y) none.1
+    (c.asks.ensures.finds o first frames c.index_mut.result.now c.begun-stop.new.frames
+    (subst (λ (y : Shared). HasBegun o first set x y frames c.args.t c.begun-stop.result c.index_mut.result.now
+    c.begun-stop.new.frames) (sym none.1) begun)
+    (set-twice frames c.args.t c.number-at.result c.begun-stop.new.frames c.reads_at_once.new.frames
+    c.number-at.ensures.same
+    ∙ ap (slice_set frames c.args.t) (none.0
+    ∙ elem-put frames c.args.t c.number-at.result c.begun-stop.new.frames c.index_mut-2.result.now
+    c.number-at.ensures.same (slice_get_within frames c.args.t c.index_mut.result.now begun.there)
+    c.index_mut-2.ensures.value)))
+
+pub returns-clause-alone : goal.returns-clause-alone
+returns-clause-alone g c fs there =
+    let x = g.H.Host.setting c.args.host.now in
+    let set = g.C.Types.facts c.args.set.now in
+    let s = c.args.run.now.heap in
+    let frames = c.args.run.now.frames.items in
+    let unasked = none-asked c.has_asked.result (asked_by s.notes c.args.t) c.if-has_asked.false c.has_asked.ensures in
+    let r = c.requires.ready in
+    let none = c.reads_at_once.ensures.none c.if-reads_at_once.false in
+    let begun = begun-so r.0 r.1 set x s frames c.args.t c.number-at.result c.index_mut.result.now r.2 c.requires.live
+    c.number-at.ensures.same c.index_mut.ensures.value c.begun-stop.result c.begun-stop.new.frames unasked
+    c.begun-stop.ensures.come c.begun-stop.ensures.of in
+    let is = some-one fs c.index_mut.result.now (sym there ∙ begun.there) in
+    let here = set-twice frames c.args.t c.number-at.result c.begun-stop.new.frames c.reads_at_once.new.frames
+    c.number-at.ensures.same
+    ∙ ap (slice_set frames c.args.t) (none.0
+    ∙ elem-put frames c.args.t c.number-at.result c.begun-stop.new.frames c.index_mut-2.result.now
+    c.number-at.ensures.same (slice_get_within frames c.args.t c.index_mut.result.now begun.there)
+    c.index_mut-2.ensures.value) in
+    let Same = c.asks.new.run.sink ≡ c.args.run.now.sink in
+    subst (λ (q : Option (Request Ref Item)). LeavesAlone c.args.t (asks_next x q fs) c.asks.result s
+    c.asks.new.run.heap Same) (sym unasked)
+    (subst (λ (gs : ThreadFrames). LeavesAlone c.args.t (turn x gs).asks c.asks.result s c.asks.new.run.heap Same) (sym is)
+    (subst (λ (y : Shared). LeavesAlone c.args.t (turn x c.index_mut.result.now).asks c.asks.result y
+    c.asks.new.run.heap Same) none.1
+    (c.asks.ensures.alone c.index_mut.result.now c.begun-stop.new.frames c.begun-stop.ensures.come
     (put-there frames _ c.args.t c.index_mut.result.now c.begun-stop.new.frames begun.there here))))

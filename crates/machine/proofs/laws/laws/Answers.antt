@@ -50,6 +50,17 @@ returns c = record {
     logged = c.answers_serve_machines.ensures.logged;
     may = c.answers_serve_machines.ensures.may;
   };
+  work = record {
+    writes = c.events_take_work.ensures.writes;
+    fences = c.events_take_work.ensures.fences;
+    steps = c.events_take_work.ensures.steps;
+    begins = c.events_take_work.ensures.begins;
+    seals = c.events_take_work.ensures.seals;
+    asked = c.events_take_work.ensures.asked;
+    beside = c.events_take_work.ensures.beside;
+    durable = c.events_take_work.ensures.durable;
+    guards = c.calls_of_regions_lower_the_measure.ensures.acts;
+  };
   measure = c.quiet_events_lower_the_measure.ensures.quiet;
   logging = c.calls_of_regions_lower_the_measure.ensures.logging;
   ending = c.calls_of_regions_lower_the_measure.ensures.ending;

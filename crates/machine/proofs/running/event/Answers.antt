@@ -8,7 +8,7 @@ use Rattle.machine.specs.Events.{TakesOutput, logs_word}
 use Rattle.machine.proofs.Leaving.{few}
 use Rattle.machine.proofs.Recalling.{came-micro, came-unanswered, came-waiting, counted-then, event-leads, full-over, full-remembers}
 use Rattle.machine.proofs.Recalling.{notable, noted-acts, noted-answers, noted-finds, noted-history, noted-image, noted-machine, noted-others}
-use Rattle.machine.proofs.Recalling.{noted-sink, others-left}
+use Rattle.machine.proofs.Recalling.{noted-sink, noted-work, others-left}
 use Rattle.machine.proofs.Recalling.{room-of}
 use Rattle.machine.proofs.running.event.Goals as goal
 
@@ -91,4 +91,5 @@ returns g c =
           (comes.quiet (came-micro set t request came result mid new notes micro) (sym acts ∙ same));
       waits = λ w is. subst (λ (m : Machine). measure m ≤ measure s.machine) (sym machine)
           (comes.waits w (came-waiting set t request came result mid new notes w is));
+      work = noted-work set t request came result mid new notes s comes.work;
     }

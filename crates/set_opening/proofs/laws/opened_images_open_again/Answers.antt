@@ -1,4 +1,4 @@
-use Rattle.set_opening.proofs.Again.{left_so, unrefused}
+use Rattle.set_opening.proofs.Again.{left_so, refused_so, unrefused}
 use Rattle.set_opening.proofs.laws.opened_images_open_again.Goals as goal
 
 pub returns : goal.returns
@@ -8,5 +8,7 @@ returns c = record {
         unrefused start set numbered m directory lines graph free opened again stood holds after now why is;
     as_left = λ start set numbered m directory lines graph free opened again stood holds now n found places opening behind reopened.
         left_so start set numbered m directory lines graph free opened again stood holds now n found places opening behind reopened;
+    refused = λ set again after size directory stood holds now name is.
+        refused_so size directory again stood holds set after now name is;
   };
 }

@@ -1,7 +1,7 @@
 use Rattle.std.proofs.Common.{inl, refl, arith}
 use Rattle.image_recovery.specs.Recovered.{entries_in}
 use Rattle.directories.specs.Planning.{lacking}
-use Rattle.set_opening.proofs.Opened.{is_opened_for, unappended}
+use Rattle.set_opening.proofs.Opened.{agree_whole, is_opened_for, unappended}
 use Rattle.set_opening.proofs.opening.complete.Goals as goal
 
 pub append_all-requires-clause-enough : goal.append_all-requires-clause-enough
@@ -38,4 +38,6 @@ returns-in-Err-clause-unappended g c start old set is =
           all.entries all.goes_on all.appended (g.I.Image.told c.into_image.result) c.into_image.ensures.size
           c.into_image.ensures.told;
       set_is = is.fitted.set_is;
+      agree = agree_whole start is.before f.memory c.append_all.new.memory is.found f.directory c.append_all.new.directory
+          is.stood f.graph f.lines f.free old set is.found_is is.fitted is.continues all.entries all.goes_on all.appended;
     }

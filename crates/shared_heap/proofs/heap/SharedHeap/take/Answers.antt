@@ -5,7 +5,7 @@ use Rattle.two_spaces.specs.Seen.{shown_of}
 use Rattle.store_barrier.specs.Passed.{shown_in}
 use Rattle.store_barrier.specs.Barriers.{spaces_of}
 use Rattle.shared_heap.specs.Shared.{Shared}
-use Rattle.shared_heap.proofs.Requesting.{asks_from, becomes_of, steps_to, told_after}
+use Rattle.shared_heap.proofs.Requesting.{asks_from, becomes_of, noted-by-act, steps_to, told_after}
 use Rattle.shared_heap.proofs.Storing.{is_no_store}
 use Rattle.shared_heap.proofs.heap.SharedHeap.take.Goals as goal
 
@@ -29,7 +29,9 @@ returns-clause-steps g c =
       heap = becomes_of before now result c.take_step-step.ensures.heap;
       told = told_after c.args.t c.calls-at.result before.heap.memory c.self.inside.acts c.tell_step.new.acts
           result c.calls-at.ensures c.tell_step.ensures.told;
-      noted = c.note_start.ensures.noted;
+      noted = noted-by-act c.args.request.now result c.args.t c.calls-at.result c.len-before.result c.self.inside.acts
+          c.tell_step.new.acts c.self.inside.notes c.note_start.new.notes c.tell_step.ensures.told
+          c.len-before.ensures.len c.note_start.ensures.noted;
     }
 
 pub returns-clause-no_store : goal.returns-clause-no_store

@@ -1,0 +1,70 @@
+-- A run that nothing outside hinders does its work.
+use Rattle.std.proofs.Common.{◌≡◌, ◌⊎◌, ⊎_elim, inl, inr, ℕ, List, Option, Some, sym, ap, subst, ◌∙◌, arith}
+use Rattle.ap_base.specs.Causes.{Rose}
+use Rattle.ap_base.specs.declared.source.NamedBytes.{NamedBytes}
+use Rattle.graph_model.specs.declared.types.Graph.{Graph}
+use Rattle.line_image.specs.Crash.{first_word}
+use Rattle.line_image.specs.Memory.{told_of, trace_of}
+use Rattle.line_image.specs.declared.memory.MemoryImage.{MemoryImage}
+use Rattle.image_meaning.specs.Directories.{Directory}
+use Rattle.run_history.specs.Recorded.{Recorded}
+use Rattle.command_words.specs.Commands.{command_of}
+use Rattle.command_words.specs.declared.command.Command.{Command}
+use Rattle.command_words.specs.declared.command.Command.TheVariants.{Run}
+use Rattle.autopersist.specs.Complete.{DoesAll, DoesItsWork, MetNoLimit, NothingFailed}
+use Rattle.autopersist.specs.Outside.{Outside}
+use Rattle.autopersist.specs.Passed.{Admits, Choice, EndsComplete, Full, FullOf, HasNoMain, IsNumberedFor, Limits, Linked}
+use Rattle.autopersist.specs.Passed.{Status, with_arrays_of}
+use Rattle.autopersist.proofs.Complete.{full_or_not}
+use Rattle.autopersist.proofs.Passed.{admits_so, read_directory}
+use Rattle.reopened_runs.specs.Left.{IsUntouched}
+use Rattle.reopened_runs.specs.Whole.{EndsSo, EndsWhole, StaysFaultless, SuitsSet}
+use Rattle.reopened_runs.proofs.Left.{fresh_reads, same_bytes}
+
+never_rose : (before after : ℕ) → StaysFaultless before after → Rose before after → ⊥
+never_rose before after (was, is) rose = omega (arith, was, is, rose)
+
+admits : (image : MemoryImage) → IsUntouched image → (choice : Choice) → SuitsSet choice.set image → Admits choice.set (told_of image)
+admits image untouched choice suits =
+    admits_so choice.set (told_of image) tt (first_word (trace_of image)) (fresh_reads image untouched) suits.graph suits.stands
+    suits.directory suits.directory_is suits.agree
+
+-- it is the set with the numbers for which the image's directory asks
+module _ (image : MemoryImage) (untouched : IsUntouched image) (choice : Choice) (suits : SuitsSet choice.set image) where
+  numbers : (numbered : Linked) → IsNumberedFor choice.set numbered (told_of image)
+      → numbered ≡ with_arrays_of choice.set suits.directory.shapes
+  numbers numbered is =
+      is.is
+      ∙ ap (λ (d : Directory). with_arrays_of choice.set d.shapes)
+      (sym (read_directory (told_of image) tt (first_word (trace_of image)) (fresh_reads image untouched) suits.graph suits.stands
+      suits.directory suits.directory_is is.words is.read is.directory is.directory_is))
+
+  ends_so : (limits : Limits) (opening : Graph) (acts : List Recorded) (how : Status)
+      → EndsComplete choice.set choice.main limits (told_of image) opening acts how
+      → EndsSo choice limits image suits.directory opening acts how
+  ends_so limits opening acts how (inl (none, numbered, numbers_are, missing)) =
+      inl (none, subst (λ (set : Linked). HasNoMain set choice.main limits how) (numbers numbered numbers_are) missing)
+  ends_so limits opening acts how (inr ran) = inr ran
+
+module _ (words : List (List ℕ)) (before after : Outside) (how : Status) (opening : Graph) (acts : List Recorded)
+    (complete : DoesItsWork (command_of words) before after how opening acts) (files : List NamedBytes) (told : before.left ≡ Some files)
+    (image : MemoryImage) (was : before.image ≡ told_of image) (untouched : IsUntouched image) (taken taken' : List ℕ)
+    (took : before.taken ≡ Some taken) (takes : after.taken ≡ Some taken') where
+  pub ends_whole : StaysFaultless before.source_faults after.source_faults → StaysFaultless before.image_faults after.image_faults
+      → StaysFaultless before.sink_faults after.sink_faults → EndsWhole words files image taken taken' opening acts how
+  ends_whole source device sink run asked choice gives suits = ⊎_elim
+      (λ (full : (full : Full) × (how ≡ FullOf full)). inr (inr full))
+      (λ (room : MetNoLimit how).
+      let none : NothingFailed before after = record {
+        source = never_rose before.source_faults after.source_faults source;
+        image = never_rose before.image_faults after.image_faults device;
+        sink = never_rose before.sink_faults after.sink_faults sink;
+      } in
+      let does : DoesAll (Some (Run run)) before after how opening acts =
+      subst (λ (o : Option Command). DoesAll o before after how opening acts) asked (complete none room) in
+      ⊎_elim
+      (λ ends. inl (ends_so image untouched choice suits run.limits opening acts how
+      (subst (λ told. EndsComplete choice.set choice.main run.limits told opening acts how) was ends)))
+      (λ memory. inr (inl (memory.0, memory.1, same_bytes taken' taken (sym takes ∙ memory.2 ∙ took))))
+      (does files told choice gives (subst (λ told. Admits choice.set told) (sym was) (admits image untouched choice suits))))
+      (full_or_not how)

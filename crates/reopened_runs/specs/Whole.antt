@@ -1,0 +1,45 @@
+-- What a run comes to that nothing outside hinders.
+use Rattle.std.specs.Prelude.{◌≡◌, ◌⊎◌, ℕ, List, [], Ok}
+use Rattle.ap_base.specs.declared.source.NamedBytes.{NamedBytes}
+use Rattle.graph_model.specs.declared.types.Graph.{Graph}
+use Rattle.line_image.specs.Crash.{first_word}
+use Rattle.line_image.specs.Memory.{size_of, told_of, trace_of}
+use Rattle.line_image.specs.declared.memory.MemoryImage.{MemoryImage}
+use Rattle.image_meaning.specs.Directories.{Directory}
+use Rattle.image_meaning.specs.Meaning.{StandsFor}
+use Rattle.run_history.specs.Recorded.{Recorded}
+use Rattle.command_words.specs.declared.command.Run.{Run as RunWords}
+use Rattle.autopersist.specs.Passed.{AllAgree, Choice, Full, FullOf, HasEndedSo, HasNoMain, IsDirectoryIn, IsOfPlainRun, Limits, Linked}
+use Rattle.autopersist.specs.Passed.{OutOfMemory, Status, facts_of, with_arrays_of}
+use Rattle.reopened_runs.specs.Left.{AreAsked, AsksRun}
+
+-- it had counted no fault, and has counted none
+abbrev pub StaysFaultless : (before after : ℕ) → Type 0
+StaysFaultless before after = (before ≡ 0) × (after ≡ 0)
+
+-- The words that the image was made of stand for a graph, and each shape of the directory that they spell agrees with the set.
+pub record SuitsSet (set : Linked) (image : MemoryImage) : Type 0 where
+  pub graph : Graph
+  pub stands : StandsFor (size_of image) (first_word (trace_of image)) graph
+  pub directory : Directory
+  pub directory_is : IsDirectoryIn (first_word (trace_of image)) directory
+  pub agree : AllAgree (facts_of set) directory.shapes
+
+abbrev pub EndsSo : Choice → Limits → MemoryImage → Directory → Graph → List Recorded → Status → Type 0
+EndsSo choice limits image directory opening acts how =
+    ((acts ≡ []) × HasNoMain (with_arrays_of choice.set directory.shapes) choice.main limits how)
+    ⊎ (HasEndedSo choice.set choice.main limits (told_of image) opening acts how × IsOfPlainRun how)
+
+-- Memory ran out: there are no acts, and nothing was put. Or more was needed than there is.
+abbrev pub EndsShort : (taken taken' : List ℕ) → List Recorded → Status → Type 0
+EndsShort taken taken' acts how =
+    ((how ≡ OutOfMemory) × (acts ≡ []) × (taken' ≡ taken)) ⊎ ((full : Full) × (how ≡ FullOf full))
+
+-- Words that ask for a run, files that give a class set, and an image that suits it: the set, once the array types of the image's directory
+-- had numbers in it, has no such class, or the class no `main`; or the acts are a plain run, which ended as the status says. But for what is
+-- short.
+abbrev pub EndsWhole : (words : List (List ℕ)) (files : List NamedBytes) → MemoryImage → (taken taken' : List ℕ) → Graph → List Recorded
+    → Status → Type 0
+EndsWhole words files image taken taken' opening acts how = (run : RunWords) → AsksRun words run
+    → (choice : Choice) → AreAsked run files (Ok choice) → (suits : SuitsSet choice.set image)
+    → EndsSo choice run.limits image suits.directory opening acts how ⊎ EndsShort taken taken' acts how
