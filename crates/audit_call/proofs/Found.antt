@@ -20,8 +20,8 @@ use Rattle.directories.specs.ClassSets.{IsPlannedFor}
 use Rattle.directories.specs.Kept.{Kept}
 use Rattle.directories.specs.Planning.{HasRead, lacking}
 use Rattle.image_recovery.specs.Recovered.{entries_in}
-use Rattle.first_spaces.specs.Laws.{AppendedImagesAreOpened}
-use Rattle.first_spaces.specs.Opened.{IsOpened}
+use Rattle.set_opening.specs.Passed.{AppendedImagesAreOpened}
+use Rattle.set_opening.specs.Passed.{IsOpened}
 use Rattle.set_opening.specs.Fitted.{AllAgree, with_null_roots}
 use Rattle.set_opening.specs.Opened.{IsFoundFor, SuitsSet}
 use Rattle.set_opening.specs.Unopened.{IsUnbegun}

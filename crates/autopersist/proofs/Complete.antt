@@ -1,4 +1,4 @@
--- Each command does its work, where its inputs are as it asks, nothing outside fails and no limit is met.
+-- Each command does its work, where its inputs are as it asks and nothing outside fails.
 use Rattle.std.proofs.Common.{◌≡◌, ◌⊎◌, inl, inr, ⊎_elim, ℕ, List, [], Option, Some, None, Result, Ok, Err, refl, sym, ap, ◌∙◌, subst}
 use Rattle.std.specs.Prelude.{codes}
 use Rattle.ap_base.specs.Sinks.{with_bytes}
@@ -8,7 +8,6 @@ use Rattle.graph_model.specs.declared.types.Graph.{Graph}
 use Rattle.image_meaning.specs.Checks.{Words}
 use Rattle.image_report.specs.Reports.{HasPrinted, IsChecked, IsDumped}
 use Rattle.run_history.specs.Recorded.{Recorded}
-use Rattle.run_types.specs.declared.fault.Full.{Full}
 use Rattle.run_types.specs.declared.limits.Limits.{Limits}
 use Rattle.class_file.specs.declared.class.ClassFile.{ClassFile}
 use Rattle.class_links.specs.Kept.{kept_files}
@@ -21,47 +20,23 @@ use Rattle.command_words.specs.declared.command.Make.{Make as MakeWords}
 use Rattle.command_words.specs.declared.command.Run.{Run as RunWords}
 use Rattle.statuses.specs.declared.status.Status.{Status}
 use Rattle.statuses.specs.declared.status.Status.TheVariants as status
-use Rattle.source_classes.specs.Reading.{HadLeft}
+use Rattle.class_runs.specs.Passed.{HadLeft}
 use Rattle.class_runs.specs.Chosen.{Choice, ClassesGive}
 use Rattle.class_runs.specs.Complete.{StandsForSome}
 use Rattle.class_runs.specs.Runs.{ComesTo, EndsOver, IsCauseOf, OfChoice, over}
 use Rattle.class_runs.proofs.Causes.{come_so, one_of_classes, one_of_files}
 use Rattle.class_runs.proofs.Complete.{ends_complete, some_not_bad}
 use Rattle.autopersist.specs.Asked.{of_top}
-use Rattle.autopersist.specs.Complete.{DoesAll, DoesItsWork, MetNoLimit, PrintsAll, PutsAll, RanOutOfMemory, RunsWhole}
+use Rattle.autopersist.specs.Complete.{DoesAll, DoesItsWork, PrintsAll, PutsAll, RanOutOfMemory, RanOutOfRoom, RunsWhole}
 use Rattle.autopersist.specs.Meets.{Does, IsIdle, Meets}
 use Rattle.autopersist.specs.Outside.{Outside}
 use Rattle.autopersist.specs.Reports.{IsReport, Reports}
 use Rattle.autopersist.specs.Runs.{RunsClass, RunsOn, RunsWorkload, default_limits}
 
--- ---- whether a limit was met
-
-pub full_or_not : (how : Status) → ((full : Full) × (how ≡ status.Full full)) ⊎ MetNoLimit how
-full_or_not (status.Full full) = inl (full, refl)
-full_or_not status.Ok = inr (λ full is. cc)
-full_or_not (status.Uncaught thread class) = inr (λ full is. cc)
-full_or_not status.Usage = inr (λ full is. cc)
-full_or_not (status.BadClass file refusal) = inr (λ full is. cc)
-full_or_not (status.BadListing line kind) = inr (λ full is. cc)
-full_or_not (status.LinkRefused refusal) = inr (λ full is. cc)
-full_or_not (status.BadImage line reason) = inr (λ full is. cc)
-full_or_not (status.ShapeChanged shape) = inr (λ full is. cc)
-full_or_not (status.BadCode method pc) = inr (λ full is. cc)
-full_or_not (status.RegionRace thread other place) = inr (λ full is. cc)
-full_or_not status.SourceFault = inr (λ full is. cc)
-full_or_not status.ImageFault = inr (λ full is. cc)
-full_or_not status.SinkFault = inr (λ full is. cc)
-full_or_not (status.Stuck waits) = inr (λ full is. cc)
-full_or_not (status.LinkFault kind name) = inr (λ full is. cc)
-full_or_not status.OutOfMemory = inr (λ full is. cc)
-full_or_not (status.NewImage reason) = inr (λ full is. cc)
-full_or_not (status.BadHistory word) = inr (λ full is. cc)
-full_or_not status.Refuted = inr (λ full is. cc)
-
 -- ---- a call that nothing hindered
 
 module _ (before after : Outside) (how : Status) (opening : Graph) (acts : List Recorded) (source : how ≡ status.SourceFault → ⊥)
-    (image : how ≡ status.ImageFault → ⊥) (sink : how ≡ status.SinkFault → ⊥) (room : MetNoLimit how)
+    (image : how ≡ status.ImageFault → ⊥) (sink : how ≡ status.SinkFault → ⊥)
     (memory : how ≡ status.OutOfMemory → (acts ≡ []) × (after.taken ≡ before.taken)) where
   out_of_memory : how ≡ status.OutOfMemory → RanOutOfMemory before after acts how
   out_of_memory is = (is, (memory is).0, (memory is).1)
@@ -89,7 +64,10 @@ module _ (before after : Outside) (how : Status) (opening : Graph) (acts : List 
     caused (status.LinkRefused refusal) is cause = absurd (not_given (status.LinkRefused refusal) cause)
     caused (status.BadImage line reason) is cause = inr cause
     caused (status.ShapeChanged shape) is cause = inr cause
-    caused (status.Full full) is cause = absurd (room full is)
+    caused (status.Full full) is cause = ⊎_elim
+        (λ (refused : gives (Err (status.Full full))). absurd (not_given (status.Full full) refused))
+        (λ (of : OfChoice gives (EndsOver limits (over before.image opening acts after.image) (status.Full full))). inr of)
+        cause
     caused (status.LinkFault kind name) is cause = inr cause
     caused status.ImageFault is cause = absurd (image is)
     caused status.Ok is cause = inr cause
@@ -102,16 +80,21 @@ module _ (before after : Outside) (how : Status) (opening : Graph) (acts : List 
     caused (status.BadHistory word) is cause = absurd cause
     caused status.Refuted is cause = absurd cause
 
+    ran_out : (how ≡ status.OutOfMemory) ⊎ RanOutOfRoom choice limits before after how opening acts
+        → RanOutOfMemory before after acts how ⊎ RanOutOfRoom choice limits before after how opening acts
+    ran_out (inl is) = inl (out_of_memory is)
+    ran_out (inr met) = inr met
+
     whole : {SameImage : Type 0} → RunsOn gives limits before after SameImage how opening acts
         → RunsWhole choice limits before after how opening acts
     whole runs admits = ⊎_elim
-        (λ is. inr (out_of_memory is))
+        (λ is. inr (inl (out_of_memory is)))
         (λ of.
         let ends : EndsOver limits (over before.image opening acts after.image) how choice =
         subst (λ (c : Choice). EndsOver limits (over before.image opening acts after.image) how c)
         (same_choice of.choice of.given) of.holds in
-        ⊎_elim (λ complete. inl complete) (λ is. inr (out_of_memory is))
-        (ends_complete choice.set choice.main limits before.image opening acts after.image how admits image sink room ends))
+        ⊎_elim (λ complete. inl complete) (λ short. inr (ran_out short))
+        (ends_complete choice.set choice.main limits before.image opening acts after.image how admits image sink ends))
         (caused how refl runs.cause)
 
   told_so : (left : Option (List NamedBytes)) (files : List NamedBytes) → left ≡ Some files → HadLeft left files
@@ -247,8 +230,8 @@ module _ (before after : Outside) (how : Status) (opening : Graph) (acts : List 
   -- memory ran out before any of it
   does_none : (command : Option Command) → RanOutOfMemory before after acts how → DoesAll command before after how opening acts
   does_none None none = tt
-  does_none (Some (Run run)) none = λ files told choice gives admits. inr none
-  does_none (Some (Make make)) none = λ classes listed choice gives admits. inr none
+  does_none (Some (Run run)) none = λ files told choice gives admits. inr (inl none)
+  does_none (Some (Make make)) none = λ classes listed choice gives admits. inr (inl none)
   does_none (Some (Check check)) none = λ some. inr none
   does_none (Some (Dump dump)) none = λ some. inr none
   does_none (Some (Asm asm)) none = λ files told bytes is. inr none
@@ -260,14 +243,14 @@ module _ (before after : Outside) (how : Status) (opening : Graph) (acts : List 
 pub complete : (words : List (List ℕ)) (before after : Outside) (SameSource SameImage : Type 0) (how : Status) (opening : Graph)
     (acts : List Recorded) → Meets words before after SameSource SameImage how opening acts
     → DoesItsWork (command_of words) before after how opening acts
-complete words before after SameSource SameImage how opening acts meets none room =
+complete words before after SameSource SameImage how opening acts meets none =
     let source : how ≡ status.SourceFault → ⊥ = λ is. none.source (meets.source_fault is) in
     let image : how ≡ status.ImageFault → ⊥ = λ is. none.image (meets.image_fault is) in
     let sink : how ≡ status.SinkFault → ⊥ = λ is. none.sink (meets.sink_fault is) in
     ⊎_elim
     (λ (did : Does (of_top (command_of words)) before after SameSource SameImage how opening acts).
-    does_all before after how opening acts source image sink room meets.no_memory SameSource SameImage (command_of words) did)
+    does_all before after how opening acts source image sink meets.no_memory SameSource SameImage (command_of words) did)
     (λ (idle : (how ≡ status.OutOfMemory) × IsIdle before after SameSource SameImage acts).
-    does_none before after how opening acts source image sink room meets.no_memory (command_of words)
+    does_none before after how opening acts source image sink meets.no_memory (command_of words)
     (idle.0, idle.1.unrun, idle.1.nothing))
     meets.does

@@ -1,5 +1,5 @@
 -- From what a command did to what the top call promises.
-use Rattle.std.proofs.Common.{◌≡◌, ◌⊎◌, inl, ℕ, List, [], Option, Some, None, Result, Ok, Err, refl, sym, ap, subst, ◌∙◌}
+use Rattle.std.proofs.Common.{◌≡◌, ◌⊎◌, inl, inr, ℕ, List, [], Option, Some, None, Result, Ok, Err, refl, sym, ap, subst, ◌∙◌}
 use Rattle.std.specs.Prelude.{◌≢◌, OnOk, IfErr}
 use Rattle.std.proofs.lemmas.List.{append-nil}
 use Rattle.ap_base.specs.Causes.{Rose}
@@ -11,7 +11,7 @@ use Rattle.image_meaning.specs.Meaning.{empty_graph}
 use Rattle.image_opening.specs.Attached.{IsSettled}
 use Rattle.image_opening.specs.Stops.{KeepsItsGraph}
 use Rattle.image_opening.specs.declared.not_opened.NotOpened.TheVariants as unopened
-use Rattle.image_report.specs.Reports.{HasPrinted, HasPut, IsLeftOpen, IsUnreported}
+use Rattle.image_report.specs.Reports.{HasPrinted, IsLeftOpen, IsUnreported, WasOpened}
 use Rattle.image_report.specs.declared.not_reported.NotReported.{NotReported}
 use Rattle.image_report.specs.declared.not_reported.NotReported.TheVariants.{Unopened, SinkFailed, OutOfMemory}
 use Rattle.line_image.specs.Told.{Told}
@@ -23,7 +23,7 @@ use Rattle.command_words.specs.declared.command.Command.TheVariants.{Run}
 use Rattle.command_words.specs.declared.command.Run.{Run as RunWords}
 use Rattle.statuses.specs.declared.status.Status.{Status}
 use Rattle.statuses.specs.declared.status.Status.TheVariants as status
-use Rattle.source_classes.specs.Reading.{IsLeft}
+use Rattle.class_runs.specs.Passed.{IsLeft}
 use Rattle.class_runs.specs.Runs.{AnswersFor, ComesTo, IsCauseOf, IsOfRun, OfChoice, RunsAs, Tells, over}
 use Rattle.autopersist.specs.Asked.{of_top}
 use Rattle.autopersist.specs.Meets.{Does, Meets}
@@ -51,17 +51,18 @@ nothing_put acts sees sees' takes takes' told none =
 
 module _ (Says : ℕ → Words → List ℕ → Type 0) (start left : Told) (takes takes' : Option (List ℕ)) where
   pub report_so : (how : Result (Unit {0}) NotReported) → OnOk how (HasPrinted Says start takes takes')
-      → IfErr how (IsUnreported Says start left takes takes') → IsReport Says start left takes takes' (status_of_report how)
-  report_so (Ok done) printed unreported = printed
-  report_so (Err (Unopened (unopened.BadImage line reason))) printed unreported = unreported
-  report_so (Err (Unopened unopened.ImageFailed)) printed unreported = unreported
-  report_so (Err (Unopened unopened.OutOfMemory)) printed unreported = unreported.none
-  report_so (Err SinkFailed) printed unreported = unreported
-  report_so (Err OutOfMemory) printed unreported = unreported
+      → IfErr how (IsUnreported Says start left takes takes') → (WasOpened how → IsLeftOpen start left)
+      → IsReport Says start left takes takes' (status_of_report how)
+  report_so (Ok done) printed unreported opened = printed
+  report_so (Err (Unopened (unopened.BadImage line reason))) printed unreported opened = unreported
+  report_so (Err (Unopened unopened.ImageFailed)) printed unreported opened = unreported
+  report_so (Err (Unopened unopened.OutOfMemory)) printed unreported opened = (unreported.none, inl unreported.unopened)
+  report_so (Err SinkFailed) printed unreported opened = unreported
+  report_so (Err OutOfMemory) printed unreported opened = (unreported, inr (opened tt))
 
   -- want of memory prints nothing
   pub report_none : (s : Status) → IsReport Says start left takes takes' s → s ≡ status.OutOfMemory → takes' ≡ takes
-  report_none status.OutOfMemory report is = report
+  report_none status.OutOfMemory report is = report.0
   report_none status.Ok report is = absurd cc
   report_none (status.Uncaught thread class) report is = absurd cc
   report_none status.Usage report is = absurd cc
@@ -99,13 +100,13 @@ report_source (Err (Unopened unopened.OutOfMemory)) is = cc
 report_source (Err SinkFailed) is = cc
 report_source (Err OutOfMemory) is = cc
 
-put_so : (how : Result (Unit {0}) NotReported) → IsOfPut (status_of_report how) → HasPut how
+put_so : (how : Result (Unit {0}) NotReported) → IsOfPut (status_of_report how) → WasOpened how
 put_so (Ok done) put = tt
 put_so (Err SinkFailed) put = tt
 put_so (Err (Unopened (unopened.BadImage line reason))) put = put
 put_so (Err (Unopened unopened.ImageFailed)) put = put
 put_so (Err (Unopened unopened.OutOfMemory)) put = put
-put_so (Err OutOfMemory) put = put
+put_so (Err OutOfMemory) put = tt
 
 pub report_image : (how : Result (Unit {0}) NotReported) (before after : ℕ)
     → IfErr how (λ why. why ≡ Unopened unopened.ImageFailed → Rose before after) → status_of_report how ≡ status.ImageFault → Rose before after
@@ -190,14 +191,14 @@ module _ (words : List (List ℕ)) (before after : Outside) (SameSource SameImag
       → Does (of_top (Some command)) before after SameSource SameImage (status_of_report how) empty_graph [])
       → SameSource → OnOk how (HasPrinted Says before.image before.taken after.taken)
       → IfErr how (IsUnreported Says before.image after.image before.taken after.taken)
-      → (HasPut how → IsLeftOpen before.image after.image)
+      → (WasOpened how → IsLeftOpen before.image after.image)
       → (IsSettled before.image → KeepsItsGraph before.image after.image)
       → IfErr how (λ why. why ≡ Unopened unopened.ImageFailed → Rose before.image_faults after.image_faults)
       → IfErr how (λ why. why ≡ SinkFailed → Rose before.sink_faults after.sink_faults)
       → after.seen ≡ before.seen → after.image.size ≡ before.image.size
       → Meets words before after SameSource SameImage (status_of_report how) empty_graph []
   reports_meet Says how command asked so source printed unreported left stops image sink seen size =
-      let report = report_so Says before.image after.image before.taken after.taken how printed unreported in
+      let report = report_so Says before.image after.image before.taken after.taken how printed unreported left in
       record {
         usage = λ is. absurd (report_usage how is);
         does = inl (does_so (status_of_report how) empty_graph [] command asked

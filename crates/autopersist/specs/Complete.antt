@@ -1,5 +1,5 @@
--- Completeness: where the inputs of a command are as it asks, nothing outside fails and no limit is met, the command does its work, or
--- memory runs out before any of it.
+-- Completeness: where the inputs of a command are as it asks and nothing outside fails, the command does its work, or memory runs out before
+-- any of it; a run may meet a limit too, and then this tells which.
 use Rattle.std.specs.Prelude.{◌≡◌, ◌⊎◌, ℕ, List, [], codes, Option, Some, None, Ok}
 use Rattle.ap_base.specs.Causes.{Rose}
 use Rattle.ap_base.specs.Sinks.{with_bytes}
@@ -20,7 +20,7 @@ use Rattle.command_words.specs.declared.command.Command.TheVariants.{Run, Make, 
 use Rattle.statuses.specs.declared.status.Status.{Status}
 use Rattle.statuses.specs.declared.status.Status.TheVariants as status
 use Rattle.class_runs.specs.Chosen.{Choice, ClassesGive, FilesGive}
-use Rattle.class_runs.specs.Complete.{Admits, EndsComplete, StandsForSome}
+use Rattle.class_runs.specs.Complete.{Admits, EndsComplete, MeetsLimit, StandsForSome}
 use Rattle.image_report.specs.Reports.{HasPrinted, IsChecked, IsDumped}
 use Rattle.autopersist.specs.Outside.{Outside}
 use Rattle.autopersist.specs.Runs.{default_limits}
@@ -33,20 +33,22 @@ pub record NothingFailed (before after : Outside) : Type 0 where
   pub image : Rose before.image_faults after.image_faults → ⊥
   pub sink : Rose before.sink_faults after.sink_faults → ⊥
 
--- no more was needed than there is
-abbrev pub MetNoLimit : Status → Type 0
-MetNoLimit how = (full : Full) → how ≡ status.Full full → ⊥
-
 -- ---- what it comes to
 
 -- memory ran out: there are no acts, and nothing was put
 abbrev pub RanOutOfMemory : (before after : Outside) → List Recorded → Status → Type 0
 RanOutOfMemory before after acts how = (how ≡ status.OutOfMemory) × (acts ≡ []) × (after.taken ≡ before.taken)
 
--- What was chosen ran over an image that suits it, and ended as the plain run of its acts; or there is no `main`.
+-- The run needed more than there is, and the status tells of what.
+abbrev pub RanOutOfRoom : Choice → Limits → (before after : Outside) → Status → Graph → List Recorded → Type 0
+RanOutOfRoom choice limits before after how opening acts =
+    (full : Full) × (how ≡ status.Full full) × MeetsLimit choice.set choice.main limits before.image opening acts after.image full
+
+-- What was chosen ran over an image that suits it, and ended as the plain run of its acts; or there is no `main`. Or it met a limit.
 abbrev pub RunsWhole : Choice → Limits → (before after : Outside) → Status → Graph → List Recorded → Type 0
 RunsWhole choice limits before after how opening acts = Admits choice.set before.image
-    → EndsComplete choice.set choice.main limits before.image opening acts how ⊎ RanOutOfMemory before after acts how
+    → EndsComplete choice.set choice.main limits before.image opening acts how
+    ⊎ RanOutOfMemory before after acts how ⊎ RanOutOfRoom choice limits before after how opening acts
 
 -- The sink took all of the text of an image that is blank or well formed.
 abbrev pub PrintsAll : (ℕ → Words → List ℕ → Type 0) → (before after : Outside) → Status → List Recorded → Type 0
@@ -78,4 +80,4 @@ DoesAll None before after how opening acts = Unit {0}
 
 abbrev pub DoesItsWork : Option Command → (before after : Outside) → Status → Graph → List Recorded → Type 0
 DoesItsWork command before after how opening acts =
-    NothingFailed before after → MetNoLimit how → DoesAll command before after how opening acts
+    NothingFailed before after → DoesAll command before after how opening acts

@@ -15,7 +15,7 @@ use Rattle.command_words.specs.declared.command.Make.{Make}
 use Rattle.command_words.specs.declared.command.Run.{Run}
 use Rattle.statuses.specs.declared.status.Status.{Status}
 use Rattle.class_runs.specs.Chosen.{Choice, ClassesGive}
-use Rattle.source_classes.specs.Reading.{IsLeft}
+use Rattle.class_runs.specs.Passed.{IsLeft}
 use Rattle.class_runs.specs.Runs.{Answers, AnswersFor, ComesTo, IsCauseOf, IsOfRun, OfChoice, RunsAs, over}
 use Rattle.autopersist.specs.Outside.{Outside}
 

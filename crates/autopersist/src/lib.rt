@@ -6,7 +6,7 @@ mod saving;
 mod top_call;
 mod workload_run;
 
-pub use class_runs::{Ended, stopped_runs_open_again};
+pub use class_runs::{Ended, MeetingGate, blank_images_suit, stopped_runs_open_again};
 pub use command_words::{Command, WordsFault, read_words};
 pub use saving::{SaveFault, Saved, run_and_save};
 pub use statuses::{Status, status_text};

@@ -48,7 +48,7 @@ where
         (outside (C.left result.source) (C.faults result.source) (I.told result.image) (I.faults result.image)
         (S.taken result.sink) (S.faults result.sink) (W.seen result.watcher))
         (result.source ≡ source) (result.image ≡ image) result.status result.opening result.acts.acts }
-    // Where the inputs are as the command asks, nothing outside fails and no limit is met, it does its work, or memory runs out before any
+    // Where the inputs are as the command asks and nothing outside fails, it does its work, or meets a limit, or memory runs out before any
     // of it.
     ensures complete { DoesItsWork (command_of (texts words.now.items))
         (outside (C.left source) (C.faults source) (I.told image) (I.faults image) (S.taken sink) (S.faults sink) (W.seen watcher))
@@ -61,7 +61,7 @@ where
 
 // What the words ask for is done.
 fn do_command<R, C, I, S, G, W>(
-    _rt: &R,
+    rt: &R,
     alloc: Global,
     words: &Vec<String>,
     mut source: C,
@@ -86,6 +86,8 @@ where
     numbers_are_in_range();
     match read_words(alloc, words) {
         Ok(Command::Run(run)) => run_class(
+            rt,
+            run.workers,
             alloc,
             run.main.as_slice(),
             &run.limits,
@@ -96,7 +98,7 @@ where
             watcher,
         ),
         Ok(Command::Make(make)) => {
-            run_workload(alloc, &make, source, image, sink, gate, watcher)
+            run_workload(rt, alloc, &make, source, image, sink, gate, watcher)
         }
         Ok(Command::Check(_)) => {
             let done = check_image(alloc, image, sink);

@@ -2,7 +2,7 @@
 ghost use Rattle.std.specs.Prelude.{◌≡◌, ◌≤◌, ◌⊎◌, []};
 ghost use Rattle.ap_base.specs.Causes.{Rose};
 ghost use Rattle.image_meaning.specs.Meaning.{empty_graph};
-ghost use Rattle.source_classes.specs.Reading.{IsOfClasses};
+ghost use Rattle.class_runs.specs.Passed.{IsOfClasses};
 ghost use Rattle.class_runs.specs.Runs.{IsOfRun, Tells};
 ghost use Rattle.autopersist.specs.Outside.{outside};
 ghost use Rattle.autopersist.specs.Runs.{RunsWorkload};
@@ -16,6 +16,8 @@ use run_history::Watcher;
 use run_types::Limits;
 use statuses::Status;
 use std::alloc::Global;
+use std::sync::Wait;
+use std::thread::Threads;
 use workload::make_classes;
 
 // The limits of the workload: those of a run for which the words ask no others.
@@ -25,7 +27,8 @@ const DEFAULT_LIMITS: Limits = Limits {
 };
 
 /// Runs the workload with as many nodes a thread as the words say. The source isn't asked.
-pub(crate) fn run_workload<C: ClassSource, I: Image, S: Sink, G: Gate, W: Watcher>(
+pub(crate) fn run_workload<R, C, I, S, G, W>(
+    rt: &R,
     alloc: Global,
     make: &Make,
     source: C,
@@ -34,6 +37,13 @@ pub(crate) fn run_workload<C: ClassSource, I: Image, S: Sink, G: Gate, W: Watche
     gate: &G,
     watcher: W,
 ) -> Ended<C, I, S, W>
+where
+    R: Threads + Wait + Sync,
+    C: ClassSource,
+    I: Image + Send,
+    S: Sink + Send,
+    G: Gate + Sync,
+    W: Watcher + Send,
     requires range { (1 ≤ make.now.count) × (make.now.count ≤ 5000) }
     ensures runs { RunsWorkload make.now
         (outside (C.left source) (C.faults source) (I.told image) (I.faults image) (S.taken sink) (S.faults sink) (W.seen watcher))
@@ -56,6 +66,8 @@ pub(crate) fn run_workload<C: ClassSource, I: Image, S: Sink, G: Gate, W: Watche
         return idle(alloc, Status::OutOfMemory, source, image, sink, watcher);
     };
     let ran = run_classes(
+        rt,
+        make.workers,
         alloc,
         b"Work",
         &DEFAULT_LIMITS,

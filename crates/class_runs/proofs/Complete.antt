@@ -1,5 +1,5 @@
--- A run of a class set over an image that suits it, where nothing outside fails and no limit is met.
-use Rattle.std.proofs.Common.{◌≡◌, ◌⊎◌, inl, inr, ℕ, ◌<◌, List, [], Err, refl, sym, ◌∙◌, subst}
+-- A run of a class set over an image that suits it, where nothing outside fails.
+use Rattle.std.proofs.Common.{◌≡◌, ◌⊎◌, inl, inr, ⊎_elim, ℕ, ◌<◌, List, [], Err, refl, sym, ◌∙◌, subst}
 use Rattle.graph_model.specs.declared.types.Graph.{Graph}
 use Rattle.image_layout.specs.declared.superblock.BadReason.{BadReason}
 use Rattle.image_meaning.specs.Checks.{Words}
@@ -25,29 +25,31 @@ use Rattle.statuses.specs.Names.{fault_status}
 use Rattle.statuses.specs.declared.status.Status.{Status}
 use Rattle.statuses.specs.declared.status.Status.TheVariants as status
 use Rattle.class_runs.specs.Again.{IsLeftBy}
-use Rattle.class_runs.specs.Complete.{Admits, EndsComplete, IsNumberedFor, IsOfPlainRun, StandsForSome}
-use Rattle.class_runs.specs.Sets.{CannotBegin, HasEndedSo, SetEnds, status_of_ending, status_of_unopened}
+use Rattle.class_runs.specs.Complete.{Admits, EndsComplete, IsNumberedFor, IsOfPlainRun, LacksEntryRoom, MeetsLimit, StandsForSome}
+use Rattle.class_runs.specs.Sets.{CannotBegin, HasEndedSo, LacksFirstWords, SetEnds, status_of_ending, status_of_unopened}
 use Rattle.class_runs.proofs.Again.{not_bad_so}
 use Rattle.class_runs.proofs.Reading.{not_both, one_read, sized, stands_alike}
 
--- ---- how a run ends that nothing outside and no limit ended
+-- ---- how a run ends that nothing outside ended
+
+abbrev IsPlainOrFull : Status → Type 0
+IsPlainOrFull how = IsOfPlainRun how ⊎ ((full : Full) × (how ≡ status.Full full))
 
 plain_fault : (set : Linked) (f : RunFault) → (fault_status set f ≡ status.ImageFault → ⊥) → (fault_status set f ≡ status.SinkFault → ⊥)
-    → ((full : Full) → fault_status set f ≡ status.Full full → ⊥) → IsOfPlainRun (fault_status set f)
-plain_fault set (fault.BadCode at) image sink room = tt
-plain_fault set (fault.RegionRace thread other place) image sink room = tt
-plain_fault set (fault.Full full) image sink room = absurd (room full refl)
-plain_fault set fault.SinkFault image sink room = absurd (sink refl)
-plain_fault set fault.ImageFault image sink room = absurd (image refl)
-plain_fault set (fault.Stuck waits) image sink room = tt
-plain_fault set (fault.LinkFault kind class index) image sink room = tt
+    → IsPlainOrFull (fault_status set f)
+plain_fault set (fault.BadCode at) image sink = inl tt
+plain_fault set (fault.RegionRace thread other place) image sink = inl tt
+plain_fault set (fault.Full full) image sink = inr (full, refl)
+plain_fault set fault.SinkFault image sink = absurd (sink refl)
+plain_fault set fault.ImageFault image sink = absurd (image refl)
+plain_fault set (fault.Stuck waits) image sink = inl tt
+plain_fault set (fault.LinkFault kind class index) image sink = inl tt
 
 plain_ending : (set : Linked) (ending : Ending) → (status_of_ending set ending ≡ status.ImageFault → ⊥)
-    → (status_of_ending set ending ≡ status.SinkFault → ⊥) → ((full : Full) → status_of_ending set ending ≡ status.Full full → ⊥)
-    → IsOfPlainRun (status_of_ending set ending)
-plain_ending set (Fault f) image sink room = plain_fault set f image sink room
-plain_ending set (Uncaught t class) image sink room = tt
-plain_ending set Finished image sink room = tt
+    → (status_of_ending set ending ≡ status.SinkFault → ⊥) → IsPlainOrFull (status_of_ending set ending)
+plain_ending set (Fault f) image sink = plain_fault set f image sink
+plain_ending set (Uncaught t class) image sink = inl tt
+plain_ending set Finished image sink = inl tt
 
 -- ---- an image that suits a set isn't refused for it
 
@@ -71,6 +73,28 @@ module _ (set : Linked) (start : Told) (admits : Admits set start) where
       let first = cause.0.first in
       first.other (admits.agree (shown unprepared.left.before) (entries_in unprepared.directory) found.attached.shows found.found_is
       cause.0.at first.there)
+
+-- ---- one whose directory has too little room
+
+room_lacks : (set : Linked) (start after : Told) (full : Full) (now : Linked) → IsUnopened start after set now (unopened.Full full)
+    → LacksEntryRoom set start after full
+room_lacks set start after full now (inl (unattached, same)) =
+    let cause : IsAttachFault start (unopened.Full full) = unattached.cause in absurd cause
+room_lacks set start after full now (inr (inl (unrecovered, same))) =
+    let cause : IsRecoveryFault unrecovered.before unrecovered.memory (unopened.Full full) = unrecovered.cause in absurd cause
+room_lacks set start after full now (inr (inr unprepared)) =
+    let cause : IsUnfit set now unprepared.directory (unopened.Full full) = unprepared.cause in
+    record {
+      found = unprepared.directory;
+      stood = unprepared.graph;
+      left = unprepared.left;
+      agree = cause.0;
+      numbered = now;
+      numbered_is = cause.2;
+      lacks = cause.1;
+    }
+
+-- ---- directories
 
 -- what reads give of an image that stands for a graph spells one directory
 pub read_directory : (image : Told) → IsTelling image.trace → (words : Words) → AreRead image words → (graph : Graph)
@@ -108,17 +132,17 @@ some_not_bad image some line reason words read fails =
 -- ---- what the run comes to
 
 module _ (set : Linked) (name : List ℕ) (limits : Limits) (start : Told) (opening : Graph) (acts : List Recorded) (after : Told)
-    (how : Status) (admits : Admits set start) (image : how ≡ status.ImageFault → ⊥) (sink : how ≡ status.SinkFault → ⊥)
-    (room : (full : Full) → how ≡ status.Full full → ⊥) where
+    (how : Status) (admits : Admits set start) (image : how ≡ status.ImageFault → ⊥) (sink : how ≡ status.SinkFault → ⊥) where
   abbrev Complete : Type 0
   Complete = EndsComplete set name limits start opening acts how ⊎ (how ≡ status.OutOfMemory)
+      ⊎ ((full : Full) × (how ≡ status.Full full) × MeetsLimit set name limits start opening acts after full)
 
-  cannot_open : (why : Unopened) (now : Linked) → how ≡ status_of_unopened why → IsUnopened start after set now why → Complete
-  cannot_open (unopened.BadImage line reason) now is cannot = absurd (not_bad set start admits line reason now after cannot)
-  cannot_open (unopened.ShapeChanged shape) now is cannot = absurd (not_changed set start admits shape now after cannot)
-  cannot_open (unopened.Full full) now is cannot = absurd (room full is)
-  cannot_open unopened.ImageFailed now is cannot = absurd (image is)
-  cannot_open unopened.OutOfMemory now is cannot = inr is
+  cannot_open : acts ≡ [] → (why : Unopened) (now : Linked) → how ≡ status_of_unopened why → IsUnopened start after set now why → Complete
+  cannot_open none (unopened.BadImage line reason) now is cannot = absurd (not_bad set start admits line reason now after cannot)
+  cannot_open none (unopened.ShapeChanged shape) now is cannot = absurd (not_changed set start admits shape now after cannot)
+  cannot_open none (unopened.Full full) now is cannot = inr (inr (full, is, inl (none, room_lacks set start after full now cannot)))
+  cannot_open none unopened.ImageFailed now is cannot = absurd (image is)
+  cannot_open none unopened.OutOfMemory now is cannot = inr (inl is)
 
   numbered_for : (begins : CannotBegin set name limits start after how) → IsNumberedFor set begins.numbered start
   numbered_for begins =
@@ -133,10 +157,19 @@ module _ (set : Linked) (name : List ℕ) (limits : Limits) (start : Told) (open
 
   unbegun : acts ≡ [] → CannotBegin set name limits start after how → Complete
   unbegun none begins = elim begins.cause [
-    | inl lacks ↦ absurd (room lacks.full lacks.is)
+    | inl lacks ↦ inr (inr (
+      lacks.full,
+      lacks.is,
+      inr (inl (
+        none,
+        begins.numbered,
+        numbered_for begins,
+        subst (λ (s : Status). LacksFirstWords begins.numbered limits s) lacks.is lacks,
+      )),
+    ))
     | inr rest ↦ elim rest [
       | inl missing ↦ inl (inl (none, begins.numbered, numbered_for begins, missing))
-      | inr memory ↦ inr memory
+      | inr memory ↦ inr (inl memory)
     ]
   ]
 
@@ -144,15 +177,18 @@ module _ (set : Linked) (name : List ℕ) (limits : Limits) (start : Told) (open
   ended ran =
       let is = ran.ends.is in
       let ending = ran.ends.ending in
-      inl (inr (
-        ran,
-        subst IsOfPlainRun (sym is)
-            (plain_ending ran.of.numbered ending (λ e. image (is ∙ e)) (λ e. sink (is ∙ e)) (λ full e. room full (is ∙ e))),
-      ))
+      ⊎_elim
+      (λ (plain : IsOfPlainRun (status_of_ending ran.of.numbered ending)). inl (inr (ran, subst IsOfPlainRun (sym is) plain)))
+      (λ (met : (full : Full) × (status_of_ending ran.of.numbered ending ≡ status.Full full)). inr (inr (
+        met.0,
+        is ∙ met.1,
+        inr (inr (subst (λ (s : Status). HasEndedSo set name limits start opening acts s) (is ∙ met.1) ran)),
+      )))
+      (plain_ending ran.of.numbered ending (λ e. image (is ∙ e)) (λ e. sink (is ∙ e)))
 
   pub ends_complete : SetEnds set name limits start opening acts after how → Complete
-  ends_complete (inl (none, inl cannot)) = cannot_open cannot.why cannot.numbered cannot.is cannot.unopened
+  ends_complete (inl (none, inl cannot)) = cannot_open none cannot.why cannot.numbered cannot.is cannot.unopened
   ends_complete (inl (none, inr (inl begins))) = unbegun none begins
   ends_complete (inl (none, inr (inr (inl appends)))) = absurd (image appends.is)
-  ends_complete (inl (none, inr (inr (inr lacks)))) = inr lacks.is
+  ends_complete (inl (none, inr (inr (inr lacks)))) = inr (inl lacks.is)
   ends_complete (inr ran) = ended ran

@@ -2,6 +2,7 @@ pub mod Reading
 pub mod Again
 pub mod Causes
 pub mod Complete
+pub mod Blank
 pub mod Outside
 pub mod SetStops
 pub mod SetRan

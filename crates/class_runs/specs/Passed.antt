@@ -7,3 +7,4 @@ pub use Rattle.directories.specs.Planning.{lacking}
 pub use Rattle.durable_launch.specs.Launching.{launch_over}
 pub use Rattle.durable_launch.specs.Passed.{AllAgree, AreRead, HadNoFault, IsDirectoryIn, Main, StandsWithNew, main_of, with_all, with_arrays_of}
 pub use Rattle.run_forms.specs.Standing.{IsRun, Launch, plain_code}
+pub use Rattle.source_classes.specs.Reading.{HadLeft, IsLeft, IsOfClasses}

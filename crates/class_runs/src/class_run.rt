@@ -21,6 +21,8 @@ use shared_graph::SharedGraph;
 use source_classes::read_files;
 use statuses::Status;
 use std::alloc::Global;
+use std::sync::Wait;
+use std::thread::Threads;
 
 /// What a run of a source's class hands back: how it ended, the graph from which it ran, the history, and what it was given.
 #[derive(Drop)]
@@ -36,9 +38,12 @@ pub struct Ended<C, I, S, W> {
 
 /// Links these classes and runs the one of this name on the image, within these limits, and prints to the sink. What
 /// the durable roots reach is kept in the image. A dot in the name counts as a slash.
+/// So many threads of the host run its threads, or fewer where no more can be started.
 ///
 /// The gate is called in each turn before its first event, and the watcher is told each act.
-pub fn run_classes<I: Image, S: Sink, G: Gate, W: Watcher>(
+pub fn run_classes<R, I, S, G, W>(
+    rt: &R,
+    workers: u8,
     alloc: Global,
     class: &[u8],
     limits: &Limits,
@@ -48,6 +53,12 @@ pub fn run_classes<I: Image, S: Sink, G: Gate, W: Watcher>(
     gate: &G,
     watcher: W,
 ) -> Ran<I, S, W>
+where
+    R: Threads + Wait + Sync,
+    I: Image + Send,
+    S: Sink + Send,
+    G: Gate + Sync,
+    W: Watcher + Send,
     requires few { length classes.items ≤ 4096 }
     requires readable { All CanBeRead classes.items }
     // How it ends: each status but want of memory with its cause.
@@ -78,6 +89,8 @@ pub fn run_classes<I: Image, S: Sink, G: Gate, W: Watcher>(
 {
     match choose(alloc, class, classes) {
         Ok(Found { set, main, room }) => run_set(
+            rt,
+            workers,
             alloc,
             set,
             main.as_slice(),
@@ -94,9 +107,12 @@ pub fn run_classes<I: Image, S: Sink, G: Gate, W: Watcher>(
 
 /// Runs the class of this name of the source's files on the image, within these limits, and prints to the sink. What the
 /// durable roots reach is kept in the image. A dot in the name counts as a slash.
+/// So many threads of the host run its threads, or fewer where no more can be started.
 ///
 /// The gate is called in each turn before its first event, and the watcher is told each act.
-pub fn run_class<C: ClassSource, I: Image, S: Sink, G: Gate, W: Watcher>(
+pub fn run_class<R, C, I, S, G, W>(
+    rt: &R,
+    workers: u8,
     alloc: Global,
     class: &[u8],
     limits: &Limits,
@@ -106,6 +122,13 @@ pub fn run_class<C: ClassSource, I: Image, S: Sink, G: Gate, W: Watcher>(
     gate: &G,
     watcher: W,
 ) -> Ended<C, I, S, W>
+where
+    R: Threads + Wait + Sync,
+    C: ClassSource,
+    I: Image + Send,
+    S: Sink + Send,
+    G: Gate + Sync,
+    W: Watcher + Send,
     // How it ends: each status but want of memory with its cause.
     ensures cause { IsCauseOf (ComesTo class.now (C.left source)) limits.now
         (over (I.told image) result.opening result.acts.acts (I.told result.image)) result.status }
@@ -141,7 +164,9 @@ pub fn run_class<C: ClassSource, I: Image, S: Sink, G: Gate, W: Watcher>(
 {
     match read_files(alloc, &mut source) {
         Ok(classes) => {
-            let ran = run_classes(alloc, class, limits, classes, image, sink, gate, watcher);
+            let ran = run_classes(
+                rt, workers, alloc, class, limits, classes, image, sink, gate, watcher,
+            );
             Ended {
                 status: ran.status,
                 opening: ran.opening,

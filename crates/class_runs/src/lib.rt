@@ -8,5 +8,6 @@ mod ran;
 mod sets;
 
 pub use class_run::{Ended, run_class, run_classes};
-pub use laws::stopped_runs_open_again;
+pub use durable_launch::MeetingGate;
+pub use laws::{blank_images_suit, stopped_runs_open_again};
 pub use ran::{Ran, no_graph};

@@ -18,7 +18,7 @@ use ap_base::{Gate, Sink};
 use class_set::ClassSet;
 use durable_launch::{
     FoundImage, Launched, Main, NoLaunch, NoMain, OpenedHeap, OpenedImage, Run, RunEnd, Unopened,
-    complete, each_stop_is_allowed, find_for, find_main, find_room, launch, open_heap, run_threads,
+    complete, each_stop_is_allowed, find_for, find_main, find_room, launch, open_heap, run_all,
 };
 use line_image::Image;
 use run_history::{Acts, Watcher};
@@ -27,6 +27,8 @@ use set_types::SetTypes;
 use shared_graph::SharedGraph;
 use statuses::{NameRoom, Status, main_status, status_of_fault, uncaught_status};
 use std::alloc::Global;
+use std::sync::Wait;
+use std::thread::Threads;
 
 fn kind_of(none: NoMain) -> LinkKind
     ensures { result ≡ kind_of none }
@@ -82,7 +84,9 @@ fn opening_of(alloc: Global, acts: &Acts, graph: SharedGraph) -> SharedGraph
 }
 
 /// Opens an image for a class set and runs the set, from its class of this name on, within these limits.
-pub(crate) fn run_set<I: Image, S: Sink, G: Gate, W: Watcher>(
+pub(crate) fn run_set<R, I, S, G, W>(
+    rt: &R,
+    workers: u8,
     alloc: Global,
     mut set: ClassSet,
     class: &[u8],
@@ -93,6 +97,12 @@ pub(crate) fn run_set<I: Image, S: Sink, G: Gate, W: Watcher>(
     gate: &G,
     watcher: W,
 ) -> Ran<I, S, W>
+where
+    R: Threads + Wait + Sync,
+    I: Image + Send,
+    S: Sink + Send,
+    G: Gate + Sync,
+    W: Watcher + Send,
     ensures ran { SetRunsOver set class.now limits.now (I.told image) result.opening result.acts.acts
         (I.told result.image) result.status }
     ensures told { Tells result.acts.acts (W.seen watcher) (W.seen result.watcher)
@@ -103,13 +113,17 @@ pub(crate) fn run_set<I: Image, S: Sink, G: Gate, W: Watcher>(
         → Rose (I.faults image) (I.faults result.image) }
 {
     match find_for(alloc, &mut set, image) {
-        Ok(found) => run_found(alloc, &set, class, limits, room, found, sink, gate, watcher),
+        Ok(found) => run_found(
+            rt, workers, alloc, &set, class, limits, room, found, sink, gate, watcher,
+        ),
         Err((why, image)) => unbegun(alloc, of_unopened(why), image, sink, watcher),
     }
 }
 
 // Runs a set over an image that was found for it, where its first objects find room.
-fn run_found<I: Image, S: Sink, G: Gate, W: Watcher>(
+fn run_found<R, I, S, G, W>(
+    rt: &R,
+    workers: u8,
     alloc: Global,
     set: &ClassSet,
     class: &[u8],
@@ -120,6 +134,12 @@ fn run_found<I: Image, S: Sink, G: Gate, W: Watcher>(
     gate: &G,
     watcher: W,
 ) -> Ran<I, S, W>
+where
+    R: Threads + Wait + Sync,
+    I: Image + Send,
+    S: Sink + Send,
+    G: Gate + Sync,
+    W: Watcher + Send,
     requires found { (start : Told) × (old : Linked) × IsFoundFor start old set.now
         found.memory found.directory found.lines found.graph found.free }
     ensures ran { (start : Told) (old : Linked) → IsFoundFor start old set.now
@@ -134,7 +154,9 @@ fn run_found<I: Image, S: Sink, G: Gate, W: Watcher>(
         → Rose found.memory.faults (I.faults result.image) }
 {
     match find_room(alloc, set, limits.heap_words) {
-        Ok(()) => run_main(alloc, set, class, limits, room, found, sink, gate, watcher),
+        Ok(()) => run_main(
+            rt, workers, alloc, set, class, limits, room, found, sink, gate, watcher,
+        ),
         Err(why) => {
             let image = found.memory.into_image();
             unbegun(alloc, of_unlaunched(why), image, sink, watcher)
@@ -143,7 +165,9 @@ fn run_found<I: Image, S: Sink, G: Gate, W: Watcher>(
 }
 
 // Runs a set over an image that was found for it, where its main class has a `main`.
-fn run_main<I: Image, S: Sink, G: Gate, W: Watcher>(
+fn run_main<R, I, S, G, W>(
+    rt: &R,
+    workers: u8,
     alloc: Global,
     set: &ClassSet,
     class: &[u8],
@@ -154,6 +178,12 @@ fn run_main<I: Image, S: Sink, G: Gate, W: Watcher>(
     gate: &G,
     watcher: W,
 ) -> Ran<I, S, W>
+where
+    R: Threads + Wait + Sync,
+    I: Image + Send,
+    S: Sink + Send,
+    G: Gate + Sync,
+    W: Watcher + Send,
     requires found { (start : Told) × (old : Linked) × IsFoundFor start old set.now
         found.memory found.directory found.lines found.graph found.free }
     requires fits { FindsRoom set.now limits.now }
@@ -170,7 +200,7 @@ fn run_main<I: Image, S: Sink, G: Gate, W: Watcher>(
 {
     match find_main(set, class) {
         Ok(main) => run_complete(
-            alloc, set, class, &main, limits, room, found, sink, gate, watcher,
+            rt, workers, alloc, set, class, &main, limits, room, found, sink, gate, watcher,
         ),
         Err(none) => {
             let status = main_status(kind_of(none), class, room);
@@ -181,7 +211,9 @@ fn run_main<I: Image, S: Sink, G: Gate, W: Watcher>(
 }
 
 // Appends what an image lacks of a set, and runs the set over it from this main method on.
-fn run_complete<I: Image, S: Sink, G: Gate, W: Watcher>(
+fn run_complete<R, I, S, G, W>(
+    rt: &R,
+    workers: u8,
     alloc: Global,
     set: &ClassSet,
     class: &[u8],
@@ -193,6 +225,12 @@ fn run_complete<I: Image, S: Sink, G: Gate, W: Watcher>(
     gate: &G,
     watcher: W,
 ) -> Ran<I, S, W>
+where
+    R: Threads + Wait + Sync,
+    I: Image + Send,
+    S: Sink + Send,
+    G: Gate + Sync,
+    W: Watcher + Send,
     requires found { (start : Told) × (old : Linked) × IsFoundFor start old set.now
         found.memory found.directory found.lines found.graph found.free }
     requires fits { FindsRoom set.now limits.now }
@@ -211,14 +249,16 @@ fn run_complete<I: Image, S: Sink, G: Gate, W: Watcher>(
 {
     match complete(found) {
         Ok(opened) => run_opened(
-            alloc, set, class, main, limits, room, opened, sink, gate, watcher,
+            rt, workers, alloc, set, class, main, limits, room, opened, sink, gate, watcher,
         ),
         Err(image) => unbegun(alloc, Status::ImageFault, image, sink, watcher),
     }
 }
 
 // Runs a set over an image that was opened for it, from this main method on.
-fn run_opened<I: Image, S: Sink, G: Gate, W: Watcher>(
+fn run_opened<R, I, S, G, W>(
+    rt: &R,
+    workers: u8,
     alloc: Global,
     set: &ClassSet,
     class: &[u8],
@@ -230,6 +270,12 @@ fn run_opened<I: Image, S: Sink, G: Gate, W: Watcher>(
     gate: &G,
     watcher: W,
 ) -> Ran<I, S, W>
+where
+    R: Threads + Wait + Sync,
+    I: Image + Send,
+    S: Sink + Send,
+    G: Gate + Sync,
+    W: Watcher + Send,
     requires opened { (start : Told) × (old : Linked) × IsOpenedFor start old set.now
         opened.memory opened.directory opened.lines opened.graph opened.free }
     requires fits { FindsRoom set.now limits.now }
@@ -248,7 +294,7 @@ fn run_opened<I: Image, S: Sink, G: Gate, W: Watcher>(
 {
     match open_heap(alloc, set, opened, limits.heap_words) {
         Ok(heap) => run_heap(
-            alloc, set, class, main, limits, room, heap, sink, gate, watcher,
+            rt, workers, alloc, set, class, main, limits, room, heap, sink, gate, watcher,
         ),
         Err((why, memory)) => {
             unbegun(
@@ -263,7 +309,9 @@ fn run_opened<I: Image, S: Sink, G: Gate, W: Watcher>(
 }
 
 // Runs a set from the first heap over an opened image, from this main method on.
-fn run_heap<I: Image, S: Sink, G: Gate, W: Watcher>(
+fn run_heap<R, I, S, G, W>(
+    rt: &R,
+    workers: u8,
     alloc: Global,
     set: &ClassSet,
     class: &[u8],
@@ -275,6 +323,12 @@ fn run_heap<I: Image, S: Sink, G: Gate, W: Watcher>(
     gate: &G,
     watcher: W,
 ) -> Ran<I, S, W>
+where
+    R: Threads + Wait + Sync,
+    I: Image + Send,
+    S: Sink + Send,
+    G: Gate + Sync,
+    W: Watcher + Send,
     requires can { (start : Told) × (old : Linked)
         × CanLaunch start old set.now limits.now.heap_words heap }
     requires main { main_of set.now class.now ≡ Ok main.now }
@@ -292,7 +346,7 @@ fn run_heap<I: Image, S: Sink, G: Gate, W: Watcher>(
 {
     each_stop_is_allowed();
     match launch(alloc, set, main, heap, limits) {
-        Ok(launched) => run_launched(alloc, set, room, launched, sink, gate, watcher),
+        Ok(launched) => run_launched(rt, workers, alloc, set, room, launched, sink, gate, watcher),
         Err(memory) => unbegun(
             alloc,
             Status::OutOfMemory,
@@ -304,7 +358,9 @@ fn run_heap<I: Image, S: Sink, G: Gate, W: Watcher>(
 }
 
 // Runs a set from its first turn on.
-fn run_launched<I: Image, S: Sink, G: Gate, W: Watcher>(
+fn run_launched<R, I, S, G, W>(
+    rt: &R,
+    workers: u8,
     alloc: Global,
     set: &ClassSet,
     room: NameRoom,
@@ -313,6 +369,12 @@ fn run_launched<I: Image, S: Sink, G: Gate, W: Watcher>(
     gate: &G,
     watcher: W,
 ) -> Ran<I, S, W>
+where
+    R: Threads + Wait + Sync,
+    I: Image + Send,
+    S: Sink + Send,
+    G: Gate + Sync,
+    W: Watcher + Send,
     requires ready { (o : Opening) × (first : ℕ) × IsReady o first (facts_of set.now)
         (setting_in launched.host) launched.heap launched.frames.items }
     requires empty { launched.heap.history.acts ≡ [] }
@@ -333,20 +395,20 @@ fn run_launched<I: Image, S: Sink, G: Gate, W: Watcher>(
         frames,
         graph,
     } = launched;
-    let mut run = Run {
+    let run = Run {
         frames,
         heap,
         sink,
         watcher,
         turns: [0; 64],
     };
-    let end = run_threads(&mut run, &SetTypes::of(set), &host, gate);
+    let (end, left) = run_all(rt, run, &SetTypes::of(set), &host, workers, gate);
     let Run {
         heap,
         sink,
         watcher,
         ..
-    } = run;
+    } = left;
     let (acts, memory) = heap.finish();
     Ran {
         status: of_end(set, end, room),

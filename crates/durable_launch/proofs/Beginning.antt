@@ -9,32 +9,32 @@ use Rattle.ap_base.specs.declared.reference.Item.{Item}
 use Rattle.run_types.specs.declared.wait.On.TheVariants as on
 use Rattle.natives.specs.declared.methods.Native.{Native}
 use Rattle.natives.specs.declared.states.NativeState.{NativeState}
-use Rattle.frames.specs.Settings.{Setting}
-use Rattle.durable_run.specs.Passed.{AreOf}
+use Rattle.workers.specs.Passed.{Setting}
+use Rattle.workers.specs.Passed.{AreOf}
 use Rattle.run_history.specs.Recorded.{Recorded}
 use Rattle.plain_model.specs.Facts.{class_at, class_count}
 use Rattle.class_set.specs.Linked.{Linked, class_count as linked_count}
 use Rattle.class_set.proofs.Supertypes.{program_counted}
 use Rattle.class_set.specs.Facts.{facts_of}
 use Rattle.set_directory.specs.Written.{is_written}
-use Rattle.run_forms.specs.Views.{ThreadFrames}
-use Rattle.run_forms.specs.Standing.{Launch}
+use Rattle.workers.specs.Passed.{ThreadFrames}
+use Rattle.workers.specs.Passed.{Launch}
 use Rattle.twin_forms.specs.Table.{Entry, IsClaimed}
 use Rattle.convert_queue.specs.Queues.{Queues, total}
 use Rattle.region_log.specs.Log.{Log}
-use Rattle.durable_run.specs.Passed.{Opening, empty_log, log_of, memory_of}
-use Rattle.durable_run.specs.Passed.{AllKeep, BeginnersKeepTheirs, IsUnbegun, KeepsRun}
-use Rattle.durable_run.specs.Passed.{RunsAsPlain}
+use Rattle.workers.specs.Passed.{Opening, empty_log, log_of, memory_of}
+use Rattle.workers.specs.Passed.{AllKeep, BeginnersKeepTheirs, IsUnbegun, KeepsRun}
+use Rattle.workers.specs.Passed.{RunsAsPlain}
 use Rattle.launch_laws.specs.First.{IsFirstMachine}
 use Rattle.launch_laws.proofs.Nodes.{nobody_owns, table_of_lines}
 use Rattle.launch_laws.proofs.Stops.{all_idle}
-use Rattle.durable_run.specs.Passed.{TakesLines}
-use Rattle.durable_run.specs.Passed.{StartsTakeNoLines}
-use Rattle.durable_run.specs.Passed.{StartsHaveUnwritten}
-use Rattle.durable_run.specs.Passed.{Shared}
-use Rattle.durable_run.specs.Passed.{ThreadNotes, asked_by, no_notes, waits_on}
-use Rattle.durable_run.specs.Passed.{IsRunning, HadNoFault, ListsClasses, Runs}
-use Rattle.durable_run.specs.Turning.{HasFrames, HaveTurned}
+use Rattle.workers.specs.Passed.{TakesLines}
+use Rattle.workers.specs.Passed.{StartsTakeNoLines}
+use Rattle.workers.specs.Passed.{StartsHaveUnwritten}
+use Rattle.workers.specs.Passed.{Shared}
+use Rattle.workers.specs.Passed.{ThreadNotes, asked_by, no_notes, waits_on}
+use Rattle.workers.specs.Passed.{IsRunning, HadNoFault, ListsClasses, Runs}
+use Rattle.workers.specs.Passed.{HasFrames, HaveTurned}
 
 -- ---- no act
 

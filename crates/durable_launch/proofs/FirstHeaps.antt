@@ -16,10 +16,10 @@ use Rattle.directories.specs.Planning.{directory_of_kept}
 use Rattle.one_space.specs.declared.failing.NoFirstHeap.{NoFirstHeap}
 use Rattle.one_space.specs.declared.failing.NoFirstHeap.TheVariants as no_heap
 use Rattle.one_space.specs.First.{IfFull as IfNoWords, LacksWords, text_object}
-use Rattle.first_spaces.specs.declared.parts.FirstObjects.{FirstObjects}
-use Rattle.first_spaces.specs.declared.parts.SpacesParts.{SpacesParts}
-use Rattle.first_spaces.specs.Opened.{IsOpened}
-use Rattle.first_spaces.specs.Parts.{AreObjects, IsBeginning, volatile_objects}
+use Rattle.set_opening.specs.Passed.{FirstObjects}
+use Rattle.set_opening.specs.Passed.{SpacesParts}
+use Rattle.set_opening.specs.Passed.{IsOpened}
+use Rattle.set_opening.specs.Passed.{AreObjects, IsBeginning, volatile_objects}
 use Rattle.program_launch.specs.declared.refusals.NoLaunch.{NoLaunch}
 use Rattle.program_launch.specs.Refusals.{IfFull, refusal_of}
 use Rattle.set_opening.specs.Opened.{IsOpenedFor}

@@ -7,7 +7,7 @@ use Rattle.ap_base.specs.declared.reference.Ref.TheVariants.{Null as NoRef}
 use Rattle.ap_base.specs.declared.reference.Item.{Item}
 use Rattle.natives.specs.declared.methods.Native.{Native}
 use Rattle.natives.specs.declared.states.NativeState.{NativeState}
-use Rattle.frames.specs.Settings.{Setting}
+use Rattle.workers.specs.Passed.{Setting}
 use Rattle.run_types.specs.declared.limits.Limits.{Limits}
 use Rattle.line_image.specs.Told.{Told}
 use Rattle.image_meaning.specs.Directories.{Directory}
@@ -15,32 +15,32 @@ use Rattle.image_recovery.specs.Recovered.{entries_in}
 use Rattle.plain_model.specs.Consistent.{IsConsistent}
 use Rattle.plain_model.specs.Duties.{IsClass}
 use Rattle.plain_frames.specs.Tables.{NamesWhatIsThere}
-use Rattle.frames.specs.Turns.{begun_main}
+use Rattle.workers.specs.Passed.{begun_main}
 use Rattle.class_set.specs.Linked.{Linked}
 use Rattle.class_set.specs.Facts.{facts_of}
 use Rattle.class_set.specs.Sets.{IsLinked}
-use Rattle.shared_objects.specs.declared.rest.Rest.{Rest}
-use Rattle.shared_objects.specs.declared.threads.ThreadState.{ThreadState}
+use Rattle.workers.specs.Passed.{Rest}
+use Rattle.workers.specs.Passed.{ThreadState}
 use Rattle.one_space.specs.Beside.{IsFirstRest}
 use Rattle.program_host.specs.Literals.{literal_in, spare}
 use Rattle.program_launch.specs.declared.mains.Main.{Main}
 use Rattle.program_launch.specs.Launches.{set_program}
-use Rattle.run_forms.specs.Views.{ThreadFrames}
-use Rattle.run_forms.specs.Standing.{IsLaunch, Launch, setting_of}
+use Rattle.workers.specs.Passed.{ThreadFrames}
+use Rattle.workers.specs.Passed.{IsLaunch, Launch, setting_of}
 use Rattle.twin_forms.specs.Table.{Entry}
-use Rattle.first_spaces.specs.Spaces.{spaces_of}
-use Rattle.durable_run.specs.Passed.{Opening, empty_log}
+use Rattle.set_opening.specs.Passed.{spaces_of}
+use Rattle.workers.specs.Passed.{Opening, empty_log}
 use Rattle.launch_laws.specs.First.{IsFirstMachine, IsOpenedImage, BeginsMain}
 use Rattle.launch_laws.specs.Laws.{FirstMachinesKeepRuns, FirstMachinesRunAsPlain}
 use Rattle.launch_laws.specs.Shapes.{MadeHeapsHaveTheirDirectory}
-use Rattle.durable_run.specs.Passed.{StartsTakeNoLines}
-use Rattle.durable_run.specs.Passed.{StartsHaveUnwritten}
-use Rattle.durable_run.specs.Passed.{BeginnersKeepTheirs, ListsClasses}
+use Rattle.workers.specs.Passed.{StartsTakeNoLines}
+use Rattle.workers.specs.Passed.{StartsHaveUnwritten}
+use Rattle.workers.specs.Passed.{BeginnersKeepTheirs, ListsClasses}
 use Rattle.launch_laws.specs.Written.{ThreadsAskForWrittenArrays}
-use Rattle.durable_run.specs.Passed.{Shared}
-use Rattle.durable_run.proofs.Passed.{at_to, long_to}
-use Rattle.durable_run.specs.Passed.{first_shared}
-use Rattle.durable_run.specs.Turning.{IsReady, AsksListed}
+use Rattle.workers.specs.Passed.{Shared}
+use Rattle.workers.proofs.Passed.{at_to, long_to}
+use Rattle.workers.specs.Passed.{first_shared}
+use Rattle.workers.specs.Passed.{IsReady, AsksListed}
 use Rattle.durable_launch.specs.declared.heaps.OpenedHeap.{OpenedHeap}
 use Rattle.durable_launch.specs.Launching.{CanLaunch, launch_over, opening_over}
 use Rattle.durable_launch.proofs.Beginning.{own, running, runs as runs_of, written_class}

@@ -16,15 +16,15 @@ use Rattle.program_host.specs.Hosts.{setting_in}
 use Rattle.program_host.specs.Literals.{literal_in}
 use Rattle.program_launch.specs.declared.mains.Main.{Main}
 use Rattle.program_launch.specs.Launches.{set_program}
-use Rattle.run_forms.specs.Standing.{Launch}
+use Rattle.workers.specs.Passed.{Launch}
 use Rattle.two_spaces.specs.Seen.{Spaces, shown_of}
-use Rattle.durable_run.specs.Passed.{Opening, memory_of}
-use Rattle.first_spaces.specs.declared.parts.SpacesTables.{SpacesTables}
-use Rattle.first_spaces.specs.Beginnings.{HasTables, IsWholeOpened, RootsLieInSlots, ShowsOpening, StandFor}
-use Rattle.first_spaces.specs.Parts.{AreTables}
-use Rattle.first_spaces.specs.Spaces.{spaces_of}
+use Rattle.workers.specs.Passed.{Opening, memory_of}
+use Rattle.set_opening.specs.Passed.{SpacesTables}
+use Rattle.set_opening.specs.Passed.{HasTables, IsWholeOpened, RootsLieInSlots, ShowsOpening, StandFor}
+use Rattle.set_opening.specs.Passed.{AreTables}
+use Rattle.set_opening.specs.Passed.{spaces_of}
 use Rattle.set_opening.specs.Opened.{IsOpenedFor}
-use Rattle.durable_run.specs.Turning.{IsReady}
+use Rattle.workers.specs.Passed.{IsReady}
 use Rattle.durable_launch.specs.declared.heaps.OpenedHeap.{OpenedHeap}
 use Rattle.durable_launch.specs.declared.launches.Launched.{Launched}
 

@@ -1,10 +1,10 @@
 -- What crates above name of the crates below this one: they stand on this one alone.
-pub use Rattle.durable_run.specs.Passed.{EachStopIsAllowed, HadNoFault, Opening, Shared, memory_of}
-pub use Rattle.durable_run.specs.Passed.{shown_in}
-pub use Rattle.durable_run.specs.Telling.{HasTold, IsCaused, with_all}
-pub use Rattle.durable_run.specs.Turning.{EndsBy, HasRun, IsReady, ending_of, fault_in}
-pub use Rattle.durable_run.specs.declared.runs.RunEnd.{RunEnd}
-pub use Rattle.durable_run.specs.declared.runs.RunEnd.TheVariants.{Ended, Over}
+pub use Rattle.workers.specs.Passed.{EachStopIsAllowed, HadNoFault, Opening, Shared, memory_of}
+pub use Rattle.workers.specs.Passed.{shown_in}
+pub use Rattle.workers.specs.Passed.{HasTold, IsCaused, with_all}
+pub use Rattle.workers.specs.Passed.{EndsBy, HasRun, IsReady, ending_of, fault_in}
+pub use Rattle.workers.specs.Passed.{RunEnd}
+pub use Rattle.workers.specs.Passed.{Ended, Over}
 pub use Rattle.program_launch.specs.Mains.{main_of}
 pub use Rattle.program_launch.specs.Refusals.{IfFull}
 pub use Rattle.program_launch.specs.declared.mains.Main.{Main}

@@ -1,7 +1,7 @@
 // What a run has beside its heap.
 ghost use Rattle.std.specs.Prelude.{◌≡◌, length, slice_get, IfOk, Some};
 ghost use Rattle.class_set.specs.Facts.{facts_of};
-ghost use Rattle.frames.specs.Turns.{begun_main};
+ghost use Rattle.workers.specs.Passed.{begun_main};
 ghost use Rattle.one_space.specs.Beside.{IsFirstRest};
 ghost use Rattle.plain_model.specs.Facts.{known_classes};
 ghost use Rattle.program_host.specs.Hosts.{setting_in};
@@ -14,8 +14,8 @@ use natives::NativeState;
 use private_steps::Frames;
 use program_host::ProgramHost;
 use program_launch::{Main, first_rest, program_of};
-use shared_objects::Rest;
 use std::alloc::{AllocError, Global};
+use workers::Rest;
 
 /// How many threads a run may have.
 const THREADS: usize = 64;

@@ -12,11 +12,10 @@ ghost use Rattle.durable_launch.specs.Launching.{CanLaunch};
 
 use ap_base::Ref;
 use class_set::ClassSet;
-use first_spaces::FirstSpaces;
 use line_image::Image;
 use line_memory::LineMemory;
 use program_launch::NoLaunch;
-use set_opening::OpenedImage;
+use set_opening::{FirstSpaces, OpenedImage};
 use set_spaces::spaces_parts;
 use shared_graph::SharedGraph;
 use std::alloc::Global;

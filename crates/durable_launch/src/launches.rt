@@ -12,7 +12,6 @@ use crate::heaps::OpenedHeap;
 use ap_base::Ref;
 use class_code::programs_name_what_is_there;
 use class_set::{ClassSet, linked_sets_are_consistent};
-use durable_run::{SharedHeap, events_keep_lines, lines_stay_unwritten, others_keep_theirs};
 use launch_laws::{
     asked_arrays_are_written, first_heaps_have_their_directory, first_machines_keep_their_run,
     first_machines_run_as_plain_runs,
@@ -26,6 +25,7 @@ use program_launch::Main;
 use run_types::Limits;
 use shared_graph::SharedGraph;
 use std::alloc::Global;
+use workers::{SharedHeap, events_keep_lines, lines_stay_unwritten, others_keep_theirs};
 
 /// What a run over an opened image begins with: what its frames are given, its heap with the empty
 /// history, the frames of its threads, of which thread 0 has begun, and the graph for which the image stands.

@@ -6,10 +6,13 @@ mod beside;
 mod heaps;
 mod launches;
 
-pub use durable_run::{Run, RunEnd, Stepped, each_stop_is_allowed, is_live, run_threads, step};
 pub use heaps::{OpenedHeap, open_heap};
 pub use launches::{Launched, launch};
 pub use program_launch::{Main, NoLaunch, NoMain, find_main, find_room};
 pub use set_opening::{
     FoundImage, OpenedImage, Unopened, complete, find_for, opened_images_open_again,
+};
+pub use workers::{
+    Halt, MeetingGate, Run, RunEnd, Stepped, each_stop_is_allowed, is_live, run_all, run_threads,
+    step,
 };

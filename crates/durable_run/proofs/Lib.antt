@@ -5,6 +5,7 @@ mod Passing
 mod Places
 mod Raising
 mod Reading
+mod Sharing
 mod Stepping
 mod Telling
 mod Throwing

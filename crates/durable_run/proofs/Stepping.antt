@@ -6,7 +6,6 @@ use Rattle.std.proofs.lemmas.Option.{get_or_from_slice_get, slice_get_within}
 use Rattle.ap_base.specs.declared.reference.Ref.{Ref}
 use Rattle.ap_base.specs.declared.reference.Item.{Item}
 use Rattle.run_types.specs.declared.wait.On.{On}
-use Rattle.run_types.specs.declared.wait.On.TheVariants as on
 use Rattle.natives.specs.declared.methods.Native.{Native}
 use Rattle.natives.specs.declared.requests.Request.{Request}
 use Rattle.natives.specs.declared.requests.Reply.{Reply}
@@ -25,10 +24,9 @@ use Rattle.machine.specs.Passed.{Shared, ThreadNotes, asked_by, taken, waits_on}
 use Rattle.machine.specs.declared.events.Event.TheVariants as event
 use Rattle.machine.specs.declared.events.Halt.{Halt}
 use Rattle.machine.specs.declared.events.Halt.TheVariants.{Met, Stuck}
-use Rattle.machine.specs.Events.{FindsWait}
 use Rattle.machine.specs.Remembering.{GoesOnWaiting, Remembers, RemembersOwn as EventRemembersOwn}
 use Rattle.machine.specs.Running.{RemembersAsked}
-use Rattle.durable_run.specs.Events.{FindsWaitOf, HasAsked, HasBegun, LeavesAlone, RemembersAfter, RemembersOwn, StepsTo}
+use Rattle.durable_run.specs.Events.{HasAsked, HasBegun, LeavesAlone, RemembersAfter, RemembersOwn, StepsTo}
 use Rattle.durable_run.specs.Turning.{IsReady, asks_next, is_live}
 use Rattle.durable_run.specs.declared.steps.Stepped.{Stepped}
 use Rattle.durable_run.specs.declared.steps.Stepped.TheVariants.{Acted, Micro, WouldWait, Over}
@@ -110,25 +108,12 @@ remembers-taken t asks went old new it = record {
   waits = it.waits;
 }
 
--- ---- what an event finds, and leaves alone
-
-pub waits-found : (logging : Bool) (w : On) (waits : Option On) → FindsWait logging (event.WouldWait w) waits
-    → FindsWaitOf logging (WouldWait w) waits
-waits-found logging (on.Conversion u) waits found = found
-waits-found logging (on.Monitor key) waits found = found
-waits-found logging (on.Join u) waits found = found
-waits-found logging (on.Init class) waits found = found
+-- ---- what an event leaves alone
 
 pub alone-taken : (t : ℕ) (asks : Option (Request Ref Item)) (went : Stepped) (s new : Shared) (notes : ThreadNotes)
     (Same : Type 0) → LeavesAlone t asks went (record s { notes = notes }) new Same → LeavesAlone t asks went s new Same
-alone-taken t asks Acted s new notes Same a =
+alone-taken t asks went s new notes Same a =
     record { calls = a.calls; either = a.either; unanswered = a.unanswered; silent = a.silent; others = a.others }
-alone-taken t asks Micro s new notes Same a =
-    record { calls = a.calls; either = a.either; unanswered = a.unanswered; silent = a.silent; others = a.others }
-alone-taken t asks (WouldWait w) s new notes Same a =
-    record { calls = a.calls; either = a.either; unanswered = a.unanswered; silent = a.silent; others = a.others }
-alone-taken t asks (Over halt) s new notes Same a =
-    record { calls = a.calls; either = a.either; unanswered = a.unanswered; silent = a.silent; others = tt }
 
 -- ---- what is asked next
 

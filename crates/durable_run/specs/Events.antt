@@ -1,12 +1,12 @@
 -- What an event of a thread leaves of a run, and what it tells the outside.
-use Rattle.std.specs.Prelude.{◌≡◌, ◌≢◌, ◌⊎◌, ℕ, ◌<◌, ◌≤◌, Bool, true, false, List, length, slice_get, slice_set, Option, Some, None, IsSome}
+use Rattle.std.specs.Prelude.{◌≡◌, ◌≢◌, ◌⊎◌, ℕ, ◌<◌, ◌≤◌, true, List, length, slice_get, slice_set, Option, Some, None, IsSome}
 use Rattle.ap_base.specs.declared.reference.Ref.{Ref}
 use Rattle.ap_base.specs.declared.reference.Item.{Item}
 use Rattle.run_types.specs.declared.fault.RunFault.{RunFault}
 use Rattle.run_types.specs.declared.wait.On.{On}
-use Rattle.run_types.specs.declared.wait.On.TheVariants as on
 use Rattle.natives.specs.declared.methods.Native.{Native}
 use Rattle.natives.specs.declared.requests.Request.{Request}
+use Rattle.natives.specs.declared.requests.Reply.TheVariants as reply
 use Rattle.natives.specs.declared.states.NativeState.{NativeState}
 use Rattle.run_history.specs.Recorded.{Recorded}
 use Rattle.plain_model.specs.Facts.{SetFacts}
@@ -18,13 +18,13 @@ use Rattle.private_steps.specs.Ahead.{HasCome}
 use Rattle.run_forms.specs.Views.{ThreadFrames}
 use Rattle.run_forms.specs.Standing.{setting_of}
 use Rattle.twin_forms.specs.Table.{Entry}
-use Rattle.machine.specs.Passed.{Opening, doing_of, memory_of}
+use Rattle.machine.specs.Passed.{Machine, Opening, memory_of}
 use Rattle.machine.specs.Passed.{IsSilent, SameImage, Shared, asked_by, measure, plain_waits, waits_on}
 use Rattle.machine.specs.declared.events.Event.{Event}
 use Rattle.machine.specs.declared.events.Event.TheVariants as event
 use Rattle.machine.specs.declared.events.Halt.TheVariants.{Met, Stuck}
 use Rattle.machine.specs.Halts.{fault_of_halt}
-use Rattle.machine.specs.Events.{AddsOne, CallsAtMostOnce, logs_word}
+use Rattle.machine.specs.Events.{AddsOne, CallsAtMostOnce, FindsConversion, FindsWait, LeavesOthers, logs_word}
 use Rattle.machine.specs.Remembering.{GoesOnWaiting, IsNext}
 use Rattle.durable_run.specs.Telling.{AddsShare, HasTold, IsCaused}
 use Rattle.durable_run.specs.Turning.{AsksListed, EndsAt, HasFrames, IsReady, is_live}
@@ -141,17 +141,17 @@ pub record RemembersAfter (t : ℕ) (asks : Option (Request Ref Item)) (went : S
 
 -- ---- whose step it is, and what it leaves alone
 
--- What an event says of what its thread waits for in the plain world, as `FindsWait` has it of the machine's: it waits for that
--- exactly where it tells so; it makes something only where it waits for nothing, but for a part of the logging of a word.
-abbrev pub FindsWaitOf : (logging : Bool) → Stepped → (waits : Option On) → Type 0
-FindsWaitOf logging Acted waits = waits ≡ None
-FindsWaitOf logging Micro waits = logging ≡ false → waits ≡ None
-FindsWaitOf logging (WouldWait (on.Conversion u)) waits = waits ≡ None
-FindsWaitOf logging (WouldWait on) waits = waits ≡ Some on
-FindsWaitOf logging (Over halt) waits = Unit {0}
+-- the machine's event that comes to the same; which reply it gave isn't told
+abbrev pub event_of : Stepped → Event
+event_of Acted = event.Did reply.Done
+event_of Micro = event.Micro
+event_of (WouldWait on) = event.WouldWait on
+event_of (Over halt) = event.Over halt
 
-abbrev pub FindsItsWait : Opening → ℕ → Stepped → Shared → Type 0
-FindsItsWait o t went old = FindsWaitOf (logs_word old.machine t) went (plain_waits o old.machine t)
+-- What an event of thread t says of what its thread waits for, in the plain world and for a conversion, as `machine::event` does.
+pub record FindsItsWait (o : Opening) (t : ℕ) (went : Stepped) (old : Machine) : Type 0 where
+  pub plain : FindsWait (logs_word old t) (event_of went) (plain_waits o old t)
+  pub conversion : FindsConversion o old t (event_of went)
 
 -- what was asked isn't done, and the run goes on
 abbrev pub AsksStill : Stepped → Type 0
@@ -164,11 +164,6 @@ abbrev pub PrintsNothing : Option (Request Ref Item) → Type 0
 PrintsNothing None = Unit {0}
 PrintsNothing (Some request) = IsSilent request
 
--- what each other thread is about stays, unless the run is over
-abbrev pub OthersStay : Stepped → ℕ → Shared → Shared → Type 0
-OthersStay (Over halt) t old new = Unit {0}
-OthersStay went t old new = (u : ℕ) → u ≢ t → doing_of new.machine u ≡ doing_of old.machine u
-
 -- What an event of thread t, whose turn asks this, leaves alone. That the sink is the one that was there stands for itself.
 pub record LeavesAlone (t : ℕ) (asks : Option (Request Ref Item)) (went : Stepped) (old new : Shared) (SameSink : Type 0)
     : Type 0 where
@@ -178,4 +173,4 @@ pub record LeavesAlone (t : ℕ) (asks : Option (Request Ref Item)) (went : Step
   -- Only a print calls the sink, which answers it or ends the run.
   pub unanswered : AsksStill went → SameSink
   pub silent : PrintsNothing asks → SameSink
-  pub others : OthersStay went t old new
+  pub others : LeavesOthers (event_of went) t old.machine new.machine

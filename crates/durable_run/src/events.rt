@@ -6,7 +6,8 @@ ghost use Rattle.run_forms.specs.Views.{ThreadFrames};
 ghost use Rattle.twin_forms.specs.Table.{Entry};
 ghost use Rattle.machine.specs.Passed.{IsSilent, Opening, SameImage, memory_of, plain_waits};
 ghost use Rattle.machine.specs.declared.events.Halt.TheVariants.{Met};
-ghost use Rattle.machine.specs.Events.{AddsActs, CallsAtMostOnce, FindsWait, IsAnswerTo, IsUnanswered, LeavesOthers, logs_word};
+ghost use Rattle.machine.specs.Events.{AddsActs, CallsAtMostOnce, FindsConversion, FindsWait, IsAnswerTo, IsUnanswered};
+ghost use Rattle.machine.specs.Events.{LeavesOthers, logs_word};
 ghost use Rattle.machine.specs.Halts.{lacks};
 ghost use Rattle.machine.specs.Passed.{measure};
 ghost use Rattle.machine.specs.Remembering.{IsNext, LeadsTo, Remembers};
@@ -49,6 +50,9 @@ pub(crate) fn told_event<C: Types, I: Image, S: Sink, W: Watcher>(
     ensures finds { (o : Opening) (first : ℕ) (es : List Entry) (threads : List ThreadFrames) (fs : ThreadFrames)
         → IsNext o first (C.facts set.now) heap.old es threads t fs request.old
         → FindsWait (logs_word heap.old.machine t) result (plain_waits o heap.old.machine t) }
+    ensures awaits { (o : Opening) (first : ℕ) (es : List Entry) (threads : List ThreadFrames) (fs : ThreadFrames)
+        → IsNext o first (C.facts set.now) heap.old es threads t fs request.old
+        → FindsConversion o heap.old.machine t result }
     ensures others { LeavesOthers result t heap.old.machine heap.new.machine }
     ensures calls { CallsAtMostOnce heap.old heap.new }
     ensures sink { IsUnanswered result → sink.new ≡ sink.old }

@@ -4,6 +4,7 @@ ghost use Rattle.machine.specs.Passed.{Opening, memory_of};
 ghost use Rattle.machine.specs.declared.events.Halt.TheVariants.{Stuck};
 ghost use Rattle.machine.specs.Halts.{fault_of_halt};
 ghost use Rattle.durable_run.specs.Passes.{PassesTo, fault_of_pass};
+ghost use Rattle.durable_run.specs.Shares.{PrintsShares};
 ghost use Rattle.durable_run.specs.Telling.{HasTold, IsCaused};
 ghost use Rattle.durable_run.specs.Turning.{EndsBy, IsReady, fault_in};
 
@@ -79,6 +80,10 @@ fn next_act<
     ensures told { HasTold run.old.heap.history.acts run.new.heap.history.acts
         (W.seen run.old.watcher) (W.seen run.new.watcher)
         (S.taken run.old.sink) (S.taken run.new.sink) }
+    ensures shares { (o : Opening) (first : ℕ)
+        → IsReady o first (C.facts set.now) (H.setting host.now) run.old.heap run.old.frames.items
+        → PrintsShares S.taken S.takes o.launch (fault_of_pass run.new.heap result) run.old.sink run.new.sink
+        run.old.heap.history.acts run.new.heap.history.acts }
     ensures cause { IsCaused (fault_of_pass run.new.heap result) (S.faults run.old.sink) (S.faults run.new.sink)
         (memory_of run.old.heap.machine).faults (memory_of run.new.heap.machine).faults }
     ensures full { run.old.heap.history.limit ≤ length run.old.heap.history.acts → result ≢ Pass.Went }
@@ -114,6 +119,11 @@ pub fn run_threads<
     ensures told { HasTold run.old.heap.history.acts run.new.heap.history.acts
         (W.seen run.old.watcher) (W.seen run.new.watcher)
         (S.taken run.old.sink) (S.taken run.new.sink) }
+    // Each print took the share of a state of the sink that had taken what the acts before it print.
+    ensures shares { (o : Opening) (first : ℕ)
+        → IsReady o first (C.facts set.now) (H.setting host.now) run.old.heap run.old.frames.items
+        → PrintsShares S.taken S.takes o.launch (fault_in result) run.old.sink run.new.sink
+        run.old.heap.history.acts run.new.heap.history.acts }
     ensures cause { IsCaused (fault_in result) (S.faults run.old.sink) (S.faults run.new.sink)
         (memory_of run.old.heap.machine).faults (memory_of run.new.heap.machine).faults }
     ensures size { (memory_of run.new.heap.machine).size ≡ (memory_of run.old.heap.machine).size }

@@ -10,6 +10,7 @@ ghost use Rattle.machine.specs.Halts.{lacks};
 ghost use Rattle.machine.specs.Passed.{asked_by, started_as};
 ghost use Rattle.durable_run.specs.Events.{AddsBy, FindsItsWait, HasAsked, HasBegun, LeavesAlone, LeavesLess, RemembersAfter, StepsTo, fault_of};
 ghost use Rattle.durable_run.specs.Events.{with_begun};
+ghost use Rattle.durable_run.specs.Shares.{PrintsShares};
 ghost use Rattle.durable_run.specs.Telling.{AddsShare, HasTold, IsCaused};
 ghost use Rattle.durable_run.specs.Turning.{IsReady, asks_next, is_live, turns_after};
 
@@ -94,6 +95,10 @@ fn goes_on<C: Types, I: Image, H: Host<Native, Ref, NativeState, Item>, S: Sink,
         (S.taken run.old.sink) (S.taken run.new.sink) }
     ensures share { AddsShare (Some request.old)
         (S.takes run.old.sink) run.old.heap.history.acts run.new.heap.history.acts }
+    ensures shares { (o : Opening) (first : ℕ) → HasAsked o first (C.facts set.now) (H.setting host.now)
+        run.old.heap run.old.frames.items t request.old
+        → PrintsShares S.taken S.takes o.launch (fault_of run.new.heap result) run.old.sink run.new.sink
+        run.old.heap.history.acts run.new.heap.history.acts }
     ensures cause { IsCaused (fault_of run.new.heap result) (S.faults run.old.sink) (S.faults run.new.sink)
         (memory_of run.old.heap.machine).faults (memory_of run.new.heap.machine).faults }
     ensures full { run.old.heap.history.limit ≤ length run.old.heap.history.acts
@@ -101,10 +106,11 @@ fn goes_on<C: Types, I: Image, H: Host<Native, Ref, NativeState, Item>, S: Sink,
     ensures less { LeavesLess result run.old.heap run.new.heap }
     ensures remembers { RemembersAfter t (Some request.old) result run.old.heap run.new.heap }
     ensures finds { (o : Opening) (first : ℕ) → HasAsked o first (C.facts set.now) (H.setting host.now)
-        run.old.heap run.old.frames.items t request.old → FindsItsWait o t result run.old.heap }
+        run.old.heap run.old.frames.items t request.old → FindsItsWait o t result run.old.heap.machine }
     ensures alone { LeavesAlone t (Some request.old) result run.old.heap run.new.heap (run.new.sink ≡ run.old.sink) }
     ensures turns { run.new.turns ≡ run.old.turns }
 {
+    machine::machines_ask_as_plain_runs();
     let before = run.heap.threads().count();
     let went = told_event(
         &mut run.heap,
@@ -147,6 +153,10 @@ fn continues<C: Types, I: Image, H: Host<Native, Ref, NativeState, Item>, S: Sin
         (S.taken run.old.sink) (S.taken run.new.sink) }
     ensures share { AddsShare (asked_by run.old.heap.notes t)
         (S.takes run.old.sink) run.old.heap.history.acts run.new.heap.history.acts }
+    ensures shares { (o : Opening) (first : ℕ)
+        → IsReady o first (C.facts set.now) (H.setting host.now) run.old.heap run.old.frames.items
+        → PrintsShares S.taken S.takes o.launch (fault_of run.new.heap result) run.old.sink run.new.sink
+        run.old.heap.history.acts run.new.heap.history.acts }
     ensures cause { IsCaused (fault_of run.new.heap result) (S.faults run.old.sink) (S.faults run.new.sink)
         (memory_of run.old.heap.machine).faults (memory_of run.new.heap.machine).faults }
     ensures full { run.old.heap.history.limit ≤ length run.old.heap.history.acts
@@ -155,7 +165,7 @@ fn continues<C: Types, I: Image, H: Host<Native, Ref, NativeState, Item>, S: Sin
     ensures remembers { RemembersAfter t (asked_by run.old.heap.notes t) result run.old.heap run.new.heap }
     ensures finds { (o : Opening) (first : ℕ)
         → IsReady o first (C.facts set.now) (H.setting host.now) run.old.heap run.old.frames.items
-        → FindsItsWait o t result run.old.heap }
+        → FindsItsWait o t result run.old.heap.machine }
     ensures alone { LeavesAlone t (asked_by run.old.heap.notes t) result run.old.heap run.new.heap
         (run.new.sink ≡ run.old.sink) }
     ensures turns { run.new.turns ≡ run.old.turns }
@@ -189,6 +199,11 @@ fn asks<C: Types, I: Image, H: Host<Native, Ref, NativeState, Item>, S: Sink, W:
     ensures share { (before now : ThreadFrames) → HasCome (H.setting host.now) stop before now
         → slice_get run.old.frames.items t ≡ Some now → AddsShare (turn (H.setting host.now) before).asks
         (S.takes run.old.sink) run.old.heap.history.acts run.new.heap.history.acts }
+    ensures shares { (o : Opening) (first : ℕ) (all : List ThreadFrames) (before now : ThreadFrames)
+        → HasBegun o first (C.facts set.now) (H.setting host.now) run.old.heap all t stop before now
+        → run.old.frames.items ≡ slice_set all t now
+        → PrintsShares S.taken S.takes o.launch (fault_of run.new.heap result) run.old.sink run.new.sink
+        run.old.heap.history.acts run.new.heap.history.acts }
     ensures cause { IsCaused (fault_of run.new.heap result) (S.faults run.old.sink) (S.faults run.new.sink)
         (memory_of run.old.heap.machine).faults (memory_of run.new.heap.machine).faults }
     ensures full { run.old.heap.history.limit ≤ length run.old.heap.history.acts
@@ -199,7 +214,7 @@ fn asks<C: Types, I: Image, H: Host<Native, Ref, NativeState, Item>, S: Sink, W:
         → RemembersAfter t (turn (H.setting host.now) before).asks result run.old.heap run.new.heap }
     ensures finds { (o : Opening) (first : ℕ) (all : List ThreadFrames) (before now : ThreadFrames)
         → HasBegun o first (C.facts set.now) (H.setting host.now) run.old.heap all t stop before now
-        → run.old.frames.items ≡ slice_set all t now → FindsItsWait o t result run.old.heap }
+        → run.old.frames.items ≡ slice_set all t now → FindsItsWait o t result run.old.heap.machine }
     ensures alone { (before now : ThreadFrames) → HasCome (H.setting host.now) stop before now
         → slice_get run.old.frames.items t ≡ Some now
         → LeavesAlone t (turn (H.setting host.now) before).asks result run.old.heap run.new.heap
@@ -236,6 +251,11 @@ pub fn step<
     ensures share { (fs : ThreadFrames) → slice_get run.old.frames.items t ≡ Some fs
         → AddsShare (asks_next (H.setting host.now) (asked_by run.old.heap.notes t) fs)
         (S.takes run.old.sink) run.old.heap.history.acts run.new.heap.history.acts }
+    // The share of what its thread asks in the plain run; and the sink's state behind it.
+    ensures shares { (o : Opening) (first : ℕ)
+        → IsReady o first (C.facts set.now) (H.setting host.now) run.old.heap run.old.frames.items
+        → PrintsShares S.taken S.takes o.launch (fault_of run.new.heap result) run.old.sink run.new.sink
+        run.old.heap.history.acts run.new.heap.history.acts }
     ensures cause { IsCaused (fault_of run.new.heap result) (S.faults run.old.sink) (S.faults run.new.sink)
         (memory_of run.old.heap.machine).faults (memory_of run.new.heap.machine).faults }
     // A history without room for an act has none.
@@ -246,10 +266,11 @@ pub fn step<
     ensures remembers { (fs : ThreadFrames) → slice_get run.old.frames.items t ≡ Some fs
         → RemembersAfter t (asks_next (H.setting host.now) (asked_by run.old.heap.notes t) fs) result
         run.old.heap run.new.heap }
-    // It waits in the plain world exactly where its thread does.
+    // Unless the run is over, it waits in the plain world exactly where its thread does, but for a `Micro` while a word is being
+    // logged for that; and for a conversion where that waited for one, and what it asked isn't durable yet.
     ensures finds { (o : Opening) (first : ℕ)
         → IsReady o first (C.facts set.now) (H.setting host.now) run.old.heap run.old.frames.items
-        → FindsItsWait o t result run.old.heap }
+        → FindsItsWait o t result run.old.heap.machine }
     // It calls the image once at most, or else, for a print, the sink; and leaves the other threads at what they are about.
     ensures alone { (fs : ThreadFrames) → slice_get run.old.frames.items t ≡ Some fs
         → LeavesAlone t (asks_next (H.setting host.now) (asked_by run.old.heap.notes t) fs) result

@@ -83,6 +83,7 @@ module _ (start : Told) (before m : Memory) (version : ℕ) (directory : Kept) (
         (r.stands at.known);
     directory_stays = λ tells. r.directory_stays (at.telling tells) (attached_durable start before at)
         (attached_written start before at) at.enough at.most (entries_in directory) directory_had;
+    stores = r.stores;
     recovered = done;
     known = known;
     stands_now = r.stands_now at.known;
@@ -116,6 +117,8 @@ is_unrecovered start after before m fault why at fails of sized told = record {
   stops = λ tells. fails.stops (at.telling tells) (attached_durable start before at) (attached_written start before at);
   directory_stays = λ tells. fails.directory_stays (at.telling tells) (attached_durable start before at)
       (attached_written start before at) at.enough at.most;
+  stores = fails.stores;
+  recovering = λ tells. fails.recovering (at.telling tells) (attached_durable start before at) (attached_written start before at) at.enough;
   cause = recovery_cause before m fault why of (fails.bad at.known) (fails.put_back at.known);
 }
 

@@ -16,7 +16,7 @@ use Rattle.directories.specs.declared.stepping.Progress.TheVariants as stage
 use Rattle.directories.specs.Kept.{Kept}
 use Rattle.image_recovery.specs.Putting.{AllDurable, IsRecovered}
 use Rattle.image_recovery.specs.Recovered.{FindsImage, FindsNothing, entries_in}
-use Rattle.image_recovery.specs.Recoveries.{HasDirectory}
+use Rattle.image_recovery.specs.Recoveries.{HasDirectory, StoresItsOwn}
 use Rattle.image_opening.specs.Attached.{IsAttached}
 
 -- the words spell this directory: a blank image has none of its entries
@@ -44,8 +44,9 @@ pub record IsFoundIn (before m : Memory) (version : ℕ) (directory : Kept) (gra
   pub free_is : free ≡ free_line (shown m) lines
 
 -- The image, which told `start`, was attached and fenced: its memory was `before` then. It stood for this graph, and still does: each stop
--- since then leaves an image that does so, and that has this directory. It is recovered, all durable: it opens with the directory, no check
--- of it fails, and no log counts an entry.
+-- since then leaves an image that does so, and that has this directory. In a blank one the layout was stored; in any other words were put
+-- back from logs and counts of logs cleared, alone. It is recovered, all durable: it opens with the directory, no check of it fails, and no
+-- log counts an entry.
 pub record IsOpenImage (start : Told) (before m : Memory) (version : ℕ) (directory : Kept) (graph : Graph) (lines : List ℕ)
     (free undone : ℕ) : Type 0 where
   pub attached : IsAttached start before
@@ -54,6 +55,7 @@ pub record IsOpenImage (start : Told) (before m : Memory) (version : ℕ) (direc
   pub goes_on : GoesOn before m
   pub stops : IsTelling start.trace → StopsLeave before m (λ c. StandsFor before.size c graph)
   pub directory_stays : IsTelling start.trace → StopsLeave before m (λ c. HasDirectory before.size c (entries_in directory))
+  pub stores : StoresItsOwn before m
   pub recovered : IsRecoveredAs before m
   pub known : AllKnown m
   pub stands_now : StandsFor m.size (shown m) graph

@@ -1,5 +1,5 @@
 -- Images that couldn't be opened.
-use Rattle.std.specs.Prelude.{◌≡◌, ◌⊎◌, ◌<◌, ℕ, Err}
+use Rattle.std.specs.Prelude.{◌≡◌, ◌≢◌, ◌⊎◌, ◌<◌, ℕ, None, Err}
 use Rattle.graph_model.specs.declared.types.Graph.{Graph}
 use Rattle.line_image.specs.Told.{Told}
 use Rattle.line_image.specs.Trace.{LeavesNow}
@@ -12,12 +12,13 @@ use Rattle.image_layout.specs.declared.superblock.BadReason.TheVariants.{Size}
 use Rattle.image_layout.specs.Places.{min_lines, max_lines}
 use Rattle.image_meaning.specs.Checks.{Words}
 use Rattle.image_meaning.specs.Directories.{Directory}
+use Rattle.image_meaning.specs.Logs.{logs_fault}
 use Rattle.image_meaning.specs.Meaning.{meaning, StandsFor}
 use Rattle.word_changes.specs.Changes.{ChangesTo, GoesOn, StopsLeave}
 use Rattle.image_walk.specs.declared.fault.RecoverFault.{RecoverFault}
 use Rattle.image_walk.specs.declared.fault.RecoverFault.TheVariants as recovery
-use Rattle.image_recovery.specs.Putting.{IsPutBack}
-use Rattle.image_recovery.specs.Recoveries.{HasDirectory}
+use Rattle.image_recovery.specs.Putting.{IsPutBack, IsRecoveringIn}
+use Rattle.image_recovery.specs.Recoveries.{HasDirectory, StoresItsOwn}
 use Rattle.image_opening.specs.declared.not_opened.NotOpened.{NotOpened}
 use Rattle.image_opening.specs.declared.not_opened.NotOpened.TheVariants.{BadImage, ImageFailed, OutOfMemory}
 use Rattle.image_opening.specs.Attached.{AreRead, IsAttached}
@@ -78,7 +79,9 @@ IsRecoveryFault before m ImageFailed = Unit {0}
 IsRecoveryFault before m OutOfMemory = Unit {0}
 
 -- It was attached, its memory being `before` then, and couldn't be recovered. Each stop leaves an image that stands for the graph for which
--- it stood, and has the directory that it had, if there is one.
+-- it stood, and has the directory that it had, if there is one. Whatever the cause, in a blank image words of the layout were stored; in any
+-- other words were put back from logs and counts of logs cleared, alone (`stores`). A stop within that leaves each word outside the logs as
+-- it was or put back, also where there is no graph (`recovering`).
 pub record IsUnrecovered (start after : Told) (why : NotOpened) : Type 0 where
   pub before : Memory
   pub memory : Memory
@@ -90,6 +93,9 @@ pub record IsUnrecovered (start after : Told) (why : NotOpened) : Type 0 where
       → StopsLeave before memory (λ c. StandsFor before.size c graph)
   pub directory_stays : IsTelling start.trace → (directory : Directory) → HasDirectory before.size (shown before) directory
       → StopsLeave before memory (λ c. HasDirectory before.size c directory)
+  pub stores : StoresItsOwn before memory
+  pub recovering : IsTelling start.trace → shown before 0 0 ≢ 0 → logs_fault before.size (shown before) ≡ None
+      → StopsLeave before memory (IsRecoveringIn before.size (shown before))
   pub cause : IsRecoveryFault before memory why
 
 abbrev pub IsUnopened : Told → Told → NotOpened → Type 0

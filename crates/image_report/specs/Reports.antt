@@ -59,11 +59,10 @@ pub record IsLeftOpen (start left : Told) : Type 0 where
   pub opened : IsOpenImage start before memory version_now directory graph lines free undone
   pub told : left ≡ memory.image
 
--- something was put, or all of it
-abbrev pub HasPut : Result (Unit {0}) NotReported → Type 0
-HasPut (Ok done) = Unit {0}
-HasPut (Err SinkFailed) = Unit {0}
-HasPut other = ⊥
+-- the image was opened, whatever came of its text
+abbrev pub WasOpened : Result (Unit {0}) NotReported → Type 0
+WasOpened (Err (Unopened why)) = ⊥
+WasOpened other = Unit {0}
 
 -- ---- what a sink took, that had taken so much before
 

@@ -3,7 +3,7 @@ ghost use Rattle.std.specs.Prelude.{◌≡◌, OnOk, IfErr};
 ghost use Rattle.ap_base.specs.Causes.{Rose};
 ghost use Rattle.image_opening.specs.Attached.{IsSettled};
 ghost use Rattle.image_opening.specs.Stops.{KeepsItsGraph};
-ghost use Rattle.image_report.specs.Reports.{HasPrinted, HasPut, IsChecked, IsDumped, IsLeftOpen, IsUnreported};
+ghost use Rattle.image_report.specs.Reports.{HasPrinted, IsChecked, IsDumped, IsLeftOpen, IsUnreported, WasOpened};
 
 use crate::checking::check_text;
 use crate::dumping::dump_text;
@@ -34,7 +34,7 @@ pub fn check_image<I: Image, S: Sink>(alloc: Global, image: I, mut sink: S) -> R
     ensures printed { OnOk result.how (HasPrinted IsChecked (I.told image) (S.taken sink) (S.taken result.sink)) }
     ensures unreported { IfErr result.how (IsUnreported IsChecked (I.told image) (I.told result.image)
         (S.taken sink) (S.taken result.sink)) }
-    ensures left { HasPut result.how → IsLeftOpen (I.told image) (I.told result.image) }
+    ensures left { WasOpened result.how → IsLeftOpen (I.told image) (I.told result.image) }
     ensures stops { IsSettled (I.told image) → KeepsItsGraph (I.told image) (I.told result.image) }
     ensures size { (I.told result.image).size ≡ (I.told image).size }
     ensures image_cause { IfErr result.how (λ why. why ≡ NotReported.Unopened NotOpened.ImageFailed
@@ -81,7 +81,7 @@ pub fn dump_image<I: Image, S: Sink>(alloc: Global, image: I, mut sink: S) -> Re
     ensures printed { OnOk result.how (HasPrinted IsDumped (I.told image) (S.taken sink) (S.taken result.sink)) }
     ensures unreported { IfErr result.how (IsUnreported IsDumped (I.told image) (I.told result.image)
         (S.taken sink) (S.taken result.sink)) }
-    ensures left { HasPut result.how → IsLeftOpen (I.told image) (I.told result.image) }
+    ensures left { WasOpened result.how → IsLeftOpen (I.told image) (I.told result.image) }
     ensures stops { IsSettled (I.told image) → KeepsItsGraph (I.told image) (I.told result.image) }
     ensures size { (I.told result.image).size ≡ (I.told image).size }
     ensures image_cause { IfErr result.how (λ why. why ≡ NotReported.Unopened NotOpened.ImageFailed

@@ -54,6 +54,7 @@ use Rattle.machine.specs.Ended.{HasPlanned, StoreComesTo}
 use Rattle.machine.specs.Events.{Comes, AsksOn}
 use Rattle.machine.specs.Laws.{Laws}
 use Rattle.machine.specs.Running.{HadNoFault}
+use Rattle.machine.proofs.Awaiting.{awaits-idle, awaits-nothing}
 use Rattle.machine.proofs.Basics.{doing-set, not-longer, shared-is}
 use Rattle.machine.proofs.Bound.{act-bound, quiet-bound}
 use Rattle.machine.proofs.Faults.{none-more}
@@ -158,6 +159,7 @@ module _ (laws : Laws) (o : Opening) (first : ℕ) (set : SetFacts) (s : Shared)
           cause = omega arith;
           answers = tt;
           finds = λ logs. waits-none laws o first set s es threads t fs request store h;
+          awaits = awaits-nothing o s.machine t nothing Micro;
           numbers = refl;
           quiet = λ micro same. not-longer s.history.acts act same;
           waits = λ on no. absurd (let e = no in cc);
@@ -276,6 +278,7 @@ module _ (laws : Laws) (o : Opening) (first : ℕ) (set : SetFacts) (s : Shared)
         cause = (let same = ap (λ (m : Memory). m.faults) b.begins.memory in omega (arith, same));
         answers = tt;
         finds = λ logs. waits-none laws o first set s es threads t fs request store h;
+        awaits = awaits-idle o s.machine t idle Micro;
         numbers = ap (λ (m : Machine). m.spaces.numbers) b.same;
         quiet = λ micro same. (let less = laws.measure.begins o s.machine es h.due.running.keeps
             h.due.running.unwritten new.machine b.after t number (reference_word object) begun.Claimed

@@ -40,6 +40,7 @@ use Rattle.machine.specs.Ended.{Serves, event_of}
 use Rattle.machine.specs.Events.{Comes, SparesSink}
 use Rattle.machine.specs.Laws.{Laws}
 use Rattle.machine.specs.Running.{HadNoFault, IsDue}
+use Rattle.machine.proofs.Awaiting.{awaits-nothing}
 use Rattle.machine.proofs.Answering.{IsDueFor, spared-serves}
 use Rattle.machine.proofs.Bound.{act-measured}
 use Rattle.machine.proofs.Faults.{none-more}
@@ -188,6 +189,7 @@ module _ (laws : Laws) (o : Opening) (first : ℕ) (set : SetFacts) (s : Shared)
         finds = laws.threads.wait o s.machine es threads due.running.keeps due.running.plain t fs request ready due.asks
             ∙ ap wait_of (begins o.launch.set (known_in o s.machine).world t 1 (shown_in s.machine).number request from
             is_begin);
+        awaits = awaits-nothing o s.machine t nothing (Did reply);
         numbers = stays.numbers;
         quiet = λ micro same. absurd (let no = micro in cc);
         waits = λ on no. absurd (let e = no in cc);

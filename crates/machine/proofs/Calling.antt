@@ -50,6 +50,7 @@ use Rattle.machine.specs.Events.{Comes, IsBroken, SparesOthers}
 use Rattle.machine.specs.Laws.{Laws}
 use Rattle.machine_threads.specs.Keeping.{AsksItsEnd, AsksSomeStore, KeepsThread, LagsByItsStore}
 use Rattle.machine.specs.Running.{IsDue, Runs}
+use Rattle.machine.proofs.Awaiting.{awaits-fencing, awaits-writing}
 use Rattle.machine.proofs.Basics.{doing-set, shared-is, some-same}
 use Rattle.machine.proofs.Bound.{act-bound, quiet-bound}
 use Rattle.machine.proofs.Faults.{none-more}
@@ -132,6 +133,7 @@ module _ (laws : Laws) (o : Opening) (first : ℕ) (set : SetFacts) (s : Shared)
           answers = tt;
           finds = λ logs. laws.threads.fences o s.machine es threads due.running.keeps due.running.plain t
               (inl (w.wrote.line, w.wrote.doing));
+          awaits = awaits-writing o s.machine t w.wrote.line w.wrote.doing Micro;
           numbers = refl;
           quiet = λ micro same. (let less = laws.measure.writes o s.machine es due.running.keeps
               due.running.unwritten w.twin t w.wrote in omega (arith, less));
@@ -223,6 +225,7 @@ module _ (laws : Laws) (o : Opening) (first : ℕ) (set : SetFacts) (s : Shared)
       cause = later_now;
       answers = whole (lag-fencing f.made.doing);
       finds = laws.threads.fences o s.machine es threads due.running.keeps due.running.plain t (inr f.made.doing);
+      awaits = awaits-fencing o s.machine t f.made.doing (Did reply.Done);
       numbers = refl;
       quiet = λ micro same. absurd (let no = micro in cc);
       waits = λ on no. absurd (let e = no in cc);
@@ -274,6 +277,7 @@ module _ (laws : Laws) (o : Opening) (first : ℕ) (set : SetFacts) (s : Shared)
           cause = rose_now;
           answers = tt;
           finds = tt;
+          awaits = λ u w. tt;
           numbers = refl;
           quiet = λ micro same. absurd (let no = micro in cc);
           waits = λ on no. absurd (let e = no in cc);

@@ -55,6 +55,7 @@ use Rattle.machine.specs.Ended.{Serves, event_of}
 use Rattle.machine.specs.Events.{Comes, SparesSink}
 use Rattle.machine.specs.Laws.{Laws}
 use Rattle.machine.specs.Running.{HadNoFault, IsDue}
+use Rattle.machine.proofs.Awaiting.{awaits-nothing}
 use Rattle.machine.proofs.Answering.{IsDueFor, spared-serves}
 use Rattle.machine.proofs.Basics.{not-longer, shared-is, some-same}
 use Rattle.machine.proofs.Bound.{act-measured, quiet-measured}
@@ -177,6 +178,7 @@ module _ (laws : Laws) (o : Opening) (first : ℕ) (set : SetFacts) (s : Shared)
           cause = later;
           answers = tt;
           finds = λ logs. waits-none;
+          awaits = awaits-nothing o s.machine t nothing Micro;
           numbers = refl;
           quiet = λ micro same. elim l.made [
             | inl touches ↦ absurd (laws.ending.untouched o s.machine es due.running.keeps
@@ -240,6 +242,7 @@ module _ (laws : Laws) (o : Opening) (first : ℕ) (set : SetFacts) (s : Shared)
           cause = later;
           answers = tt;
           finds = λ logs. waits-none;
+          awaits = awaits-nothing o s.machine t nothing Micro;
           numbers = refl;
           quiet = λ micro same. not-longer s.history.acts act same;
           waits = λ on no. absurd (let e = no in cc);
@@ -294,6 +297,7 @@ module _ (laws : Laws) (o : Opening) (first : ℕ) (set : SetFacts) (s : Shared)
           cause = rose;
           answers = tt;
           finds = tt;
+          awaits = λ u w. tt;
           numbers = refl;
           quiet = λ micro same. absurd (let no = micro in cc);
           waits = λ on no. absurd (let e = no in cc);
@@ -492,6 +496,7 @@ module _ (laws : Laws) (o : Opening) (first : ℕ) (set : SetFacts) (s : Shared)
             omega (arith, same, left, later));
         answers = regional-whole request regional;
         finds = waits-none;
+        awaits = awaits-nothing o s.machine t nothing (Did reply);
         numbers = ap (λ (y : Spaces). y.numbers) same-spaces;
         quiet = λ micro same. absurd (let no = micro in cc);
         waits = λ on no. absurd (let e = no in cc);

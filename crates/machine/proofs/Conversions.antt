@@ -50,7 +50,7 @@ use Rattle.machine.specs.declared.events.Event.TheVariants.{Micro, Over, WouldWa
 use Rattle.machine.specs.declared.events.Halt.TheVariants.{Met}
 use Rattle.machine.specs.Halts.{lacks}
 use Rattle.machine.specs.Ended.{HasPlanned, HasSomePlanned, IsThread, StoreComesTo, went_event}
-use Rattle.machine.specs.Events.{AsksOn, Comes, SparesSink, KeepsRows, KeepsRowsByNeed}
+use Rattle.machine.specs.Events.{AsksOn, Comes, FindsConversion, SparesSink, KeepsRows, KeepsRowsByNeed}
 use Rattle.convert_waits.specs.Rows.{InRow, Why, with_wait}
 use Rattle.convert_waits.specs.Rows.Why.{Member}
 use Rattle.converter.specs.Laws.{AreUnwritten, quiet}
@@ -58,6 +58,7 @@ use Rattle.std.proofs.Common.{Option}
 use Rattle.convert_waits.proofs.Rows.{converting_waits_keep, needing_waits_keep}
 use Rattle.machine.specs.Laws.{Laws}
 use Rattle.machine.specs.Running.{HadNoFault}
+use Rattle.machine.proofs.Awaiting.{none-moves, none-seals}
 use Rattle.machine.proofs.Basics.{not-longer}
 use Rattle.machine.proofs.Bound.{act-bound, quiet-bound, wait-bound}
 use Rattle.machine.proofs.Faults.{none-more}
@@ -114,6 +115,19 @@ module _ (laws : Laws) (o : Opening) (first : ℕ) (set : SetFacts) (s : Shared)
     (free : StoresFreely o s.machine t (place_of store.target) (value_in s.machine store.kept))
     (room : length s.history.acts < s.history.limit)
     (converting : doing_of s.machine t ≡ Converting) (new : Shared) where
+  -- the heap converts by whatever table it agrees with
+  converts-at : (table : List Entry) → AgreesAt (scene_of s.machine) table → AreUnwritten s.machine.queue table
+      → Converts s table
+  converts-at table agrees unwritten =
+      let own = converts-now laws o first set s es threads t fs request h.due in record {
+        agrees = agrees;
+        unwritten = unwritten;
+        unnamed = own.unnamed;
+        lines = own.lines;
+        within = own.within;
+        sound = own.sound;
+      }
+
   -- ---- a machine that was converted
 
   module _ (m' : Machine) (same : Converted s.machine m') where
@@ -199,9 +213,10 @@ module _ (laws : Laws) (o : Opening) (first : ℕ) (set : SetFacts) (s : Shared)
     same-end : (memory_of new.machine).size ≡ g.on.event.at.heap.memory.size
     same-end = g.on.event.converts.size
 
-    went-comes : MovesOn answer → (memory_of s.machine).faults ≤ (memory_of new.machine).faults
+    went-comes : MovesOn answer → FindsConversion o s.machine t Micro
+        → (memory_of s.machine).faults ≤ (memory_of new.machine).faults
         → Comes o first es threads t fs request Micro s new
-    went-comes moves later = record {
+    went-comes moves stopped later = record {
       goes = step-asks (subst (λ n. Roomy (total new.machine.queue.queues) n new.machine.free new.history.room)
           (sym same-end)
           (next-room answer t g.on.event.at (scene_of new.machine) es g.on.event.after new.history.room h.due.thread
@@ -211,6 +226,7 @@ module _ (laws : Laws) (o : Opening) (first : ℕ) (set : SetFacts) (s : Shared)
       cause = later;
       answers = tt;
       finds = λ logs. waits-none laws o first set s es threads t fs request store h;
+      awaits = stopped;
       numbers = numbers-stay new.machine g.on.same;
       quiet = λ micro none. (let less = laws.measure.steps o s.machine es h.due.running.keeps
           h.due.running.unwritten new.machine t answer g.on in
@@ -240,6 +256,7 @@ module _ (laws : Laws) (o : Opening) (first : ℕ) (set : SetFacts) (s : Shared)
           cause = later;
           answers = tt;
           finds = tt;
+          awaits = λ u w. tt;
           numbers = numbers-stay new.machine g.on.same;
           quiet = λ micro none. absurd (let no = micro in cc);
           waits = λ on no. absurd (let e = no in cc);
@@ -277,16 +294,7 @@ module _ (laws : Laws) (o : Opening) (first : ℕ) (set : SetFacts) (s : Shared)
 
     at-table : (table : List Entry) → AgreesAt (scene_of s.machine) table → AreUnwritten s.machine.queue table
         → GoesOnce t (step.Wait u) s new table
-    at-table table agrees unwritten =
-        let own = converts-now laws o first set s es threads t fs request h.due in
-        all table (record {
-          agrees = agrees;
-          unwritten = unwritten;
-          unnamed = own.unnamed;
-          lines = own.lines;
-          within = own.within;
-          sound = own.sound;
-        })
+    at-table table agrees unwritten = all table (converts-at table agrees unwritten)
 
     -- the plain world's waits are as they were
     row-now : (table : List Entry) (waited : ℕ → Option Why)
@@ -338,6 +346,7 @@ module _ (laws : Laws) (o : Opening) (first : ℕ) (set : SetFacts) (s : Shared)
       cause = later;
       answers = tt;
       finds = waits-none laws o first set s es threads t fs request store h;
+      awaits = λ v w. tt;
       numbers = numbers-stay new.machine g.on.same;
       quiet = λ micro none. absurd (let no = micro in cc);
       waits = λ on is. (let less = laws.measure.steps o s.machine es h.due.running.keeps
@@ -396,9 +405,10 @@ module _ (laws : Laws) (o : Opening) (first : ℕ) (set : SetFacts) (s : Shared)
         let before = h.due.running.room in
         omega (arith, size, free, left, room_is, before)
 
-    joined-comes : (memory_of s.machine).faults ≤ (memory_of new.machine).faults
+    joined-comes : FindsConversion o s.machine t Micro
+        → (memory_of s.machine).faults ≤ (memory_of new.machine).faults
         → Comes o first es threads t fs request Micro s new
-    joined-comes later =
+    joined-comes stopped later =
         let size = same-size laws o first set s es threads t fs request h.due new.machine after_seal
         sealed-keeps.keeps in record {
           goes = record {
@@ -432,6 +442,7 @@ module _ (laws : Laws) (o : Opening) (first : ℕ) (set : SetFacts) (s : Shared)
           cause = later;
           answers = tt;
           finds = λ logs. waits-none laws o first set s es threads t fs request store h;
+          awaits = stopped;
           numbers = ap (λ (m : Machine). m.spaces.numbers) j.machine ∙ numbers-stay j.between between-same;
           quiet = λ micro none. not-longer s.history.acts joined (sym history-now ∙ none);
           waits = λ on no. absurd (let e = no in cc);
@@ -474,6 +485,7 @@ module _ (laws : Laws) (o : Opening) (first : ℕ) (set : SetFacts) (s : Shared)
           cause = rose;
           answers = tt;
           finds = tt;
+          awaits = λ u w. tt;
           numbers = numbers-stay new.machine c.same;
           quiet = λ micro none. absurd (let no = micro in cc);
           waits = λ on no. absurd (let e = no in cc);
@@ -500,12 +512,27 @@ module _ (laws : Laws) (s new : Shared) (t : ℕ) (store : Store) (object : Ref)
     free = freely-volatile laws o first set s es threads t fs request store h apart object
         (convert es h.due.running.keeps.heap.whole)
 
+    -- a thread that waits for a conversion makes no step, and its group isn't sealed
+    none-went : Goes did.Went → FindsConversion o s.machine t Micro
+    none-went all u w =
+        let its = all w.table (converts-at laws o first set s es threads t fs request store h free room converting new
+        w.table w.agrees w.unwritten) in
+        absurd (none-moves t u its.0 (scene_of s.machine) (scene_of new.machine) w.table s.machine.rest.monitors
+        new.machine.rest.monitors w.agrees its.2.on.event laws.resident its.1 w.holds)
+
+    none-joined : Goes did.Joined → FindsConversion o s.machine t Micro
+    none-joined all u w =
+        let its = all w.table (converts-at laws o first set s es threads t fs request store h free room converting new
+        w.table w.agrees w.unwritten) in
+        absurd (none-seals t u its.set (scene_of s.machine) (scene_of its.between) w.table s.machine.rest.monitors
+        its.between.rest.monitors w.agrees its.seals.converts.event w.below w.holds)
+
     went : (result : Conversion) → IsThread result → Goes result → GoesTo t result s new es
         → Comes o first es threads t fs request (went_event result) s new
     went did.Went thread all g = went-comes laws o first set s es threads t fs request store h free room converting new
-        g.0 g.2 g.1 later
+        g.0 g.2 g.1 (none-went all) later
     went did.Joined thread all j = joined-comes laws o first set s es threads t fs request store h free room converting
-        new j later
+        new j (none-joined all) later
     went (did.Waits u) thread all g = waits-comes laws o first set s es threads t fs request store h free room converting
         new u thread g all later
     went (did.Full need left) thread all g =

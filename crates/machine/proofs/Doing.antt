@@ -33,6 +33,7 @@ use Rattle.machine.specs.declared.events.Event.TheVariants.{Did}
 use Rattle.machine.specs.Events.{Comes, IsBroken, NotesStart, StartsNone}
 use Rattle.machine.specs.Laws.{Laws}
 use Rattle.machine.specs.Running.{HadNoFault, IsDue, Runs}
+use Rattle.machine.proofs.Awaiting.{awaits-free}
 use Rattle.machine.proofs.Basics.{doing-set}
 use Rattle.machine.proofs.Bound.{act-bound}
 use Rattle.machine.proofs.Faults.{none-more}
@@ -137,6 +138,7 @@ module _ (laws : Laws) (o : Opening) (first : ℕ) (set : SetFacts) (s : Shared)
       cause = (let same = stays.image.faults in omega (arith, same));
       answers = a.whole;
       finds = a.free;
+      awaits = awaits-free o s.machine t es due.running.keeps.heap.agrees acts.does.doing (Did r);
       numbers = stays.numbers;
       quiet = λ micro same. absurd (let no = micro in cc);
       waits = λ on no. absurd (let e = no in cc);

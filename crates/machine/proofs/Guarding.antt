@@ -47,6 +47,7 @@ use Rattle.machine.specs.Halts.{lacks}
 use Rattle.machine.specs.Ended.{HasPlanned, HasSomePlanned, StoreComesTo}
 use Rattle.machine.specs.Events.{Comes, HasImageCause}
 use Rattle.machine.specs.Laws.{Laws}
+use Rattle.machine.proofs.Awaiting.{awaits-free}
 use Rattle.machine.proofs.Basics.{not-longer, shared-is}
 use Rattle.machine.proofs.Bound.{act-measured}
 use Rattle.machine.proofs.Faults.{none-more}
@@ -105,6 +106,7 @@ module _ (laws : Laws) (o : Opening) (first : ℕ) (set : SetFacts) (s : Shared)
     cause = unfailed f _ other;
     answers = tt;
     finds = tt;
+    awaits = λ u w. tt;
     numbers = refl;
     quiet = λ micro same. absurd (let no = micro in cc);
     waits = λ on no. absurd (let e = no in cc);
@@ -226,6 +228,7 @@ module _ (laws : Laws) (o : Opening) (first : ℕ) (set : SetFacts) (s : Shared)
             cause = omega arith;
             answers = tt;
             finds = λ logs. waits-none laws o first set s es threads t fs request store h;
+            awaits = awaits-free o s.machine t es h.due.running.keeps.heap.agrees guards.doing Micro;
             numbers = refl;
             quiet = λ micro same. not-longer s.history.acts act same;
             waits = λ on no. absurd (let e = no in cc);

@@ -1,6 +1,7 @@
 pub mod About
 pub mod Answering
 pub mod Aside
+pub mod Awaiting
 pub mod Asking
 pub mod Beginning
 pub mod Basics
@@ -36,3 +37,4 @@ pub mod Noting
 pub mod Noted
 pub mod Recalling
 pub mod StillWaiting
+pub mod Work

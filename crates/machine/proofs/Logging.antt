@@ -98,6 +98,7 @@ module _ (laws : Laws) (o : Opening) (first : ℕ) (set : SetFacts) (s : Shared)
             cause = later;
             answers = tt;
             finds = λ idle. absurd (let no : true ≡ false = sym (ap is_adding l.logs.logs.adding.1) ∙ idle in cc);
+            awaits = λ u w. absurd (let no : true ≡ false = sym (ap is_adding l.logs.logs.adding.1) ∙ w.unlogged in cc);
             numbers = refl;
             quiet = λ micro same. elim l.made [
               | inl touches ↦ absurd (laws.logging.untouched o s.machine es due.running.keeps
@@ -180,6 +181,7 @@ module _ (laws : Laws) (o : Opening) (first : ℕ) (set : SetFacts) (s : Shared)
             cause = rose;
             answers = tt;
             finds = tt;
+            awaits = λ u w. tt;
             numbers = refl;
             quiet = λ micro same. absurd (let no = micro in cc);
             waits = λ on no. absurd (let e = no in cc);

@@ -27,6 +27,7 @@ use Rattle.machine.specs.declared.events.Event.TheVariants.{Did, Micro, WouldWai
 use Rattle.machine.specs.declared.events.Halt.TheVariants.{Met, Stuck}
 use Rattle.machine.specs.Ended.{HasPlanned, StoreComesTo}
 use Rattle.machine.specs.Events.{AddsActs, AsksOn, Comes, GoesTo, HasImageCause, SparesOthers, SparesSink, KeepsRows, KeepsRowsByNeed, FindsWait, logs_word}
+use Rattle.machine.proofs.Awaiting.{awaits-idle}
 use Rattle.machine.proofs.Bound.{bound-alike}
 
 -- ---- one after another
@@ -162,6 +163,7 @@ module _ (o : Opening) (first : ℕ) (set : SetFacts) (s mid new : Shared) (es :
     cause = subst (λ (m : Memory). HasImageCause result m.faults (memory_of new.machine).faults) n.memory c.cause;
     answers = c.answers;
     finds = finds-then result c.finds;
+    awaits = awaits-idle o s.machine t n.idle result;
     numbers = c.numbers ∙ n.numbers;
     quiet = λ micro same. (let less = c.quiet micro (same ∙ sym (ap (λ (h : History). h.acts) n.history)) in
         let first = first-less in omega (arith, less, first));

@@ -29,7 +29,7 @@ use Rattle.shared_heap.specs.Shared.{Shared}
 use Rattle.machine.specs.declared.events.Event.{Event}
 use Rattle.machine.specs.declared.events.Event.TheVariants.{Did, Micro, WouldWait, Over}
 use Rattle.machine.specs.declared.events.Halt.TheVariants.{Met, Stuck}
-use Rattle.machine.specs.Events.{AddsActs, Comes, FindsWait, HasImageCause, HasSinkCause, IsAnswerTo, IsUnanswered, LeavesOthers, NotesStart}
+use Rattle.machine.specs.Events.{AddsActs, Comes, FindsConversion, FindsWait, HasImageCause, HasSinkCause, IsAnswerTo, IsUnanswered, LeavesOthers, NotesStart}
 use Rattle.machine.specs.Events.{IsBelow, IsOver, KeepsBound, SparesOthers}
 use Rattle.machine.specs.Halts.{fault_of_halt, lacks}
 use Rattle.machine.specs.Laws.{Laws}
@@ -421,6 +421,9 @@ module _ (set : SetFacts) (t : ℕ) (request : Request Ref Item) (came result : 
 
   pub noted-finds : (logging : Bool) (waits : Option On) → FindsWait logging came waits → FindsWait logging result waits
   noted-finds logging waits = becomes (λ e. FindsWait logging e waits) (λ w found. tt) came result same-result
+
+  pub noted-awaits : (o : Opening) (m : Machine) → FindsConversion o m t came → FindsConversion o m t result
+  noted-awaits o m = becomes (FindsConversion o m t) (λ v found u w. tt) came result same-result
 
   pub noted-work : (s : Shared) → KeepsBound came s mid → KeepsBound result s new
   noted-work s bound =

@@ -102,6 +102,7 @@ module _ (laws : Laws) (o : Opening) (first : ℕ) (set : SetFacts) (s : Shared)
               omega (arith, same_faults));
           answers = tt;
           finds = tt;
+          awaits = λ u w. tt;
           numbers = ap (λ (m : Machine). m.spaces.numbers) b.same;
           quiet = λ micro none. absurd (let no = micro in cc);
           waits = λ on no. absurd (let e = no in cc);

@@ -431,6 +431,7 @@ module _ (laws : Laws) (o : Opening) (first : ℕ) (set : SetFacts) (s : Shared)
           cause = unfailed f _ _ other (sym put.image.faults);
           answers = tt;
           finds = tt;
+          awaits = λ u w. tt;
           numbers = put.numbers;
           quiet = λ micro same. absurd (let no = micro in cc);
           waits = λ on no. absurd (let e = no in cc);
@@ -549,6 +550,7 @@ module _ (laws : Laws) (o : Opening) (first : ℕ) (set : SetFacts) (s : Shared)
         cause = (let same = (put (stepped.Waits on) x st).image.faults in omega (arith, same));
         answers = tt;
         finds = finds-plain (logs_word s.machine t) on (plain_waits o s.machine t) is-plain waits-now;
+        awaits = λ u w. absurd (not-converting-now w.converting);
         numbers = (put (stepped.Waits on) x st).numbers;
         quiet = λ micro same. absurd (let no = micro in cc);
         waits = λ on2 is. subst (λ (m : Machine). measure m ≤ measure s.machine) (sym st.machine) (omega arith);

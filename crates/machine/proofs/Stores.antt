@@ -39,6 +39,7 @@ use Rattle.machine.specs.Ended.{HasPlanned, StoreComesTo}
 use Rattle.machine.specs.Events.{Comes, IsNoSinkFault}
 use Rattle.machine.specs.Laws.{Laws}
 use Rattle.machine.specs.Running.{HadNoFault}
+use Rattle.machine.proofs.Awaiting.{awaits-free}
 use Rattle.machine.proofs.Basics.{doing-set, no-some, not-longer, some-same}
 use Rattle.machine.proofs.Bound.{act-bound, act-measured}
 use Rattle.machine.proofs.Doing.{answers}
@@ -238,6 +239,7 @@ module _ (laws : Laws) (o : Opening) (first : ℕ) (set : SetFacts) (s : Shared)
           cause = (let same = stays.image.faults in omega (arith, same));
           answers = tt;
           finds = λ logs. waits-none laws o first set s es threads t fs request store h;
+          awaits = awaits-free o s.machine t es h.due.running.keeps.heap.agrees does.doing Micro;
           numbers = stays.numbers;
           quiet = λ micro same. not-longer s.history.acts act (sym new-acts ∙ same);
           waits = λ on no. absurd (let e = no in cc);
@@ -310,6 +312,7 @@ module _ (laws : Laws) (o : Opening) (first : ℕ) (set : SetFacts) (s : Shared)
           cause = (let same = stays.image.faults in omega (arith, same));
           answers = given-whole request h.gives;
           finds = waits-none laws o first set s es threads t fs request store h;
+          awaits = awaits-free o s.machine t es h.due.running.keeps.heap.agrees does.doing (Did reply.Done);
           numbers = stays.numbers;
           quiet = λ micro same. absurd (let no = micro in cc);
           waits = λ on no. absurd (let e = no in cc);

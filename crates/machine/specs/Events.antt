@@ -12,8 +12,10 @@ use Rattle.run_types.specs.Faults.{run_fault}
 use Rattle.natives.specs.declared.requests.Request.{Request}
 use Rattle.natives.specs.declared.requests.Request.TheVariants as ask
 use Rattle.natives.specs.declared.requests.Reply.{Reply}
+use Rattle.graph_model.specs.declared.types.Value.TheVariants.{Obj as Object}
 use Rattle.run_history.specs.declared.act.Op.{Op}
 use Rattle.run_history.specs.declared.act.Op.TheVariants as op
+use Rattle.run_history.specs.Knowing.{Pending, pending_of}
 use Rattle.run_history.specs.Recorded.{Recorded}
 use Rattle.plain_model.specs.Runs.{output_of}
 use Rattle.frames.specs.Turns.{begun_thread}
@@ -26,9 +28,9 @@ use Rattle.converter.specs.Laws.{AreUnwritten}
 use Rattle.region_log.specs.Guarding.{is_adding}
 use Rattle.convert_waits.specs.Rows.{BeginsToNeed, Why, InRow, on_of, with_wait}
 use Rattle.convert_waits.specs.Stuck.{HoldsWait, IsPlain}
-use Rattle.twin_forms.specs.Table.{Entry}
+use Rattle.twin_forms.specs.Table.{Entry, InP}
 use Rattle.machine_forms.specs.declared.doing.Doing.TheVariants.{Nothing, Converting}
-use Rattle.machine_forms.specs.Machines.{Opening, Machine, doing_of, log_of, memory_of, scene_of}
+use Rattle.machine_forms.specs.Machines.{Opening, Machine, doing_of, known_in, log_of, memory_of, scene_of}
 use Rattle.machine_forms.specs.Keeping.{KeepsRun}
 use Rattle.machine_threads.specs.Passed.{Asks, Begins, IsReady, RunsAsPlain}
 use Rattle.machine_threads.specs.Passed.{measure, work_left}
@@ -157,6 +159,32 @@ FindsWait logging (WouldWait (on.Conversion u)) waits = waits ≡ None
 FindsWait logging (WouldWait on) waits = waits ≡ Some on
 FindsWait logging (Over halt) waits = Unit {0}
 
+-- Thread t is about the conversion of what it has asked, an object that isn't durable yet; no word is being logged for it; and
+-- its wait for thread u's conversion holds, by some table of the heap's objects.
+pub record AwaitsConversion (o : Opening) (m : Machine) (t u : ℕ) : Type 0 where
+  pub converting : doing_of m t ≡ Converting
+  pub unlogged : logs_word m t ≡ false
+  pub pending : Pending
+  pub asked : pending_of (known_in o m).asked t ≡ Some pending
+  pub object : ℕ
+  pub value : pending.value ≡ Object object
+  pub table : List Entry
+  pub agrees : AgreesAt (scene_of m) table
+  pub unwritten : AreUnwritten m.queue table
+  pub volatile : InP table object → ⊥
+  pub below : u < 64
+  pub holds : HoldsWait (plain_waits o m) (scene_of m) table t (on.Conversion u)
+
+-- it waits for a thread's conversion, or the run is over
+abbrev pub TellsConversion : Event → Type 0
+TellsConversion (WouldWait (on.Conversion v)) = Unit {0}
+TellsConversion (Over halt) = Unit {0}
+TellsConversion result = ⊥
+
+-- A thread that waits so tells that it waits for a conversion, unless the run is over. The thread that it names may be another than u.
+abbrev pub FindsConversion : Opening → Machine → ℕ → Event → Type 0
+FindsConversion o m t result = (u : ℕ) → AwaitsConversion o m t u → TellsConversion result
+
 -- What each other thread is about stays, unless the run is over.
 abbrev pub LeavesOthers : Event → ℕ → Machine → Machine → Type 0
 LeavesOthers (Over halt) t old new = Unit {0}
@@ -234,8 +262,8 @@ abbrev pub lines_taken : Shared → Shared → ℕ
 lines_taken old new = new.machine.free - old.machine.free
 
 -- A quiet step is a `Micro` that adds no act. The work left is at most that before, less one where the event is a
--- quiet step, and 16 more for each act that it adds and each line that it takes. So over any run there are at most 16
--- quiet steps for each act and each line taken. Nothing comes after a run that is over.
+-- quiet step, and 16 more for each act that it adds and each line that it takes. So events from a new heap on make
+-- at most 16 quiet steps for each act and each line taken (`QuietStepsOfRunsAreFew`). Nothing comes after a run that is over.
 abbrev pub KeepsBound : Event → Shared → Shared → Type 0
 KeepsBound (Over halt) old new = Unit {0}
 KeepsBound Micro old new = work_left new.machine + (1 - acts_added old new)
@@ -251,6 +279,7 @@ pub record Comes (o : Opening) (first : ℕ) (es : List Entry) (threads : List T
     (fs : ThreadFrames) (request : Request Ref Item) (result : Event) (old new : Shared) : Type 0 where
   pub goes : GoesTo o first result old new es threads t fs request
   pub finds : FindsWait (logs_word old.machine t) result (plain_waits o old.machine t)
+  pub awaits : FindsConversion o old.machine t result
   pub acts : AddsActs result t old.history.acts new.history.acts
   pub calls : CallsAtMostOnce old new
   pub cause : HasImageCause result (memory_of old.machine).faults (memory_of new.machine).faults

@@ -5,3 +5,4 @@ pub mod Laws
 pub mod Running
 pub mod Passed
 pub mod Remembering
+pub mod Work

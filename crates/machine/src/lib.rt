@@ -11,6 +11,7 @@ mod regions;
 mod remembering;
 mod running;
 mod storing;
+mod work_laws;
 
 pub use convert_waits::{passes_fill_rows, rows_begin_and_end};
 pub use events::{Event, Halt};
@@ -22,3 +23,4 @@ pub use machine_threads::{
 pub use quick::read_field;
 pub use running::event;
 pub use shared_heap::SharedHeap;
+pub use work_laws::quiet_steps_are_few;

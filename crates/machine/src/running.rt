@@ -15,7 +15,7 @@ ghost use Rattle.machine.specs.Ended.{ComesTo, IsOutside, IsSomeDue, Serves};
 ghost use Rattle.machine.specs.Remembering.{IsNext, LeadsTo, Remembers};
 ghost use Rattle.run_types.specs.declared.wait.On.{On as OnOf};
 ghost use Rattle.machine.specs.Events.{AddsActs, CallsAtMostOnce, HasImageCause, HasSinkCause, IsAnswerTo, IsShare};
-ghost use Rattle.machine.specs.Events.{FindsWait, IsUnanswered, KeepsBound, LeavesOthers, TakesOutput, logs_word};
+ghost use Rattle.machine.specs.Events.{FindsConversion, FindsWait, IsUnanswered, KeepsBound, LeavesOthers, TakesOutput, logs_word};
 ghost use Rattle.line_memory.specs.Memory.{SameImage};
 ghost use Rattle.shared_heap.specs.Passed.{IsSilent};
 ghost use Rattle.machine_threads.specs.Stuck.{plain_waits};
@@ -42,8 +42,8 @@ use shared_objects::Types;
 /// monitor that another thread holds (JVMS 2.11.10), for the end of a thread, for a class that another thread initialises
 /// (JVMS 5.5), or for another thread's conversion; a run of which all threads wait is over.
 ///
-/// A request that isn't answered is noted until it is: it is moved there, and `Request::Pause` is left in its place. One
-/// that is answered stays where it is, and so does one whose event meets a fault: neither is copied.
+/// A request that isn't answered is noted until it is, unless its event meets a fault: it is moved there from `request`. What
+/// is left in `request` no clause says.
 #[inline(always)]
 pub fn event<C: Types, I: Image, S: Sink>(
     heap: &mut SharedHeap<I>,
@@ -63,6 +63,11 @@ pub fn event<C: Types, I: Image, S: Sink>(
     ensures finds { (o : Opening) (first : ℕ) (es : List Entry) (threads : List ThreadFrames) (fs : ThreadFrames)
         → IsNext o first (C.facts set.now) heap.old es threads t fs request.old
         → FindsWait (logs_word heap.old.machine t) result (plain_waits o heap.old.machine t) }
+    // Where its thread's wait for another's conversion held before the event, what it asked isn't durable yet and no word is being
+    // logged for it, it tells such a wait, unless the run is over.
+    ensures awaits { (o : Opening) (first : ℕ) (es : List Entry) (threads : List ThreadFrames) (fs : ThreadFrames)
+        → IsNext o first (C.facts set.now) heap.old es threads t fs request.old
+        → FindsConversion o heap.old.machine t result }
     ensures others { LeavesOthers result t heap.old.machine heap.new.machine }
     ensures acts { AddsActs result t heap.old.history.acts heap.new.history.acts }
     ensures told { TakesOutput heap.old.history.acts heap.new.history.acts (S.taken sink.old)
@@ -86,7 +91,8 @@ pub fn event<C: Types, I: Image, S: Sink>(
     ensures quiet { result ≡ Event.Micro → heap.new.history.acts ≡ heap.old.history.acts
         → measure heap.new.machine < measure heap.old.machine }
     ensures waits { (on : OnOf) → result ≡ Event.WouldWait on → measure heap.new.machine ≤ measure heap.old.machine }
-    // A quiet step is a `Micro` without an act: a run has at most 16 for each of its acts, and each line that it takes.
+    // A quiet step is a `Micro` without an act: by `quiet_steps_are_few` events from a new heap on make at most 16 for each of their
+    // acts, and each line that they take.
     ensures work { KeepsBound result heap.old heap.new }
 {
     laws();

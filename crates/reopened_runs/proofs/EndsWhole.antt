@@ -7,18 +7,18 @@ use Rattle.line_image.specs.Crash.{first_word}
 use Rattle.line_image.specs.Memory.{told_of, trace_of}
 use Rattle.line_image.specs.declared.memory.MemoryImage.{MemoryImage}
 use Rattle.image_meaning.specs.Directories.{Directory}
+use Rattle.line_image.specs.Told.{Told}
 use Rattle.run_history.specs.Recorded.{Recorded}
 use Rattle.command_words.specs.Commands.{command_of}
 use Rattle.command_words.specs.declared.command.Command.{Command}
 use Rattle.command_words.specs.declared.command.Command.TheVariants.{Run}
-use Rattle.autopersist.specs.Complete.{DoesAll, DoesItsWork, MetNoLimit, NothingFailed}
+use Rattle.autopersist.specs.Complete.{DoesAll, DoesItsWork, NothingFailed, RanOutOfMemory, RanOutOfRoom}
 use Rattle.autopersist.specs.Outside.{Outside}
-use Rattle.autopersist.specs.Passed.{Admits, Choice, EndsComplete, Full, FullOf, HasNoMain, IsNumberedFor, Limits, Linked}
-use Rattle.autopersist.specs.Passed.{Status, with_arrays_of}
-use Rattle.autopersist.proofs.Complete.{full_or_not}
+use Rattle.autopersist.specs.Passed.{Admits, Choice, EndsComplete, HasNoMain, IsNumberedFor, Limits, Linked}
+use Rattle.autopersist.specs.Passed.{MeetsLimit, Status, with_arrays_of}
 use Rattle.autopersist.proofs.Passed.{admits_so, read_directory}
 use Rattle.reopened_runs.specs.Left.{IsUntouched}
-use Rattle.reopened_runs.specs.Whole.{EndsSo, EndsWhole, StaysFaultless, SuitsSet}
+use Rattle.reopened_runs.specs.Whole.{EndsShort, EndsSo, EndsWhole, StaysFaultless, SuitsSet}
 use Rattle.reopened_runs.proofs.Left.{fresh_reads, same_bytes}
 
 never_rose : (before after : ℕ) → StaysFaultless before after → Rose before after → ⊥
@@ -48,23 +48,32 @@ module _ (image : MemoryImage) (untouched : IsUntouched image) (choice : Choice)
 
 module _ (words : List (List ℕ)) (before after : Outside) (how : Status) (opening : Graph) (acts : List Recorded)
     (complete : DoesItsWork (command_of words) before after how opening acts) (files : List NamedBytes) (told : before.left ≡ Some files)
-    (image : MemoryImage) (was : before.image ≡ told_of image) (untouched : IsUntouched image) (taken taken' : List ℕ)
-    (took : before.taken ≡ Some taken) (takes : after.taken ≡ Some taken') where
+    (image end : MemoryImage) (was : before.image ≡ told_of image) (is_now : after.image ≡ told_of end) (untouched : IsUntouched image)
+    (taken taken' : List ℕ) (took : before.taken ≡ Some taken) (takes : after.taken ≡ Some taken') where
+  -- what is short
+  ends_short : (choice : Choice) (limits : Limits)
+      → RanOutOfMemory before after acts how ⊎ RanOutOfRoom choice limits before after how opening acts
+      → EndsShort choice limits image end taken taken' opening acts how
+  ends_short choice limits (inl (out, none, nothing)) = inl (out, none, same_bytes taken' taken (sym takes ∙ nothing ∙ took))
+  ends_short choice limits (inr (full, is, met)) = inr (
+    full,
+    is,
+    subst (λ (told_now : Told). MeetsLimit choice.set choice.main limits (told_of image) opening acts told_now full) is_now
+        (subst (λ (told_first : Told). MeetsLimit choice.set choice.main limits told_first opening acts after.image full) was met),
+  )
+
   pub ends_whole : StaysFaultless before.source_faults after.source_faults → StaysFaultless before.image_faults after.image_faults
-      → StaysFaultless before.sink_faults after.sink_faults → EndsWhole words files image taken taken' opening acts how
-  ends_whole source device sink run asked choice gives suits = ⊎_elim
-      (λ (full : (full : Full) × (how ≡ FullOf full)). inr (inr full))
-      (λ (room : MetNoLimit how).
+      → StaysFaultless before.sink_faults after.sink_faults → EndsWhole words files image end taken taken' opening acts how
+  ends_whole source device sink run asked choice gives suits =
       let none : NothingFailed before after = record {
         source = never_rose before.source_faults after.source_faults source;
         image = never_rose before.image_faults after.image_faults device;
         sink = never_rose before.sink_faults after.sink_faults sink;
       } in
       let does : DoesAll (Some (Run run)) before after how opening acts =
-      subst (λ (o : Option Command). DoesAll o before after how opening acts) asked (complete none room) in
+      subst (λ (o : Option Command). DoesAll o before after how opening acts) asked (complete none) in
       ⊎_elim
       (λ ends. inl (ends_so image untouched choice suits run.limits opening acts how
       (subst (λ told. EndsComplete choice.set choice.main run.limits told opening acts how) was ends)))
-      (λ memory. inr (inl (memory.0, memory.1, same_bytes taken' taken (sym takes ∙ memory.2 ∙ took))))
-      (does files told choice gives (subst (λ told. Admits choice.set told) (sym was) (admits image untouched choice suits))))
-      (full_or_not how)
+      (λ short. inr (ends_short choice run.limits short))
+      (does files told choice gives (subst (λ told. Admits choice.set told) (sym was) (admits image untouched choice suits)))

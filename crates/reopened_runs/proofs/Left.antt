@@ -1,8 +1,9 @@
 -- What is recovered of what a stop of a run left.
-use Rattle.std.proofs.Common.{◌≡◌, ◌⊎◌, inl, inr, ⊎_elim, ℕ, ◌+◌, ◌-◌, ◌^◌, ◌<◌, ◌≤◌, List, [], ◌++◌, Option, Some, Result, Ok, Err}
+use Rattle.std.proofs.Common.{◌≡◌, ◌⊎◌, inl, inr, ⊎_elim, ℕ, ◌+◌, ◌-◌, ◌^◌, ◌<◌, ◌≤◌, List, [], ◌∷◌, ◌++◌, Option, Some, Result, Ok, Err}
 use Rattle.std.proofs.Common.{refl, sym, ap, ◌∙◌, subst, arith, take, slice_index, get_or}
 use Rattle.std.specs.Prelude.{◌≢◌, IfOk, IfErr}
 use Rattle.std.proofs.lemmas.List.{append-nil}
+use Rattle.ap_base.specs.Causes.{Rose}
 use Rattle.ap_base.specs.Sinks.{with_bytes}
 use Rattle.ap_base.specs.declared.source.NamedBytes.{NamedBytes}
 use Rattle.graph_model.specs.declared.types.Graph.{Graph}
@@ -30,7 +31,7 @@ use Rattle.autopersist.specs.Asked.{of_top}
 use Rattle.autopersist.specs.Meets.{Does, IsIdle, Meets}
 use Rattle.autopersist.specs.Outside.{Outside}
 use Rattle.autopersist.specs.Passed as top
-use Rattle.autopersist.specs.Passed.{AreRead, Choice, ComesTo, OfChoice, RunsAs, StandsAllowed, StandsAsBefore, StandsRightly, StandsStill}
+use Rattle.autopersist.specs.Passed.{AreRead, Choice, ComesTo, IsFencedFor, OfChoice, RunsAs, StandsAllowed, StandsAsBefore, StandsRightly, StandsStill}
 use Rattle.autopersist.specs.Passed.{StandsWithNew, Status, facts_of, lacking, over}
 use Rattle.autopersist.specs.Runs.{RunsClass}
 use Rattle.autopersist.proofs.Passed.{come_so, fenced_as_read, not_both, one_read, same_graph, stands_alike}
@@ -59,6 +60,13 @@ pub fresh_reads : (image : MemoryImage) → (trace_of image).done ≡ [] → Are
 fresh_reads image none l w below =
     ap (λ (done : List Effect). slice_index (newest (versions_from (get_or (trace_of image).first l []) done l)) w) (sym none)
 
+-- once it was attached, what its memory stands for is what these words do
+pub left_stands : (start : Told) → IsTelling start.trace → (words : Words) → AreRead start words → (before : Memory)
+    → IsAttached start before → (graph : Graph) → StandsFor before.size (shown before) graph → StandsFor start.size words graph
+left_stands start telling words read before at graph stands = stands_alike start.size (shown before) words graph
+    (subst (λ n. StandsFor n (shown before) graph) at.size stands) (λ l w below.
+    one_read start.trace telling l w (shown before l w) (words l w) (at.shows l w below) (read l w below))
+
 module _ (start : Told) (telling : IsTelling start.trace) (words : Words) (read : AreRead start words) (graph : Graph)
     (stands : StandsFor start.size words graph) where
   pub attached_stands : (before : Memory) → IsAttached start before → StandsFor before.size (shown before) graph
@@ -76,10 +84,31 @@ module _ (start : Told) (telling : IsTelling start.trace) (words : Words) (read 
   not_bad ImageFailed bad = tt
   not_bad OutOfMemory bad = tt
 
+-- an image is blamed only where it failed
+abbrev err : NotOpened → Result Graph NotOpened
+err why = Err why
+
+abbrev ok : Graph → Result Graph NotOpened
+ok graph = Ok graph
+
+pub never_failed : (graph : Graph) → ok graph ≡ err ImageFailed → ⊥
+never_failed graph is = cc
+
+same_fault : (why : NotOpened) → err why ≡ err ImageFailed → why ≡ ImageFailed
+same_fault why is = cc
+
+pub failed_cause : (why : NotOpened) (before after : ℕ) → (why ≡ ImageFailed → Rose before after) → err why ≡ err ImageFailed
+    → Rose before after
+failed_cause why before after cause is = cause (same_fault why is)
+
 -- what is found has what that graph has
 if_found : (r : Result Graph NotOpened) (graph : Graph) (P : Graph → Type 0) → IfOk r (λ found. found ≡ graph) → P graph → IfOk r P
 if_found (Ok found) graph P is has = subst P (sym is) has
 if_found (Err why) graph P is has = tt
+
+pub none_or_some : (acts : List Recorded) → (acts ≡ []) ⊎ (acts ≢ [])
+none_or_some [] = inl refl
+none_or_some (a ∷ acts) = inr (λ none. cc)
 
 abbrev some_bytes : List ℕ → Option (List ℕ)
 some_bytes bytes = Some bytes
@@ -92,9 +121,8 @@ pub recovers_nothing : (words : List (List ℕ)) (files : List NamedBytes) (star
     → Recovers words files start opening all acts (Err OutOfMemory)
 recovers_nothing words files start opening all acts = record {
   allowed = λ run asked some. tt;
-  opens = λ run asked some. tt;
-  as_before = λ run asked fenced empty prior stood. tt;
-  opens_still = λ run asked fenced prior stood. tt;
+  as_before = λ run asked empty prior stood. tt;
+  opens = λ run asked stood. tt;
 }
 
 -- ---- a run that the words ask for
@@ -180,7 +208,7 @@ module _ (words : List (List ℕ)) (before after : Outside) (SameSource SameImag
 
         -- before any
         module _ (telling : IsTelling before.image.trace) (rightly : (of : Ran run asked) → Rightly of.choice) (prior : Graph)
-            (stood : IsSomeLeft before.image prior) (unchanged : SameImage → StandsFor before.image.size c prior) where
+            (stood : IsSomeLeft before.image prior) (unchanged : SameImage → all ≡ [] → StandsFor before.image.size c prior) where
           abbrev New : Graph → Type 0
           New graph = RecoversAsBefore (AreAsked run files) before.image prior graph
 
@@ -218,7 +246,7 @@ module _ (words : List (List ℕ)) (before after : Outside) (SameSource SameImag
               (allowed_graph of so graph stands)))
               (λ early. inl (of_new of is.0 is.1 early.1 graph stands))
               is.2)
-              (λ unrun. inl (inl (same_graph (meaning before.image.size c) graph prior stands (unchanged unrun.0))))
+              (λ unrun. inl (inl (same_graph (meaning before.image.size c) graph prior stands (unchanged unrun.0 unrun.1))))
               (ran_or_same run asked)
 
           pub stands_still : (graph : Graph) × StandsFor before.image.size c graph
@@ -232,43 +260,42 @@ module _ (words : List (List ℕ)) (before after : Outside) (SameSource SameImag
               (λ (new : StandsWithNew of.choice.set before.image.size is.0 prior c). (_, new.first.stands))
               (early.1 prior (read_stands before.image telling prior stood is.0 is.1)))
               is.2)
-              (λ unrun. (prior, unchanged unrun.0))
+              (λ unrun. (prior, unchanged unrun.0 unrun.1))
               (ran_or_same run asked)
 
       -- what is found of it
       module _ (telling : IsTelling before.image.trace) (found : Result Graph NotOpened)
           (gives : (graph : Graph) → StandsFor before.image.size c graph → IfOk found (λ it. it ≡ graph))
           (refused : (graph : Graph) → StandsFor before.image.size c graph → IfErr found IsNoBadImage)
-          (rightly : (run : RunWords) (asked : AsksRun words run) → (all ≡ [] → IsAllFenced before.image.trace)
-          → (of : Ran run asked) → Rightly of.choice)
-          (unchanged : SameImage → IsAllFenced before.image.trace → (prior : Graph) → IsSomeLeft before.image prior
-          → StandsFor before.image.size c prior) where
-        -- there are some, so there are some of all
-        of_some : acts ≢ [] → all ≡ [] → IsAllFenced before.image.trace
-        of_some some empty = absurd (some (none empty))
+          (rightly : (run : RunWords) (asked : AsksRun words run) → (of : Ran run asked) → Rightly of.choice)
+          (unchanged : SameImage → all ≡ [] → (prior : Graph) → IsSomeLeft before.image prior → StandsFor before.image.size c prior) where
+        still : (run : RunWords) → AsksRun words run → (prior : Graph) → IsSomeLeft before.image prior
+            → (graph : Graph) × StandsFor before.image.size c graph
+        still run asked prior stood =
+            stands_still run asked telling (rightly run asked) prior stood (λ it made. unchanged it made prior stood)
 
         pub recovers : Recovers words files before.image opening all acts found
         recovers = record {
           allowed = λ run asked some.
-              let right = rightly run asked (of_some some) in
-              let is = allowed_stands run asked some right in
+              let is = allowed_stands run asked some (rightly run asked) in
               if_found found is.0 (RecoversAllowed (AreAsked run files) before.image opening all acts) (gives is.0 is.1)
-              (allowed run asked some right is.0 is.1);
-          opens = λ run asked some.
-              let is = allowed_stands run asked some (rightly run asked (of_some some)) in
-              refused is.0 is.1;
-          as_before = λ run asked fenced empty prior stood.
-              let right = rightly run asked (λ made. fenced) in
-              let same = λ (it : SameImage). unchanged it fenced prior stood in
-              let is = stands_still run asked telling right prior stood same in
+              (allowed run asked some (rightly run asked) is.0 is.1);
+          as_before = λ run asked empty prior stood.
+              let is = still run asked prior stood in
               if_found found is.0
               (λ (graph : Graph). RecoversAsBefore (AreAsked run files) before.image prior graph
               ⊎ RecoversAllowed (AreAsked run files) before.image opening all [] graph)
-              (gives is.0 is.1) (as_before run asked telling right prior stood same empty is.0 is.1);
-          opens_still = λ run asked fenced prior stood.
-              let is = stands_still run asked telling (rightly run asked (λ made. fenced)) prior stood
-              (λ it. unchanged it fenced prior stood) in
-              refused is.0 is.1;
+              (gives is.0 is.1)
+              (as_before run asked telling (rightly run asked) prior stood (λ it made. unchanged it made prior stood) empty is.0 is.1);
+          opens = λ run asked stood. ⊎_elim
+              (λ (empty : acts ≡ []).
+              let was = stood empty in
+              let is = still run asked was.0 was.1 in
+              refused is.0 is.1)
+              (λ (some : acts ≢ []).
+              let is = allowed_stands run asked some (rightly run asked) in
+              refused is.0 is.1)
+              (none_or_some acts);
         }
 
   -- ---- behind the last call, and within any
@@ -277,25 +304,26 @@ module _ (words : List (List ℕ)) (before after : Outside) (SameSource SameImag
       (same : SameImage → after.image ≡ before.image) (c : Outcome) (found : Result Graph NotOpened)
       (gives : (graph : Graph) → StandsFor before.image.size c graph → IfOk found (λ it. it ≡ graph))
       (refused : (graph : Graph) → StandsFor before.image.size c graph → IfErr found IsNoBadImage) where
-    pub recovers_now : LeavesNow after.image.trace c → Recovers words files before.image opening all all found
-    recovers_now left =
+    pub recovers_now : LeavesNow after.image.trace c → (all ≡ [] → IsAllFenced before.image.trace)
+        → Recovers words files before.image opening all all found
+    recovers_now left fenced =
         recovers files told all (λ empty. empty) c telling found gives refused
-        (λ run asked fenced of.
+        (λ run asked of.
         let stops = of.holds.stops telling in (stops.words, stops.read, stops.now fenced c left))
-        (λ it fenced prior stood.
-        fenced_stands before.image telling fenced prior stood c
+        (λ it made prior stood.
+        fenced_stands before.image telling (fenced made) prior stood c
         (subst (λ (t : Told). LeavesNow t.trace c) (same it) left))
 
     none_of : (n : ℕ) → all ≡ [] → acts_before n all ≡ []
     none_of n empty = subst (λ (made : List Recorded). acts_before n made ≡ []) (sym empty) refl
 
     pub recovers_within : (n : ℕ) → 0 < n → before.image.calls + n ≤ after.image.calls → before.image.calls + n < 2 ^ 64 - 1
-        → LeftWithin after.image.trace (before.image.calls + n) c → (n ≤ before.image.size + 1 → IsAllFenced before.image.trace)
+        → LeftWithin after.image.trace (before.image.calls + n) c → IsFencedFor before.image all n
         → Recovers words files before.image opening all (acts_before n all) found
-    recovers_within n some made counted left early =
+    recovers_within n some made counted left fenced =
         recovers files told (acts_before n all) (none_of n) c telling found gives refused
-        (λ run asked fenced of.
+        (λ run asked of.
         let stops = of.holds.stops telling in
-        (stops.words, stops.read, stops.within n some made counted (λ at. ⊎_elim early fenced at) c left))
-        (λ it fenced prior stood.
+        (stops.words, stops.read, stops.within n some made counted fenced c left))
+        (λ it none prior stood.
         absurd (let calls = ap (λ (t : Told). t.calls) (same it) in omega (arith, calls, some, made)))

@@ -16,19 +16,15 @@ use Rattle.autopersist.specs.Passed.{AreRead, CannotOpen, Choice, ComesTo, EndsO
 use Rattle.autopersist.specs.Passed.{IsOpenedSo, IsRefusedStill, Linked, OfChoice, OfMemory, OfOpening, OutOfMemory, ShapeChanged, Stage, StandsAllowed}
 use Rattle.autopersist.specs.Passed.{StandsRightly, Status, StoppedRunsOpenAgain, over, stage_of}
 use Rattle.autopersist.proofs.Passed.{fenced_as_read, one_of_files, still_stands}
-use Rattle.reopened_runs.specs.Again.{HadOther, IsForWords, RunsAgain, StoodFenced}
+use Rattle.reopened_runs.specs.Again.{HadOther, IsBadImage, RunsAgain, StoodFenced}
 use Rattle.reopened_runs.specs.Left.{AreAsked, AsksRun, IsSomeLeft, RecoversAllowed}
-use Rattle.reopened_runs.proofs.Left.{Ran, allowed_graph, done, given, ran, ran_or_same, read_stands}
+use Rattle.reopened_runs.proofs.Left.{Ran, allowed_graph, done, given, none_or_some, ran, ran_or_same, read_stands}
 
 abbrev ok : Choice → Result Choice Status
 ok choice = Ok choice
 
 same_choice : (a b : Choice) → ok a ≡ ok b → a ≡ b
 same_choice a b is = cc
-
-none_or_some : (acts : List Recorded) → (acts ≡ []) ⊎ (acts ≢ [])
-none_or_some [] = inl refl
-none_or_some (a ∷ acts) = inr (λ none. cc)
 
 -- ---- the second run
 
@@ -79,7 +75,7 @@ module _ (law : StoppedRunsOpenAgain) (words : List (List ℕ))
     -- ---- it is no bad image
 
     bad_so : (set : Linked) (seen : Words) (stood : Graph) → StandsFor before.image.size seen stood
-        → StandsRightly set before.image opening acts acts seen c → IsForWords how' → ⊥
+        → StandsRightly set before.image opening acts acts seen c → IsBadImage how' → ⊥
     bad_so set seen stood stands rightly (line, reason, bad) =
         let of = refused (ap stage_of bad) in
         law.not_bad set of.choice.set before.image opening acts acts seen stood c stands rightly again.image end.image is line reason
@@ -95,7 +91,7 @@ module _ (law : StoppedRunsOpenAgain) (words : List (List ℕ))
           (λ early. absurd (some early.0))
           ((of.holds.stops telling).now (λ none. absurd (some none)) c left)
 
-      opens_behind : IsForWords how' → ⊥
+      opens_behind : IsBadImage how' → ⊥
       opens_behind bad = bad_so of.choice.set c allowed.allowed.graph allowed.allowed.stands (inl allowed) bad
 
       -- ---- nor another set's
@@ -166,7 +162,7 @@ module _ (law : StoppedRunsOpenAgain) (words : List (List ℕ))
           )))
           (ran_or_same words before after SameSource SameImage how opening acts meets run asked)
 
-      opens_still : IsForWords how' → ⊥
+      opens_still : IsBadImage how' → ⊥
       opens_still bad = ⊎_elim
           (λ of. bad_so of.choice.set of.holds.0 prior of.holds.2 of.holds.3 bad)
           (λ any.
@@ -213,7 +209,7 @@ module _ (law : StoppedRunsOpenAgain) (words : List (List ℕ))
 
     -- ---- whether there are or not
 
-    opens : (acts ≡ [] → StoodFenced before.image) → IsForWords how' → ⊥
+    opens : (acts ≡ [] → StoodFenced before.image) → IsBadImage how' → ⊥
     opens premise bad = ⊎_elim
         (λ (none : acts ≡ []). let so = premise none in opens_still so.0 so.1 so.2 bad)
         (λ (some : acts ≢ []). opens_behind some bad)

@@ -12,8 +12,8 @@ use Rattle.autopersist.specs.Passed.{AreRead, BadImage, HadOtherShape, Linked, O
 use Rattle.reopened_runs.specs.Left.{AreAsked, AsksRun, IsSomeLeft, RecoversAllowed}
 
 -- the image is bad
-abbrev pub IsForWords : Status → Type 0
-IsForWords how = (line : ℕ) × (reason : BadReason) × (how ≡ BadImage line reason)
+abbrev pub IsBadImage : Status → Type 0
+IsBadImage how = (line : ℕ) × (reason : BadReason) × (how ≡ BadImage line reason)
 
 -- the image stood for a graph, and had nothing unfenced
 abbrev pub StoodFenced : Told → Type 0
@@ -27,7 +27,7 @@ HadOther set start shape = (words : Words) × AreRead start words × HadOtherSha
 pub record RunsAgain (words : List (List ℕ)) (files files' : List NamedBytes) (start : Told) (opening : Graph) (acts : List Recorded)
     (opening' : Graph) (acts' : List Recorded) (how : Status) : Type 0 where
   -- What the stop left is no bad image; where the first run made no acts, if its image stood for a graph, and had nothing unfenced.
-  pub opens : (run : RunWords) → AsksRun words run → (acts ≡ [] → StoodFenced start) → IsForWords how → ⊥
+  pub opens : (run : RunWords) → AsksRun words run → (acts ≡ [] → StoodFenced start) → IsBadImage how → ⊥
   -- Nor has a shape of the same files changed, but where the first run made no acts, and the shape was in the image before it.
   pub agrees : (run : RunWords) → AsksRun words run → (acts ≡ [] → StoodFenced start) → files' ≡ files
       → (shape : List ℕ) → how ≡ ShapeChanged shape

@@ -1,11 +1,13 @@
 -- What may be recovered of what a stop of a run left.
-use Rattle.std.specs.Prelude.{◌≡◌, ◌≢◌, ◌⊎◌, ◌<◌, ◌≤◌, ◌+◌, ◌-◌, ◌^◌, ℕ, List, [], length, take, Some, Result, IfOk, IfErr}
+use Rattle.std.specs.Prelude.{◌≡◌, ◌≢◌, ◌⊎◌, ◌<◌, ◌≤◌, ◌+◌, ◌-◌, ◌^◌, ℕ, List, [], length, take, Option, Some, None, Result, IfOk}
+use Rattle.std.specs.Prelude.{IfErr, IsErrOf}
+use Rattle.ap_base.specs.Causes.{Rose}
 use Rattle.ap_base.specs.declared.source.NamedBytes.{NamedBytes}
 use Rattle.graph_model.specs.declared.types.Graph.{Graph}
 use Rattle.line_image.specs.Crash.{first_word}
-use Rattle.line_image.specs.Memory.{size_of, trace_of}
+use Rattle.line_image.specs.Memory.{faults_of, size_of, trace_of}
 use Rattle.line_image.specs.Told.{Told}
-use Rattle.line_image.specs.Trace.{IsAllFenced, LeftWithin}
+use Rattle.line_image.specs.Trace.{LeavesNow, LeftWithin}
 use Rattle.line_image.specs.declared.memory.MemoryImage.{MemoryImage}
 use Rattle.image_meaning.specs.Appending.{with_all_too}
 use Rattle.image_meaning.specs.Checks.{Words}
@@ -20,8 +22,8 @@ use Rattle.plain_model.specs.First.{first_known}
 use Rattle.command_words.specs.Commands.{command_of}
 use Rattle.command_words.specs.declared.command.Command.TheVariants.{Run}
 use Rattle.command_words.specs.declared.command.Run.{Run as RunWords}
-use Rattle.autopersist.specs.Passed.{AreEntriesOf, AreRead, Choice, FilesGive, IsDirectoryIn, IsOpenedSo, Linked, OfChoice, Status}
-use Rattle.autopersist.specs.Passed.{facts_of, lacking, made_of, with_arrays_of}
+use Rattle.autopersist.specs.Passed.{AreEntriesOf, AreRead, Choice, FilesGive, IsDirectoryIn, IsFencedFor, IsOpenedSo, Linked, OfChoice}
+use Rattle.autopersist.specs.Passed.{Status, facts_of, lacking, made_of, with_arrays_of}
 
 -- the words ask for this run
 abbrev pub AsksRun : List (List ℕ) → RunWords → Type 0
@@ -75,25 +77,43 @@ RecoversAsBefore gives start before graph =
 abbrev pub IsUntouched : MemoryImage → Type 0
 IsUntouched image = (trace_of image).done ≡ []
 
--- This was found of an image that a stop left: the graph for which its words stand. Where there is one, it isn't a bad image.
-pub record IsFoundIn (left : MemoryImage) (found : Result Graph NotOpened) : Type 0 where
+-- This was found of an image that a stop left: the graph for which its words stand. Where there is one, it isn't a bad image; and it failed
+-- only where its count of faults rose.
+pub record IsFoundIn (left back : MemoryImage) (found : Result Graph NotOpened) : Type 0 where
+  pub opened : IfOk found (λ it. StandsFor (size_of left) (first_word (trace_of left)) it)
   pub stood : (graph : Graph) → StandsFor (size_of left) (first_word (trace_of left)) graph → IfOk found (λ it. it ≡ graph)
   pub refused : (graph : Graph) → StandsFor (size_of left) (first_word (trace_of left)) graph → IfErr found IsNoBadImage
+  pub cause : IsErrOf found ImageFailed → Rose (faults_of left) (faults_of back)
+
+-- The image was given back, and this was found of it.
+abbrev pub FindsIn : (left : MemoryImage) → Option MemoryImage → (found : Result Graph NotOpened) → Type 0
+FindsIn left None found = ⊥
+FindsIn left (Some back) found = IsFoundIn left back found
+
+-- A stop behind the last call of an image that tells `after` left it; nothing was done to it since, and it counts no fault.
+pub record IsStopBehind (after : Told) (left : MemoryImage) : Type 0 where
+  pub untouched : IsUntouched left
+  pub faultless : faults_of left ≡ 0
+  pub size : size_of left ≡ after.size
+  pub words : LeavesNow after.trace (first_word (trace_of left))
+
+-- What was found of an image that such a stop left, and how it was given back; or there was no memory for it.
+abbrev pub FindsBehind : (after : Told) → Option MemoryImage → (found : Result Graph NotOpened) → Type 0
+FindsBehind after None found = IsErrOf found OutOfMemory
+FindsBehind after (Some back) found = (left : MemoryImage) × IsStopBehind after left × IsFoundIn left back found
 
 -- This was found of what a stop behind these acts of all left, where the words ask for a run, and the files were there for it, over an image
--- that told `start`.
+-- that told `start`. It isn't a bad image, but that where there are no acts the image has to have stood for a graph.
 pub record Recovers (words : List (List ℕ)) (files : List NamedBytes) (start : Told) (opening : Graph) (all acts : List Recorded)
     (found : Result Graph NotOpened) : Type 0 where
-  -- Where there are acts, a graph that they allow; want of memory, or a fault of the image that the stop left, but no bad image.
+  -- Where there are acts, a graph that they allow.
   pub allowed : (run : RunWords) → AsksRun words run → acts ≢ []
       → IfOk found (RecoversAllowed (AreAsked run files) start opening all acts)
-  pub opens : (run : RunWords) → AsksRun words run → acts ≢ [] → IfErr found IsNoBadImage
-  -- Where there are none, and nothing was unfenced at the start, the graph for which the image stood, with the first of the set's new entries
-  -- or with all of them; and no bad image.
-  pub as_before : (run : RunWords) → AsksRun words run → IsAllFenced start.trace → acts ≡ [] → (before : Graph) → IsSomeLeft start before
+  -- Where there are none, the graph for which the image stood, with the first of the set's new entries or with all of them.
+  pub as_before : (run : RunWords) → AsksRun words run → acts ≡ [] → (before : Graph) → IsSomeLeft start before
       → IfOk found (λ graph. RecoversAsBefore (AreAsked run files) start before graph
       ⊎ RecoversAllowed (AreAsked run files) start opening all [] graph)
-  pub opens_still : (run : RunWords) → AsksRun words run → IsAllFenced start.trace → (before : Graph) → IsSomeLeft start before
+  pub opens : (run : RunWords) → AsksRun words run → (acts ≡ [] → (before : Graph) × IsSomeLeft start before)
       → IfErr found IsNoBadImage
 
 -- The words that the image was made of are some that a stop leaves within call n of one that told `start` first, and tells `after` behind it.
@@ -104,9 +124,9 @@ pub record IsStopWithin (start after : Told) (n : ℕ) (left : MemoryImage) : Ty
   pub size : size_of left ≡ start.size
   pub words : LeftWithin after.trace (start.calls + n) (first_word (trace_of left))
 
--- Whatever call a stop that left the image was within: up to the fence behind the opening's reads where nothing was unfenced at the start.
+-- Whatever call a stop that left the image was within, where nothing was unfenced at the start if a stop within that call may leave it still.
 abbrev pub RecoversWithin : (words : List (List ℕ)) (files : List NamedBytes) (start after : Told) (opening : Graph) (all : List Recorded)
     (left : MemoryImage) (found : Result Graph NotOpened) → Type 0
 RecoversWithin words files start after opening all left found =
-    (n : ℕ) → IsStopWithin start after n left → (n ≤ start.size + 1 → IsAllFenced start.trace)
+    (n : ℕ) → IsStopWithin start after n left → IsFencedFor start all n
     → Recovers words files start opening all (acts_before n all) found

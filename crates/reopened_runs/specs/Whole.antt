@@ -10,7 +10,7 @@ use Rattle.image_meaning.specs.Meaning.{StandsFor}
 use Rattle.run_history.specs.Recorded.{Recorded}
 use Rattle.command_words.specs.declared.command.Run.{Run as RunWords}
 use Rattle.autopersist.specs.Passed.{AllAgree, Choice, Full, FullOf, HasEndedSo, HasNoMain, IsDirectoryIn, IsOfPlainRun, Limits, Linked}
-use Rattle.autopersist.specs.Passed.{OutOfMemory, Status, facts_of, with_arrays_of}
+use Rattle.autopersist.specs.Passed.{MeetsLimit, OutOfMemory, Status, facts_of, with_arrays_of}
 use Rattle.reopened_runs.specs.Left.{AreAsked, AsksRun}
 
 -- it had counted no fault, and has counted none
@@ -30,16 +30,20 @@ EndsSo choice limits image directory opening acts how =
     ((acts ≡ []) × HasNoMain (with_arrays_of choice.set directory.shapes) choice.main limits how)
     ⊎ (HasEndedSo choice.set choice.main limits (told_of image) opening acts how × IsOfPlainRun how)
 
--- Memory ran out: there are no acts, and nothing was put. Or more was needed than there is.
-abbrev pub EndsShort : (taken taken' : List ℕ) → List Recorded → Status → Type 0
-EndsShort taken taken' acts how =
-    ((how ≡ OutOfMemory) × (acts ≡ []) × (taken' ≡ taken)) ⊎ ((full : Full) × (how ≡ FullOf full))
+-- Memory ran out: there are no acts, and nothing was put. Or more was needed than there is, of what the status tells: the directory lacked
+-- room for the set's entries, the limits had too few words for its first objects, or the next event of the plain run met a limit.
+abbrev pub EndsShort : Choice → Limits → (image after : MemoryImage) → (taken taken' : List ℕ) → Graph → List Recorded → Status → Type 0
+EndsShort choice limits image after taken taken' opening acts how =
+    ((how ≡ OutOfMemory) × (acts ≡ []) × (taken' ≡ taken))
+    ⊎ ((full : Full) × (how ≡ FullOf full)
+    × MeetsLimit choice.set choice.main limits (told_of image) opening acts (told_of after) full)
 
 -- Words that ask for a run, files that give a class set, and an image that suits it: the set, once the array types of the image's directory
 -- had numbers in it, has no such class, or the class no `main`; or the acts are a plain run, which ended as the status says. But for what is
 -- short.
-abbrev pub EndsWhole : (words : List (List ℕ)) (files : List NamedBytes) → MemoryImage → (taken taken' : List ℕ) → Graph → List Recorded
-    → Status → Type 0
-EndsWhole words files image taken taken' opening acts how = (run : RunWords) → AsksRun words run
+abbrev pub EndsWhole : (words : List (List ℕ)) (files : List NamedBytes) → (image after : MemoryImage) → (taken taken' : List ℕ) → Graph
+    → List Recorded → Status → Type 0
+EndsWhole words files image after taken taken' opening acts how = (run : RunWords) → AsksRun words run
     → (choice : Choice) → AreAsked run files (Ok choice) → (suits : SuitsSet choice.set image)
-    → EndsSo choice run.limits image suits.directory opening acts how ⊎ EndsShort taken taken' acts how
+    → EndsSo choice run.limits image suits.directory opening acts how
+    ⊎ EndsShort choice run.limits image after taken taken' opening acts how

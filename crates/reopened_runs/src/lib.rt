@@ -1,4 +1,5 @@
-//! Programs over forms in memory that stand on the top call's promise: a run is stopped, what the stop left is recovered, and run on again.
+//! Programs over forms in memory that stand on the top call's promise: a run is stopped, and what the stop left is recovered, or run on again;
+//! a run prints what a plain run prints; and one that nothing outside hinders ends as a plain run does, or tells what was short.
 #![tactic(auto)]
 
 mod again;

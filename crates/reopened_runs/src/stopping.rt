@@ -1,11 +1,13 @@
 // A run is stopped, and what the stop left is recovered.
+ghost use Rattle.std.specs.Prelude.{◌≡◌, []};
 ghost use Rattle.line_image.specs.Memory.{told_of};
+ghost use Rattle.line_image.specs.Trace.{IsAllFenced};
 ghost use Rattle.command_words.specs.Commands.{texts};
-ghost use Rattle.reopened_runs.specs.Left.{IsFoundIn, IsUntouched, Recovers, RecoversWithin};
+ghost use Rattle.reopened_runs.specs.Left.{FindsBehind, FindsIn, IsFoundIn, IsUntouched, Recovers, RecoversWithin};
 
 use ap_base::{MemorySink, MemorySource, NoGate};
 use autopersist::{Ended, autopersist};
-use image_opening::{NotOpened, open_image};
+use image_opening::{NotOpened, give_back, open_image};
 use line_image::{Fails, MemoryImage};
 use run_history::NoWatch;
 use shared_graph::SharedGraph;
@@ -20,21 +22,29 @@ pub struct Stop {
     pub fails: Fails,
 }
 
-/// A run over forms in memory, and the graph that was recovered of what a stop left.
+/// A run over forms in memory, and the graph that was recovered of what a stop left; with an image that was given back. There is none where
+/// there was no memory for it.
 #[derive(Drop)]
 pub struct Stopped {
     pub ended: Ended<MemorySource, MemoryImage, MemorySink, NoWatch>,
     pub recovered: Result<SharedGraph, NotOpened>,
+    pub image: Option<MemoryImage>,
 }
 
-/// The graph for which an image stands that a stop left.
-pub(crate) fn recover_left(alloc: Global, left: MemoryImage) -> Result<SharedGraph, NotOpened>
+/// The graph for which an image stands that a stop left; and that image, as it is given back.
+pub(crate) fn recover_left(
+    alloc: Global,
+    left: MemoryImage,
+) -> (Result<SharedGraph, NotOpened>, MemoryImage)
     requires untouched { IsUntouched left }
-    ensures found { IsFoundIn left result }
+    ensures found { IsFoundIn left result.1 result.0 }
 {
     match open_image(alloc, left) {
-        Ok(opened) => Ok(opened.graph),
-        Err((why, _)) => Err(why),
+        Ok(opened) => {
+            let (graph, image) = give_back(opened);
+            (Ok(graph), image)
+        }
+        Err((why, image)) => (Err(why), image),
     }
 }
 
@@ -50,19 +60,27 @@ pub fn run_and_recover<R>(
 ) -> Stopped
 where
     R: Threads + Wait + Clone + Send + Sync + Drop,
-    // The graph is one that all acts allow.
-    ensures recovers { Recovers (texts words.now.items) source.left (told_of image) result.ended.opening
+    // The graph is one that all acts allow. Where there are none, nothing was unfenced at the start.
+    ensures recovers { (result.ended.acts.acts ≡ [] → IsAllFenced (told_of image).trace)
+        → Recovers (texts words.now.items) source.left (told_of image) result.ended.opening
         result.ended.acts.acts result.ended.acts.acts result.recovered }
+    // It is the graph for which the image stands that the stop left.
+    ensures found { FindsBehind (told_of result.ended.image) result.image result.recovered }
 {
     let ended = autopersist(rt, alloc, words, source, image, sink, &NoGate, NoWatch);
     match ended.image.crash(alloc, stop.pick, stop.fails) {
         Ok(left) => {
-            let recovered = recover_left(alloc, left);
-            Stopped { ended, recovered }
+            let (recovered, image) = recover_left(alloc, left);
+            Stopped {
+                ended,
+                recovered,
+                image: Some(image),
+            }
         }
         Err(_) => Stopped {
             ended,
             recovered: Err(NotOpened::OutOfMemory),
+            image: None,
         },
     }
 }
@@ -83,8 +101,14 @@ where
     // If one within call n has left it, the graph is one that the acts before that call allow.
     ensures recovers { RecoversWithin (texts words.now.items) source.left (told_of image) (told_of result.ended.image)
         result.ended.opening result.ended.acts.acts left result.recovered }
+    // It is the graph for which that image stands.
+    ensures found { FindsIn left result.image result.recovered }
 {
     let ended = autopersist(rt, alloc, words, source, image, sink, &NoGate, NoWatch);
-    let recovered = recover_left(alloc, left);
-    Stopped { ended, recovered }
+    let (recovered, image) = recover_left(alloc, left);
+    Stopped {
+        ended,
+        recovered,
+        image: Some(image),
+    }
 }

@@ -25,11 +25,12 @@ pub fn run_whole<R>(
 where
     R: Threads + Wait + Clone + Send + Sync + Drop,
     requires untouched { IsUntouched image }
-    // Where none of the three failed, the run ends as the plain run of its acts, or there is no `main`; or by want of memory, or by a limit.
+    // Where none of the three failed, the run ends as the plain run of its acts, or there is no `main`; or by want of memory, or by a limit,
+    // which is told.
     ensures whole { StaysFaultless source.faults result.source.faults → StaysFaultless (faults_of image) (faults_of result.image)
         → StaysFaultless sink.faults result.sink.faults
-        → EndsWhole (texts words.now.items) source.left image sink.taken result.sink.taken result.opening result.acts.acts
-        result.status }
+        → EndsWhole (texts words.now.items) source.left image result.image sink.taken result.sink.taken result.opening
+        result.acts.acts result.status }
 {
     autopersist(rt, alloc, words, source, image, sink, &NoGate, NoWatch)
 }

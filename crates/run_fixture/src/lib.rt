@@ -7,7 +7,7 @@ mod images;
 mod rings;
 mod runs;
 
-pub use autopersist::{Saved, Status, run_and_save, status_text};
+pub use autopersist::{MeetingGate, Saved, Status, run_and_save, status_text};
 pub use classes::{PRINTS, STORES, file, listed, listed_classes, main_class, source};
 pub use images::{LINES, blank, line_of, no_fails, word_of};
 pub use rings::RING;

@@ -168,7 +168,7 @@ fn compact_to(
 }
 
 /// The words of an audit of a run of this class.
-fn audit_words(alloc: Global, main: &str) -> Result<Vec<String>, AllocError> {
+pub(crate) fn audit_words(alloc: Global, main: &str) -> Result<Vec<String>, AllocError> {
     let mut words = words_of(
         alloc,
         "audit --before B --after F --history H --output O DIR --main",

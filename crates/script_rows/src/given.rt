@@ -21,6 +21,11 @@ impl Files {
         }
     }
 
+    /// Adds a file of these bytes.
+    pub(crate) fn add(&mut self, alloc: Global, bytes: &[u8]) -> Result<(), AllocError> {
+        push_bytes(alloc, &mut self.files, bytes, 1)
+    }
+
     /// The source's call of this number fails.
     pub(crate) fn fail_at(&mut self, call: u64) {
         self.fails = call;

@@ -4,7 +4,7 @@ use crate::texts::{Text, joined, put_bytes, put_line};
 use crate::world::{Held, World, stopped};
 use ap_base::MemorySink;
 use image_report::dump_image;
-use line_image::Image;
+use line_image::{Image, MemoryImage};
 use std::alloc::{AllocError, Global};
 
 /// What is dumped of an image; nothing where it can't be opened.
@@ -12,6 +12,12 @@ fn dump<I: Image>(alloc: Global, image: I) -> Result<Vec<u8>, AllocError> {
     let sink = MemorySink::new(alloc, 1_000, 1_000, Vec::new(alloc))?;
     let reported = dump_image(alloc, image, sink);
     reported.sink.as_slice().to_vec(alloc)
+}
+
+/// Opens an image, of which calls may fail.
+pub(crate) fn recover(alloc: Global, image: MemoryImage) -> Result<MemoryImage, AllocError> {
+    let sink = MemorySink::new(alloc, 1_000, 1_000, Vec::new(alloc))?;
+    Ok(dump_image(alloc, image, sink).image)
 }
 
 /// What is dumped of what a stop leaves of a device by a pick.

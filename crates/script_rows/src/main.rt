@@ -3,6 +3,7 @@
 
 mod commands;
 mod given;
+mod judging;
 mod leaving;
 mod numbers;
 mod playing;

@@ -1,4 +1,4 @@
-// Numbers of a script: sums of decimals, of hexadecimals and of numbers with names.
+// Numbers of a script: sums of decimals, of hexadecimals and of numbers with names, or of what they leave by others.
 use std::alloc::{AllocError, Global};
 
 /// A number with a name: `n` of a row that is repeated, or a mark.
@@ -41,11 +41,19 @@ fn plain(numbers: &[Number], text: &str) -> Option<u64> {
     }
 }
 
-/// A number, or what is left of it by another one.
+/// A number, or how often another one goes into it.
+fn quotient(numbers: &[Number], text: &str) -> Option<u64> {
+    match text.split_once('/') {
+        Some((front, by)) => plain(numbers, front)?.checked_div(plain(numbers, by)?),
+        None => plain(numbers, text),
+    }
+}
+
+/// That, or what is left of it by another one.
 fn term(numbers: &[Number], text: &str) -> Option<u64> {
     match text.split_once('%') {
-        Some((front, by)) => plain(numbers, front)?.checked_rem(plain(numbers, by)?),
-        None => plain(numbers, text),
+        Some((front, by)) => quotient(numbers, front)?.checked_rem(plain(numbers, by)?),
+        None => quotient(numbers, text),
     }
 }
 

@@ -1,7 +1,8 @@
 // Rows are played, step by step.
 use crate::commands::play_command;
 use crate::given::push;
-use crate::leaving::put_left;
+use crate::judging::{Case, put_judged, set_word};
+use crate::leaving::{put_left, recover};
 use crate::numbers::{Number, set_number};
 use crate::running::Done;
 use crate::script::{Fails, Given, Step, Times, header, step_of};
@@ -124,13 +125,17 @@ fn cut_out(history: &mut Vec<u8>, from: u64, to: u64) -> Result<(), AllocError> 
     Ok(())
 }
 
-/// The third word of a history says how many acts it has.
-fn set_count(history: &mut Vec<u8>, acts: u64) {
-    for (at, byte) in acts.to_le_bytes().iter().enumerate() {
-        if let Some(held) = history.get_mut(at.saturating_add(16)) {
-            *held = *byte;
-        }
-    }
+/// Where a history says how many acts it has.
+const COUNT: usize = 16;
+
+/// An image is opened, which stays where it was.
+fn open(alloc: Global, images: &mut Vec<Held>, name: &str) -> Result<bool, AllocError> {
+    let Some(image) = copied(alloc, images, name)? else {
+        return Ok(false);
+    };
+    let image = recover(alloc, image)?;
+    put_image(alloc, images, name, image)?;
+    Ok(true)
 }
 
 fn mark(
@@ -165,7 +170,8 @@ fn prepared(alloc: Global, world: &mut World, step: &Step<'_>) -> Result<bool, A
         Step::Give(given) => give(alloc, world, given)?,
         Step::Sink { most } => world.sink.0 = most.max(1),
         Step::Cut { from, to } => cut_out(&mut world.history, from, to)?,
-        Step::Count { acts } => set_count(&mut world.history, acts),
+        Step::Count { acts } => set_word(world.history.as_mut_slice(), COUNT, acts),
+        Step::Recover { image } => return open(alloc, &mut world.images, image),
         Step::Mark { name, op, which } => {
             mark(alloc, &mut world.numbers, &world.last, (name, op, which))?;
         }
@@ -192,6 +198,21 @@ fn found(
             to,
             texts,
         } => put_left(alloc, out, world, device, (from, to), texts),
+        Step::Judge {
+            before,
+            image,
+            call,
+            from,
+            to,
+            listing,
+        } => {
+            let case = Case {
+                before,
+                image,
+                listing,
+            };
+            put_judged(alloc, out, world, &case, call, (from, to))
+        }
         Step::Show(shown) => match &mut world.last {
             Some(done) => put_shown(alloc, out, done, shown),
             None => put_lost(out, "no run"),
@@ -256,6 +277,59 @@ where
     Ok(())
 }
 
+/// What a row prints for numbers that follow one another, where it is the same.
+#[derive(Drop)]
+struct Group {
+    from: u64,
+    to: u64,
+    told: String,
+}
+
+/// Puts a row's name with the numbers of a group, and what it prints for them.
+fn put_group(alloc: Global, out: &mut String, name: &str, group: &Group) -> Result<(), AllocError> {
+    let Group { from, to, told } = group;
+    if from == to {
+        put_line(out, format!(in alloc; "== {name} {from}")?.as_str())?;
+    } else {
+        put_line(out, format!(in alloc; "== {name} {from} {to}")?.as_str())?;
+    }
+    out.push_str(told.as_str())
+}
+
+/// Adds what a row prints for one more number to its last group, or puts that and begins another one.
+fn add_to(
+    alloc: Global,
+    out: &mut String,
+    name: &str,
+    group: &mut Group,
+    (n, told): (u64, String),
+) -> Result<(), AllocError> {
+    if group.told.as_str() != told.as_str() {
+        put_group(alloc, out, name, group)?;
+        group.from = n;
+        group.told = told;
+    }
+    group.to = n;
+    Ok(())
+}
+
+/// What the lines of a row print for a number `n`.
+fn told_for<R>(
+    rt: &R,
+    alloc: Global,
+    world: &mut World,
+    lines: &str,
+    n: u64,
+) -> Result<String, AllocError>
+where
+    R: Threads + Wait + Clone + Send + Sync + Drop,
+{
+    set_number(alloc, &mut world.numbers, "n", n)?;
+    let mut told = String::new(alloc);
+    play_lines(rt, alloc, world, lines, &mut told)?;
+    Ok(told)
+}
+
 /// The lines of a row for each number `n`.
 fn play_times<R>(
     rt: &R,
@@ -268,13 +342,19 @@ fn play_times<R>(
 where
     R: Threads + Wait + Clone + Send + Sync + Drop,
 {
-    for i in 0..times.count {
-        let n = times.from.saturating_add(times.step.saturating_mul(i));
-        set_number(alloc, &mut world.numbers, "n", n)?;
-        put_line(out, format!(in alloc; "== {name} {n}")?.as_str())?;
-        play_lines(rt, alloc, world, lines, out)?;
+    let from = times.from;
+    let told = told_for(rt, alloc, world, lines, from)?;
+    let mut group = Group {
+        from,
+        to: from,
+        told,
+    };
+    for i in 1..times.count {
+        let n = from.saturating_add(times.step.saturating_mul(i));
+        let told = told_for(rt, alloc, world, lines, n)?;
+        add_to(alloc, out, name, &mut group, (n, told))?;
     }
-    Ok(())
+    put_group(alloc, out, name, &group)
 }
 
 /// Puts what a row prints: its name, and what its steps print.

@@ -100,6 +100,20 @@ pub(crate) enum Step<'a> {
         to: u64,
         texts: &'a str,
     },
+    /// Whether what a stop leaves of an image by each of these picks is what the last run's acts allow. The run began on another image,
+    /// and its classes are in a listing; it may have made no act behind a call of the image.
+    Judge {
+        before: &'a str,
+        image: &'a str,
+        call: u64,
+        from: u64,
+        to: u64,
+        listing: &'a str,
+    },
+    /// An image is opened, and nothing is told.
+    Recover {
+        image: &'a str,
+    },
     /// A call fails, alone or with all later ones.
     Fails {
         what: Fails<'a>,
@@ -163,6 +177,21 @@ fn left_step<'a>(numbers: &[Number], device: &'a str, rest: &'a str) -> Option<S
     })
 }
 
+fn judge_step<'a>(numbers: &[Number], before: &'a str, rest: &'a str) -> Option<Step<'a>> {
+    let (image, rest) = cut(rest);
+    let (call, rest) = cut(rest);
+    let (from, rest) = cut(rest);
+    let (to, listing) = cut(rest);
+    Some(Step::Judge {
+        before,
+        image,
+        call: number_of(numbers, call)?,
+        from: number_of(numbers, from)?,
+        to: number_of(numbers, to)?,
+        listing,
+    })
+}
+
 /// A step of an image, which is the word behind the first one.
 fn image_step<'a>(numbers: &[Number], first: &str, rest: &'a str) -> Option<Step<'a>> {
     let (image, rest) = cut(rest);
@@ -179,6 +208,8 @@ fn image_step<'a>(numbers: &[Number], first: &str, rest: &'a str) -> Option<Step
         "word" => word_step(numbers, image, rest),
         "same" => Some(Step::Same { image, other: rest }),
         "left" => left_step(numbers, image, rest),
+        "judge" => judge_step(numbers, image, rest),
+        "recover" => Some(Step::Recover { image }),
         _ => None,
     }
 }

@@ -127,6 +127,7 @@ module _ (start : Told) (before m : Memory) (version : ℕ) (directory : Kept) (
     stops = is.stops;
     directory_stays = is.directory_stays;
     found_is = is.found.directory_is;
+    stores = is.stores;
     recovered = is.recovered;
     known = is.known;
     stands_now = is.stands_now;
@@ -184,6 +185,8 @@ unrecovered start after why fault of is = record {
         stops_with_none is.before is.memory found graph [] (is.stops tells graph stands)
         (is.directory_stays tells found (standing_has is.before.size (shown is.before) graph found stands spells));
   };
+  stores = is.stores;
+  recovering = is.recovering;
   cause = recovery_fault is.before is.memory why fault of is.cause;
 }
 

@@ -5,3 +5,4 @@ pub mod Fitted
 pub mod Found
 pub mod Opened
 pub mod Unopened
+pub mod Passed

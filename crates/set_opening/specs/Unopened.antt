@@ -1,6 +1,6 @@
 -- Images that couldn't be opened for a class set.
 pub use Rattle.image_opening.specs.Unopened.{IsOfWrongSize}
-use Rattle.std.specs.Prelude.{◌≡◌, ◌⊎◌, ℕ, List, [], Err}
+use Rattle.std.specs.Prelude.{◌≡◌, ◌≢◌, ◌⊎◌, ℕ, List, [], None, Err}
 use Rattle.graph_model.specs.declared.types.Graph.{Graph}
 use Rattle.line_image.specs.Told.{Told}
 use Rattle.line_image.specs.Trace.{LeavesNow}
@@ -9,9 +9,10 @@ use Rattle.line_memory.specs.Moments.{Goes}
 use Rattle.image_layout.specs.declared.superblock.BadReason.TheVariants.{Size}
 use Rattle.image_meaning.specs.Directories.{Directory, with_all}
 use Rattle.image_meaning.specs.Entries.{DirectoryEntry}
+use Rattle.image_meaning.specs.Logs.{logs_fault}
 use Rattle.image_meaning.specs.Meaning.{meaning, StandsFor}
 use Rattle.word_changes.specs.Changes.{ChangesTo, GoesOn, StopsLeave}
-use Rattle.image_recovery.specs.Putting.{IsPutBack}
+use Rattle.image_recovery.specs.Putting.{IsPutBack, IsRecoveringIn}
 use Rattle.image_opening.specs.declared.not_opened.NotOpened.{NotOpened}
 use Rattle.image_opening.specs.declared.not_opened.NotOpened.TheVariants as opening
 use Rattle.class_set.specs.Facts.{facts_of}
@@ -24,7 +25,7 @@ use Rattle.set_opening.specs.declared.unopened.Unopened.{Unopened}
 use Rattle.set_opening.specs.declared.unopened.Unopened.TheVariants.{BadImage, ShapeChanged, Full, ImageFailed, OutOfMemory}
 use Rattle.set_opening.specs.Arrays.{with_arrays_of}
 use Rattle.set_opening.specs.Attached.{IsAttached}
-use Rattle.set_opening.specs.Found.{IsDirectoryIn, IsFound}
+use Rattle.set_opening.specs.Found.{IsDirectoryIn, IsFound, StoresItsOwn}
 use Rattle.set_opening.specs.Fitted.{AllAgree, IsFitted, IsUnfit}
 use Rattle.set_opening.specs.Opened.{StandsWithFirst}
 
@@ -73,11 +74,16 @@ pub record IsLeft (start after : Told) (before m : Memory) (added : List Directo
   pub stops : IsTelling start.trace → (graph : Graph) (found : Directory) → StandsFor before.size (shown before) graph
       → IsDirectoryIn (shown before) found → StopsLeave before m (StandsWithFirst before.size found graph added)
 
--- It couldn't be recovered.
+-- It couldn't be recovered. Whatever the cause, in a blank image words of the layout were stored; in any other words were put back from logs
+-- and counts of logs cleared, alone (`stores`). A stop within that leaves each word outside the logs as it was or put back, also where there
+-- is no graph (`recovering`).
 pub record IsUnrecovered (start after : Told) (why : Unopened) : Type 0 where
   pub before : Memory
   pub memory : Memory
   pub left : IsLeft start after before memory []
+  pub stores : StoresItsOwn before memory
+  pub recovering : IsTelling start.trace → shown before 0 0 ≢ 0 → logs_fault before.size (shown before) ≡ None
+      → StopsLeave before memory (IsRecoveringIn before.size (shown before))
   pub cause : IsRecoveryFault before memory why
 
 -- What is in it wasn't found.

@@ -2,7 +2,7 @@
 use crate::playing::Playing;
 use ap_base::ThreadNo;
 use class_set::ClassSet;
-use machine::Halt;
+use durable_launch::Halt;
 use put_bytes::{put_decimal, put_text};
 use run_types::{On, RunFault, Waits};
 use statuses::{NameRoom, Status, status_of_fault, status_text};

@@ -2,3 +2,4 @@ mod Ending
 mod Filling
 mod Knowing
 mod Telling
+pub mod Passed

@@ -1,18 +1,24 @@
 // What a worker knows of its threads, and their turns.
 ghost use Rattle.workers.specs.Held.{IsOf};
 
-use crate::locked::{Came, Locked, Naming};
+use crate::crew::Crew;
+use crate::locked::{Call, Locked, Naming, Progress, Told};
+use crate::waiting::{Came, Rouses};
 use ap_base::{Gate, Item, Ref, Sink, ThreadNo};
 use frame_thread::Host;
 use line_image::Image;
 use natives::{Native, NativeState};
 use run_history::Watcher;
 use shared_objects::Types;
+use std::sync::atomic::{AtomicU64, Ordering};
 use std::sync::{Condvar, Mutex, Wait};
 use std::thread;
 
-/// How often a worker whose threads all wait looks for an event of another before it sleeps.
-const LOOKS: u32 = 64;
+/// How often a worker whose threads all wait looks whether something was done before it sleeps.
+const LOOKS: u32 = 32;
+
+/// How often the one that sees to it that a round ends looks whether something was done before it ends the round itself.
+const PATIENCE: u32 = 16_384;
 
 /// How far a thread is, as its worker knows.
 #[derive(Clone, Copy, PartialEq, Eq)]
@@ -33,6 +39,12 @@ struct Seat {
     stage: Stage,
 }
 
+// No turn was seen.
+const UNSEEN: Seat = Seat {
+    turns: 0,
+    stage: Stage::Unseen,
+};
+
 /// How a rotation went, or an event of it.
 #[derive(Clone, Copy, PartialEq, Eq)]
 enum Went {
@@ -44,36 +56,48 @@ enum Went {
     Over,
 }
 
-/// Of which workers' threads a host thread sees to the turns: worker w has each thread whose number leaves w when
-/// divided by the number of workers.
-#[derive(Clone, Copy)]
-pub(crate) struct Crew {
-    pub(crate) workers: u8,
-    pub(crate) mine: [bool; 64],
+/// By what workers that sleep are woken: those of whose threads one lives, and the others. Beside it, how often they were.
+#[derive(Drop)]
+pub(crate) struct Bells {
+    waiting: Condvar,
+    idle: Condvar,
+    rung: AtomicU64,
 }
 
-impl Crew {
-    /// None of them.
-    pub(crate) fn none(workers: u8) -> Crew {
-        Crew {
-            workers,
-            mine: [false; 64],
+impl Bells {
+    pub(crate) fn new() -> Bells {
+        Bells {
+            waiting: Condvar::new(),
+            idle: Condvar::new(),
+            rung: AtomicU64::new(0),
         }
     }
 
-    /// A worker's threads too.
-    pub(crate) fn with(mut self, worker: u8) -> Crew {
-        if worker < 64 {
-            self.mine[worker as usize] = true;
+    fn ring(&self, rouses: Rouses) {
+        if rouses == Rouses::Nobody {
+            return;
         }
-        self
+        self.rung.fetch_add(1, Ordering::SeqCst);
+        self.waiting.notify_all();
+        if rouses == Rouses::Everybody {
+            self.idle.notify_all();
+        }
     }
 
-    fn has(&self, thread: u8) -> bool {
-        if self.workers == 0 || thread >= 64 {
-            return false;
+    // How often they were rung.
+    fn rung(&self) -> u64 {
+        self.rung.load(Ordering::SeqCst)
+    }
+
+    // Whether they are rung once more within so many looks.
+    fn ring_within(&self, rung: u64, looks: u32) -> bool {
+        for _ in 0..looks {
+            if self.rung() != rung {
+                return true;
+            }
+            thread::yield_now();
         }
-        self.mine[(thread % self.workers) as usize]
+        false
     }
 }
 
@@ -91,10 +115,7 @@ impl Job {
         Job {
             crew,
             started: 1,
-            seats: [Seat {
-                turns: 0,
-                stage: Stage::Unseen,
-            }; 64],
+            seats: [UNSEEN; 64],
         }
     }
 
@@ -112,7 +133,7 @@ impl Job {
         &mut self,
         rt: &R,
         shared: &Mutex<Locked<J, I, S, W>>,
-        moved: &Condvar,
+        bells: &Bells,
         set: &C,
         host: &H,
         gate: &G,
@@ -124,10 +145,13 @@ impl Job {
             if (n as usize) >= self.started {
                 break;
             }
-            if !self.crew.has(n) {
+            let Some(t) = ThreadNo::new(n) else {
+                continue;
+            };
+            if !self.crew.has(t) {
                 continue;
             }
-            match self.turn(rt, shared, moved, set, host, gate, n) {
+            match self.turn(rt, shared, bells, set, host, gate, t) {
                 Went::Over => return Went::Over,
                 Went::Moved => went = Went::Moved,
                 Went::Still => {}
@@ -150,40 +174,42 @@ impl Job {
         &mut self,
         rt: &R,
         shared: &Mutex<Locked<J, I, S, W>>,
-        moved: &Condvar,
+        bells: &Bells,
         set: &C,
         host: &H,
         gate: &G,
-        n: u8,
+        t: ThreadNo,
     ) -> Went
         requires of { IsOf (C.facts set.now) (H.setting host.now) J.entry }
     {
-        let Some(t) = ThreadNo::new(n) else {
-            return Went::Still;
-        };
         let seat = &mut self.seats[t.number() as usize];
-        sit(rt, shared, seat, t);
+        if seat.stage == Stage::Unseen {
+            let place = place(rt, shared, t);
+            sit(seat, place);
+        }
         if !comes(seat, gate, t) {
             return Went::Still;
         }
-        let (came, started) = event(rt, shared, set, host, t);
-        self.started = started;
-        leave(seat, came);
-        tell(moved, came)
+        let told = event(rt, shared, set, host, t);
+        self.started = told.started;
+        leave(seat, told.came);
+        bells.ring(told.rouses);
+        went_of(told.came)
     }
 }
 
-// The seat of a thread that is seen to live for the first time.
-fn sit<J: Naming, R: Wait, I: Image, S: Sink, W: Watcher>(
+// How far a thread is, if it lives.
+fn place<J: Naming, R: Wait, I: Image, S: Sink, W: Watcher>(
     rt: &R,
     shared: &Mutex<Locked<J, I, S, W>>,
-    seat: &mut Seat,
     t: ThreadNo,
-) {
-    if seat.stage != Stage::Unseen {
-        return;
-    }
-    let place = shared.lock(rt).place(t);
+) -> Option<Progress> {
+    let locked = shared.lock(rt);
+    locked.place(t)
+}
+
+// The seat of a thread that is so far, if it lives.
+fn sit(seat: &mut Seat, place: Option<Progress>) {
     if let Some(place) = place {
         seat.turns = place.turns;
         seat.stage = if place.asks {
@@ -208,7 +234,7 @@ fn comes<G: Gate>(seat: &mut Seat, gate: &G, t: ThreadNo) -> bool {
     }
 }
 
-// An event of a thread, and how many threads are started then.
+// An event of a thread, under the lock.
 fn event<
     J: Naming,
     R: Wait,
@@ -217,78 +243,89 @@ fn event<
     H: Host<Native, Ref, NativeState, Item>,
     S: Sink,
     W: Watcher,
->(rt: &R, shared: &Mutex<Locked<J, I, S, W>>, set: &C, host: &H, t: ThreadNo) -> (Came, usize)
+>(rt: &R, shared: &Mutex<Locked<J, I, S, W>>, set: &C, host: &H, t: ThreadNo) -> Told
     requires of { IsOf (C.facts set.now) (H.setting host.now) J.entry }
 {
     let mut locked = shared.lock(rt);
-    let came = locked.step(set, host, t);
-    (came, locked.started())
+    locked.step(set, host, t)
 }
 
 fn leave(seat: &mut Seat, came: Came) {
     match came {
         Came::Answered => seat.stage = Stage::Fresh,
         Came::Ended | Came::Idle => seat.stage = Stage::Ended,
-        Came::Asks | Came::Waits | Came::Over => {}
+        Came::Asks | Came::Waits | Came::StillWaits | Came::Over => {}
     }
 }
 
-// Wakes the workers that sleep, unless nothing has changed for them.
-fn tell(moved: &Condvar, came: Came) -> Went {
+fn went_of(came: Came) -> Went {
     match came {
-        Came::Answered | Came::Ended | Came::Asks => {
-            moved.notify_all();
-            Went::Moved
-        }
-        Came::Waits | Came::Idle => Went::Still,
-        Came::Over => {
-            moved.notify_all();
-            Went::Over
-        }
+        Came::Answered | Came::Ended | Came::Asks => Went::Moved,
+        Came::Waits | Came::StillWaits | Came::Idle => Went::Still,
+        Came::Over => Went::Over,
     }
 }
 
-// What a worker sees under the lock without an event.
-#[derive(Clone, Copy)]
-struct Sight {
-    moves: u64,
-    started: usize,
-    done: bool,
-}
-
-fn look<J: Naming, R: Wait, I: Image, S: Sink, W: Watcher>(
+// Looks whether something is done, for long; else ends the round.
+fn watch<J: Naming, R: Wait, I: Image, S: Sink, W: Watcher>(
     rt: &R,
     shared: &Mutex<Locked<J, I, S, W>>,
-) -> Sight {
-    let locked = shared.lock(rt);
-    Sight {
-        moves: locked.moves(),
-        started: locked.started(),
-        done: locked.is_done(),
+    bells: &Bells,
+    rung: u64,
+) {
+    if bells.ring_within(rung, PATIENCE) {
+        return;
+    }
+    let mut locked = shared.lock(rt);
+    if bells.rung() == rung {
+        locked.end_round();
     }
 }
 
-// Waits until there were more events than that: looks first, then sleeps.
+// Waits until there is something to do for a crew. How many threads are started then; none where the run is done. Of the host threads
+// that wait for the end of a round one watches, since a thread that is held at the gate has events left; the others sleep.
 fn rest<J: Naming, R: Wait, I: Image, S: Sink, W: Watcher>(
     rt: &R,
     shared: &Mutex<Locked<J, I, S, W>>,
-    moved: &Condvar,
-    moves: u64,
-) {
-    for _ in 0..LOOKS {
-        if shared.lock(rt).moves() != moves {
-            return;
+    bells: &Bells,
+    crew: &Crew,
+) -> Option<usize> {
+    let mut looked = false;
+    let mut watches = false;
+    for _ in rt.forever() {
+        let mut locked = shared.lock(rt);
+        let rung = bells.rung();
+        let call = locked.call(crew);
+        if watches && call != Call::Spent {
+            watches = false;
+            locked.end_watch();
+            bells.ring(Rouses::Waiting);
         }
-        thread::yield_now();
+        match call {
+            Call::Go(started) => return Some(started),
+            Call::Done => return None,
+            Call::Spent if watches || locked.watch() => {
+                watches = true;
+                drop(locked);
+                watch(rt, shared, bells, rung);
+            }
+            Call::Wait if !looked => {
+                looked = true;
+                drop(locked);
+                let _rung = bells.ring_within(rung, LOOKS);
+            }
+            Call::Wait | Call::Spent => {
+                let _woken = bells.waiting.wait(rt, locked);
+            }
+            Call::Idle => {
+                let _woken = bells.idle.wait(rt, locked);
+            }
+        }
     }
-    let locked = shared.lock(rt);
-    if locked.moves() == moves {
-        let _woken = moved.wait(rt, locked);
-    }
+    None
 }
 
-/// Rotations over the threads of a crew, until the run is over or no thread lives. Where all of them wait, it looks once more
-/// at each before it waits for an event of another.
+/// Rotations over the threads of a crew, until the run is over or no thread lives.
 pub(crate) fn work<
     J: Naming,
     R: Wait,
@@ -301,7 +338,7 @@ pub(crate) fn work<
 >(
     rt: &R,
     shared: &Mutex<Locked<J, I, S, W>>,
-    moved: &Condvar,
+    bells: &Bells,
     set: &C,
     host: &H,
     gate: &G,
@@ -310,22 +347,37 @@ pub(crate) fn work<
     requires of { IsOf (C.facts set.now) (H.setting host.now) J.entry }
 {
     let mut job = Job::new(crew);
-    let mut seen = None;
     for _ in rt.forever() {
-        match job.rotate(rt, shared, moved, set, host, gate) {
+        match job.rotate(rt, shared, bells, set, host, gate) {
             Went::Over => return,
-            Went::Moved => seen = None,
-            Went::Still => {
-                if let Some(moves) = seen {
-                    rest(rt, shared, moved, moves);
-                }
-                let now = look(rt, shared);
-                if now.done {
-                    return;
-                }
-                job.started = now.started;
-                seen = Some(now.moves);
-            }
+            Went::Moved => {}
+            Went::Still => match rest(rt, shared, bells, &crew) {
+                Some(started) => job.started = started,
+                None => return,
+            },
+        }
+    }
+}
+
+/// The events of a run as long as no thread but the first is started: there is nobody to lock out.
+pub(crate) fn work_alone<
+    J: Naming,
+    R: Wait,
+    C: Types,
+    I: Image,
+    H: Host<Native, Ref, NativeState, Item>,
+    S: Sink,
+    G: Gate,
+    W: Watcher,
+>(rt: &R, locked: &mut Locked<J, I, S, W>, set: &C, host: &H, gate: &G)
+    requires of { IsOf (C.facts set.now) (H.setting host.now) J.entry }
+{
+    if !locked.is_alone() {
+        return;
+    }
+    for _ in rt.forever() {
+        if !locked.step_alone(set, host, gate, ThreadNo::main()) {
+            return;
         }
     }
 }

@@ -4,15 +4,17 @@ ghost use Rattle.durable_run.specs.Passed.{Opening};
 ghost use Rattle.durable_run.specs.Turning.{IsReady};
 ghost use Rattle.workers.specs.Held.{IsOf, Knows, began, held};
 
+use crate::crew::Crew;
 use crate::halts::fault_of;
-use ap_base::{Item, NoGate, Ref, Sink, ThreadNo};
+use crate::waiting::{Before, Came, Due, Rouses};
+use ap_base::{Gate, Item, NoGate, Ref, Sink, ThreadNo};
 use durable_run::{Run, Stepped, is_live, step};
 use frame_thread::Host;
 use line_image::Image;
 use natives::{Native, NativeState};
 use run_history::Watcher;
 use run_types::{On, RunFault};
-use shared_objects::{Threads, Types};
+use shared_objects::Types;
 use std::marker::{Brand, Model, PhantomData};
 
 /// What a run began with. Each call of `run_all` picks it.
@@ -34,8 +36,7 @@ impl Naming for Brand {
 pub(crate) struct Locked<J: Naming, I: Image, S: Sink, W: Watcher> {
     run: Run<I, S, W>,
     over: Option<RunFault>,
-    // The events but those that waited for the same as before; so many that it wraps.
-    moves: u64,
+    due: Due,
     of: PhantomData<J>,
 }
 
@@ -51,21 +52,49 @@ impl<J: Naming, I: Image, S: Sink, W: Watcher> Model for Locked<J, I, S, W> {
         (S.taken k.run.sink) (S.faults k.run.sink) k.over) };
 }
 
-/// How a thread's event went, as its worker is told.
+/// What a worker is told of an event.
+#[derive(Clone, Copy)]
+pub(crate) struct Told {
+    pub(crate) came: Came,
+    pub(crate) rouses: Rouses,
+    /// How many threads are started.
+    pub(crate) started: usize,
+}
+
+impl Told {
+    fn of(came: Came, rouses: Rouses, started: usize) -> Told {
+        Told {
+            came,
+            rouses,
+            started,
+        }
+    }
+}
+
+/// What there is to do for a crew.
 #[derive(Clone, Copy, PartialEq, Eq)]
-pub(crate) enum Came {
-    /// The turn is done, and the thread lives on.
-    Answered,
-    /// The turn is done, and the thread has ended.
-    Ended,
-    /// The same is asked still.
-    Asks,
-    /// It waits, and waited for the same before.
-    Waits,
-    /// The thread doesn't live.
+pub(crate) enum Call {
+    /// One of its threads may have an event; so many threads are started.
+    Go(usize),
+    /// One of its threads has had its events of this round, and the others that live have too, or wait.
+    Spent,
+    /// Each of its threads that live waits.
+    Wait,
+    /// None of its threads lives.
     Idle,
-    /// The run is over.
-    Over,
+    /// The run is over, or no thread lives.
+    Done,
+}
+
+impl Call {
+    // What there is to do for a crew with another thread that lives, which has no event.
+    fn with(self, other: Call) -> Call {
+        match (self, other) {
+            (Call::Spent, _) | (_, Call::Spent) => Call::Spent,
+            (Call::Wait, _) | (_, Call::Wait) => Call::Wait,
+            _ => other,
+        }
+    }
 }
 
 /// How far a thread that lives is.
@@ -84,31 +113,13 @@ fn came_of(stepped: &Stepped, waited: Option<On>, lives: bool) -> Came {
         Stepped::Micro => Came::Asks,
         Stepped::WouldWait(on) => {
             if waited == Some(on) {
-                Came::Waits
+                Came::StillWaits
             } else {
-                Came::Asks
+                Came::Waits
             }
         }
         Stepped::Over(_) => Came::Over,
     }
-}
-
-// Counts an event by which another thread's wait may end.
-fn count(moves: &mut u64, came: Came) {
-    if came != Came::Waits {
-        *moves = moves.wrapping_add(1);
-    }
-}
-
-fn none_lives(threads: &Threads) -> bool {
-    for n in 0..64 {
-        if let Some(t) = ThreadNo::new(n) {
-            if is_live(threads, t) {
-                return false;
-            }
-        }
-    }
-    true
 }
 
 impl<J: Naming, I: Image, S: Sink, W: Watcher> Locked<J, I, S, W> {
@@ -128,7 +139,7 @@ impl<J: Naming, I: Image, S: Sink, W: Watcher> Locked<J, I, S, W> {
         Locked {
             run,
             over: None,
-            moves: 0,
+            due: Due::all(),
             of: PhantomData,
         }
     }
@@ -138,19 +149,79 @@ impl<J: Naming, I: Image, S: Sink, W: Watcher> Locked<J, I, S, W> {
         self.run.heap.threads().count()
     }
 
-    /// A number that changes with each event but one that waits for the same as the thread's last.
-    pub(crate) fn moves(&self) -> u64 {
-        self.moves
+    /// Whether thread 0 is the only one that was started, and the run isn't over.
+    pub(crate) fn is_alone(&self) -> bool {
+        self.goes_on() && self.started() == 1
+    }
+
+    // Whether it isn't over.
+    fn goes_on(&self) -> bool {
+        self.over.is_none()
     }
 
     /// Whether the run is over, or no thread lives.
     pub(crate) fn is_done(&self) -> bool {
-        self.over.is_some() || none_lives(self.run.heap.threads())
+        let nobody = Crew::none(1);
+        self.call(&nobody) == Call::Done
+    }
+
+    fn lives(&self, t: ThreadNo) -> bool {
+        is_live(self.run.heap.threads(), t)
+    }
+
+    // What there is to do for a crew at a thread that lives.
+    fn call_of(&self, crew: &Crew, t: ThreadNo) -> Call {
+        if !crew.has(t) {
+            Call::Idle
+        } else if self.due.has(t) {
+            Call::Go(self.started())
+        } else if self.due.has_had_all(t) {
+            Call::Spent
+        } else {
+            Call::Wait
+        }
+    }
+
+    /// What there is to do for a crew.
+    pub(crate) fn call(&self, crew: &Crew) -> Call {
+        if !self.goes_on() {
+            return Call::Done;
+        }
+        let mut call = Call::Done;
+        for n in 0..64 {
+            let Some(t) = ThreadNo::new(n) else {
+                continue;
+            };
+            if !self.lives(t) {
+                continue;
+            }
+            let one = self.call_of(crew, t);
+            if let Call::Go(_) = one {
+                return one;
+            }
+            call = call.with(one);
+        }
+        call
+    }
+
+    /// Whether from now on this host thread is the one that sees to it that the round ends: there is no other.
+    pub(crate) fn watch(&mut self) -> bool {
+        self.due.watch()
+    }
+
+    /// It is no longer so.
+    pub(crate) fn end_watch(&mut self) {
+        self.due.end_watch();
+    }
+
+    /// Ends the round.
+    pub(crate) fn end_round(&mut self) {
+        self.due.end_round();
     }
 
     /// How far a thread is, if it lives.
     pub(crate) fn place(&self, t: ThreadNo) -> Option<Progress> {
-        if is_live(self.run.heap.threads(), t) {
+        if self.lives(t) {
             Some(Progress {
                 turns: self.run.turns[t.number() as usize],
                 asks: self.run.heap.has_asked(t),
@@ -160,29 +231,62 @@ impl<J: Naming, I: Image, S: Sink, W: Watcher> Locked<J, I, S, W> {
         }
     }
 
-    /// One event of a thread, unless the run is over or the thread doesn't live.
+    /// One event of a thread, unless the run is over, the thread doesn't live, what it waited for hasn't changed, or it has had
+    /// its events of this round.
     pub(crate) fn step<C: Types, H: Host<Native, Ref, NativeState, Item>>(
         &mut self,
         set: &C,
         host: &H,
         t: ThreadNo,
-    ) -> Came
+    ) -> Told
         requires of { IsOf (C.facts set.now) (H.setting host.now) J.entry }
     {
+        let started = self.run.heap.threads().count();
         if self.over.is_some() {
-            return Came::Over;
+            return Told::of(Came::Over, Rouses::Everybody, started);
         }
         if !is_live(self.run.heap.threads(), t) {
-            return Came::Idle;
+            return Told::of(Came::Idle, Rouses::Nobody, started);
         }
-        let waited = self.run.heap.waiting(t);
+        if !self.due.has(t) {
+            return Told::of(Came::StillWaits, Rouses::Nobody, started);
+        }
+        let before = Before::of(&self.run.heap, t);
         let stepped = step(&mut self.run, set, host, &NoGate, t);
-        let came = came_of(&stepped, waited, is_live(self.run.heap.threads(), t));
-        count(&mut self.moves, came);
+        let lives = is_live(self.run.heap.threads(), t);
+        let came = came_of(&stepped, before.waited, lives);
+        let rouses = self.due.note(&self.run.heap, t, came, before);
+        let started = self.run.heap.threads().count();
         if let Stepped::Over(halt) = stepped {
             self.over = Some(fault_of(&self.run.heap, halt));
         }
-        came
+        Told::of(came, rouses, started)
+    }
+
+    /// One event of the thread that was started first, with this gate, unless the run is over or the thread has ended. Whether
+    /// there may be another one, and no further thread was started.
+    pub(crate) fn step_alone<C: Types, H: Host<Native, Ref, NativeState, Item>, G: Gate>(
+        &mut self,
+        set: &C,
+        host: &H,
+        gate: &G,
+        t: ThreadNo,
+    ) -> bool
+        requires of { IsOf (C.facts set.now) (H.setting host.now) J.entry }
+    {
+        if self.over.is_some() {
+            return false;
+        }
+        if !is_live(self.run.heap.threads(), t) {
+            return false;
+        }
+        let stepped = step(&mut self.run, set, host, gate, t);
+        let started = self.run.heap.threads().count();
+        if let Stepped::Over(halt) = stepped {
+            let fault = fault_of(&self.run.heap, halt);
+            self.over = Some(fault);
+        }
+        started == 1
     }
 
     /// The fault by which the run is over, if it is, and what is left.

@@ -42,7 +42,12 @@ impl MeetingGate {
 
     // One of the two comes, and looks for the other. Where its looks are used up it gives up, for both.
     fn come(&self, mine: u64, other: u64) {
-        if self.change(other, MET) || !self.change(NOBODY, mine) {
+        if self.change(other, MET) {
+            return;
+        }
+        if !self.change(NOBODY, mine) {
+            // the other one came between the two looks
+            let _met = self.change(other, MET);
             return;
         }
         for _ in 0..self.most {

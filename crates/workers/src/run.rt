@@ -5,7 +5,8 @@ ghost use Rattle.durable_run.specs.Telling.{HasTold, IsCaused};
 ghost use Rattle.durable_run.specs.Turning.{EndsBy, IsReady, fault_in};
 ghost use Rattle.workers.specs.Held.{IsOf, HasLeft, began};
 
-use crate::job::{Crew, work};
+use crate::crew::Crew;
+use crate::job::{Bells, work, work_alone};
 use crate::locked::{Locked, Naming};
 use ap_base::{Gate, Item, Ref, Sink};
 use durable_run::{Run, RunEnd, run_threads};
@@ -15,7 +16,7 @@ use natives::{Native, NativeState};
 use run_history::Watcher;
 use shared_objects::Types;
 use std::marker::Brand;
-use std::sync::{Condvar, Mutex, Wait};
+use std::sync::{Mutex, Wait};
 use std::thread;
 use std::thread::Threads;
 
@@ -32,7 +33,7 @@ fn run_each<
 >(
     rt: &R,
     shared: &Mutex<Locked<J, I, S, W>>,
-    moved: &Condvar,
+    bells: &Bells,
     set: &C,
     host: &H,
     gate: &G,
@@ -52,19 +53,52 @@ fn run_each<
                 let spawned = scope.spawn(
                     move || -> ()
                         requires { IsOf (C.facts set.now) (H.setting host.now) J.entry }
-                    { work(rt, shared, moved, set, host, gate, theirs) },
+                    { work(rt, shared, bells, set, host, gate, theirs) },
                 );
                 if spawned.is_err() {
                     mine = mine.with(w);
                 }
             }
-            work(rt, shared, moved, set, host, gate, mine);
+            work(rt, shared, bells, set, host, gate, mine);
         },
     );
 }
 
-// How a run ended, and what is left of it. The workers come back where it is over or no thread lives; were it otherwise, the
-// rotation would go on with it.
+// The events of a run, until it is over or no thread lives; none where one host thread is to make them all.
+fn work_off<
+    J: Naming + Send + Sync,
+    R: Threads + Wait + Sync,
+    C: Types + Sync,
+    I: Image + Send,
+    H: Host<Native, Ref, NativeState, Item> + Sync,
+    S: Sink + Send,
+    G: Gate + Sync,
+    W: Watcher + Send,
+>(
+    rt: &R,
+    mut locked: Locked<J, I, S, W>,
+    set: &C,
+    host: &H,
+    gate: &G,
+    workers: u8,
+) -> Locked<J, I, S, W>
+    requires of { IsOf (C.facts set.now) (H.setting host.now) J.entry }
+{
+    if workers < 2 {
+        return locked;
+    }
+    work_alone(rt, &mut locked, set, host, gate);
+    if locked.is_done() {
+        return locked;
+    }
+    let shared = Mutex::new(locked);
+    let bells = Bells::new();
+    run_each(rt, &shared, &bells, set, host, gate, workers.min(64));
+    shared.into_inner()
+}
+
+// How a run ended, and what is left of it. The workers come back where it is over or no thread lives; were it otherwise, or where
+// there is one, the rotation goes on with it.
 fn ended<
     J: Naming,
     C: Types,
@@ -107,18 +141,17 @@ fn run_named<
         result.0 result.1.heap (W.seen result.1.watcher) (S.taken result.1.sink) (S.faults result.1.sink) }
 {
     let locked: Locked<J, I, S, W> = Locked::new(run, set, host);
-    let shared = Mutex::new(locked);
-    let moved = Condvar::new();
-    if workers > 0 {
-        run_each(rt, &shared, &moved, set, host, gate, workers.min(64));
-    }
-    ended(shared.into_inner(), set, host, gate)
+    let locked = work_off(rt, locked, set, host, gate, workers);
+    ended(locked, set, host, gate)
 }
 
 /// Runs the threads of a run in as many threads of the host as there are workers, or in fewer where no more can be started:
 /// how it ended, and what is left of it. Worker w has the threads whose number leaves w when divided by `workers`, and makes
-/// one event of each in rotation, by turns with the others. The gate is called before a turn begins, outside of the lock: the
-/// other workers don't wait for it. Where there is no worker, the rotation of `run_threads` runs it all. It takes no memory.
+/// one event of each in rotation, by turns with the others; a thread that waits has no further one until another's event may have
+/// ended its wait, and one that has had its share of a round none until each has had its own. The gate is called before a turn
+/// begins, outside of the lock: the other workers don't wait for it, but its host thread's other threads do, and the end of the run.
+/// Until the first thread starts another one, and where there is one worker or none, the caller's host thread makes all events. It
+/// takes no memory.
 pub fn run_all<
     R: Threads + Wait + Sync,
     C: Types + Sync,

@@ -20,10 +20,9 @@ returns-in-Ok-Run g c =
           did.no_memory did.opening did.size;
     }
 
-pub run_workload-requires : goal.run_workload-requires
-run_workload-requires g c = record {
-  range = (c.numbers_are_in_range.ensures (texts c.args.words.now.items) (Make c.in-Ok-Make.make) (read_so _ _ _ c.in-Ok-Make.ensures.command c.in-Ok-Make.field-0-is)).count;
-}
+pub run_workload-requires-clause-range : goal.run_workload-requires-clause-range
+run_workload-requires-clause-range g c = λ κs below.
+    (c.numbers_are_in_range.ensures (texts c.args.words.now.items) (Make c.in-Ok-Make.make) (read_so _ _ _ c.in-Ok-Make.ensures.command c.in-Ok-Make.field-0-is)).count
 
 pub returns-in-Ok-Check : goal.returns-in-Ok-Check
 returns-in-Ok-Check g c =

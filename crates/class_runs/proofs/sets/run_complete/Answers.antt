@@ -3,7 +3,7 @@ use Rattle.class_runs.proofs.SetRan.{unappended_ran}
 use Rattle.class_runs.proofs.sets.run_complete.Goals as goal
 
 pub run_opened-requires-clause-opened : goal.run_opened-requires-clause-opened
-run_opened-requires-clause-opened g c =
+run_opened-requires-clause-opened g c = λ κs below.
     let o = c.requires.found in (o.0, o.1, c.in-Ok.ensures.opened o.0 o.1 c.args.set.now o.2)
 
 pub returns-in-Ok-clause-ran : goal.returns-in-Ok-clause-ran

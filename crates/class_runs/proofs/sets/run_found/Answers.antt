@@ -4,7 +4,7 @@ use Rattle.class_runs.proofs.SetRan.{unfitted_ran}
 use Rattle.class_runs.proofs.sets.run_found.Goals as goal
 
 pub run_main-requires-clause-fits : goal.run_main-requires-clause-fits
-run_main-requires-clause-fits g c = c.in-Ok.ensures.room
+run_main-requires-clause-fits g c = λ κs below. c.in-Ok.ensures.room
 
 pub returns-in-Err-clause-ran : goal.returns-in-Err-clause-ran
 returns-in-Err-clause-ran g c = λ start old is.

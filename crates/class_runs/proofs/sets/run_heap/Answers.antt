@@ -9,7 +9,7 @@ use Rattle.class_runs.proofs.SetRan.{has_run_over, unstarted_ran}
 use Rattle.class_runs.proofs.sets.run_heap.Goals as goal
 
 pub run_launched-requires-clause-ready : goal.run_launched-requires-clause-ready
-run_launched-requires-clause-ready g c =
+run_launched-requires-clause-ready g c = λ κs below.
     let r = c.requires.can in
     let heap = c.args.heap in
     let l = c.in-Ok.ensures.ready r.0 r.1 r.2 in (
@@ -20,7 +20,7 @@ run_launched-requires-clause-ready g c =
     )
 
 pub run_launched-requires-clause-empty : goal.run_launched-requires-clause-empty
-run_launched-requires-clause-empty g c =
+run_launched-requires-clause-empty g c = λ κs below.
     let r = c.requires.can in (c.in-Ok.ensures.ready r.0 r.1 r.2).empty
 
 pub returns-in-Ok-clause-ran : goal.returns-in-Ok-clause-ran

@@ -9,9 +9,9 @@ use Rattle.class_runs.proofs.sets.run_launched.Goals as goal
 
 pub returns-clause-ran : goal.returns-clause-ran
 returns-clause-ran g c = λ o first ready. record {
-  end = c.run_threads-end.result;
-  shared = c.run_threads-end.new.run.heap;
-  ends = c.run_threads-end.ensures.ends o first
+  end = c.run_all-end.result.0;
+  shared = c.run_all-end.result.1.heap;
+  ends = c.run_all-end.ensures.ends o first
       (subst (λ (s : Linked). IsReady o first (facts_of s) (setting_in c.args.launched.host) c.args.launched.heap
       c.args.launched.frames.items) (sym c.of.ensures.types) ready);
   acts_are = ap (λ (h : History). h.acts) c.finish-acts.ensures.history;

@@ -6,7 +6,7 @@ use Rattle.class_runs.proofs.SetRan.{unbegun_ran}
 use Rattle.class_runs.proofs.sets.run_main.Goals as goal
 
 pub run_complete-requires-clause-main : goal.run_complete-requires-clause-main
-run_complete-requires-clause-main g c = sym c.in-Ok.ensures.found
+run_complete-requires-clause-main g c = λ κs below. sym c.in-Ok.ensures.found
 
 pub returns-in-Err-clause-ran : goal.returns-in-Err-clause-ran
 returns-in-Err-clause-ran g c = λ start old is.

@@ -5,7 +5,7 @@ use Rattle.class_runs.proofs.SetRan.{unlaunched_ran}
 use Rattle.class_runs.proofs.sets.run_opened.Goals as goal
 
 pub run_heap-requires-clause-can : goal.run_heap-requires-clause-can
-run_heap-requires-clause-can g c =
+run_heap-requires-clause-can g c = λ κs below.
     let o = c.requires.opened in (o.0, o.1, c.in-Ok.ensures.can o.0 o.1 o.2)
 
 pub returns-in-Ok-clause-ran : goal.returns-in-Ok-clause-ran

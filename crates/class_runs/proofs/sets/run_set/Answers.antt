@@ -3,8 +3,9 @@ use Rattle.class_runs.proofs.Outside.{failed_opening, never_by_sink, rose_since,
 use Rattle.class_runs.proofs.SetRan.{unopened_ran}
 use Rattle.class_runs.proofs.sets.run_set.Goals as goal
 
-pub run_found-requires : goal.run_found-requires
-run_found-requires g c = record { found = (g.I.Image.told c.args.image, c.args.set, c.in-Ok.ensures.found) }
+pub run_found-requires-clause-found : goal.run_found-requires-clause-found
+run_found-requires-clause-found g c = λ κs below.
+    (g.I.Image.told c.args.image, c.args.set, c.in-Ok.ensures.found)
 
 pub returns-in-Ok-clause-ran : goal.returns-in-Ok-clause-ran
 returns-in-Ok-clause-ran g c =

@@ -3,8 +3,8 @@ use Rattle.std.specs.Prelude.{slice_index}
 use Rattle.line_memory.specs.Memory.{Memory}
 use Rattle.image_recovery.specs.Recovered.{entries_in}
 use Rattle.class_set.specs.Facts.{facts_of}
-use Rattle.first_spaces.specs.Beginnings.{IsWholeOpened}
-use Rattle.first_spaces.specs.Spaces.{spaces_of}
+use Rattle.set_opening.specs.Passed.{IsWholeOpened}
+use Rattle.set_opening.specs.Passed.{spaces_of}
 use Rattle.set_opening.specs.Opened.{IsOpenedFor}
 use Rattle.durable_launch.proofs.FirstHeaps.{beginning, refused}
 use Rattle.durable_launch.proofs.heaps.open_heap.Goals as goal

@@ -1,8 +1,8 @@
 use Rattle.std.proofs.Common.{ap}
 use Rattle.natives.specs.Methods.{native_at}
 use Rattle.program_host.specs.Hosts.{setting_in}
-use Rattle.durable_run.specs.Passed.{memory_of}
-use Rattle.durable_run.specs.Passed.{Shared}
+use Rattle.workers.specs.Passed.{memory_of}
+use Rattle.workers.specs.Passed.{Shared}
 use Rattle.durable_launch.proofs.Launching.{ready_as}
 use Rattle.durable_launch.proofs.launches.launch.Goals as goal
 

@@ -2,6 +2,7 @@ use Rattle.std.proofs.Common.{◌≡◌, ◌≤◌, ◌∙◌, ℕ, List, None, 
 use Rattle.run_history.specs.Recorded.{History, Recorded}
 use Rattle.durable_run.specs.Passes.{fault_of_pass}
 use Rattle.durable_run.proofs.Passing.{limit-same}
+use Rattle.durable_run.proofs.Sharing.{shares-both, shares-nothing}
 use Rattle.durable_run.proofs.Telling.{caused-since, none-more, told-both, told-nothing}
 use Rattle.durable_run.proofs.runs.next_act.Goals as goal
 
@@ -9,6 +10,8 @@ pub passes-init : goal.passes-init
 passes-init g c = record {
   ready = λ o first ready. ready;
   told = told-nothing c.args.run.now.heap.history.acts _ _;
+  shares = λ o first ready. shares-nothing g.S.Sink.taken g.S.Sink.takes o.launch c.args.run.now.sink
+      c.args.run.now.heap.history.acts;
   cause = (omega arith, omega arith);
   none = refl;
   limit = refl;
@@ -23,6 +26,10 @@ returns-in_default g c =
     let isnt = c.in_default.not-Went in record {
       goes = λ o first ready. c.pass_over.ensures.goes o first (c.passes.invariant.ready o first ready);
       told = told-both _ _ _ _ _ _ _ _ _ c.passes.invariant.told c.pass_over.ensures.told;
+      shares = λ o first ready. shares-both g.S.Sink.taken g.S.Sink.takes o.launch (fault_of_pass c.pass_over.new.run.heap c.pass_over.result) c.args.run.now.sink
+          c.passes.run.sink c.pass_over.new.run.sink c.args.run.now.heap.history.acts c.passes.run.heap.history.acts
+          c.pass_over.new.run.heap.history.acts (c.passes.invariant.shares o first ready)
+          (c.pass_over.ensures.shares o first (c.passes.invariant.ready o first ready));
       cause = caused-since (fault_of_pass c.pass_over.new.run.heap c.pass_over.result) _ _ _ _ _ _
           c.passes.invariant.cause c.pass_over.ensures.cause;
       full = λ full went. isnt went;
@@ -51,9 +58,23 @@ passes-preserved g c =
     record {
       ready = λ o first ready. c.in-Went.ensures.goes o first (c.passes.invariant.ready o first ready);
       told = told-both _ _ _ _ _ _ _ _ _ c.passes.invariant.told c.pass_over.ensures.told;
+      shares = λ o first ready. shares-both g.S.Sink.taken g.S.Sink.takes o.launch None c.args.run.now.sink
+          c.passes.run.sink c.pass_over.new.run.sink c.args.run.now.heap.history.acts c.passes.run.heap.history.acts
+          c.pass_over.new.run.heap.history.acts (c.passes.invariant.shares o first ready)
+          (c.in-Went.ensures.shares o first (c.passes.invariant.ready o first ready));
       cause = caused-since None _ _ _ _ _ _ c.passes.invariant.cause c.in-Went.ensures.cause;
       none = none-more _ _ told.further told.acts few ∙ c.passes.invariant.none;
       limit = limit-same r.0 r.1 (g.C.Types.facts c.args.set.now) (g.H.Host.setting c.args.host.now)
           c.args.run.now.heap c.pass_over.new.run.heap c.args.run.now.frames.items c.pass_over.new.run.frames.items r.2
           (c.in-Went.ensures.goes r.0 r.1 (c.passes.invariant.ready r.0 r.1 r.2));
     }
+
+pub returns-then-len-before-clause-shares : goal.returns-then-len-before-clause-shares
+returns-then-len-before-clause-shares g c o first ready = shares-both g.S.Sink.taken g.S.Sink.takes o.launch None c.args.run.now.sink
+    c.passes.run.sink c.pass_over.new.run.sink c.args.run.now.heap.history.acts c.passes.run.heap.history.acts
+    c.pass_over.new.run.heap.history.acts (c.passes.invariant.shares o first ready)
+    (c.in-Went.ensures.shares o first (c.passes.invariant.ready o first ready))
+
+pub returns-then-len-before-clause-goes : goal.returns-then-len-before-clause-goes
+returns-then-len-before-clause-goes g c o first ready =
+    c.in-Went.ensures.goes o first (c.passes.invariant.ready o first ready)

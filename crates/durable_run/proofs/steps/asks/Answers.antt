@@ -86,3 +86,16 @@ returns-clause-alone g c before now come there =
     subst (λ (q : Option (Request Ref Item)).
     LeavesAlone c.args.t q c.goes_on.result c.args.run.now.heap c.goes_on.new.run.heap
     (c.goes_on.new.run.sink ≡ c.args.run.now.sink)) asked.1 c.goes_on.ensures.alone
+
+pub returns-clause-shares : goal.returns-clause-shares
+returns-clause-shares g c o first all before now begun frames_are =
+    let x = g.H.Host.setting c.args.host.now in
+    let there = put-there all c.args.run.now.frames.items c.args.t before now begun.there frames_are in
+    let is = elem-is c.args.run.now.frames.items c.args.t c.number.result c.index_mut.result.now now
+    c.number.ensures.same c.index_mut.ensures.value there in
+    let asked = c.asked-request.ensures.finishes before
+    (subst (λ (fs : ThreadFrames). HasCome x c.args.stop before fs) (sym is) begun.come) in
+    c.goes_on.ensures.shares o first
+    (asks-at o first (g.C.Types.facts c.args.set.now) x c.args.run.now.heap all c.args.t c.args.stop before now
+    c.args.run.now.frames.items c.number.result c.asked-request.new.frames c.asked-request.result begun frames_are
+    c.number.ensures.same asked.0 asked.1 c.asked-request.ensures.waits c.asked-request.ensures.of)

@@ -3,7 +3,8 @@ use Rattle.ap_base.specs.declared.reference.Ref.{Ref}
 use Rattle.ap_base.specs.declared.reference.Item.{Item}
 use Rattle.natives.specs.declared.requests.Request.{Request}
 use Rattle.machine.specs.Passed.{Shared, asked_by, taken}
-use Rattle.durable_run.specs.Events.{FindsItsWait, HasAsked, LeavesAlone, RemembersAfter, StepsTo}
+use Rattle.durable_run.specs.Events.{FindsItsWait, HasAsked, LeavesAlone, RemembersAfter, StepsTo, fault_of}
+use Rattle.durable_run.specs.Shares.{PrintsShares}
 use Rattle.durable_run.specs.Telling.{AddsShare}
 use Rattle.durable_run.proofs.Going.{goes-still}
 use Rattle.durable_run.proofs.Places.{index-of-get}
@@ -64,7 +65,7 @@ returns-clause-finds g c o first ready =
     let x = g.H.Host.setting c.args.host.now in
     let s = c.args.run.now.heap in
     let asked = index-of-get s.notes.asks c.args.t (Some c.in-Some.request) c.in-Some.ensures.asked in
-    subst (λ (y : Shared). FindsItsWait o c.args.t c.goes_on.result y) c.take_asked.ensures.taken
+    subst (λ (y : Shared). FindsItsWait o c.args.t c.goes_on.result y.machine) c.take_asked.ensures.taken
     (c.goes_on.ensures.finds o first
     (subst (λ (y : Shared). HasAsked o first set x y c.args.run.now.frames.items c.args.t c.in-Some.request)
     (sym c.take_asked.ensures.taken)
@@ -79,3 +80,17 @@ returns-clause-alone g c =
     (sym asked) (alone-taken c.args.t (Some c.in-Some.request) c.goes_on.result s c.goes_on.new.run.heap (taken s.notes c.args.t) Same
     (subst (λ (y : Shared). LeavesAlone c.args.t (Some c.in-Some.request) c.goes_on.result y c.goes_on.new.run.heap Same)
     c.take_asked.ensures.taken c.goes_on.ensures.alone))
+
+pub returns-clause-shares : goal.returns-clause-shares
+returns-clause-shares g c o first ready =
+    let set = g.C.Types.facts c.args.set.now in
+    let x = g.H.Host.setting c.args.host.now in
+    let s = c.args.run.now.heap in
+    let asked = index-of-get s.notes.asks c.args.t (Some c.in-Some.request) c.in-Some.ensures.asked in
+    subst (λ (y : Shared). PrintsShares g.S.Sink.taken g.S.Sink.takes o.launch
+    (fault_of c.goes_on.new.run.heap c.goes_on.result) c.args.run.now.sink c.goes_on.new.run.sink y.history.acts
+    c.goes_on.new.run.heap.history.acts) c.take_asked.ensures.taken
+    (c.goes_on.ensures.shares o first
+    (subst (λ (y : Shared). HasAsked o first set x y c.args.run.now.frames.items c.args.t c.in-Some.request)
+    (sym c.take_asked.ensures.taken)
+    (goes-still o first set x s c.args.run.now.frames.items c.args.t ready c.in-Some.request asked)))

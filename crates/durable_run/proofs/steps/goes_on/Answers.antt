@@ -1,14 +1,13 @@
-use Rattle.std.proofs.Common.{◌∙◌, ℕ, List, ap, get_or, length, subst, sym}
+use Rattle.std.proofs.Common.{◌∙◌, ℕ, List, None, ap, get_or, inl, inr, length, subst, sym}
 use Rattle.std.proofs.lemmas.Option.{get_or_from_slice_get}
 use Rattle.frames.specs.Turns.{answer}
 use Rattle.frame_steps.specs.Sized.{AreOf}
 use Rattle.private_steps.specs.Waits.{Waits}
 use Rattle.shared_objects.specs.declared.threads.ThreadState.{ThreadState}
 use Rattle.run_forms.specs.Views.{ThreadFrames}
-use Rattle.machine.specs.Events.{logs_word}
-use Rattle.machine.specs.Passed.{plain_waits}
 use Rattle.durable_run.proofs.Going.{acts-on, asks-on, ends-so, waits-so}
-use Rattle.durable_run.proofs.Stepping.{acted-remembers, micro-remembers, over-remembers, wait-remembers, waits-found}
+use Rattle.durable_run.proofs.Sharing.{act-shares, has-run, shares-over, shares-still}
+use Rattle.durable_run.proofs.Stepping.{acted-remembers, micro-remembers, over-remembers, wait-remembers}
 use Rattle.durable_run.proofs.steps.goes_on.Goals as goal
 
 pub answer-requires-clause-waits : goal.answer-requires-clause-waits
@@ -83,8 +82,10 @@ returns-in-Over-clause-goes g c o first h =
     (c.in-Over.ensures.leads o first h.table h.threads h.before h.next)
 
 pub returns-in-Did-clause-finds : goal.returns-in-Did-clause-finds
-returns-in-Did-clause-finds g c o first h =
-    c.in-Did.ensures.finds o first h.table h.threads h.before h.next
+returns-in-Did-clause-finds g c o first h = record {
+  plain = c.in-Did.ensures.finds o first h.table h.threads h.before h.next;
+  conversion = c.in-Did.ensures.awaits o first h.table h.threads h.before h.next;
+}
 
 pub returns-in-Did-clause-alone : goal.returns-in-Did-clause-alone
 returns-in-Did-clause-alone g c = record {
@@ -96,8 +97,10 @@ returns-in-Did-clause-alone g c = record {
 }
 
 pub returns-in-Micro-clause-finds : goal.returns-in-Micro-clause-finds
-returns-in-Micro-clause-finds g c o first h =
-    c.in-Micro.ensures.finds o first h.table h.threads h.before h.next
+returns-in-Micro-clause-finds g c o first h = record {
+  plain = c.in-Micro.ensures.finds o first h.table h.threads h.before h.next;
+  conversion = c.in-Micro.ensures.awaits o first h.table h.threads h.before h.next;
+}
 
 pub returns-in-Micro-clause-alone : goal.returns-in-Micro-clause-alone
 returns-in-Micro-clause-alone g c = record {
@@ -109,9 +112,10 @@ returns-in-Micro-clause-alone g c = record {
 }
 
 pub returns-in-WouldWait-clause-finds : goal.returns-in-WouldWait-clause-finds
-returns-in-WouldWait-clause-finds g c o first h =
-    waits-found (logs_word c.args.run.now.heap.machine c.args.t) c.in-WouldWait.on
-    (plain_waits o c.args.run.now.heap.machine c.args.t) (c.in-WouldWait.ensures.finds o first h.table h.threads h.before h.next)
+returns-in-WouldWait-clause-finds g c o first h = record {
+  plain = c.in-WouldWait.ensures.finds o first h.table h.threads h.before h.next;
+  conversion = c.in-WouldWait.ensures.awaits o first h.table h.threads h.before h.next;
+}
 
 pub returns-in-WouldWait-clause-alone : goal.returns-in-WouldWait-clause-alone
 returns-in-WouldWait-clause-alone g c = record {
@@ -123,8 +127,7 @@ returns-in-WouldWait-clause-alone g c = record {
 }
 
 pub returns-in-Over-clause-finds : goal.returns-in-Over-clause-finds
-returns-in-Over-clause-finds g c o first h =
-    tt
+returns-in-Over-clause-finds g c o first h = record { plain = tt; conversion = λ u w. tt }
 
 pub returns-in-Over-clause-alone : goal.returns-in-Over-clause-alone
 returns-in-Over-clause-alone g c = record {
@@ -134,3 +137,42 @@ returns-in-Over-clause-alone g c = record {
   silent = c.in-Over.ensures.silent;
   others = tt;
 }
+
+pub returns-in-Did-clause-shares : goal.returns-in-Did-clause-shares
+returns-in-Did-clause-shares g c o first h =
+    let set = g.C.Types.facts c.args.set.now in
+    let x = g.H.Host.setting c.args.host.now in
+    let new = c.told_event-went.new.heap in
+    let tells = c.in-Did.ensures.tells in
+    act-shares o first set c.args.run.now.heap h.table h.threads c.args.t h.before c.args.request.now h.next.due
+    c.machines_ask_as_plain_runs.ensures.ready g.S.Sink.taken g.S.Sink.takes c.args.run.now.sink c.told_event-went.new.sink
+    new.history.acts c.in-Did.ensures.acts
+    (has-run o first set x new c.begin_next.new.frames.items (returns-in-Did-clause-goes g c o first h)) _ _ tells.told
+    tells.share c.in-Did.ensures.silent
+
+pub returns-in-Micro-clause-shares : goal.returns-in-Micro-clause-shares
+returns-in-Micro-clause-shares g c o first h =
+    let set = g.C.Types.facts c.args.set.now in
+    let x = g.H.Host.setting c.args.host.now in
+    let new = c.told_event-went.new.heap in
+    let tells = c.in-Micro.ensures.tells in
+    elim c.in-Micro.ensures.acts [
+      | inl same ↦ shares-still g.S.Sink.taken g.S.Sink.takes o.launch None c.args.run.now.sink c.told_event-went.new.sink
+          c.args.run.now.heap.history.acts new.history.acts same (λ none. c.in-Micro.ensures.sink tt)
+      | inr one ↦ act-shares o first set c.args.run.now.heap h.table h.threads c.args.t h.before c.args.request.now
+          h.next.due c.machines_ask_as_plain_runs.ensures.ready g.S.Sink.taken g.S.Sink.takes c.args.run.now.sink
+          c.told_event-went.new.sink new.history.acts one
+          (has-run o first set x new c.args.run.now.frames.items (returns-in-Micro-clause-goes g c o first h)) _ _ tells.told
+          tells.share c.in-Micro.ensures.silent
+    ]
+
+pub returns-in-WouldWait-clause-shares : goal.returns-in-WouldWait-clause-shares
+returns-in-WouldWait-clause-shares g c o first h =
+    shares-still g.S.Sink.taken g.S.Sink.takes o.launch None c.args.run.now.sink c.told_event-went.new.sink
+    c.args.run.now.heap.history.acts c.told_event-went.new.heap.history.acts c.in-WouldWait.ensures.acts
+    (λ none. c.in-WouldWait.ensures.sink tt)
+
+pub returns-in-Over-clause-shares : goal.returns-in-Over-clause-shares
+returns-in-Over-clause-shares g c o first h =
+    shares-over g.S.Sink.taken g.S.Sink.takes o.launch _ c.args.run.now.sink c.told_event-went.new.sink
+    c.args.run.now.heap.history.acts c.told_event-went.new.heap.history.acts c.in-Over.ensures.acts

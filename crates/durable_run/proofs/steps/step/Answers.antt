@@ -1,4 +1,4 @@
-use Rattle.std.proofs.Common.{◌≡◌, ◌∙◌, Option, ap, inr, refl, subst, sym}
+use Rattle.std.proofs.Common.{◌≡◌, ◌∙◌, ℕ, List, Option, ap, inr, refl, subst, sym}
 use Rattle.std.specs.Prelude.{slice_set}
 use Rattle.std.proofs.lemmas.Option.{slice_get_within}
 use Rattle.ap_base.specs.declared.reference.Ref.{Ref}
@@ -7,10 +7,12 @@ use Rattle.natives.specs.declared.requests.Request.{Request}
 use Rattle.frames.specs.Turns.{turn}
 use Rattle.run_forms.specs.Views.{ThreadFrames}
 use Rattle.machine.specs.Passed.{Shared, asked_by}
-use Rattle.durable_run.specs.Events.{FindsItsWait, HasBegun, LeavesAlone, RemembersAfter, StepsTo}
+use Rattle.durable_run.specs.Events.{FindsItsWait, HasBegun, LeavesAlone, RemembersAfter, StepsTo, fault_of}
+use Rattle.durable_run.specs.Shares.{PrintsShares, Puts}
 use Rattle.durable_run.specs.Telling.{AddsShare}
 use Rattle.durable_run.specs.Turning.{IsReady, asks_next}
 use Rattle.durable_run.proofs.Places.{some-one}
+use Rattle.durable_run.proofs.Sharing.{shares-one}
 use Rattle.durable_run.proofs.Stepping.{begun-at, begun-so, elem-of, elem-put, next-asked, none-asked, notes-still, put-there, set-twice}
 use Rattle.durable_run.proofs.steps.step.Goals as goal
 
@@ -268,7 +270,7 @@ returns-then-reads_at_once-clause-finds g c o first ready =
     let b = begun-at o first set x s frames c.args.t c.number-at.result c.index_mut.result.now ready c.requires.live
     c.number-at.ensures.same c.index_mut.ensures.value c.begun-stop.result c.begun-stop.new.frames
     c.index_mut-2.result.now unasked c.begun-stop.ensures.come c.begun-stop.ensures.of c.index_mut-2.ensures.value in
-    (c.reads_at_once.ensures.acted c.if-reads_at_once.true o first frames c.index_mut.result.now b).unwaiting
+    (c.reads_at_once.ensures.acted c.if-reads_at_once.true o first frames c.index_mut.result.now b).finds
 
 pub returns-then-reads_at_once-clause-alone : goal.returns-then-reads_at_once-clause-alone
 returns-then-reads_at_once-clause-alone g c fs there =
@@ -301,7 +303,7 @@ returns-clause-finds g c o first ready =
     let begun = begun-so o first set x s frames c.args.t c.number-at.result c.index_mut.result.now ready c.requires.live
     c.number-at.ensures.same c.index_mut.ensures.value c.begun-stop.result c.begun-stop.new.frames unasked
     c.begun-stop.ensures.come c.begun-stop.ensures.of in
-    subst (λ (y : Shared). FindsItsWait o c.args.t c.asks.result y) none.1
+    subst (λ (y : Shared). FindsItsWait o c.args.t c.asks.result y.machine) none.1
     (c.asks.ensures.finds o first frames c.index_mut.result.now c.begun-stop.new.frames
     (subst (λ (y : Shared). HasBegun o first set x y frames c.args.t c.begun-stop.result c.index_mut.result.now
     c.begun-stop.new.frames) (sym none.1) begun)
@@ -339,3 +341,46 @@ returns-clause-alone g c fs there =
     c.asks.new.run.heap Same) none.1
     (c.asks.ensures.alone c.index_mut.result.now c.begun-stop.new.frames c.begun-stop.ensures.come
     (put-there frames _ c.args.t c.index_mut.result.now c.begun-stop.new.frames begun.there here))))
+
+pub returns-then-has_asked-clause-shares : goal.returns-then-has_asked-clause-shares
+returns-then-has_asked-clause-shares g c = c.continues.ensures.shares
+
+pub returns-then-reads_at_once-clause-shares : goal.returns-then-reads_at_once-clause-shares
+returns-then-reads_at_once-clause-shares g c o first ready =
+    let x = g.H.Host.setting c.args.host.now in
+    let set = g.C.Types.facts c.args.set.now in
+    let s = c.args.run.now.heap in
+    let frames = c.args.run.now.frames.items in
+    let unasked = none-asked c.has_asked.result (asked_by s.notes c.args.t) c.if-has_asked.false c.has_asked.ensures in
+    let b = begun-at o first set x s frames c.args.t c.number-at.result c.index_mut.result.now ready c.requires.live
+    c.number-at.ensures.same c.index_mut.ensures.value c.begun-stop.result c.begun-stop.new.frames
+    c.index_mut-2.result.now unasked c.begun-stop.ensures.come c.begun-stop.ensures.of c.index_mut-2.ensures.value in
+    let acted = c.reads_at_once.ensures.acted c.if-reads_at_once.true o first frames c.index_mut.result.now b in
+    let sink = c.args.run.now.sink in
+    shares-one g.S.Sink.taken g.S.Sink.takes o.launch c.args.t sink sink s.history.acts c.reads_at_once.new.heap.history.acts
+    acted.acts (subst (λ (piece : Option (List ℕ)). Puts g.S.Sink.taken g.S.Sink.takes piece acted.acts.act.act.op sink sink)
+    (sym acted.unprinted) refl)
+
+pub returns-clause-shares : goal.returns-clause-shares
+returns-clause-shares g c o first ready =
+    let x = g.H.Host.setting c.args.host.now in
+    let set = g.C.Types.facts c.args.set.now in
+    let s = c.args.run.now.heap in
+    let frames = c.args.run.now.frames.items in
+    let unasked = none-asked c.has_asked.result (asked_by s.notes c.args.t) c.if-has_asked.false c.has_asked.ensures in
+    let none = c.reads_at_once.ensures.none c.if-reads_at_once.false in
+    let begun = begun-so o first set x s frames c.args.t c.number-at.result c.index_mut.result.now ready c.requires.live
+    c.number-at.ensures.same c.index_mut.ensures.value c.begun-stop.result c.begun-stop.new.frames unasked
+    c.begun-stop.ensures.come c.begun-stop.ensures.of in
+    subst (λ (y : Shared). PrintsShares g.S.Sink.taken g.S.Sink.takes o.launch
+    (fault_of c.asks.new.run.heap c.asks.result) c.args.run.now.sink c.asks.new.run.sink y.history.acts
+    c.asks.new.run.heap.history.acts) none.1
+    (c.asks.ensures.shares o first frames c.index_mut.result.now c.begun-stop.new.frames
+    (subst (λ (y : Shared). HasBegun o first set x y frames c.args.t c.begun-stop.result c.index_mut.result.now
+    c.begun-stop.new.frames) (sym none.1) begun)
+    (set-twice frames c.args.t c.number-at.result c.begun-stop.new.frames c.reads_at_once.new.frames
+    c.number-at.ensures.same
+    ∙ ap (slice_set frames c.args.t) (none.0
+    ∙ elem-put frames c.args.t c.number-at.result c.begun-stop.new.frames c.index_mut-2.result.now
+    c.number-at.ensures.same (slice_get_within frames c.args.t c.index_mut.result.now begun.there)
+    c.index_mut-2.ensures.value)))

@@ -7,8 +7,8 @@ use Rattle.machine_threads.specs.Stuck.{plain_waits}
 use Rattle.machine.specs.Events.{TakesOutput, logs_word}
 use Rattle.machine.proofs.Leaving.{few}
 use Rattle.machine.proofs.Recalling.{came-micro, came-unanswered, came-waiting, counted-then, event-leads, full-over, full-remembers}
-use Rattle.machine.proofs.Recalling.{notable, noted-acts, noted-answers, noted-finds, noted-history, noted-image, noted-machine, noted-others}
-use Rattle.machine.proofs.Recalling.{noted-sink, noted-work, others-left}
+use Rattle.machine.proofs.Recalling.{notable, noted-acts, noted-answers, noted-awaits, noted-finds, noted-history, noted-image, noted-machine}
+use Rattle.machine.proofs.Recalling.{noted-others, noted-sink, noted-work, others-left}
 use Rattle.machine.proofs.Recalling.{room-of}
 use Rattle.machine.proofs.running.event.Goals as goal
 
@@ -19,6 +19,9 @@ returns-then-is_full-clause-leads g c o first es threads fs next =
 
 pub returns-then-is_full-clause-remembers : goal.returns-then-is_full-clause-remembers
 returns-then-is_full-clause-remembers g c = full-remembers c.args.heap.now c.args.t c.args.request.now
+
+pub returns-then-is_full-clause-awaits : goal.returns-then-is_full-clause-awaits
+returns-then-is_full-clause-awaits g c o first es threads fs next u w = tt
 
 pub returns-then-is_full-clause-either : goal.returns-then-is_full-clause-either
 returns-then-is_full-clause-either g c = inr refl
@@ -69,6 +72,8 @@ returns g c =
           (few c.laws.ensures o first set s es threads t fs request next.due room) comes notes).1;
       finds = λ o first es threads fs next. noted-finds set t request came result mid new notes (logs_word s.machine t)
           (plain_waits o s.machine t) (serves.comes o first es threads fs next.due).finds;
+      awaits = λ o first es threads fs next. noted-awaits set t request came result mid new notes o s.machine
+          (serves.comes o first es threads fs next.due).awaits;
       others = noted-others set t request came result mid new notes s.machine
           (others-left o first s mid es threads t fs request came comes);
       acts = noted-acts set t request came result mid new notes s.history.acts comes.acts;

@@ -10,15 +10,22 @@ pub returns-in-Ok : goal.returns-in-Ok
 returns-in-Ok g c =
     let meets = c.autopersist-ended.ensures.meets in
     let left = c.in-Ok.left in
+    let is = c.in-Ok.ensures in
     let words = first_word (trace_of left) in
-    let size = c.in-Ok.ensures.size ∙ meets.size in
+    let size = is.size ∙ meets.size in
+    let found = c.recover_left-recovered.ensures.found in
     record {
-      recovers = recovers_now (texts c.args.words.now.items) _ _ _ _ _ _ _ meets c.args.source.left refl tt (λ same. ap told_of same) words
-          c.recover_left-recovered.result
-          (λ graph stands. c.recover_left-recovered.ensures.found.stood graph (subst (λ (n : ℕ). StandsFor n words graph) (sym size) stands))
-          (λ graph stands. c.recover_left-recovered.ensures.found.refused graph (subst (λ (n : ℕ). StandsFor n words graph) (sym size) stands))
-          c.in-Ok.ensures.outcome;
+      recovers = λ fenced.
+          recovers_now (texts c.args.words.now.items) _ _ _ _ _ _ _ meets c.args.source.left refl tt (λ same. ap told_of same) words
+          c.recover_left-recovered.result.0
+          (λ graph stands. found.stood graph (subst (λ (n : ℕ). StandsFor n words graph) (sym size) stands))
+          (λ graph stands. found.refused graph (subst (λ (n : ℕ). StandsFor n words graph) (sym size) stands))
+          is.outcome fenced;
+      found = (left, record { untouched = is.untouched; faultless = is.faultless; size = is.size; words = is.outcome }, found);
     }
 
 pub returns-in-Err : goal.returns-in-Err
-returns-in-Err g c = record { recovers = recovers_nothing (texts c.args.words.now.items) _ _ _ _ _ }
+returns-in-Err g c = record {
+  recovers = λ fenced. recovers_nothing (texts c.args.words.now.items) _ _ _ _ _;
+  found = refl;
+}

@@ -7,13 +7,15 @@ use Rattle.reopened_runs.proofs.Left.{recovers_within}
 use Rattle.reopened_runs.proofs.stopping.run_and_recover_other.Goals as goal
 
 pub returns : goal.returns
-returns g c = record {
-  recovers = λ n is early.
-      let meets = c.autopersist-ended.ensures.meets in
-      let words = first_word (trace_of c.args.left) in
-      recovers_within (texts c.args.words.now.items) _ _ _ _ _ _ _ meets c.args.source.left refl tt (λ same. ap told_of same) words
-      c.recover_left-recovered.result
-      (λ graph stands. c.recover_left-recovered.ensures.found.stood graph (subst (λ (m : ℕ). StandsFor m words graph) (sym is.size) stands))
-      (λ graph stands. c.recover_left-recovered.ensures.found.refused graph (subst (λ (m : ℕ). StandsFor m words graph) (sym is.size) stands))
-      n is.some is.made is.counted is.words early;
-}
+returns g c =
+    let found = c.recover_left-recovered.ensures.found in
+    let words = first_word (trace_of c.args.left) in
+    record {
+      recovers = λ n is fenced.
+          recovers_within (texts c.args.words.now.items) _ _ _ _ _ _ _ c.autopersist-ended.ensures.meets c.args.source.left refl tt
+          (λ same. ap told_of same) words c.recover_left-recovered.result.0
+          (λ graph stands. found.stood graph (subst (λ (m : ℕ). StandsFor m words graph) (sym is.size) stands))
+          (λ graph stands. found.refused graph (subst (λ (m : ℕ). StandsFor m words graph) (sym is.size) stands))
+          n is.some is.made is.counted is.words fenced;
+      found = found;
+    }

@@ -1,0 +1,64 @@
+#!/usr/bin/env python3
+"""What host threads cost: nanoseconds an act with 2, 4 and 64 workers, beside the rotation of one.
+
+usage: bench/workers.py [PROGRAM] [--runs N]
+
+PROGRAM is the built program, or the script `autopersist`. With `--workers 1` one host thread passes over all threads of a
+program, without a lock. Fields has one thread; of the others each has four, those of Racers share nothing, and those of
+Turnstile a monitor. The numbers of workers take turns in one run, and the least of each is told. What a run takes that does
+nothing is left out. The image is a file, and no program of these stores to it.
+"""
+import argparse
+import sys
+import time
+
+sys.dont_write_bytecode = True
+from java_runs import CLASSES, TOP, Runtime  # noqa: E402
+import subprocess  # noqa: E402
+
+# How many acts each program has, by its loops, but for a few.
+PROGRAMS = {
+    # two reads, a store, a read and a read of `next` a turn
+    "Fields": 5 * 180_000,
+    # two reads and two stores a turn
+    "Racers": 4 * 4 * 45_000,
+    # the gate read, a monitor taken, a read, a store, and the monitor given back
+    "Turnstile": 4 * 5 * 30_000,
+}
+
+WORKERS = (1, 2, 4, 64)
+
+
+def once(runtime, name, workers):
+    """The seconds of a run. One that doesn't end well ends the benchmark."""
+    words = [runtime.program, "run", "--image", runtime.blank("image"), "--main", name, "--workers", str(workers), CLASSES / name]
+    begun = time.perf_counter()
+    ran = subprocess.run(words, capture_output=True)
+    seconds = time.perf_counter() - begun
+    if ran.returncode != 0:
+        raise SystemExit(f"{name} ended with {ran.returncode}: {ran.stderr.decode(errors='replace').strip()}")
+    return seconds
+
+
+def main():
+    parser = argparse.ArgumentParser(description=__doc__, formatter_class=argparse.RawDescriptionHelpFormatter)
+    parser.add_argument("program", nargs="?", default=str(TOP / "autopersist"))
+    parser.add_argument("--runs", type=int, default=5)
+    words = parser.parse_args()
+    runtime = Runtime(words.program)
+    empty = min(once(runtime, "Nothing", 1) for _ in range(words.runs))
+    print(f"a run that does nothing: {1e3 * empty:.0f} ms")
+    print(f"{'':10} {'acts':>8}" + "".join(f" {f'{w} ns':>9}" for w in WORKERS) + "".join(f" {f'{w}/1':>6}" for w in WORKERS[1:]))
+    for name, acts in PROGRAMS.items():
+        least = {workers: float("inf") for workers in WORKERS}
+        for _ in range(words.runs):
+            for workers in WORKERS:
+                least[workers] = min(least[workers], once(runtime, name, workers))
+        costs = [1e9 * max(least[workers] - empty, 1e-9) / acts for workers in WORKERS]
+        line = f"{name:10} {acts:8,}" + "".join(f" {cost:9.0f}" for cost in costs)
+        print(line + "".join(f" {cost / costs[0]:6.2f}" for cost in costs[1:]), flush=True)
+    return 0
+
+
+if __name__ == "__main__":
+    sys.exit(main())

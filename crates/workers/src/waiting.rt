@@ -1,0 +1,218 @@
+// Which threads may have an event, and which workers are told of one.
+use ap_base::ThreadNo;
+use durable_run::{SharedHeap, is_live};
+use line_image::Image;
+use run_history::Op;
+use run_types::On;
+use shared_objects::Threads;
+
+/// How a thread's event went, as its worker is told.
+#[derive(Clone, Copy, PartialEq, Eq)]
+pub(crate) enum Came {
+    /// The turn is done, and the thread lives on.
+    Answered,
+    /// The turn is done, and the thread has ended.
+    Ended,
+    /// The same is asked still.
+    Asks,
+    /// It waits.
+    Waits,
+    /// It waits, and waited for the same before; or it isn't asked again yet.
+    StillWaits,
+    /// The thread doesn't live.
+    Idle,
+    /// The run is over.
+    Over,
+}
+
+/// Which workers that sleep may have something to do behind an event.
+#[derive(Clone, Copy, PartialEq, Eq)]
+pub(crate) enum Rouses {
+    Nobody,
+    /// Those of whose threads one lives.
+    Waiting,
+    /// The others too.
+    Everybody,
+}
+
+/// What stood before an event.
+#[derive(Clone, Copy)]
+pub(crate) struct Before {
+    pub(crate) started: usize,
+    pub(crate) acts: u32,
+    pub(crate) waited: Option<On>,
+}
+
+impl Before {
+    pub(crate) fn of<I: Image>(heap: &SharedHeap<I>, t: ThreadNo) -> Before {
+        Before {
+            started: heap.threads().count(),
+            acts: heap.acts().len(),
+            waited: heap.waiting(t),
+        }
+    }
+}
+
+/// How many events a thread may have in a round.
+const ROUND: u32 = 128;
+
+/// The threads that may have an event: all but those whose last one waited, where none of another has ended that wait since, and those
+/// that have had their events of this round, or gave a thread that waited its turn. A round ends once no thread that lives is left with
+/// an event in it. So a thread that looks for something again and again leaves the others time to do it, however the host divides its own.
+#[derive(Drop)]
+pub(crate) struct Due {
+    waits: [bool; 64],
+    // Whether some may wait.
+    some_wait: bool,
+    // How many events each has had in this round.
+    had: [u32; 64],
+    // Whether a host thread sees to it that the round ends.
+    watched: bool,
+}
+
+// Whether an event of a thread that lives on, which made this act or none, may end such a wait.
+fn frees(on: &On, t: ThreadNo, act: Option<&Op>) -> bool {
+    match on {
+        On::Monitor(owner) => *owner == t && matches!(act, Some(Op::Exit { .. })),
+        On::Init(other) => *other == t && matches!(act, Some(Op::Init { .. })),
+        On::Join(_) => false,
+        On::Conversion(_) => true,
+    }
+}
+
+impl Due {
+    /// All may have one.
+    pub(crate) fn all() -> Due {
+        Due {
+            waits: [false; 64],
+            some_wait: false,
+            had: [0; 64],
+            watched: false,
+        }
+    }
+
+    /// Whether a thread may have one.
+    pub(crate) fn has(&self, t: ThreadNo) -> bool {
+        let at = t.number() as usize;
+        !self.waits[at] && self.had[at] < ROUND
+    }
+
+    /// Whether a thread that doesn't wait has had its events of this round.
+    pub(crate) fn has_had_all(&self, t: ThreadNo) -> bool {
+        let at = t.number() as usize;
+        !self.waits[at] && self.had[at] >= ROUND
+    }
+
+    /// Whether from now on a host thread sees to it that the round ends; not so where another one does.
+    pub(crate) fn watch(&mut self) -> bool {
+        let none = !self.watched;
+        self.watched = true;
+        none
+    }
+
+    /// The host thread that saw to it goes on to something else.
+    pub(crate) fn end_watch(&mut self) {
+        self.watched = false;
+    }
+
+    /// Ends the round.
+    pub(crate) fn end_round(&mut self) {
+        self.had = [0; 64];
+    }
+
+    // All may have one again.
+    fn refill(&mut self) {
+        self.waits = [false; 64];
+        self.some_wait = false;
+        self.had = [0; 64];
+    }
+
+    // The threads whose wait the event of another may have ended, and whether there is one.
+    fn free<I: Image>(&mut self, heap: &SharedHeap<I>, t: ThreadNo, act: Option<&Op>) -> bool {
+        let mut freed = false;
+        for n in 0..64 {
+            if n as usize >= heap.threads().count() {
+                break;
+            }
+            let Some(other) = ThreadNo::new(n) else {
+                continue;
+            };
+            if !self.waits[other.number() as usize] {
+                continue;
+            }
+            if let Some(on) = heap.waiting(other) {
+                if frees(&on, t, act) {
+                    self.waits[other.number() as usize] = false;
+                    freed = true;
+                }
+            }
+        }
+        freed
+    }
+
+    // Whether a thread that lives may have one.
+    fn has_live(&self, threads: &Threads) -> bool {
+        for n in 0..64 {
+            if let Some(t) = ThreadNo::new(n) {
+                if self.has(t) && is_live(threads, t) {
+                    return true;
+                }
+            }
+        }
+        false
+    }
+
+    // Counts an event of a thread, which waits or not. Where it gave another its turn, it has no more in this round: else it might take
+    // a monitor again before that one's host thread is there.
+    fn count(&mut self, t: ThreadNo, waits: bool, gave: bool) {
+        let at = t.number() as usize;
+        self.had[at] = if gave {
+            ROUND
+        } else {
+            self.had[at].saturating_add(1)
+        };
+        self.waits[at] = waits;
+        self.some_wait |= waits;
+    }
+
+    // Ends the round, where no thread that lives is left with an event in it. Were each to wait, all might have one: as the run is
+    // over at the event by which all wait, that doesn't come.
+    fn renew(&mut self, threads: &Threads) -> bool {
+        if self.has_live(threads) {
+            return false;
+        }
+        self.end_round();
+        if !self.has_live(threads) {
+            self.refill();
+        }
+        true
+    }
+
+    /// What an event of a thread changes.
+    pub(crate) fn note<I: Image>(
+        &mut self,
+        heap: &SharedHeap<I>,
+        t: ThreadNo,
+        came: Came,
+        before: Before,
+    ) -> Rouses {
+        if came == Came::Over || came == Came::Ended || heap.threads().count() != before.started {
+            self.refill();
+            return Rouses::Everybody;
+        }
+        let mut freed = false;
+        let mut gave = false;
+        if self.some_wait && came != Came::StillWaits {
+            let act = heap.acts().get(before.acts).map(|act| &act.op);
+            freed = self.free(heap, t, act);
+            gave = freed && matches!(act, Some(Op::Exit { .. } | Op::Init { .. }));
+        }
+        self.count(t, came == Came::Waits || came == Came::StillWaits, gave);
+        let renewed = !self.has(t) && self.renew(heap.threads());
+        if freed || renewed {
+            Rouses::Waiting
+        } else {
+            Rouses::Nobody
+        }
+    }
+}
