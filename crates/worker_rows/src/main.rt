@@ -3,11 +3,11 @@
 
 mod making;
 
-use crate::making::{Given, make, prepare, run, tell};
+use crate::making::{Forms, make, prepare, run, tell, texts};
 use ap_base::ThreadNo;
 use run_fixture::{MeetingGate, listed};
 use run_history::NoWatch;
-use std::alloc::Global;
+use std::alloc::{AllocError, Global};
 use std::sync::Wait;
 use std::test::Fail;
 use std::thread::Threads;
@@ -29,8 +29,8 @@ const FEW: u64 = 10;
 
 const MANY: u64 = 200_000_000;
 
-/// The class Main of that listing, to be run with so many workers.
-fn walkers(alloc: Global, workers: &str) -> Result<Given, Fail> {
+/// The words that run class Main with so many workers.
+fn words(alloc: Global, workers: &str) -> Result<Vec<String>, AllocError> {
     let words = [
         "autopersist",
         "run",
@@ -42,8 +42,13 @@ fn walkers(alloc: Global, workers: &str) -> Result<Given, Fail> {
         workers,
         "DIR",
     ];
+    texts(alloc, &words)
+}
+
+/// The classes of that listing, on an image of zeros.
+fn walkers(alloc: Global) -> Result<Forms, Fail> {
     let source = listed(alloc, WALKERS)?;
-    Ok(prepare(alloc, &words, source, 2_000)?)
+    Ok(prepare(alloc, source, 2_000)?)
 }
 
 /// Whether threads 1 and 2 met before their second turns, where so many workers run them, and how the run ended.
@@ -55,8 +60,9 @@ where
         return Err("two threads".into());
     };
     let gate = MeetingGate::new(first, second, 2, looks);
-    let walkers = walkers(alloc, workers)?;
-    let (_, ended) = run(rt, alloc, walkers, &gate, NoWatch);
+    let words = words(alloc, workers)?;
+    let walkers = walkers(alloc)?;
+    let (_, ended) = run(rt, alloc, &words, walkers, &gate, NoWatch);
     let text = tell(alloc, &ended)?;
     let met = gate.met();
     Ok(format!(in alloc; "== met {met} with {workers} workers\n{text}")?)

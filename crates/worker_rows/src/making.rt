@@ -1,7 +1,7 @@
 // What a command is given and ends with; and the workload.
 use ap_base::{Gate, MemorySink, MemorySource, ThreadNo};
 use line_image::{Fails, MemoryImage};
-use run_fixture::{Status, run_and_save, sink, status_text};
+use run_fixture::{Saved, Status, run_and_save, sink, status_text};
 use run_history::{Act, Acts, Watcher};
 use std::alloc::{AllocError, Global};
 use std::str;
@@ -9,16 +9,16 @@ use std::sync::Wait;
 use std::sync::atomic::{AtomicU64, Ordering};
 use std::thread::Threads;
 
-/// Words, and the forms in memory that a command is given with them.
+/// The forms in memory that a command is given, with a sink for what it prints and one for its history.
 #[derive(Drop)]
-pub(crate) struct Given {
-    words: Vec<String>,
+pub(crate) struct Forms {
     source: MemorySource,
     image: MemoryImage,
-    sinks: [MemorySink; 2],
+    sink: MemorySink,
+    history: MemorySink,
 }
 
-/// What is left of it.
+/// What a command ends with.
 #[derive(Drop)]
 pub(crate) struct Ended {
     pub(crate) acts: Acts,
@@ -36,7 +36,8 @@ fn blank(alloc: Global, room: u32) -> Result<MemoryImage, AllocError> {
     MemoryImage::new(alloc, 262_144, fails)
 }
 
-fn texts(alloc: Global, words: &[&str]) -> Result<Vec<String>, AllocError> {
+/// Words, as the top call takes them.
+pub(crate) fn texts(alloc: Global, words: &[&str]) -> Result<Vec<String>, AllocError> {
     let mut texts = Vec::new(alloc);
     for word in words {
         texts.push(String::from_str(alloc, word)?)?;
@@ -44,55 +45,71 @@ fn texts(alloc: Global, words: &[&str]) -> Result<Vec<String>, AllocError> {
     Ok(texts)
 }
 
-fn sinks(alloc: Global) -> Result<[MemorySink; 2], AllocError> {
+/// Classes, with an image of zeros that has room for so many writes and fences.
+pub(crate) fn prepare(alloc: Global, source: MemorySource, room: u32) -> Result<Forms, AllocError> {
+    let image = blank(alloc, room)?;
     let printed = sink(alloc, 24, u64::MAX)?;
     let history = sink(alloc, 24, 1)?;
-    Ok([printed, history])
-}
-
-/// Words and classes, with an image of zeros that has room for so many writes and fences.
-pub(crate) fn prepare(
-    alloc: Global,
-    words: &[&str],
-    source: MemorySource,
-    room: u32,
-) -> Result<Given, AllocError> {
-    let words = texts(alloc, words)?;
-    let sinks = sinks(alloc)?;
-    let image = blank(alloc, room)?;
-    Ok(Given {
-        words,
+    Ok(Forms {
         source,
         image,
-        sinks,
+        sink: printed,
+        history,
     })
 }
 
-/// Does what the words ask for, behind a gate, and gives back the watcher.
-pub(crate) fn run<R, G, W>(rt: &R, alloc: Global, given: Given, gate: &G, watcher: W) -> (W, Ended)
+type Run<W> = Saved<MemorySource, MemoryImage, MemorySink, W, MemorySink>;
+
+fn run_behind<R, G, W>(
+    rt: &R,
+    alloc: Global,
+    words: &Vec<String>,
+    forms: Forms,
+    gate: &G,
+    watcher: W,
+) -> Run<W>
 where
     R: Threads + Wait + Clone + Send + Sync + Drop,
     G: Gate + Sync,
     W: Watcher + Send,
 {
-    let Given {
-        words,
+    let Forms {
         source,
         image,
-        sinks: [printed, history],
-    } = given;
-    let saved = run_and_save(
-        rt, alloc, &words, source, image, printed, gate, watcher, history,
-    );
-    let ended = saved.ended;
-    (
-        ended.watcher,
-        Ended {
-            acts: ended.acts,
-            sink: ended.sink,
-            status: ended.status,
-        },
+        sink,
+        history,
+    } = forms;
+    run_and_save(
+        rt, alloc, words, source, image, sink, gate, watcher, history,
     )
+}
+
+fn ended_of<W>(run: Run<W>) -> (W, Ended) {
+    let ended = run.ended;
+    let left = Ended {
+        acts: ended.acts,
+        sink: ended.sink,
+        status: ended.status,
+    };
+    (ended.watcher, left)
+}
+
+/// Does what the words ask for, behind a gate, and gives back the watcher.
+pub(crate) fn run<R, G, W>(
+    rt: &R,
+    alloc: Global,
+    words: &Vec<String>,
+    forms: Forms,
+    gate: &G,
+    watcher: W,
+) -> (W, Ended)
+where
+    R: Threads + Wait + Clone + Send + Sync + Drop,
+    G: Gate + Sync,
+    W: Watcher + Send,
+{
+    let run = run_behind(rt, alloc, words, forms, gate, watcher);
+    ended_of(run)
 }
 
 /// What was printed, and the number of the status, with the line where there is one.
@@ -151,8 +168,8 @@ fn are_same(seen: &Acts, acts: &Acts) -> bool {
     seen.len() == acts.len()
 }
 
-/// The workload with so many nodes a thread, to be run with so many workers.
-fn workload(alloc: Global, workers: &str, count: &str, room: u32) -> Result<Given, AllocError> {
+/// The words of the workload with so many nodes a thread, to be run with so many workers.
+fn workload(alloc: Global, workers: &str, count: &str) -> Result<Vec<String>, AllocError> {
     let words = [
         "autopersist",
         "make",
@@ -162,8 +179,7 @@ fn workload(alloc: Global, workers: &str, count: &str, room: u32) -> Result<Give
         workers,
         count,
     ];
-    let source = MemorySource::new(Vec::new(alloc), Vec::new(alloc));
-    prepare(alloc, &words, source, room)
+    texts(alloc, &words)
 }
 
 /// What the workload prints with so many nodes a thread, where so many workers run its threads, and whether the watcher was told
@@ -181,9 +197,14 @@ where
     let gate = Counts {
         calls: AtomicU64::new(0),
     };
+    let words = workload(alloc, workers, count)?;
+    let forms = prepare(
+        alloc,
+        MemorySource::new(Vec::new(alloc), Vec::new(alloc)),
+        room,
+    )?;
     let watcher = watching(alloc)?;
-    let workload = workload(alloc, workers, count, room)?;
-    let (watcher, ended) = run(rt, alloc, workload, &gate, watcher);
+    let (watcher, ended) = run(rt, alloc, &words, forms, &gate, watcher);
     let told = are_same(&watcher.acts, &ended.acts);
     let text = tell(alloc, &ended)?;
     let text = format!(in alloc;
