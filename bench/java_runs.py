@@ -31,9 +31,9 @@ class Runtime:
         os.truncate(file, IMAGE_BYTES + 64 * self.is_mirrored)
         return file
 
-    def once(self, name):
-        """The seconds of a run, and what it printed. A run that doesn't end well ends the benchmark."""
-        words = [self.program, "run", "--image", self.blank("image"), "--main", name, CLASSES / name]
+    def once(self, name, *more):
+        """The seconds of a run, with further words if any, and what it printed. A run that doesn't end well ends the benchmark."""
+        words = [self.program, "run", "--image", self.blank("image"), "--main", name, *more, CLASSES / name]
         if self.is_mirrored:
             words[2:2] = ["--mirror", self.blank("mirror")]
         begun = time.perf_counter()

@@ -10,11 +10,9 @@ nothing is left out. The image is a file, and no program of these stores to it.
 """
 import argparse
 import sys
-import time
 
 sys.dont_write_bytecode = True
-from java_runs import CLASSES, TOP, Runtime  # noqa: E402
-import subprocess  # noqa: E402
+from java_runs import TOP, Runtime  # noqa: E402
 
 # How many acts each program has, by its loops, but for a few.
 PROGRAMS = {
@@ -30,14 +28,8 @@ WORKERS = (1, 2, 4, 64)
 
 
 def once(runtime, name, workers):
-    """The seconds of a run. One that doesn't end well ends the benchmark."""
-    words = [runtime.program, "run", "--image", runtime.blank("image"), "--main", name, "--workers", str(workers), CLASSES / name]
-    begun = time.perf_counter()
-    ran = subprocess.run(words, capture_output=True)
-    seconds = time.perf_counter() - begun
-    if ran.returncode != 0:
-        raise SystemExit(f"{name} ended with {ran.returncode}: {ran.stderr.decode(errors='replace').strip()}")
-    return seconds
+    """The seconds of a run with so many workers."""
+    return runtime.once(name, "--workers", str(workers))[0]
 
 
 def main():

@@ -8,34 +8,20 @@ top=$(dirname "$0")/..
 program=${1:-$top/autopersist}
 times=${2:-100}
 [ $# -gt 2 ] && shift 2 && only=" $* "
-sources=$top/java/programs
-data=$top/crates/java_rows/data
-work=$(mktemp -d)
-trap 'rm -rf "$work"' EXIT
-: >"$work/none"
+. "$top/examples/java_run.sh"
 count=0
 differ=0
-
-# Whether a run with so many host threads prints and ends as it should.
-runs_right() {
-    rm -f "$work/image" && truncate -s 2097152 "$work/image"
-    "$program" run --image "$work/image" --main "$class" --workers "$1" "$data/$name" >"$work/out" 2>"$work/line"
-    status=$?
-    [ $status = 0 ] && : >"$work/ended" || echo "$status $(cat "$work/line")" >"$work/ended"
-    cmp -s "$work/out" "$sources/$name.out" && cmp -s "$work/ended" "$wanted"
-}
 
 "$program" >"$work/usage" 2>&1
 while read -r name class; do
     [ -n "$only" ] && case $only in *" $name "*) ;; *) continue ;; esac
-    wanted=$sources/$name.status
-    [ -e "$wanted" ] || wanted=$work/none
     count=$((count + 1))
     wrong=
     for workers in 1 4 64; do
         others=0
         for _ in $(seq "$times"); do
-            runs_right $workers || { others=$((others + 1)) && cp "$work/out" "$work/other" && cp "$work/line" "$work/other_line"; }
+            runs_right "$name" "$class" --workers $workers && continue
+            others=$((others + 1)) && cp "$work/out" "$work/other" && cp "$work/line" "$work/other_line"
         done
         [ $others = 0 ] && continue
         wrong=1

@@ -1,7 +1,7 @@
 // Printed bytes in memory.
 ghost use Rattle.std.specs.Prelude.{◌≡◌, ◌⊎◌, ◌<◌, ◌≤◌, ◌-◌, ◌↔◌, [], length, take, IfOk, IfSome, OnErr, IsErr, Contains, Ok};
 ghost use Rattle.ap_base.specs.Causes.{HasCause, next_count};
-ghost use Rattle.ap_base.specs.Sinks.{with_bytes, share_of};
+ghost use Rattle.ap_base.specs.Sinks.{TakesBehind, with_bytes, share_of};
 
 use crate::{Sink, SinkFailed};
 use std::alloc::{AllocError, Global};
@@ -67,12 +67,14 @@ impl Sink for MemorySink {
 
     ghost taken = { λ s. Some s.taken };
 
-    ghost takes = { λ s n. Some (share_of s n) };
+    ghost takes = { λ s further n. Some (share_of s further n) };
 
     fn put(&mut self, piece: &[u8]) -> Result<usize, SinkFailed>
         requires { 0 < length piece.now }
         ensures some { IfOk result (λ n. (0 < n) × (n ≤ length piece.now)) }
-        ensures told { IfOk result (λ n. IfSome (Some (share_of self.old (length piece.now))) (λ m. n ≡ m)) }
+        ensures told { IfOk result (λ n. IfSome (Some (share_of self.old 0 (length piece.now))) (λ m. n ≡ m)) }
+        ensures behind { IfOk result (λ n. TakesBehind (λ k m. Some (share_of self.old k m)) (λ k m. Some (share_of self.new k m)) n) }
+        ensures stays { OnErr result (TakesBehind (λ k m. Some (share_of self.old k m)) (λ k m. Some (share_of self.new k m)) 0) }
         ensures taken { IfOk result (λ n. Some self.new.taken ≡ with_bytes (Some self.old.taken) (take n piece.now)) }
         ensures none { OnErr result (Some self.new.taken ≡ Some self.old.taken) }
         ensures cause { HasCause self.old.faults self.new.faults result }

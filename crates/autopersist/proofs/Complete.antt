@@ -54,8 +54,8 @@ module _ (before after : Outside) (how : Status) (opening : Graph) (acts : List 
     same_choice : (other : Choice) → gives (Ok other) → other ≡ choice
     same_choice other gave = let same : ok_choice other ≡ ok_choice choice = one (Ok other) (Ok choice) gave given in cc
 
-    caused : (s : Status) → how ≡ s → IsCauseOf gives limits (over before.image opening acts after.image) s
-        → (s ≡ status.OutOfMemory) ⊎ OfChoice gives (EndsOver limits (over before.image opening acts after.image) s)
+    caused : (s : Status) → how ≡ s → IsCauseOf gives limits (over before.image before.takes opening acts after.image) s
+        → (s ≡ status.OutOfMemory) ⊎ OfChoice gives (EndsOver limits (over before.image before.takes opening acts after.image) s)
     caused status.Usage is cause = absurd cause
     caused status.SourceFault is cause = absurd (source is)
     caused status.OutOfMemory is cause = inl refl
@@ -66,7 +66,7 @@ module _ (before after : Outside) (how : Status) (opening : Graph) (acts : List 
     caused (status.ShapeChanged shape) is cause = inr cause
     caused (status.Full full) is cause = ⊎_elim
         (λ (refused : gives (Err (status.Full full))). absurd (not_given (status.Full full) refused))
-        (λ (of : OfChoice gives (EndsOver limits (over before.image opening acts after.image) (status.Full full))). inr of)
+        (λ (of : OfChoice gives (EndsOver limits (over before.image before.takes opening acts after.image) (status.Full full))). inr of)
         cause
     caused (status.LinkFault kind name) is cause = inr cause
     caused status.ImageFault is cause = absurd (image is)
@@ -90,11 +90,11 @@ module _ (before after : Outside) (how : Status) (opening : Graph) (acts : List 
     whole runs admits = ⊎_elim
         (λ is. inr (inl (out_of_memory is)))
         (λ of.
-        let ends : EndsOver limits (over before.image opening acts after.image) how choice =
-        subst (λ (c : Choice). EndsOver limits (over before.image opening acts after.image) how c)
+        let ends : EndsOver limits (over before.image before.takes opening acts after.image) how choice =
+        subst (λ (c : Choice). EndsOver limits (over before.image before.takes opening acts after.image) how c)
         (same_choice of.choice of.given) of.holds in
         ⊎_elim (λ complete. inl complete) (λ short. inr (ran_out short))
-        (ends_complete choice.set choice.main limits before.image opening acts after.image how admits image sink ends))
+        (ends_complete choice.set choice.main limits before.image before.takes opening acts after.image how admits image sink ends))
         (caused how refl runs.cause)
 
   told_so : (left : Option (List NamedBytes)) (files : List NamedBytes) → left ≡ Some files → HadLeft left files

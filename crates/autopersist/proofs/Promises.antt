@@ -139,12 +139,12 @@ module _ (words : List (List ℕ)) (before after : Outside) (SameSource SameImag
   -- a class was run, whose name is this text
   module _ (how : Status) (opening : Graph) (acts : List Recorded) (run : RunWords) (text : List ℕ) (same : text ≡ run.main)
       (asked : command_of words ≡ Some (Run run))
-      (cause : IsCauseOf (ComesTo text before.left) run.limits (over before.image opening acts after.image) how)
+      (cause : IsCauseOf (ComesTo text before.left) run.limits (over before.image before.takes opening acts after.image) how)
       (answers : AnswersFor text before.left how)
       (whole : acts ≢ [] → (files : List NamedBytes) → before.left ≡ Some files → after.left ≡ Some [])
       (left : acts ≡ [] → (files : List NamedBytes) → before.left ≡ Some files → IsLeft files how after.left)
       (theorem : (SameImage × (acts ≡ []))
-      ⊎ OfChoice (ComesTo text before.left) (RunsAs run.limits (over before.image opening acts after.image) how))
+      ⊎ OfChoice (ComesTo text before.left) (RunsAs run.limits (over before.image before.takes opening acts after.image) how))
       (early : IsOfRun how ⊎ (SameImage × (acts ≡ [])))
       (told : Tells acts before.seen after.seen before.taken after.taken)
     where
@@ -152,9 +152,9 @@ module _ (words : List (List ℕ)) (before after : Outside) (SameSource SameImag
       named = record {
         runs = record {
           cause = subst (λ (name : List ℕ).
-              IsCauseOf (ComesTo name before.left) run.limits (over before.image opening acts after.image) how) same cause;
+              IsCauseOf (ComesTo name before.left) run.limits (over before.image before.takes opening acts after.image) how) same cause;
           theorem = subst (λ (name : List ℕ). (SameImage × (acts ≡ []))
-              ⊎ OfChoice (ComesTo name before.left) (RunsAs run.limits (over before.image opening acts after.image) how)) same theorem;
+              ⊎ OfChoice (ComesTo name before.left) (RunsAs run.limits (over before.image before.takes opening acts after.image) how)) same theorem;
           early = early;
           printed = told.printed;
         };
@@ -165,7 +165,7 @@ module _ (words : List (List ℕ)) (before after : Outside) (SameSource SameImag
 
       not_usage : how ≡ status.Usage → ⊥
       not_usage is =
-          subst (λ (s : Status). IsCauseOf (ComesTo text before.left) run.limits (over before.image opening acts after.image) s) is cause
+          subst (λ (s : Status). IsCauseOf (ComesTo text before.left) run.limits (over before.image before.takes opening acts after.image) s) is cause
 
       pub run_meets : (how ≡ status.SourceFault → Rose before.source_faults after.source_faults)
           → (how ≡ status.ImageFault → Rose before.image_faults after.image_faults)

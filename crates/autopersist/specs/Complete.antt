@@ -42,12 +42,12 @@ RanOutOfMemory before after acts how = (how ≡ status.OutOfMemory) × (acts ≡
 -- The run needed more than there is, and the status tells of what.
 abbrev pub RanOutOfRoom : Choice → Limits → (before after : Outside) → Status → Graph → List Recorded → Type 0
 RanOutOfRoom choice limits before after how opening acts =
-    (full : Full) × (how ≡ status.Full full) × MeetsLimit choice.set choice.main limits before.image opening acts after.image full
+    (full : Full) × (how ≡ status.Full full) × MeetsLimit choice.set choice.main limits before.image before.takes opening acts after.image full
 
 -- What was chosen ran over an image that suits it, and ended as the plain run of its acts; or there is no `main`. Or it met a limit.
 abbrev pub RunsWhole : Choice → Limits → (before after : Outside) → Status → Graph → List Recorded → Type 0
 RunsWhole choice limits before after how opening acts = Admits choice.set before.image
-    → EndsComplete choice.set choice.main limits before.image opening acts how
+    → EndsComplete choice.set choice.main limits before.image before.takes opening acts how
     ⊎ RanOutOfMemory before after acts how ⊎ RanOutOfRoom choice limits before after how opening acts
 
 -- The sink took all of the text of an image that is blank or well formed.

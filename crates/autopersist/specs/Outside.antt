@@ -14,18 +14,21 @@ pub record Outside : Type 0 where
   pub image_faults : ℕ
   -- the bytes that the sink took
   pub taken : Option (List ℕ)
+  -- how many bytes of a piece it takes, once it took so many more
+  pub takes : ℕ → ℕ → Option ℕ
   -- how often the sink failed
   pub sink_faults : ℕ
   -- the acts that the watcher saw
   pub seen : Option (List Recorded)
 
-abbrev pub outside : Option (List NamedBytes) → ℕ → Told → ℕ → Option (List ℕ) → ℕ → Option (List Recorded) → Outside
-outside left source_faults image image_faults taken sink_faults seen = record {
+abbrev pub outside : Option (List NamedBytes) → ℕ → Told → ℕ → Option (List ℕ) → (ℕ → ℕ → Option ℕ) → ℕ → Option (List Recorded) → Outside
+outside left source_faults image image_faults taken takes sink_faults seen = record {
   left = left;
   source_faults = source_faults;
   image = image;
   image_faults = image_faults;
   taken = taken;
+  takes = takes;
   sink_faults = sink_faults;
   seen = seen;
 }

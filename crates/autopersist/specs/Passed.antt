@@ -2,7 +2,8 @@
 pub use Rattle.class_runs.specs.Again.{HadOtherShape, IsLeftBy, IsRefusedStill, StoppedRunsOpenAgain}
 pub use Rattle.class_runs.specs.Chosen.{Choice, FilesGive}
 pub use Rattle.class_runs.specs.Complete.{Admits, EndsComplete, IsNumberedFor, IsOfPlainRun, MeetsLimit}
-pub use Rattle.class_runs.specs.Passed.{AllAgree, AreEntriesOf, AreRead, HadNoFault, IsDirectoryIn, IsRun, Launch, Linked, Main, StandsWithNew}
+pub use Rattle.class_runs.specs.Passed.{IsShareOfPiece, piece_of}
+pub use Rattle.class_runs.specs.Passed.{AllAgree, AreEntriesOf, AreRead, EachPrintsItsShare, HadNoFault, IsDirectoryIn, IsRun, Launch, Linked, Main, StandsWithNew}
 pub use Rattle.class_runs.specs.Passed.{facts_of, lacking, launch_over, made_of, main_of, plain_code, with_all, with_arrays_of}
 pub use Rattle.class_runs.specs.Runs.{ComesTo, EndsOver, IsCauseAt, IsCauseOf, OfChoice, Over, RunsAs, over}
 pub use Rattle.class_runs.specs.Sets.{CannotOpen, HasEndedSo, IsOpenedSo, StandsAllowed, StandsAsBefore, StandsRightly, StandsStill}

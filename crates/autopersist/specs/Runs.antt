@@ -27,10 +27,10 @@ default_limits = record { heap_words = heap_range.default; acts = acts_range.def
 pub record RunsOn (gives : Result Choice Status → Type 0) (limits : Limits) (before after : Outside) (SameImage : Type 0)
     (how : Status) (opening : Graph) (acts : List Recorded) : Type 0 where
   -- how it ended: each status but want of memory with its cause
-  pub cause : IsCauseOf gives limits (over before.image opening acts after.image) how
+  pub cause : IsCauseOf gives limits (over before.image before.takes opening acts after.image) how
   -- The persistence theorem: what ran, and what a stop leaves of the image, within any of its calls or after the last one; or there are
   -- no acts, and the image is as it was.
-  pub theorem : (SameImage × (acts ≡ [])) ⊎ OfChoice gives (RunsAs limits (over before.image opening acts after.image) how)
+  pub theorem : (SameImage × (acts ≡ [])) ⊎ OfChoice gives (RunsAs limits (over before.image before.takes opening acts after.image) how)
   -- a status of the files or the classes leaves the image as it was
   pub early : IsOfRun how ⊎ (SameImage × (acts ≡ []))
   -- the sink took the output of the acts, and nothing else, whatever the status

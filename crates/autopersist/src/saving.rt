@@ -76,15 +76,15 @@ where
     H: Sink,
     // The run is one of the top call.
     ensures meets { Meets (texts words.now.items)
-        (outside (C.left source) (C.faults source) (I.told image) (I.faults image) (S.taken sink) (S.faults sink) (W.seen watcher))
+        (outside (C.left source) (C.faults source) (I.told image) (I.faults image) (S.taken sink) (S.takes sink) (S.faults sink) (W.seen watcher))
         (outside (C.left result.ended.source) (C.faults result.ended.source) (I.told result.ended.image) (I.faults result.ended.image)
-        (S.taken result.ended.sink) (S.faults result.ended.sink) (W.seen result.ended.watcher))
+        (S.taken result.ended.sink) (S.takes result.ended.sink) (S.faults result.ended.sink) (W.seen result.ended.watcher))
         (result.ended.source ≡ source) (result.ended.image ≡ image) result.ended.status result.ended.opening result.ended.acts.acts }
     // It does its work, where nothing is in the way.
     ensures complete { DoesItsWork (command_of (texts words.now.items))
-        (outside (C.left source) (C.faults source) (I.told image) (I.faults image) (S.taken sink) (S.faults sink) (W.seen watcher))
+        (outside (C.left source) (C.faults source) (I.told image) (I.faults image) (S.taken sink) (S.takes sink) (S.faults sink) (W.seen watcher))
         (outside (C.left result.ended.source) (C.faults result.ended.source) (I.told result.ended.image) (I.faults result.ended.image)
-        (S.taken result.ended.sink) (S.faults result.ended.sink) (W.seen result.ended.watcher))
+        (S.taken result.ended.sink) (S.takes result.ended.sink) (S.faults result.ended.sink) (W.seen result.ended.watcher))
         result.ended.status result.ended.opening result.ended.acts.acts }
     // Its acts are saved.
     ensures whole { OnOk result.saved (H.taken result.history ≡ with_bytes (H.taken history) (history_bytes result.ended.acts.acts 0)) }

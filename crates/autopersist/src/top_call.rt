@@ -42,18 +42,19 @@ where
     S: Sink + Send,
     G: Gate + Sync,
     W: Watcher + Send,
-    // The promises, a field each: how it ends, what the command does, what a stop leaves, and what the outside is told.
+    // The promises, a field each: how it ends, what the command does, what a stop leaves, and what the outside is told. Of a run each
+    // print took as many bytes of its piece as the sink takes of it then, where it tells that (`shares` of `HasEndedSo`).
     ensures meets { Meets (texts words.now.items)
-        (outside (C.left source) (C.faults source) (I.told image) (I.faults image) (S.taken sink) (S.faults sink) (W.seen watcher))
+        (outside (C.left source) (C.faults source) (I.told image) (I.faults image) (S.taken sink) (S.takes sink) (S.faults sink) (W.seen watcher))
         (outside (C.left result.source) (C.faults result.source) (I.told result.image) (I.faults result.image)
-        (S.taken result.sink) (S.faults result.sink) (W.seen result.watcher))
+        (S.taken result.sink) (S.takes result.sink) (S.faults result.sink) (W.seen result.watcher))
         (result.source ≡ source) (result.image ≡ image) result.status result.opening result.acts.acts }
     // Where the inputs are as the command asks and nothing outside fails, it does its work, or meets a limit, or memory runs out before any
     // of it.
     ensures complete { DoesItsWork (command_of (texts words.now.items))
-        (outside (C.left source) (C.faults source) (I.told image) (I.faults image) (S.taken sink) (S.faults sink) (W.seen watcher))
+        (outside (C.left source) (C.faults source) (I.told image) (I.faults image) (S.taken sink) (S.takes sink) (S.faults sink) (W.seen watcher))
         (outside (C.left result.source) (C.faults result.source) (I.told result.image) (I.faults result.image)
-        (S.taken result.sink) (S.faults result.sink) (W.seen result.watcher))
+        (S.taken result.sink) (S.takes result.sink) (S.faults result.sink) (W.seen result.watcher))
         result.status result.opening result.acts.acts }
 {
     do_command(rt, alloc, words, source, image, sink, gate, watcher)
@@ -78,9 +79,9 @@ where
     G: Gate + Sync,
     W: Watcher + Send,
     ensures meets { Meets (texts words.now.items)
-        (outside (C.left source) (C.faults source) (I.told image) (I.faults image) (S.taken sink) (S.faults sink) (W.seen watcher))
+        (outside (C.left source) (C.faults source) (I.told image) (I.faults image) (S.taken sink) (S.takes sink) (S.faults sink) (W.seen watcher))
         (outside (C.left result.source) (C.faults result.source) (I.told result.image) (I.faults result.image)
-        (S.taken result.sink) (S.faults result.sink) (W.seen result.watcher))
+        (S.taken result.sink) (S.takes result.sink) (S.faults result.sink) (W.seen result.watcher))
         (result.source ≡ source) (result.image ≡ image) result.status result.opening result.acts.acts }
 {
     numbers_are_in_range();

@@ -46,9 +46,9 @@ where
     W: Watcher + Send,
     requires range { (1 ≤ make.now.count) × (make.now.count ≤ 5000) }
     ensures runs { RunsWorkload make.now
-        (outside (C.left source) (C.faults source) (I.told image) (I.faults image) (S.taken sink) (S.faults sink) (W.seen watcher))
+        (outside (C.left source) (C.faults source) (I.told image) (I.faults image) (S.taken sink) (S.takes sink) (S.faults sink) (W.seen watcher))
         (outside (C.left result.source) (C.faults result.source) (I.told result.image) (I.faults result.image)
-        (S.taken result.sink) (S.faults result.sink) (W.seen result.watcher))
+        (S.taken result.sink) (S.takes result.sink) (S.faults result.sink) (W.seen result.watcher))
         (result.source ≡ source) (result.image ≡ image) result.status result.opening result.acts.acts
         ⊎ ((result.status ≡ Status.OutOfMemory) × (result.source ≡ source) × (result.image ≡ image)
         × (result.acts.acts ≡ []) × (result.sink ≡ sink)) }

@@ -8,6 +8,7 @@ pub mod Found
 mod Instances
 mod Coding
 mod Counted
+mod Sizes
 mod Spelled
 pub mod FirstMethods
 mod Assembling

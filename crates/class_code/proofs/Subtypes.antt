@@ -1,7 +1,7 @@
 -- The row of a class's supertypes says of which classes it is a subtype.
 use Rattle.std.proofs.Common.{inl, inr, true, false, ◌≡◌, ℕ, zero, suc, ◌+◌, ◌-◌, ◌<◌, ◌≤◌, Bool, List, [], ◌∷◌, ◌++◌, Some}
 use Rattle.std.proofs.Common.{None, length, map, get_or, refl, ap, sym, ◌∙◌, arith}
-use Rattle.std.specs.Prelude.{All, nat_eq, nat_lt, ◌&&◌, ◌||◌, filter, slice_get, if◌then◌else◌}
+use Rattle.std.specs.Prelude.{nat_eq, nat_lt, ◌&&◌, ◌||◌, filter, if◌then◌else◌}
 use Rattle.std.specs.List.{list_any, range_with_len}
 use Rattle.std.proofs.lemmas.Bool.{cases_lt}
 use Rattle.std.proofs.lemmas.Bool.Decides.{nat_tests}
@@ -15,8 +15,8 @@ use Rattle.plain_model.specs.Consistent.{IsArrayType}
 use Rattle.plain_model.specs.Duties.{IsClass}
 use Rattle.plain_model.specs.Facts.{array_at, dimensions_of, innermost_of, is_sub, is_subtype}
 use Rattle.class_set.specs.ArrayTypes.{array_type}
-use Rattle.class_set.specs.Facts.{class_facts, facts_of}
-use Rattle.class_set.specs.Linked.{Linked, class_count, names_of}
+use Rattle.class_set.specs.Facts.{facts_of}
+use Rattle.class_set.specs.Linked.{Linked, class_count}
 use Rattle.class_set.specs.Sets.{IsLinked}
 use Rattle.class_set.proofs.Consistency.{set_consistent}
 use Rattle.class_set.proofs.ElementTypes.{array_behind, array_below}

@@ -4,6 +4,7 @@ pub mod Instructions
 pub mod Codes
 pub mod Classes
 pub mod Programs
+pub mod Sizes
 pub mod Rows
 pub mod FormRows
 pub mod Indices

@@ -9,7 +9,6 @@ ghost use Rattle.class_code.specs.Classes.{class_of, classes_of, initialiser_of,
 
 use crate::declared::{Declared, Numbered};
 use crate::finding::{dispatch_in, found_from};
-use crate::refusal::DecodeRefusal;
 use ap_base::ListOf;
 use class_set::ClassSet;
 use frames::{Class, Dispatch};
@@ -105,20 +104,17 @@ pub(crate) fn classes_of(
     set: &ClassSet,
     firsts: &[u32],
     signatures: &Texts,
-) -> Result<ListOf<Class>, DecodeRefusal>
+) -> Result<ListOf<Class>, AllocError>
     requires firsts { AreFirsts set.now firsts.now }
     requires signatures { signatures.now ≡ signature_texts set.now.files }
     ensures { IfOk result (λ classes. classes ≡ classes_of set.now) }
 {
-    let count = set.type_count();
-    if count > u32::MAX as usize {
-        return Err(DecodeRefusal::TooLarge);
-    }
+    let count = set.type_count() as u32;
     let numbered = Numbered::new(set, firsts, signatures);
     let named = set.named_count() as u32;
     let declared = numbered.all_declared(alloc, named)?;
     let mut classes = Vec::new(alloc);
-    for class in 0..count as u32 {
+    for class in 0..count {
         let row = class_of(alloc, &numbered, declared.as_slice(), class, named)?;
         classes.push(row)?;
     }

@@ -31,7 +31,8 @@ mod sites;
 mod switches;
 
 pub use class_laws::{
-    calls_find_own_methods_first, programs_are_their_sets, programs_name_what_is_there,
+    accepted_sets_have_room, calls_find_own_methods_first, programs_are_their_sets,
+    programs_name_what_is_there,
 };
 pub use laws::{
     a_small_set_is_decoded, classes_are_those_of_the_set, instructions_are_decoded,

@@ -9,8 +9,8 @@ use thiserror::Error;
 /// Why a class set isn't decoded.
 #[derive(Drop, Debug, Error)]
 pub enum DecodeRefusal {
-    /// There are more methods, signatures or rows than numbers below 2^32.
-    #[error("the code has too many parts")]
+    /// There are 2^32 instructions or more.
+    #[error("the code has too many instructions")]
     TooLarge,
     #[error("no memory is left")]
     OutOfMemory,

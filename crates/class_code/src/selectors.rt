@@ -11,7 +11,6 @@ ghost use Rattle.class_code.specs.Signatures.{signature_texts};
 
 use crate::arguments::parameters_of;
 use crate::names::{Named, method_name};
-use crate::refusal::DecodeRefusal;
 use crate::signatures::signature_number;
 use ap_base::ListOf;
 use class_set::ClassSet;
@@ -151,14 +150,12 @@ pub(crate) fn selectors_of(
     alloc: Global,
     set: &ClassSet,
     signatures: &Texts,
-) -> Result<ListOf<Selector>, DecodeRefusal>
+) -> Result<ListOf<Selector>, AllocError>
+    requires few { length set.now.files ≤ 4096 }
     requires signatures { signatures.now ≡ signature_texts set.now.files }
     ensures { IfOk result
         (λ selectors. selectors ≡ rows_of (selector_rows set.now) set.now.files) }
 {
-    if set.files().len() > u32::MAX as usize {
-        return Err(DecodeRefusal::TooLarge);
-    }
     let mut selectors = Vec::new(alloc);
     for (class, file) in set.files().iter().enumerate() {
         add_selectors(

@@ -1,8 +1,9 @@
 //! The signatures of methods: names with descriptors, each with a number.
 
-ghost use Rattle.std.specs.Prelude.{◌≡◌, ℕ, ◌++◌, [], ◌∷◌, List, map, length, IfOk, OnOk};
+ghost use Rattle.std.specs.Prelude.{◌≡◌, ℕ, ◌+◌, ◌<◌, ◌≤◌, ◌^◌, ◌++◌, [], ◌∷◌, List, map, length, IfOk, OnOk};
 ghost use Rattle.std.specs.List.{flat_map};
 ghost use Rattle.class_file.specs.declared.class.ClassFile.{ClassFile as File};
+ghost use Rattle.class_set.specs.Sets.{IsLinked};
 ghost use Rattle.text_table.specs.Texts.{place_of, with_text, with_texts};
 ghost use Rattle.class_code.specs.Entries.{run_signature, to_string_signature, rows_in, signature_number, signature_of};
 ghost use Rattle.class_code.specs.Entries.{signature_rows};
@@ -10,7 +11,6 @@ ghost use Rattle.class_code.specs.Named.{name_of};
 ghost use Rattle.class_code.specs.Signatures.{marked, signature_texts, text_of};
 
 use crate::names::{Named, method_name};
-use crate::refusal::DecodeRefusal;
 use class_set::ClassSet;
 use const_pool::Pool;
 use std::alloc::{AllocError, Global};
@@ -45,13 +45,11 @@ fn add_signature(
     signatures: &mut Texts,
     name: &[u8],
     descriptor: &[u8],
-) -> Result<(), DecodeRefusal>
+) -> Result<(), AllocError>
+    requires room { length signatures.old + 1 < 2 ^ 32 }
     ensures { OnOk result (signatures.new ≡ with_text signatures.old
         (text_of (record { name = name.now; descriptor = descriptor.now }))) }
 {
-    if signatures.len() >= u32::MAX - 1 {
-        return Err(DecodeRefusal::TooLarge);
-    }
     let text = text_of(alloc, name, descriptor)?;
     signatures.add(alloc, text.as_slice())?;
     Ok(())
@@ -63,7 +61,8 @@ fn add_entry(
     signatures: &mut Texts,
     pool: &Pool,
     index: u16,
-) -> Result<(), DecodeRefusal>
+) -> Result<(), AllocError>
+    requires room { length signatures.old + 1 < 2 ^ 32 }
     ensures { OnOk result ((class : ℕ) → signatures.new
         ≡ with_texts signatures.old (map text_of (signature_rows class pool.now index))) }
 {
@@ -79,7 +78,8 @@ fn add_entry(
 }
 
 /// Numbers the signatures that the entries of a pool name.
-fn add_entries(alloc: Global, signatures: &mut Texts, pool: &Pool) -> Result<(), DecodeRefusal>
+fn add_entries(alloc: Global, signatures: &mut Texts, pool: &Pool) -> Result<(), AllocError>
+    requires room { length signatures.old + 2 ^ 16 < 2 ^ 32 }
     ensures { OnOk result ((class : ℕ) → signatures.new
         ≡ with_texts signatures.old
         (map text_of (rows_in signature_rows class pool.now (length pool.now)))) }
@@ -92,7 +92,9 @@ fn add_entries(alloc: Global, signatures: &mut Texts, pool: &Pool) -> Result<(),
 
 /// The signatures of a program by number, as texts: `run` and `toString`, which native methods
 /// call, and those that entries name.
-pub(crate) fn signatures_of(alloc: Global, set: &ClassSet) -> Result<Texts, DecodeRefusal>
+pub(crate) fn signatures_of(alloc: Global, set: &ClassSet) -> Result<Texts, AllocError>
+    requires few { length set.now.files ≤ 4096 }
+    requires linked { IsLinked set.now }
     ensures { IfOk result (λ signatures. signatures ≡ signature_texts set.now.files) }
 {
     let mut signatures = Texts::new(alloc);

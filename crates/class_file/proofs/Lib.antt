@@ -10,3 +10,4 @@ pub mod Written
 pub mod RootTexts
 pub mod RootFields
 pub mod Rows
+pub mod Sizes

@@ -1,5 +1,5 @@
 -- Class files, read from front to back with the first fault that is met, and their bytes (JVMS 4.1).
-use Rattle.std.specs.Prelude.{◌≡◌, ℕ, ◌==◌, ◌&&◌, ◌||◌, not, nat_lt, Bool, false, List, ◌++◌, length, drop, Option, Some, None}
+use Rattle.std.specs.Prelude.{◌≡◌, ◌≤◌, ℕ, ◌==◌, ◌&&◌, ◌||◌, not, nat_lt, Bool, false, List, ◌++◌, length, drop, Option, Some, None}
 use Rattle.std.specs.Prelude.{Result, Ok}
 use Rattle.std.specs.List.{flat_map, list_any}
 use Rattle.byteorder.specs.Endian.{big_bytes}
@@ -92,6 +92,10 @@ class_bytes c =
     ++ big_bytes 2 (length c.fields) ++ flat_map field_bytes c.fields
     ++ big_bytes 2 (length c.methods) ++ flat_map method_bytes c.methods
     ++ attributes_bytes c.attributes
+
+-- its bytes are at most so many
+abbrev pub HasAtMost : (most : ℕ) → ClassFile → Type 0
+HasAtMost most c = length (class_bytes c) ≤ most
 
 -- some bytes are this class file
 pub record CanBeRead (c : ClassFile) : Type 0 where

@@ -183,6 +183,14 @@ code_in [] = None
 code_in (attribute.Code name code ∷ attributes) = Some code
 code_in (attribute.Other a ∷ attributes) = code_in attributes
 
+-- how many instructions a code has, with the end behind them; none has the end alone
+abbrev pub counted_ops : Option Code → ℕ
+counted_ops None = 1
+counted_ops (Some code) = length code.instructions + 1
+
+abbrev pub op_count : Method → ℕ
+op_count m = counted_ops (code_in m.attributes)
+
 abbrev pub is_method : DescriptorKind → Bool
 is_method kind.Method = true
 is_method other = false

@@ -19,7 +19,8 @@ mod writing;
 pub use class::ClassFile;
 pub use field::Field;
 pub use laws::{
-    small_classes_have_their_answers, what_is_read_is_written, what_is_written_is_read,
+    instructions_take_bytes, small_classes_have_their_answers, what_is_read_is_written,
+    what_is_written_is_read,
 };
 pub use method::{Method, MethodAttribute};
 pub use reading::read_class;

@@ -1,6 +1,6 @@
 -- What stops of a run left opens again.
 use Rattle.std.proofs.Common.{◌≡◌, ◌⊎◌, inl, inr, ⊎_elim, ℕ, ◌+◌, ◌<◌, ◌≤◌, List, [], length, slice_index_or, sym, refl, ap, ◌∙◌, subst, arith}
-use Rattle.std.specs.Prelude.{take}
+use Rattle.std.specs.Prelude.{take, Option}
 use Rattle.std.proofs.lemmas.List.{get_or_append_left, length-append}
 use Rattle.graph_model.specs.Heaps.{no_shape}
 use Rattle.graph_model.specs.declared.types.Graph.{Graph}
@@ -243,7 +243,7 @@ ending_not set Finished is = cc
 other_stage : (s t : Status) → s ≡ t → stage_of s ≡ OfOpening → stage_of t ≡ OfOpening
 other_stage s t same is = subst (λ (x : Status). stage_of x ≡ OfOpening) same is
 
-module _ (set : Linked) (name : List ℕ) (limits : Limits) (start : Told) (opening : Graph) (acts : List Recorded) (after : Told)
+module _ (set : Linked) (name : List ℕ) (limits : Limits) (start : Told) (takes : ℕ → ℕ → Option ℕ) (opening : Graph) (acts : List Recorded) (after : Told)
     (how : Status) (is : stage_of how ≡ OfOpening) where
   begins_not : CannotBegin set name limits start after how → ⊥
   begins_not c = elim c.cause [
@@ -254,11 +254,11 @@ module _ (set : Linked) (name : List ℕ) (limits : Limits) (start : Told) (open
     ]
   ]
 
-  ended_not : HasEndedSo set name limits start opening acts how → ⊥
+  ended_not : HasEndedSo set name limits start takes opening acts how → ⊥
   ended_not ran =
       ending_not ran.of.numbered ran.ends.ending (other_stage how (status_of_ending ran.of.numbered ran.ends.ending) ran.ends.is is)
 
-  pub refused : SetEnds set name limits start opening acts after how → CannotOpen set start after how
+  pub refused : SetEnds set name limits start takes opening acts after how → CannotOpen set start after how
   refused (inl (none, inl cannot)) = cannot
   refused (inl (none, inr (inl begins))) = absurd (begins_not begins)
   refused (inl (none, inr (inr (inl appends)))) =

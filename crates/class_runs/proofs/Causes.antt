@@ -233,7 +233,7 @@ unopened_stage unopened.OutOfMemory = tt
 so_staged : (s t : Status) → s ≡ t → IsOfRun t → IsOfRun s
 so_staged s t is of = subst IsOfRun (sym is) of
 
-module _ (set : Linked) (name : List ℕ) (limits : Limits) (start : Told) (opening : Graph) (acts : List Recorded) (after : Told)
+module _ (set : Linked) (name : List ℕ) (limits : Limits) (start : Told) (takes : ℕ → ℕ → Option ℕ) (opening : Graph) (acts : List Recorded) (after : Told)
     (s : Status) where
   began_stage : CannotBegin set name limits start after s → IsOfRun s
   began_stage c = elim c.cause [
@@ -244,12 +244,12 @@ module _ (set : Linked) (name : List ℕ) (limits : Limits) (start : Told) (open
     ]
   ]
 
-  ran_stage : HasEndedSo set name limits start opening acts s → IsOfRun s
+  ran_stage : HasEndedSo set name limits start takes opening acts s → IsOfRun s
   ran_stage ran =
       so_staged s (status_of_ending ran.of.numbered ran.ends.ending) ran.ends.is (ending_stage ran.of.numbered ran.ends.ending)
 
   -- what a call that had something to run came to is one of the statuses of runs
-  pub of_run : SetEnds set name limits start opening acts after s → IsOfRun s
+  pub of_run : SetEnds set name limits start takes opening acts after s → IsOfRun s
   of_run (inl (none, inl cannot)) = so_staged s (status_of_unopened cannot.why) cannot.is (unopened_stage cannot.why)
   of_run (inl (none, inr (inl cannot))) = began_stage cannot
   of_run (inl (none, inr (inr (inl failed)))) = so_staged s status.ImageFault failed.is tt
@@ -271,12 +271,12 @@ ending_apart set (Fault f) is = fault_apart set f is
 ending_apart set (Uncaught t class) is = cc
 ending_apart set Finished is = cc
 
-module _ (set : Linked) (name : List ℕ) (limits : Limits) (start : Told) (opening : Graph) (acts : List Recorded) (after : Told)
+module _ (set : Linked) (name : List ℕ) (limits : Limits) (start : Told) (takes : ℕ → ℕ → Option ℕ) (opening : Graph) (acts : List Recorded) (after : Told)
     (s : Status) (is : s ≡ status.OutOfMemory) where
-  ran_apart : HasEndedSo set name limits start opening acts s → ⊥
+  ran_apart : HasEndedSo set name limits start takes opening acts s → ⊥
   ran_apart ran = ending_apart ran.of.numbered ran.ends.ending (sym ran.ends.is ∙ is)
 
-  pub memory_early : SetEnds set name limits start opening acts after s → acts ≡ []
+  pub memory_early : SetEnds set name limits start takes opening acts after s → acts ≡ []
   memory_early (inl cannot) = cannot.0
   memory_early (inr ran) = absurd (ran_apart ran)
 

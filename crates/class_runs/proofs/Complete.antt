@@ -1,5 +1,5 @@
 -- A run of a class set over an image that suits it, where nothing outside fails.
-use Rattle.std.proofs.Common.{◌≡◌, ◌⊎◌, inl, inr, ⊎_elim, ℕ, ◌<◌, List, [], Err, refl, sym, ◌∙◌, subst}
+use Rattle.std.proofs.Common.{◌≡◌, ◌⊎◌, inl, inr, ⊎_elim, ℕ, ◌<◌, List, [], Err, refl, sym, ◌∙◌, subst, Option}
 use Rattle.graph_model.specs.declared.types.Graph.{Graph}
 use Rattle.image_layout.specs.declared.superblock.BadReason.{BadReason}
 use Rattle.image_meaning.specs.Checks.{Words}
@@ -131,11 +131,11 @@ some_not_bad image some line reason words read fails =
 
 -- ---- what the run comes to
 
-module _ (set : Linked) (name : List ℕ) (limits : Limits) (start : Told) (opening : Graph) (acts : List Recorded) (after : Told)
+module _ (set : Linked) (name : List ℕ) (limits : Limits) (start : Told) (takes : ℕ → ℕ → Option ℕ) (opening : Graph) (acts : List Recorded) (after : Told)
     (how : Status) (admits : Admits set start) (image : how ≡ status.ImageFault → ⊥) (sink : how ≡ status.SinkFault → ⊥) where
   abbrev Complete : Type 0
-  Complete = EndsComplete set name limits start opening acts how ⊎ (how ≡ status.OutOfMemory)
-      ⊎ ((full : Full) × (how ≡ status.Full full) × MeetsLimit set name limits start opening acts after full)
+  Complete = EndsComplete set name limits start takes opening acts how ⊎ (how ≡ status.OutOfMemory)
+      ⊎ ((full : Full) × (how ≡ status.Full full) × MeetsLimit set name limits start takes opening acts after full)
 
   cannot_open : acts ≡ [] → (why : Unopened) (now : Linked) → how ≡ status_of_unopened why → IsUnopened start after set now why → Complete
   cannot_open none (unopened.BadImage line reason) now is cannot = absurd (not_bad set start admits line reason now after cannot)
@@ -173,7 +173,7 @@ module _ (set : Linked) (name : List ℕ) (limits : Limits) (start : Told) (open
     ]
   ]
 
-  ended : HasEndedSo set name limits start opening acts how → Complete
+  ended : HasEndedSo set name limits start takes opening acts how → Complete
   ended ran =
       let is = ran.ends.is in
       let ending = ran.ends.ending in
@@ -182,11 +182,11 @@ module _ (set : Linked) (name : List ℕ) (limits : Limits) (start : Told) (open
       (λ (met : (full : Full) × (status_of_ending ran.of.numbered ending ≡ status.Full full)). inr (inr (
         met.0,
         is ∙ met.1,
-        inr (inr (subst (λ (s : Status). HasEndedSo set name limits start opening acts s) (is ∙ met.1) ran)),
+        inr (inr (subst (λ (s : Status). HasEndedSo set name limits start takes opening acts s) (is ∙ met.1) ran)),
       )))
       (plain_ending ran.of.numbered ending (λ e. image (is ∙ e)) (λ e. sink (is ∙ e)))
 
-  pub ends_complete : SetEnds set name limits start opening acts after how → Complete
+  pub ends_complete : SetEnds set name limits start takes opening acts after how → Complete
   ends_complete (inl (none, inl cannot)) = cannot_open none cannot.why cannot.numbered cannot.is cannot.unopened
   ends_complete (inl (none, inr (inl begins))) = unbegun none begins
   ends_complete (inl (none, inr (inr (inl appends)))) = absurd (image appends.is)

@@ -1,5 +1,5 @@
 -- What a run of a class set over an image comes to, by what opening the image and running on it gave.
-use Rattle.std.proofs.Common.{◌≡◌, ◌⊎◌, inl, inr, ℕ, zero, suc, ◌+◌, ◌-◌, ◌<◌, ◌≤◌, List, [], ◌∷◌, Some, None, Ok, refl, sym}
+use Rattle.std.proofs.Common.{◌≡◌, ◌⊎◌, inl, inr, ℕ, zero, suc, ◌+◌, ◌-◌, ◌<◌, ◌≤◌, List, [], ◌∷◌, Some, None, Ok, refl, sym, Option}
 use Rattle.std.proofs.Common.{◌∙◌, subst, arith, length, slice_index_or, take}
 use Rattle.std.specs.Prelude.{sum_by}
 use Rattle.std.proofs.lemmas.List.Sums.{sum_by-cons}
@@ -101,8 +101,8 @@ module _ (set numbered : Linked) (start after : Told) (why : Unopened) where
   unopened_had (inr (inl (u, same))) of telling = absurd (recovered_without u.before u.memory why u.cause of)
   unopened_had (inr (inr u)) of telling = its_directory start telling after u.directory u.graph u.left
 
-  pub unopened_ran : (name : List ℕ) (limits : Limits) → IsUnopened start after set numbered why
-      → SetRunsOver set name limits start empty_graph [] after (status_of_unopened why)
+  pub unopened_ran : {takes : (ℕ → ℕ → Option ℕ)} (name : List ℕ) (limits : Limits) → IsUnopened start after set numbered why
+      → SetRunsOver set name limits start takes empty_graph [] after (status_of_unopened why)
   unopened_ran name limits is = record {
     size = unopened_size is;
     ends = inl (refl, inl (record { numbered = numbered; why = why; unopened = is; is = refl; unappended = unopened_had is }));
@@ -114,9 +114,9 @@ module _ (set numbered : Linked) (start after : Told) (why : Unopened) where
 
 module _ (set numbered : Linked) (start : Told) (m : Memory) (directory : Kept) (lines : List ℕ) (graph : Graph) (free : ℕ)
     (is : IsFoundFor start set numbered m directory lines graph free) where
-  pub unbegun_ran : (name : List ℕ) (limits : Limits) (after : Told) (how : Status) → after ≡ m.image → after.size ≡ m.size
+  pub unbegun_ran : {takes : (ℕ → ℕ → Option ℕ)} (name : List ℕ) (limits : Limits) (after : Told) (how : Status) → after ≡ m.image → after.size ≡ m.size
       → LacksFirstWords numbered limits how ⊎ HasNoMain numbered name limits how ⊎ (how ≡ status.OutOfMemory)
-      → SetRunsOver set name limits start empty_graph [] after how
+      → SetRunsOver set name limits start takes empty_graph [] after how
   unbegun_ran name limits after how same size cause =
       let left : IsLeftAsFound start after is.found is.stood =
       found_left start is.before m is.found is.stood lines free is.found_is after size same in record {
@@ -142,18 +142,18 @@ module _ (set numbered : Linked) (start : Told) (m : Memory) (directory : Kept) 
       }
 
   -- the first objects find no room, or there is no memory
-  pub unfitted_ran : (name : List ℕ) (limits : Limits) (after : Told) (why : NoLaunch) → after ≡ m.image → after.size ≡ m.size
+  pub unfitted_ran : {takes : (ℕ → ℕ → Option ℕ)} (name : List ℕ) (limits : Limits) (after : Told) (why : NoLaunch) → after ≡ m.image → after.size ≡ m.size
       → IfFull why (LacksWords limits.heap_words (first_objects (facts_of numbered) empty_graph))
-      → SetRunsOver set name limits start empty_graph [] after (status_of_unlaunched why)
+      → SetRunsOver set name limits start takes empty_graph [] after (status_of_unlaunched why)
   unfitted_ran name limits after (no_launch.Full full) same size lacks =
       unbegun_ran name limits after (status.Full full) same size (inl (record { full = full; is = refl; lacks = lacks }))
   unfitted_ran name limits after no_launch.OutOfMemory same size lacks =
       unbegun_ran name limits after status.OutOfMemory same size (inr (inr refl))
 
 -- it failed while entries were appended
-pub unappended_ran : (set numbered : Linked) (name : List ℕ) (limits : Limits) (start after : Told)
+pub unappended_ran : {takes : (ℕ → ℕ → Option ℕ)} (set numbered : Linked) (name : List ℕ) (limits : Limits) (start after : Told)
     → IsUnappended start after set numbered
-    → SetRunsOver set name limits start empty_graph [] after status.ImageFault
+    → SetRunsOver set name limits start takes empty_graph [] after status.ImageFault
 unappended_ran set numbered name limits start after u = record {
   size = u.left.size;
   ends = inl (refl, inr (inr (inl (record { numbered = numbered; unappended = u; is = refl }))));
@@ -193,8 +193,8 @@ module _ (set numbered : Linked) (start : Told) (m : Memory) (directory : Kept) 
   opened_so = record { numbered = numbered; memory = m; directory = directory; lines = lines; free = free; opened = opened }
 
   -- there is no memory
-  pub unstarted_ran : (name : List ℕ) (limits : Limits) (after : Told) → after ≡ m.image → after.size ≡ m.size
-      → SetRunsOver set name limits start empty_graph [] after status.OutOfMemory
+  pub unstarted_ran : {takes : (ℕ → ℕ → Option ℕ)} (name : List ℕ) (limits : Limits) (after : Told) → after ≡ m.image → after.size ≡ m.size
+      → SetRunsOver set name limits start takes empty_graph [] after status.OutOfMemory
   unstarted_ran name limits after same size = record {
     size = size ∙ opened.ready.same_size;
     ends = inl (refl, inr (inr (inr (record { graph = graph; of = opened_so; is = refl }))));
@@ -204,10 +204,10 @@ module _ (set numbered : Linked) (start : Told) (m : Memory) (directory : Kept) 
   }
 
   -- nor is there one for the first heap, whose objects find room
-  pub unlaunched_ran : (name : List ℕ) (limits : Limits) (after : Told) (why : NoLaunch) → after ≡ m.image → after.size ≡ m.size
+  pub unlaunched_ran : {takes : (ℕ → ℕ → Option ℕ)} (name : List ℕ) (limits : Limits) (after : Told) (why : NoLaunch) → after ≡ m.image → after.size ≡ m.size
       → FindsRoom numbered limits
       → IfFull why (LacksWords limits.heap_words (first_objects (facts_of numbered) empty_graph))
-      → SetRunsOver set name limits start empty_graph [] after (status_of_unlaunched why)
+      → SetRunsOver set name limits start takes empty_graph [] after (status_of_unlaunched why)
   unlaunched_ran name limits after (no_launch.Full full) same size fits lacks =
       absurd (never_lacks limits.heap_words (first_objects (facts_of numbered) empty_graph) full (room_summed numbered limits fits) lacks)
   unlaunched_ran name limits after no_launch.OutOfMemory same size fits lacks = unstarted_ran name limits after same size
@@ -218,7 +218,7 @@ module _ {I : Type 0} (set numbered : Linked) (name : List ℕ) (limits : Limits
     (heap : OpenedHeap I) (can : CanLaunch start set numbered limits.heap_words heap) (main : Main)
     (found : main_of numbered name ≡ Ok main) (launched : Launched I)
     (l : IsLaunched start (entries_in can.directory) numbered main limits heap launched)
-    (opening : Graph) (acts : List Recorded) (after : Told) (how : Status) where
+    (takes : ℕ → ℕ → Option ℕ) (opening : Graph) (acts : List Recorded) (after : Told) (how : Status) where
   abbrev launch : Launch
   launch = launch_over numbered main limits heap.graph l.literals
 
@@ -231,7 +231,7 @@ module _ {I : Type 0} (set numbered : Linked) (name : List ℕ) (limits : Limits
   size_now : heap.spaces.heap.memory.size ≡ start.size
   size_now = can.opened.ready.same_size
 
-  module _ (ran : RanBy o heap.free numbered heap.graph opening acts after how) where
+  module _ (ran : RanBy o heap.free numbered heap.graph takes opening acts after how) where
     has_run : (end : RunEnd) → EndsBy o heap.free end ran.shared → HasRun o ran.shared
     has_run (Ended uncaught) ends = ends.0
     has_run (Over fault) ends = ends.0
@@ -264,7 +264,7 @@ module _ {I : Type 0} (set numbered : Linked) (name : List ℕ) (limits : Limits
         record { ending = Uncaught t class; ended = ended_by (Uncaught t class) ends.1; is = is }
     has_end (Over fault) is ends = record { ending = Fault fault; ended = ended_by (Fault fault) ends.1; is = is }
 
-    pub has_ended : HasEndedSo set name limits start opening acts how
+    pub has_ended : HasEndedSo set name limits start takes opening acts how
     has_ended = record {
       graph = heap.graph;
       of = opened_so set numbered start heap.spaces.heap.memory can.directory can.lines heap.graph heap.free can.opened;
@@ -273,6 +273,7 @@ module _ {I : Type 0} (set numbered : Linked) (name : List ℕ) (limits : Limits
       literals = l.literals;
       run = subst (λ (made : List Recorded). IsRun launch made) machine_acts run.run;
       within = subst (λ (made : List Recorded). HadNoFault launch made) machine_acts run.unfaulted;
+      shares = ran.shares;
       ends = has_end ran.end ran.is ran.ends;
       from = ran.some;
     }
@@ -303,7 +304,7 @@ module _ {I : Type 0} (set numbered : Linked) (name : List ℕ) (limits : Limits
         machine_acts now)
         ran.some size_now)
 
-    pub has_run_over : EachStopIsAllowed → SetRunsOver set name limits start opening acts after how
+    pub has_run_over : EachStopIsAllowed → SetRunsOver set name limits start takes opening acts after how
     has_run_over law = record {
       size = size_after;
       ends = inr has_ended;

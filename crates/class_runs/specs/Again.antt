@@ -1,5 +1,5 @@
 -- Images that a stop of a run left, under the next run of the same set.
-use Rattle.std.specs.Prelude.{◌≡◌, ◌⊎◌, ℕ, List, []}
+use Rattle.std.specs.Prelude.{◌≡◌, ◌⊎◌, ℕ, List, [], Option}
 use Rattle.graph_model.specs.declared.types.Graph.{Graph}
 use Rattle.line_image.specs.Told.{Told}
 use Rattle.line_image.specs.Trace.{Outcome}
@@ -39,8 +39,8 @@ IsRefusedStill set before other = ⊥
 -- What stops of a run of a set over an image left opens again.
 pub record StoppedRunsOpenAgain : Type 0 where
   -- BadImage and ShapeChanged come where an image can't be opened, and nowhere else.
-  pub refusals : (set : Linked) (name : List ℕ) (limits : Limits) (start : Told) (opening : Graph) (acts : List Recorded) (after : Told)
-      (how : Status) → SetEnds set name limits start opening acts after how → stage_of how ≡ OfOpening → CannotOpen set start after how
+  pub refusals : (set : Linked) (name : List ℕ) (limits : Limits) (start : Told) (takes : ℕ → ℕ → Option ℕ) (opening : Graph) (acts : List Recorded)
+      (after : Told) (how : Status) → SetEnds set name limits start takes opening acts after how → stage_of how ≡ OfOpening → CannotOpen set start after how
   -- For no set it is bad, where the image stood for a graph before.
   pub not_bad : (set other : Linked) (start : Told) (opening : Graph) (all acts : List Recorded) (before : Words) (stood : Graph)
       (left : Outcome) → StandsFor start.size before stood → StandsRightly set start opening all acts before left

@@ -1,5 +1,5 @@
 -- The statuses of a run that doesn't begin, and of one by how it ended; and what a run leaves.
-use Rattle.std.specs.Prelude.{◌≡◌, ◌≢◌, ◌≤◌, ℕ, List, [], Some, None}
+use Rattle.std.specs.Prelude.{◌≡◌, ◌≢◌, ◌≤◌, ℕ, List, [], Some, None, Option}
 use Rattle.graph_model.specs.declared.types.Graph.{Graph}
 use Rattle.line_image.specs.Told.{Told}
 use Rattle.image_meaning.specs.Meaning.{empty_graph}
@@ -11,7 +11,7 @@ use Rattle.class_set.specs.Linked.{Linked}
 use Rattle.class_set.specs.Facts.{facts_of}
 use Rattle.durable_launch.specs.Passed.{Opening, memory_of}
 use Rattle.durable_launch.specs.Passed.{Shared}
-use Rattle.durable_launch.specs.Passed.{EndsBy}
+use Rattle.durable_launch.specs.Passed.{EachPrintsItsShare, EndsBy}
 use Rattle.durable_launch.specs.Passed.{RunEnd}
 use Rattle.durable_launch.specs.Passed.{Ended, Over}
 use Rattle.durable_launch.specs.Passed.{NoLaunch}
@@ -34,13 +34,15 @@ status_of_end set (Ended None) = status.Ok
 status_of_end set (Ended (Some thrown)) = uncaught_in set thrown.0 thrown.1
 status_of_end set (Over fault) = fault_status set fault
 
--- The run of this opening ended so, and its acts, its image and its status are these.
-pub record RanBy (o : Opening) (first : ℕ) (set : Linked) (graph opening : Graph) (acts : List Recorded)
+-- The run of this opening ended so, and its acts, its image and its status are these. Each print took its share, by what the sink took
+-- as it began.
+pub record RanBy (o : Opening) (first : ℕ) (set : Linked) (graph : Graph) (takes : ℕ → ℕ → Option ℕ) (opening : Graph) (acts : List Recorded)
     (after : Told) (how : Status) : Type 0 where
   pub end : RunEnd
   pub shared : Shared
   pub ends : EndsBy o first end shared
   pub acts_are : acts ≡ shared.history.acts
+  pub shares : EachPrintsItsShare o.launch takes [] acts
   pub image : after ≡ (memory_of shared.machine).image
   pub size : after.size ≡ (memory_of shared.machine).size
   pub is : how ≡ status_of_end set end

@@ -1,5 +1,5 @@
 -- What a run of a class set comes to, where its image suits the set and nothing outside fails; and which limit it met, if it met one.
-use Rattle.std.specs.Prelude.{◌≡◌, ◌⊎◌, ◌<◌, ℕ, List, [], length, slice_index_or}
+use Rattle.std.specs.Prelude.{◌≡◌, ◌⊎◌, ◌<◌, ℕ, List, [], length, slice_index_or, Option}
 use Rattle.graph_model.specs.Heaps.{no_shape}
 use Rattle.graph_model.specs.declared.types.Graph.{Graph}
 use Rattle.run_types.specs.declared.fault.Full.{Full}
@@ -55,10 +55,10 @@ pub record IsNumberedFor (set numbered : Linked) (image : Told) : Type 0 where
   pub is : numbered ≡ with_arrays_of set directory.shapes
 
 -- The set, once it has these numbers, has no such class, or the class no `main`; or the acts are a plain run, which ended so.
-abbrev pub EndsComplete : Linked → (name : List ℕ) → Limits → Told → Graph → List Recorded → Status → Type 0
-EndsComplete set name limits start opening acts how =
+abbrev pub EndsComplete : Linked → (name : List ℕ) → Limits → Told → (ℕ → ℕ → Option ℕ) → Graph → List Recorded → Status → Type 0
+EndsComplete set name limits start takes opening acts how =
     ((acts ≡ []) × (numbered : Linked) × IsNumberedFor set numbered start × HasNoMain numbered name limits how)
-    ⊎ (HasEndedSo set name limits start opening acts how × IsOfPlainRun how)
+    ⊎ (HasEndedSo set name limits start takes opening acts how × IsOfPlainRun how)
 
 -- ---- more was needed than there is
 
@@ -75,11 +75,11 @@ pub record LacksEntryRoom (set : Linked) (start after : Told) (full : Full) : Ty
 
 -- Before a run, the image's directory lacked room for the set's entries, or the limits had too few words for the set's first objects, once the set
 -- had the numbers for which the image asks; or the acts are a plain run, of which the next event met the limit.
-abbrev pub MeetsLimit : Linked → (name : List ℕ) → Limits → (start : Told) → Graph → List Recorded → (after : Told) → Full → Type 0
-MeetsLimit set name limits start opening acts after full =
+abbrev pub MeetsLimit : Linked → (name : List ℕ) → Limits → (start : Told) → (ℕ → ℕ → Option ℕ) → Graph → List Recorded → (after : Told) → Full → Type 0
+MeetsLimit set name limits start takes opening acts after full =
     ((acts ≡ []) × LacksEntryRoom set start after full)
     ⊎ ((acts ≡ []) × (numbered : Linked) × IsNumberedFor set numbered start × LacksFirstWords numbered limits (status.Full full))
-    ⊎ HasEndedSo set name limits start opening acts (status.Full full)
+    ⊎ HasEndedSo set name limits start takes opening acts (status.Full full)
 
 -- ---- blank images
 

@@ -29,23 +29,25 @@ pub record OfChoice (gives : Result Choice Status → Type 0) (P : Choice → Ty
 
 -- ---- causes
 
--- An image as it was at a call's begin and at its end, and what ran meanwhile, from which graph.
+-- An image as it was at a call's begin and at its end, what the sink took at the begin, and what ran meanwhile, from which graph.
 pub record Over : Type 0 where
   pub start : Told
+  pub takes : ℕ → ℕ → Option ℕ
   pub opening : Graph
   pub acts : List Recorded
   pub after : Told
 
-abbrev pub over : Told → Graph → List Recorded → Told → Over
-over start opening acts after = record { start = start; opening = opening; acts = acts; after = after }
+abbrev pub over : Told → (ℕ → ℕ → Option ℕ) → Graph → List Recorded → Told → Over
+over start takes opening acts after =
+    record { start = start; takes = takes; opening = opening; acts = acts; after = after }
 
 abbrev pub EndsOver : Limits → Over → Status → Choice → Type 0
 EndsOver limits over how choice =
-    SetEnds choice.set choice.main limits over.start over.opening over.acts over.after how
+    SetEnds choice.set choice.main limits over.start over.takes over.opening over.acts over.after how
 
 abbrev pub RunsAs : Limits → Over → Status → Choice → Type 0
 RunsAs limits over how choice =
-    SetRunsOver choice.set choice.main limits over.start over.opening over.acts over.after how
+    SetRunsOver choice.set choice.main limits over.start over.takes over.opening over.acts over.after how
 
 -- What a status says of what was given, the image and the acts, by its stage. Want of memory says nothing, nor does
 -- a fault of the source, whose count has then risen. No run ends by its words, by a listing, or as other

@@ -1,5 +1,6 @@
--- The run of a class set over an image, which told `start` at the call's begin and tells `after` at its end.
-use Rattle.std.specs.Prelude.{◌≡◌, ◌≢◌, ◌⊎◌, ℕ, ◌+◌, ◌-◌, ◌^◌, ◌<◌, ◌≤◌, List, [], Ok, Err}
+-- The run of a class set over an image, which told `start` at the call's begin and tells `after` at its end; at the begin `takes` was what the
+-- sink takes.
+use Rattle.std.specs.Prelude.{◌≡◌, ◌≢◌, ◌⊎◌, ℕ, Option, ◌+◌, ◌-◌, ◌^◌, ◌<◌, ◌≤◌, List, [], Ok, Err}
 use Rattle.ap_base.specs.declared.reference.Ref.{Ref}
 use Rattle.graph_model.specs.declared.types.Graph.{Graph}
 use Rattle.line_image.specs.Told.{Told}
@@ -25,7 +26,7 @@ use Rattle.directories.specs.Kept.{Kept}
 use Rattle.one_space.specs.First.{LacksWords}
 use Rattle.run_forms.specs.Standing.{Launch, IsRun, plain_code}
 use Rattle.stop_theorem.specs.Stops.{IsAllowedImage}
-use Rattle.durable_launch.specs.Passed.{HadNoFault}
+use Rattle.durable_launch.specs.Passed.{EachPrintsItsShare, HadNoFault}
 use Rattle.durable_launch.specs.Launching.{launch_over}
 use Rattle.durable_launch.specs.Passed.{Main}
 use Rattle.durable_launch.specs.Passed.{NoMain}
@@ -155,8 +156,8 @@ pub record Ends (set : Linked) (launch : Launch) (lines : ℕ) (acts : List Reco
 
 -- The image was opened, `main` of the class of this name is there, and the acts are a plain run of the set from
 -- there, with the code of its files, which kept these limits and ended as the status says.
-pub record HasEndedSo (set : Linked) (name : List ℕ) (limits : Limits) (start : Told) (opening : Graph) (acts : List Recorded)
-    (how : Status) : Type 0 where
+pub record HasEndedSo (set : Linked) (name : List ℕ) (limits : Limits) (start : Told) (takes : ℕ → ℕ → Option ℕ) (opening : Graph)
+    (acts : List Recorded) (how : Status) : Type 0 where
   pub graph : Graph
   pub of : IsOpenedSo set start graph
   pub main : Main
@@ -164,15 +165,17 @@ pub record HasEndedSo (set : Linked) (name : List ℕ) (limits : Limits) (start 
   pub literals : List Ref
   pub run : IsRun (launch_over of.numbered main limits graph literals) acts
   pub within : HadNoFault (launch_over of.numbered main limits graph literals) acts
+  -- each print took as many bytes of its piece as the sink takes of it then, where the sink tells that
+  pub shares : EachPrintsItsShare (launch_over of.numbered main limits graph literals) takes [] acts
   pub ends : Ends of.numbered (launch_over of.numbered main limits graph literals) (start.size - of.free) acts how
   -- the opening graph, where there is an act
   pub from : acts ≢ [] → opening ≡ graph
 
 -- What the call came to.
-abbrev pub SetEnds : Linked → (name : List ℕ) → Limits → Told → Graph → List Recorded → Told → Status → Type 0
-SetEnds set name limits start opening acts after how =
+abbrev pub SetEnds : Linked → (name : List ℕ) → Limits → Told → (ℕ → ℕ → Option ℕ) → Graph → List Recorded → Told → Status → Type 0
+SetEnds set name limits start takes opening acts after how =
     ((acts ≡ []) × IsUnrun set name limits start after how)
-    ⊎ HasEndedSo set name limits start opening acts how
+    ⊎ HasEndedSo set name limits start takes opening acts how
 
 -- ---- stops
 
@@ -225,12 +228,12 @@ pub record StandsAtStops (set : Linked) (start : Told) (opening : Graph) (acts :
 -- ---- the whole
 
 -- What a run of the set over an image comes to, whose main class has this name, within these limits.
-pub record SetRunsOver (set : Linked) (name : List ℕ) (limits : Limits) (start : Told) (opening : Graph) (acts : List Recorded)
-    (after : Told) (how : Status) : Type 0 where
+pub record SetRunsOver (set : Linked) (name : List ℕ) (limits : Limits) (start : Told) (takes : ℕ → ℕ → Option ℕ) (opening : Graph)
+    (acts : List Recorded) (after : Told) (how : Status) : Type 0 where
   -- the image keeps its size
   pub size : after.size ≡ start.size
   -- how it ended, and why
-  pub ends : SetEnds set name limits start opening acts after how
+  pub ends : SetEnds set name limits start takes opening acts after how
   -- where there are no acts, the opening graph has no roots and nodes
   pub unbegun : acts ≡ [] → opening ≡ empty_graph
   -- The persistence theorem: a stop within any image call, or after the last one, leaves only images that

@@ -63,7 +63,7 @@ where
     requires readable { All CanBeRead classes.items }
     // How it ends: each status but want of memory with its cause.
     ensures cause { IsCauseOf (ClassesGive class.now (kept_files classes.items)) limits.now
-        (over (I.told image) result.opening result.acts.acts (I.told result.image)) result.status }
+        (over (I.told image) (S.takes sink) result.opening result.acts.acts (I.told result.image)) result.status }
     ensures answers { Answers (ClassesGive class.now (kept_files classes.items)) result.status }
     ensures of { IsOfClasses result.status ⊎ IsOfRun result.status }
     ensures sink_fault { result.status ≡ Status.SinkFault
@@ -75,11 +75,11 @@ where
     // Where there are no acts, the opening graph has no roots and nodes.
     ensures opening { result.acts.acts ≡ [] → result.opening ≡ empty_graph }
 
-    // What ran, and what a stop leaves of the image, within any of its calls or after the last one; or there are no acts, and
-    // the image is as it was.
+    // What ran, how many bytes each print took, and what a stop leaves of the image, within any of its calls or after the last one;
+    // or there are no acts, and the image is as it was.
     ensures theorem { ((result.image ≡ image) × (result.acts.acts ≡ []))
         ⊎ OfChoice (ClassesGive class.now (kept_files classes.items)) (RunsAs limits.now
-        (over (I.told image) result.opening result.acts.acts (I.told result.image)) result.status) }
+        (over (I.told image) (S.takes sink) result.opening result.acts.acts (I.told result.image)) result.status) }
     ensures early { IsOfRun result.status ⊎ ((result.image ≡ image) × (result.acts.acts ≡ [])) }
     ensures size { (I.told result.image).size ≡ (I.told image).size }
 
@@ -131,7 +131,7 @@ where
     W: Watcher + Send,
     // How it ends: each status but want of memory with its cause.
     ensures cause { IsCauseOf (ComesTo class.now (C.left source)) limits.now
-        (over (I.told image) result.opening result.acts.acts (I.told result.image)) result.status }
+        (over (I.told image) (S.takes sink) result.opening result.acts.acts (I.told result.image)) result.status }
     ensures answers { AnswersFor class.now (C.left source) result.status }
     ensures source_fault { result.status ≡ Status.SourceFault
         → Rose (C.faults source) (C.faults result.source) }
@@ -154,7 +154,7 @@ where
     // something to run for which all of this holds; or there are no acts, and the image is as it was.
     ensures theorem { ((result.image ≡ image) × (result.acts.acts ≡ []))
         ⊎ OfChoice (ComesTo class.now (C.left source)) (RunsAs limits.now
-        (over (I.told image) result.opening result.acts.acts (I.told result.image)) result.status) }
+        (over (I.told image) (S.takes sink) result.opening result.acts.acts (I.told result.image)) result.status) }
     ensures early { IsOfRun result.status ⊎ ((result.image ≡ image) × (result.acts.acts ≡ [])) }
     ensures size { (I.told result.image).size ≡ (I.told image).size }
 

@@ -103,7 +103,7 @@ where
     S: Sink + Send,
     G: Gate + Sync,
     W: Watcher + Send,
-    ensures ran { SetRunsOver set class.now limits.now (I.told image) result.opening result.acts.acts
+    ensures ran { SetRunsOver set class.now limits.now (I.told image) (S.takes sink) result.opening result.acts.acts
         (I.told result.image) result.status }
     ensures told { Tells result.acts.acts (W.seen watcher) (W.seen result.watcher)
         (S.taken sink) (S.taken result.sink) }
@@ -144,7 +144,7 @@ where
         found.memory found.directory found.lines found.graph found.free }
     ensures ran { (start : Told) (old : Linked) → IsFoundFor start old set.now
         found.memory found.directory found.lines found.graph found.free
-        → SetRunsOver old class.now limits.now start result.opening result.acts.acts
+        → SetRunsOver old class.now limits.now start (S.takes sink) result.opening result.acts.acts
         (I.told result.image) result.status }
     ensures told { Tells result.acts.acts (W.seen watcher) (W.seen result.watcher)
         (S.taken sink) (S.taken result.sink) }
@@ -189,7 +189,7 @@ where
     requires fits { FindsRoom set.now limits.now }
     ensures ran { (start : Told) (old : Linked) → IsFoundFor start old set.now
         found.memory found.directory found.lines found.graph found.free
-        → SetRunsOver old class.now limits.now start result.opening result.acts.acts
+        → SetRunsOver old class.now limits.now start (S.takes sink) result.opening result.acts.acts
         (I.told result.image) result.status }
     ensures told { Tells result.acts.acts (W.seen watcher) (W.seen result.watcher)
         (S.taken sink) (S.taken result.sink) }
@@ -238,7 +238,7 @@ where
     requires there { IsClass (facts_of set.now) main.now.class }
     ensures ran { (start : Told) (old : Linked) → IsFoundFor start old set.now
         found.memory found.directory found.lines found.graph found.free
-        → SetRunsOver old class.now limits.now start result.opening result.acts.acts
+        → SetRunsOver old class.now limits.now start (S.takes sink) result.opening result.acts.acts
         (I.told result.image) result.status }
     ensures told { Tells result.acts.acts (W.seen watcher) (W.seen result.watcher)
         (S.taken sink) (S.taken result.sink) }
@@ -283,7 +283,7 @@ where
     requires there { IsClass (facts_of set.now) main.now.class }
     ensures ran { (start : Told) (old : Linked) → IsOpenedFor start old set.now
         opened.memory opened.directory opened.lines opened.graph opened.free
-        → SetRunsOver old class.now limits.now start result.opening result.acts.acts
+        → SetRunsOver old class.now limits.now start (S.takes sink) result.opening result.acts.acts
         (I.told result.image) result.status }
     ensures told { Tells result.acts.acts (W.seen watcher) (W.seen result.watcher)
         (S.taken sink) (S.taken result.sink) }
@@ -335,7 +335,7 @@ where
     requires there { IsClass (facts_of set.now) main.now.class }
     ensures ran { (start : Told) (old : Linked)
         → CanLaunch start old set.now limits.now.heap_words heap
-        → SetRunsOver old class.now limits.now start result.opening result.acts.acts
+        → SetRunsOver old class.now limits.now start (S.takes sink) result.opening result.acts.acts
         (I.told result.image) result.status }
     ensures told { Tells result.acts.acts (W.seen watcher) (W.seen result.watcher)
         (S.taken sink) (S.taken result.sink) }
@@ -380,7 +380,7 @@ where
     requires empty { launched.heap.history.acts ≡ [] }
     ensures ran { (o : Opening) (first : ℕ) → IsReady o first (facts_of set.now)
         (setting_in launched.host) launched.heap launched.frames.items
-        → RanBy o first set.now launched.graph result.opening result.acts.acts
+        → RanBy o first set.now launched.graph (S.takes sink) result.opening result.acts.acts
         (I.told result.image) result.status }
     ensures told { Tells result.acts.acts (W.seen watcher) (W.seen result.watcher)
         (S.taken sink) (S.taken result.sink) }

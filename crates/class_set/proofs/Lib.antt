@@ -42,7 +42,6 @@ pub mod FieldSorts
 pub mod StaticsOf
 pub mod LiteralsDiffer
 pub mod Consistency
-pub mod Counted
 pub mod TextBytes
 pub mod FieldNames
 pub mod MadeArrays

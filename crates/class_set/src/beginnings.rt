@@ -28,11 +28,12 @@ fn chars_of(alloc: Global, text: &[u8]) -> Result<ListOf<u16>, AllocError>
 
 impl ClassSet {
     /// How many files there are: at most 4,096, each with as many members as a class file has room for
-    /// (JVMS 4.1).
+    /// (JVMS 4.1). They are linked.
     pub fn file_count(&self) -> usize
         ensures count { result ≡ length self.now.files }
         ensures few { length self.now.files ≤ 4096 }
         ensures small { All IsSmall self.now.files }
+        ensures linked { IsLinked self.now }
     {
         self.files.len()
     }

@@ -49,7 +49,7 @@ const THROWABLE: u32 = 26;
 pub struct ClassSet {
     pub(crate) files: Vec<ClassFile>,
     /// Names by number: those of classes, and the descriptors of array types.
-    names: Texts,
+    pub(crate) names: Texts,
     supers: Vec<Option<u32>>,
     pub(crate) literals: Texts,
     indices: Vec<Option<u32>>,

@@ -1,6 +1,6 @@
 -- The layout of an image with an empty directory, as it is written into a blank image: the root slots, the counts of the logs and the superblock,
 -- of which the magic word comes last. Of this project's own format.
-use Rattle.std.specs.Prelude.{◌≡◌, ◌⊎◌, ◌<◌, ◌≤◌, ℕ}
+use Rattle.std.specs.Prelude.{◌≡◌, ◌⊎◌, ◌<◌, ◌≤◌, ◌+◌, ◌/◌, ℕ}
 use Rattle.line_image.specs.Trace.{Outcome}
 use Rattle.line_memory.specs.Memory.{Memory, CanLeave}
 use Rattle.image_layout.specs.Places.{magic, version, root_slots, logs, slot_line, log_head_line}
@@ -21,6 +21,11 @@ pub record IsFormatted (size : ℕ) (words : Words) : Type 0 where
 -- no layout is written yet, or the whole one is
 abbrev pub IsBlankOrFormatted : ℕ → Words → Type 0
 IsBlankOrFormatted size words = (words 0 0 ≡ 0) ⊎ IsFormatted size words
+
+-- The most calls that the formatting makes: a write-back for each line of root slots, for each log's count and for the superblock
+-- twice, the magic word last; and three fences.
+abbrev pub most_formatting_calls : ℕ
+most_formatting_calls = root_slots / 8 + logs + 2 + 3
 
 -- ---- the words that are given values, in their order
 

@@ -1,12 +1,12 @@
 // A blank image is formatted.
-ghost use Rattle.std.specs.Prelude.{◌≡◌, ◌<◌, ◌≤◌, ◌+◌, ℕ, OnOk};
+ghost use Rattle.std.specs.Prelude.{◌≡◌, ◌<◌, ◌≤◌, ◌+◌, ◌/◌, ℕ, OnOk};
 ghost use Rattle.ap_base.specs.Causes.{HasCause};
 ghost use Rattle.line_memory.specs.Memory.{shown, IsDurable, IsResident, SameResident, SameImage};
-ghost use Rattle.image_layout.specs.Places.{min_lines, logs, log_head_line};
+ghost use Rattle.image_layout.specs.Places.{min_lines, logs, log_head_line, root_slots};
 ghost use Rattle.word_changes.specs.Changes.{Tells, AllKnown, IsFixed, IsGiven, ChangesTo, GoesOn, WritesAll, AllFixed};
-ghost use Rattle.word_changes.specs.Changes.{StopsLeave};
+ghost use Rattle.word_changes.specs.Changes.{StopsLeave, CallsAtMost};
 ghost use Rattle.directories.specs.Formatting.{IsFormatted, IsBlankOrFormatted, IsCleared, OfLines, OfSlots, OfCounts};
-ghost use Rattle.directories.specs.Formatting.{OfCleared, OfSuperblock, OfFront, OfLayout};
+ghost use Rattle.directories.specs.Formatting.{OfCleared, OfSuperblock, OfFront, OfLayout, most_formatting_calls};
 
 use ap_base::{Spot, ThreadNo};
 use image_layout::{FIRST_DIRECTORY_LINE, FIRST_SLOT_LINE, LOGS, MAGIC, VERSION, log_head};
@@ -16,7 +16,7 @@ use word_changes::{fetch_line, make_fence, put_word, write_line};
 
 /// Writes the layout of an image with an empty directory into a blank one: the root slots and the counts of the logs are cleared
 /// and durable before words 1 to 3 of the superblock are stored, and all of these before the magic word is. So a stop leaves a
-/// blank image or the whole layout. All other words stay. Takes no memory.
+/// blank image or the whole layout. All other words stay. Takes 101 calls of the image at the most, and no memory.
 pub fn format_image<I: Image>(memory: &mut LineMemory<I>) -> Result<(), ImageFailed>
     requires { min_lines ≤ memory.old.size }
     ensures formatted { AllKnown memory.old → OnOk result (IsFormatted memory.old.size (shown memory.new)) }
@@ -29,6 +29,7 @@ pub fn format_image<I: Image>(memory: &mut LineMemory<I>) -> Result<(), ImageFai
         → StopsLeave memory.old memory.new (IsBlankOrFormatted memory.old.size) }
     ensures order { Tells memory.old → StopsLeave memory.old memory.new (IsCleared memory.old) }
     ensures goes_on { GoesOn memory.old memory.new }
+    ensures calls { CallsAtMost memory.old memory.new most_formatting_calls }
     ensures cause { HasCause memory.old.faults memory.new.faults result }
 {
     write_front(memory)?;
@@ -44,6 +45,7 @@ fn write_front<I: Image>(memory: &mut LineMemory<I>) -> Result<(), ImageFailed>
     ensures changes { ChangesTo (OfFront memory.old.size) memory.old memory.new }
     ensures order { Tells memory.old → StopsLeave memory.old memory.new (IsCleared memory.old) }
     ensures goes_on { GoesOn memory.old memory.new }
+    ensures calls { CallsAtMost memory.old memory.new (root_slots / 8 + logs + 3) }
     ensures cause { HasCause memory.old.faults memory.new.faults result }
 {
     clear_front(memory)?;
@@ -58,6 +60,7 @@ fn clear_front<I: Image>(memory: &mut LineMemory<I>) -> Result<(), ImageFailed>
     ensures fixed { Tells memory.old → OnOk result (AllFixed OfCleared memory.new) }
     ensures changes { ChangesTo OfCleared memory.old memory.new }
     ensures goes_on { GoesOn memory.old memory.new }
+    ensures calls { CallsAtMost memory.old memory.new (root_slots / 8 + logs + 1) }
     ensures cause { HasCause memory.old.faults memory.new.faults result }
 {
     clear_slots(memory)?;
@@ -71,6 +74,7 @@ fn clear_slots<I: Image>(memory: &mut LineMemory<I>) -> Result<(), ImageFailed>
     ensures wrote { OnOk result (WritesAll OfSlots memory.old memory.new) }
     ensures changes { ChangesTo OfSlots memory.old memory.new }
     ensures goes_on { GoesOn memory.old memory.new }
+    ensures calls { CallsAtMost memory.old memory.new (root_slots / 8) }
     ensures cause { HasCause memory.old.faults memory.new.faults result }
 {
     for line in FIRST_SLOT_LINE..FIRST_DIRECTORY_LINE {
@@ -85,6 +89,7 @@ fn clear_line<I: Image>(memory: &mut LineMemory<I>, line: u32) -> Result<(), Ima
     ensures wrote { OnOk result (WritesAll (OfLines line (line + 1)) memory.old memory.new) }
     ensures changes { ChangesTo (OfLines line (line + 1)) memory.old memory.new }
     ensures goes_on { GoesOn memory.old memory.new }
+    ensures calls { CallsAtMost memory.old memory.new 1 }
     ensures cause { HasCause memory.old.faults memory.new.faults result }
 {
     fetch_line(memory, line)?;
@@ -111,6 +116,7 @@ fn clear_counts<I: Image>(memory: &mut LineMemory<I>) -> Result<(), ImageFailed>
     ensures wrote { OnOk result (WritesAll (OfCounts logs) memory.old memory.new) }
     ensures changes { ChangesTo (OfCounts logs) memory.old memory.new }
     ensures goes_on { GoesOn memory.old memory.new }
+    ensures calls { CallsAtMost memory.old memory.new logs }
     ensures cause { HasCause memory.old.faults memory.new.faults result }
 {
     for thread in 0..LOGS as u8 {
@@ -135,6 +141,7 @@ fn write_superblock<I: Image>(memory: &mut LineMemory<I>) -> Result<(), ImageFai
     ensures wrote { OnOk result (WritesAll (OfSuperblock memory.old.size) memory.old memory.new) }
     ensures changes { ChangesTo (OfSuperblock memory.old.size) memory.old memory.new }
     ensures goes_on { GoesOn memory.old memory.new }
+    ensures calls { CallsAtMost memory.old memory.new 1 }
     ensures cause { HasCause memory.old.faults memory.new.faults result }
 {
     let lines = memory.lines();
@@ -155,6 +162,7 @@ fn write_word<I: Image>(
     ensures wrote { OnOk result (WritesAll (IsGiven spot.line spot.word word) memory.old memory.new) }
     ensures changes { ChangesTo (IsGiven spot.line spot.word word) memory.old memory.new }
     ensures goes_on { GoesOn memory.old memory.new }
+    ensures calls { CallsAtMost memory.old memory.new 1 }
     ensures cause { HasCause memory.old.faults memory.new.faults result }
 {
     fetch_line(memory, spot.line)?;

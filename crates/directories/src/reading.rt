@@ -5,7 +5,7 @@ ghost use Rattle.line_memory.specs.Memory.{shown};
 ghost use Rattle.line_memory.specs.Moments.{CountsFrom};
 ghost use Rattle.image_layout.specs.Places.{min_lines, root_slots, directory_words};
 ghost use Rattle.image_meaning.specs.Directories.{no_entries, is_refused, with_entry, with_entries, directory_words_of};
-ghost use Rattle.word_changes.specs.Changes.{AllKnown, Nothing, ChangesTo, CallsGoOn};
+ghost use Rattle.word_changes.specs.Changes.{AllKnown, Nothing, ChangesTo};
 ghost use Rattle.directories.specs.Read.{entry_of, the_directory, IsDirectory, IsFault, IsUntied};
 ghost use Rattle.directories.specs.Planning.{has_entry};
 ghost use Rattle.directories.specs.Names.{AreNamesOf};
@@ -61,7 +61,8 @@ impl From<ImageFailed> for DirectoryFault {
     }
 }
 
-/// Reads the first words of an image's directory, so many as are in use. Nothing is stored, and nothing is planned yet.
+/// Reads the first words of an image's directory, so many as are in use, with no call of the image. Nothing is stored, and
+/// nothing is planned yet.
 pub fn read_directory<I: Image>(
     alloc: Global,
     memory: &mut LineMemory<I>,
@@ -76,7 +77,7 @@ pub fn read_directory<I: Image>(
     ensures few { IfOk result (λ directory. length directory.roots ≤ root_slots) }
     ensures changes { ChangesTo Nothing memory.old memory.new }
     ensures counts { (begin : ℕ) → CountsFrom begin memory.old → CountsFrom begin memory.new }
-    ensures calls { CallsGoOn memory.old memory.new }
+    ensures calls { memory.new.calls ≡ memory.old.calls }
     ensures later { memory.old.faults ≤ memory.new.faults }
     ensures cause { IsErrOf result DirectoryFault.ImageFailed → Rose memory.old.faults memory.new.faults }
 {
@@ -121,7 +122,7 @@ fn read_words<I: Image>(
     ensures count { IfOk result (λ words. length words.items ≡ used) }
     ensures changes { ChangesTo Nothing memory.old memory.new }
     ensures counts { (begin : ℕ) → CountsFrom begin memory.old → CountsFrom begin memory.new }
-    ensures calls { CallsGoOn memory.old memory.new }
+    ensures calls { memory.new.calls ≡ memory.old.calls }
     ensures later { memory.old.faults ≤ memory.new.faults }
     ensures cause { IsErrOf result DirectoryFault.ImageFailed → Rose memory.old.faults memory.new.faults }
 {

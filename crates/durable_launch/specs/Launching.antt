@@ -18,7 +18,7 @@ use Rattle.program_launch.specs.declared.mains.Main.{Main}
 use Rattle.program_launch.specs.Launches.{set_program}
 use Rattle.workers.specs.Passed.{Launch}
 use Rattle.two_spaces.specs.Seen.{Spaces, shown_of}
-use Rattle.workers.specs.Passed.{Opening, memory_of}
+use Rattle.workers.specs.Passed.{Opening, memory_of, work_left}
 use Rattle.set_opening.specs.Passed.{SpacesTables}
 use Rattle.set_opening.specs.Passed.{HasTables, IsWholeOpened, RootsLieInSlots, ShowsOpening, StandFor}
 use Rattle.set_opening.specs.Passed.{AreTables}
@@ -85,4 +85,6 @@ pub record IsLaunched {I : Type 0} (start : Told) (directory : Directory) (set :
       (launch_over set main limits heap.graph literals)) heap.free (facts_of set)
       (setting_in launched.host) launched.heap launched.frames.items
   pub empty : launched.heap.history.acts ≡ []
+  -- so that its events make at most 16 quiet steps for each act and each line that they take (`quiet_steps_are_few` of machine)
+  pub work : work_left launched.heap.machine ≡ 0
   pub memory : memory_of launched.heap.machine ≡ heap.spaces.heap.memory

@@ -1,6 +1,7 @@
 -- What crates above name of the crates below this one: they stand on this one alone.
 pub use Rattle.workers.specs.Passed.{EachStopIsAllowed, HadNoFault, Opening, Shared, memory_of}
 pub use Rattle.workers.specs.Passed.{shown_in}
+pub use Rattle.workers.specs.Passed.{EachPrintsItsShare, IsShareOfPiece, PrintsShares, piece_after, piece_of}
 pub use Rattle.workers.specs.Passed.{HasTold, IsCaused, with_all}
 pub use Rattle.workers.specs.Passed.{EndsBy, HasRun, IsReady, ending_of, fault_in}
 pub use Rattle.workers.specs.Passed.{RunEnd}

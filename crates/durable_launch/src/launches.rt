@@ -25,7 +25,9 @@ use program_launch::Main;
 use run_types::Limits;
 use shared_graph::SharedGraph;
 use std::alloc::Global;
-use workers::{SharedHeap, events_keep_lines, lines_stay_unwritten, others_keep_theirs};
+use workers::{
+    SharedHeap, events_keep_lines, lines_stay_unwritten, others_keep_theirs, quiet_steps_are_few,
+};
 
 /// What a run over an opened image begins with: what its frames are given, its heap with the empty
 /// history, the frames of its threads, of which thread 0 has begun, and the graph for which the image stands.
@@ -67,6 +69,7 @@ pub fn launch<I: Image>(
     lines_stay_unwritten();
     asked_arrays_are_written();
     others_keep_theirs();
+    quiet_steps_are_few();
     programs_name_what_is_there::<Native>();
     linked_sets_are_consistent();
     let _linked = set.shapes();

@@ -20,7 +20,7 @@ use Rattle.plain_model.specs.Requests.{PlainRequest}
 use Rattle.plain_model.specs.Runs.{request_after}
 use Rattle.frames.specs.Settings.{Setting}
 use Rattle.shared_objects.specs.declared.threads.ThreadState.{ThreadState}
-use Rattle.run_forms.specs.Standing.{Launch, plain_code}
+use Rattle.run_forms.specs.Standing.{plain_code}
 use Rattle.run_forms.specs.Views.{ThreadFrames}
 use Rattle.twin_forms.specs.Table.{Entry, IsClaimed}
 use Rattle.machine.specs.Passed.{Opening, Machine, known_in, layout_in, scene_of}
@@ -33,7 +33,6 @@ use Rattle.machine.specs.declared.events.Halt.{Halt}
 use Rattle.machine.specs.Remembering.{IsStuckNow}
 use Rattle.durable_run.specs.Events.{AddsBy, LeavesLess, RemembersAfter, StepsTo, fault_of}
 use Rattle.durable_run.specs.Passes.{IsLess}
-use Rattle.durable_run.specs.Shares.{PrintsShares}
 use Rattle.durable_run.specs.Telling.{IsCaused}
 use Rattle.durable_run.specs.Turning.{IsReady, is_live, lives}
 use Rattle.durable_run.specs.declared.steps.Stepped.{Stepped}
@@ -328,14 +327,6 @@ cause-on new Acted a b c d isnt cause = cause
 cause-on new Micro a b c d isnt cause = cause
 cause-on new (WouldWait wait) a b c d isnt cause = cause
 cause-on new (Over halt) a b c d isnt cause = absurd (isnt tt)
-
-pub shares-on : {S : Type 0} (taken : S → Option (List ℕ)) (takes : S → ℕ → Option ℕ) (launch : Launch) (new : Shared)
-    (went : Stepped) (first last : S) (a b : List Recorded) → (IsOver went → ⊥)
-    → PrintsShares taken takes launch (fault_of new went) first last a b → PrintsShares taken takes launch None first last a b
-shares-on taken takes launch new Acted first last a b isnt shares = shares
-shares-on taken takes launch new Micro first last a b isnt shares = shares
-shares-on taken takes launch new (WouldWait wait) first last a b isnt shares = shares
-shares-on taken takes launch new (Over halt) first last a b isnt shares = absurd (isnt tt)
 
 -- there was room for an act, if an event came
 pub room-so : (lived : Bool) (went : Stepped) (old s : Shared) (halt : Halt) → (IsOver went → ⊥)

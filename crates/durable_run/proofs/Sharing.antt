@@ -1,14 +1,12 @@
 -- Each print of a run takes its share: of events, and of events in a row.
-use Rattle.std.proofs.Common.{◌≡◌, ℕ, Bool, true, false, ◌||◌, nat_eq, inl, inr, List, [], ◌∷◌, ◌++◌, append_assoc}
-use Rattle.std.proofs.Common.{Option, Some, None, refl, ap, sym, subst, ◌∙◌, if◌then◌else◌}
-use Rattle.std.specs.Prelude.{All, IsSome}
-use Rattle.std.proofs.lemmas.List.{append-nil}
+use Rattle.std.proofs.Common.{◌≡◌, ◌⊎◌, ℕ, ◌+◌, Bool, true, false, ◌||◌, nat_eq, inl, inr, List, [], ◌∷◌, ◌++◌, append_assoc}
+use Rattle.std.proofs.Common.{length, Option, Some, None, refl, ap, sym, subst, ◌∙◌, arith, if◌then◌else◌}
+use Rattle.std.specs.Prelude.{All}
+use Rattle.std.proofs.lemmas.List.{append-nil, length-append}
 use Rattle.std.proofs.lemmas.List.Elements.{All-head}
-use Rattle.ap_base.specs.Sinks.{with_bytes}
 use Rattle.ap_base.specs.declared.place.Place.{Place}
 use Rattle.ap_base.specs.declared.reference.Ref.{Ref}
 use Rattle.ap_base.specs.declared.reference.Item.{Item}
-use Rattle.run_types.specs.declared.fault.RunFault.{RunFault}
 use Rattle.run_types.specs.declared.resolved.At.{At}
 use Rattle.natives.specs.declared.methods.Native.{Native}
 use Rattle.natives.specs.declared.requests.Request.{Request}
@@ -21,8 +19,9 @@ use Rattle.run_history.specs.Recorded.{Recorded}
 use Rattle.run_history.specs.Wanted.{NoWish}
 use Rattle.plain_model.specs.Facts.{SetFacts}
 use Rattle.plain_model.specs.First.{first_known}
-use Rattle.plain_model.specs.Runs.{first_frames, is_fenced, output_of, printed_by}
+use Rattle.plain_model.specs.Runs.{first_frames, is_fenced, output_of}
 use Rattle.plain_model.proofs.Appended.{GoesOn-pushed}
+use Rattle.plain_model.proofs.Printed.{output_of-append}
 use Rattle.frames.specs.Settings.{Setting}
 use Rattle.shared_objects.specs.Plain.{plain_request}
 use Rattle.shared_objects.specs.Shown.{Numbers}
@@ -30,130 +29,183 @@ use Rattle.run_forms.specs.Standing.{IsAsked, IsRun, Launch, plain_code}
 use Rattle.run_forms.specs.Views.{ThreadFrames}
 use Rattle.twin_forms.specs.Table.{Entry}
 use Rattle.machine.specs.Passed.{Machine, Opening, doing_of, known_in, layout_in, shown_in}
-use Rattle.machine.specs.Passed.{Asks, IsDoing, IsReady as OwesNoFence, KeepsRun, LagsByItsStore, RunsAsPlain, Shared, given}
-use Rattle.machine.specs.Passed.{IsSilent}
+use Rattle.machine.specs.Passed.{Asks, IsDoing, IsReady as OwesNoFence, KeepsRun, RunsAsPlain, Shared}
 use Rattle.machine.specs.Passed.{Doing}
 use Rattle.machine.specs.Passed.{Nothing, Converting, Writing, Fencing}
 use Rattle.machine.specs.Events.{AddsOne, IsShare}
 use Rattle.machine.specs.Running.{IsDue}
-use Rattle.durable_run.specs.Shares.{PrintsShares, Puts, PutsAll, piece_after, piece_of}
-use Rattle.durable_run.specs.Telling.{AddsShare, HasTold, IsShareOf}
+use Rattle.durable_run.specs.Shares.{IsShareOfPiece, PrintsShares, piece_after, piece_of}
+use Rattle.durable_run.specs.Telling.{AddsShare, IsShareOf, LeavesShares}
 use Rattle.durable_run.specs.Turning.{IsReady}
-use Rattle.durable_run.proofs.Places.{some-one}
-use Rattle.durable_run.proofs.Telling.{bytes-none, drop-further}
+use Rattle.durable_run.proofs.Telling.{drop-further}
 
--- ---- in a row
-
-module _ {S : Type 0} (taken : S → Option (List ℕ)) (takes : S → ℕ → Option ℕ) (launch : Launch) where
-  abbrev Along : List Recorded → List Recorded → S → S → Type 0
-  Along = PutsAll taken takes launch
-
-  abbrev Shares : Option RunFault → S → S → List Recorded → List Recorded → Type 0
-  Shares = PrintsShares taken takes launch
-
-  -- there was no act
-  pub shares-still : (over : Option RunFault) (first last : S) (old new : List Recorded) → new ≡ old
-      → (over ≡ None → last ≡ first) → Shares over first last old new
-  shares-still over first last old new same stays = record {
-    further = [];
-    acts = same ∙ sym (append-nil old);
-    reached = first;
-    puts = refl;
-    unfaulted = stays;
-  }
-
-  pub shares-nothing : (sink : S) (acts : List Recorded) → Shares None sink sink acts acts
-  shares-nothing sink acts = shares-still None sink sink acts acts refl (λ none. refl)
-
-  pub shares-over : (f : RunFault) (first last : S) (old new : List Recorded) → new ≡ old → Shares (Some f) first last old new
-  shares-over f first last old new same =
-      shares-still (Some f) first last old new same (λ none. absurd (let no : ◌≡◌ {A = Option RunFault} (Some f) None = none in cc))
-
-  -- there was one, of thread t
-  pub shares-one : (t : ℕ) (first last : S) (old new : List Recorded) (one : AddsOne t old new)
-      → Puts taken takes (piece_after launch old t) one.act.act.op first last → Shares None first last old new
-  shares-one t first last old new one puts = record {
-    further = one.act ∷ [];
-    acts = one.acts;
-    reached = last;
-    puts = (
-      last,
-      subst (λ (u : ℕ). Puts taken takes (piece_after launch old u) one.act.act.op first last) (sym one.thread) puts,
-      refl,
-    );
-    unfaulted = λ none. refl;
-  }
-
-  puts-then : (before a b : List Recorded) (first mid last : S) → Along before a first mid → Along (before ++ a) b mid last
-      → Along before (a ++ b) first last
-  puts-then before [] b first mid last one two = subst (λ (sink : S). Along before b sink last) one
-      (subst (λ (acts : List Recorded). Along acts b mid last) (append-nil before) two)
-  puts-then before (c ∷ a) b first mid last one two = (
-    one.0,
-    one.1,
-    puts-then (before ++ c ∷ []) a b one.0 mid last one.2
-        (subst (λ (acts : List Recorded). Along acts b mid last) (sym (append_assoc before (c ∷ []) a)) two),
-  )
-
-  pub shares-both : (over : Option RunFault) (first mid last : S) (a b c : List Recorded) → Shares None first mid a b
-      → Shares over mid last b c → Shares over first last a c
-  shares-both over first mid last a b c one two = record {
-    further = one.further ++ two.further;
-    acts = two.acts ∙ ap (λ (acts : List Recorded). acts ++ two.further) one.acts ∙ append_assoc a one.further two.further;
-    reached = two.reached;
-    puts = puts-then a one.further two.further first one.reached two.reached one.puts
-        (subst (λ (acts : List Recorded). Along acts two.further one.reached two.reached) one.acts
-        (subst (λ (sink : S). Along b two.further sink two.reached) (one.unfaulted refl) two.puts));
-    unfaulted = two.unfaulted;
-  }
-
--- ---- one act
+-- ---- lists
 
 cancel : (old a b new : List Recorded) → new ≡ old ++ a → new ≡ old ++ b → a ≡ b
 cancel old a b new one other = sym (drop-further old a new one) ∙ drop-further old b new other
 
--- the one act has the event's share, and its output
+no-act : (before : List Recorded) (a : Recorded) (behind : List Recorded) → [] ≡ before ++ a ∷ behind → ⊥
+no-act [] a behind e = let no : [] ≡ a ∷ behind = e in cc
+no-act (b ∷ before) a behind e = let no : [] ≡ b ∷ before ++ a ∷ behind = e in cc
+
+only-act : (one : Recorded) (before : List Recorded) (a : Recorded) (behind : List Recorded)
+    → one ∷ [] ≡ before ++ a ∷ behind → (before ≡ []) × (a ≡ one)
+only-act one [] a behind e = (refl, let same : one ∷ [] ≡ a ∷ behind = e in cc)
+only-act one (b ∷ before) a behind e =
+    absurd (no-act before a behind (let same : one ∷ [] ≡ b ∷ before ++ a ∷ behind = e in cc))
+
+-- An act of two stretches stands in the first one, or in the second one behind it.
+abbrev StandsIn : (one two before : List Recorded) → Recorded → List Recorded → Type 0
+StandsIn one two before a behind = ((mid : List Recorded) × (one ≡ before ++ a ∷ mid))
+    ⊎ ((mid : List Recorded) × (before ≡ one ++ mid) × (two ≡ mid ++ a ∷ behind))
+
+stands-on : (one two before : List Recorded) (a : Recorded) (behind : List Recorded) (b c : Recorded) → b ≡ c
+    → StandsIn one two before a behind → StandsIn (c ∷ one) two (b ∷ before) a behind
+stands-on one two before a behind b c same (inl in_one) = inl (in_one.0, let e = in_one.1 in cc)
+stands-on one two before a behind b c same (inr in_two) = inr (in_two.0, let e = in_two.1 in cc, in_two.2)
+
+stands-in : (one two before : List Recorded) (a : Recorded) (behind : List Recorded)
+    → before ++ a ∷ behind ≡ one ++ two → StandsIn one two before a behind
+stands-in [] two before a behind e = inr (before, refl, sym e)
+stands-in (c ∷ one) two [] a behind e = inl (one, let same : a ∷ behind ≡ c ∷ one ++ two = e in cc)
+stands-in (c ∷ one) two (b ∷ before) a behind e =
+    let all : b ∷ before ++ a ∷ behind ≡ c ∷ one ++ two = e in
+    let same : b ≡ c = cc in
+    let rest : before ++ a ∷ behind ≡ one ++ two = cc in
+    stands-on one two before a behind b c same (stands-in one two before a behind rest)
+
+output-long : (one two : List Recorded)
+    → length (output_of (one ++ two)) ≡ length (output_of one) + length (output_of two)
+output-long one two = ap (λ (bytes : List ℕ). length bytes) (output_of-append one two)
+    ∙ length-append (output_of one) (output_of two)
+
+-- ---- in a row
+
+module _ (launch : Launch) where
+  -- an act behind these prints its share
+  abbrev Prints : (ℕ → ℕ → Option ℕ) → (old before : List Recorded) → Recorded → Type 0
+  Prints takes old before a = IsShareOfPiece (piece_after launch (old ++ before) a.act.thread)
+      (takes (length (output_of before))) a.act.op
+
+  -- there was no act
+  pub shares-still : (takes takes' : ℕ → ℕ → Option ℕ) (old new : List Recorded) → new ≡ old → LeavesShares takes takes' old new
+      → PrintsShares launch takes takes' old new
+  shares-still takes takes' old new same leaves = record {
+    each = λ before a behind e. absurd (no-act before a behind
+        (cancel old [] (before ++ a ∷ behind) new (same ∙ sym (append-nil old)) (e ∙ append_assoc old before (a ∷ behind))));
+    leaves = leaves;
+  }
+
+  pub shares-nothing : (takes : ℕ → ℕ → Option ℕ) (acts : List Recorded) → PrintsShares launch takes takes acts acts
+  shares-nothing takes acts = shares-still takes takes acts acts refl (record {
+    further = [];
+    acts = sym (append-nil acts);
+    behind = λ more size. let same : more ≡ 0 + more = omega arith in ap (λ (n : ℕ). takes n size) same;
+  })
+
+  -- there was one, of thread t
+  pub shares-one : (takes takes' : ℕ → ℕ → Option ℕ) (t : ℕ) (old new : List Recorded) (one : AddsOne t old new)
+      → IsShareOfPiece (piece_after launch old t) (takes 0) one.act.act.op → LeavesShares takes takes' old new
+      → PrintsShares launch takes takes' old new
+  shares-one takes takes' t old new one share leaves = record { each = each; leaves = leaves }
+    where
+      here : Prints takes old [] one.act
+      here = subst (λ (acts : List Recorded). IsShareOfPiece (piece_after launch acts one.act.act.thread) (takes 0)
+          one.act.act.op) (sym (append-nil old))
+          (subst (λ (u : ℕ). IsShareOfPiece (piece_after launch old u) (takes 0) one.act.act.op) (sym one.thread) share)
+
+      each : (before : List Recorded) (a : Recorded) (behind : List Recorded) → new ≡ old ++ before ++ a ∷ behind
+          → Prints takes old before a
+      each before a behind e =
+          let is = only-act one.act before a behind
+          (cancel old (one.act ∷ []) (before ++ a ∷ behind) new one.acts (e ∙ append_assoc old before (a ∷ behind))) in
+          subst (λ (acts : List Recorded). Prints takes old acts a) (sym is.0)
+          (subst (Prints takes old []) (sym is.1) here)
+
+  -- Behind the first stretch the sink takes what it would have taken before.
+  module _ (first mid last : ℕ → ℕ → Option ℕ) (a b c : List Recorded) (one : PrintsShares launch first mid a b)
+      (two : PrintsShares launch mid last b c) where
+    leaves-both : LeavesShares first last a c
+    leaves-both = record {
+      further = one.leaves.further ++ two.leaves.further;
+      acts = two.leaves.acts ∙ ap (λ (acts : List Recorded). acts ++ two.leaves.further) one.leaves.acts
+          ∙ append_assoc a one.leaves.further two.leaves.further;
+      behind = λ more size.
+          let long = output-long one.leaves.further two.leaves.further in
+          let sum : length (output_of one.leaves.further) + (length (output_of two.leaves.further) + more)
+          ≡ length (output_of (one.leaves.further ++ two.leaves.further)) + more
+          = omega (arith, long) in
+          two.leaves.behind more size
+          ∙ one.leaves.behind (length (output_of two.leaves.further) + more) size
+          ∙ ap (λ (n : ℕ). first n size) sum;
+    }
+
+    in-first : (before : List Recorded) (x : Recorded) (rest : List Recorded)
+        → one.leaves.further ≡ before ++ x ∷ rest → Prints first a before x
+    in-first before x rest is =
+        one.each before x rest
+        (one.leaves.acts ∙ ap (λ (acts : List Recorded). a ++ acts) is ∙ sym (append_assoc a before (x ∷ rest)))
+
+    in-second : (before : List Recorded) (x : Recorded) (behind rest : List Recorded)
+        → before ≡ one.leaves.further ++ rest → two.leaves.further ≡ rest ++ x ∷ behind → Prints first a before x
+    in-second before x behind rest front is =
+        let stood : b ++ rest ≡ a ++ before
+        = ap (λ (acts : List Recorded). acts ++ rest) one.leaves.acts ∙ append_assoc a one.leaves.further rest
+        ∙ ap (λ (acts : List Recorded). a ++ acts) (sym front) in
+        let long : length (output_of one.leaves.further) + length (output_of rest) ≡ length (output_of before)
+        = sym (output-long one.leaves.further rest) ∙ ap (λ (acts : List Recorded). length (output_of acts)) (sym front) in
+        let same : mid (length (output_of rest)) ≡ first (length (output_of before))
+        = λ i size. (one.leaves.behind (length (output_of rest)) size ∙ ap (λ (n : ℕ). first n size) long) i in
+        subst (λ (acts : List Recorded). IsShareOfPiece (piece_after launch acts x.act.thread)
+        (first (length (output_of before))) x.act.op) stood
+        (subst (λ (takes : ℕ → Option ℕ). IsShareOfPiece (piece_after launch (b ++ rest) x.act.thread) takes x.act.op) same
+        (two.each rest x behind
+        (two.leaves.acts ∙ ap (λ (acts : List Recorded). b ++ acts) is ∙ sym (append_assoc b rest (x ∷ behind)))))
+
+    by-place : (before : List Recorded) (x : Recorded) (behind : List Recorded)
+        → StandsIn one.leaves.further two.leaves.further before x behind → Prints first a before x
+    by-place before x behind (inl in_one) = in-first before x in_one.0 in_one.1
+    by-place before x behind (inr in_two) = in-second before x behind in_two.0 in_two.1 in_two.2
+
+    pub shares-both : PrintsShares launch first last a c
+    unfolding leaves-both
+    shares-both = record {
+      each = λ before x behind e. by-place before x behind
+          (stands-in one.leaves.further two.leaves.further before x behind
+          (cancel a (before ++ x ∷ behind) (one.leaves.further ++ two.leaves.further) c (e ∙ append_assoc a before (x ∷ behind))
+          leaves-both.acts));
+      leaves = leaves-both;
+    }
+
+-- ---- one act
+
+-- the one act has the event's share
 act-share : (request : Request Ref Item) (takes : ℕ → Option ℕ) (t : ℕ) (old new : List Recorded) (one : AddsOne t old new)
     → AddsShare (Some request) takes old new → IsShare request takes one.act.act.op
 act-share request takes t old new one added = All-head (λ (a : Recorded). IsShareOf (Some request) takes a.act.op) one.act []
     (subst (All (λ (a : Recorded). IsShareOf (Some request) takes a.act.op))
     (cancel old added.further (one.act ∷ []) new added.acts one.acts) added.shares)
 
-act-output : (t : ℕ) (old new : List Recorded) (one : AddsOne t old new) (sees sees' : Option (List Recorded))
-    (taken taken' : Option (List ℕ)) → HasTold old new sees sees' taken taken'
-    → taken' ≡ with_bytes taken (output_of (one.act ∷ []))
-act-output t old new one sees sees' taken taken' told = told.printed
-    ∙ ap (λ (acts : List Recorded). with_bytes taken (output_of acts))
-    (cancel old told.further (one.act ∷ []) new told.acts one.acts)
+module _ (takes : ℕ → Option ℕ) where
+  -- a fence is no print
+  fence-share : (piece : Option (List ℕ)) (operation : Op) → is_fenced operation ≡ true
+      → IsShareOfPiece piece takes operation
+  fence-share (Some piece) (op.Print bytes) fence = absurd (let no : false ≡ true = fence in cc)
+  fence-share piece operation fence = tt
 
-module _ {S : Type 0} (taken : S → Option (List ℕ)) (takes : S → ℕ → Option ℕ) (sink next : S) where
-  fence-puts : (piece : Option (List ℕ)) (operation : Op) → is_fenced operation ≡ true → next ≡ sink
-      → Puts taken takes piece operation sink next
-  fence-puts None operation fence same = same
-  fence-puts (Some piece) op.Fenced fence same = same
-  fence-puts (Some piece) operation fence same = absurd (let no : false ≡ true = fence in cc)
-
-  print-puts : (from : At) (piece : List ℕ) (a : Recorded) → is_fenced a.act.op ≡ false
-      → IsShare (ask.Print from piece) (takes sink) a.act.op
-      → taken next ≡ with_bytes (taken sink) (output_of (a ∷ [])) → Puts taken takes (Some piece) a.act.op sink next
-  print-puts from piece a unfenced share output = by a.act.op unfenced share output
-    where
-      by : (operation : Op) → is_fenced operation ≡ false → IsShare (ask.Print from piece) (takes sink) operation
-          → taken next ≡ with_bytes (taken sink) (printed_by operation ++ []) → Puts taken takes (Some piece) operation sink next
-      by op.Fenced unfenced share output = absurd (let no : true ≡ false = unfenced in cc)
-      by (op.Print bytes) unfenced share output = (share, output ∙ ap (with_bytes (taken sink)) (append-nil bytes))
-      by operation unfenced share output = output ∙ sym (bytes-none (taken sink))
+  print-share : (piece : List ℕ) (from : At) (operation : Op) → IsShare (ask.Print from piece) takes operation
+      → IsShareOfPiece (Some piece) takes operation
+  print-share piece from (op.Print bytes) share = share
+  print-share piece from operation share = tt
 
   -- by what the machine's thread asks, where the plain machine asks the same
-  asked-puts : (number : Numbers) (request : Request Ref Item) (piece : Option (List ℕ))
-      → piece ≡ piece_of (Some (plain_request number request)) → (a : Recorded) → is_fenced a.act.op ≡ false
-      → IsShare request (takes sink) a.act.op → taken next ≡ with_bytes (taken sink) (output_of (a ∷ []))
-      → (IsSilent request → next ≡ sink) → Puts taken takes piece a.act.op sink next
-  asked-puts number (ask.Print from text) piece is a unfenced share output silent =
-      subst (λ (p : Option (List ℕ)). Puts taken takes p a.act.op sink next) (sym is)
-      (print-puts from text a unfenced share output)
-  asked-puts number request piece is a unfenced share output silent =
-      subst (λ (p : Option (List ℕ)). Puts taken takes p a.act.op sink next) (sym is) (silent tt)
+  asked-share : (number : Numbers) (request : Request Ref Item) (piece : Option (List ℕ))
+      → piece ≡ piece_of (Some (plain_request number request)) → (operation : Op) → IsShare request takes operation
+      → IsShareOfPiece piece takes operation
+  asked-share number (ask.Print from text) piece is operation share =
+      subst (λ (p : Option (List ℕ)). IsShareOfPiece p takes operation) (sym is) (print-share text from operation share)
+  asked-share number request piece is operation share =
+      subst (λ (p : Option (List ℕ)). IsShareOfPiece p takes operation) (sym is) tt
 
 -- ---- what is owed
 
@@ -165,11 +217,6 @@ owes-is : (us : List Unfenced) (t : ℕ) → owes_fence us t ≡ is_there (unfen
 owes-is [] t = refl
 owes-is (x ∷ us) t = elim (nat_eq x.thread t) as (λ b. (b || owes_fence us t)
     ≡ is_there (if b then Some x.place else unfenced_at us t)) [ true ↦ refl | false ↦ owes-is us t ]
-
--- a request that gives something prints nothing
-given-silent : (request : Request Ref Item) → IsSome (given request) → IsSilent request
-given-silent (ask.Print from piece) gives = absurd (let no = gives in cc)
-given-silent request gives = tt
 
 -- ---- an event's act
 
@@ -204,41 +251,25 @@ module _ (o : Opening) (first : ℕ) (set : SetFacts) (s : Shared) (es : List En
     is-doing : (d : Doing) → doing_of s.machine t ≡ d → IsDoing (known_in o s.machine) (layout_in o es) t d
     is-doing d is = subst (IsDoing (known_in o s.machine) (layout_in o es) t) is (due.running.keeps.asked.doing t)
 
-    lags : (d : Doing) → doing_of s.machine t ≡ d → LagsByItsStore o.launch d fs
-    lags d is = subst (λ (e : Doing). LagsByItsStore o.launch e fs) is (due.running.all.each t fs due.asks.frames).lags
+    module _ (takes takes' : ℕ → ℕ → Option ℕ) (new : List Recorded) (one : AddsOne t s.history.acts new) (run : IsRun o.launch new)
+        (share : AddsShare (Some request) (takes 0) s.history.acts new)
+        (leaves : LeavesShares takes takes' s.history.acts new) where
+      abbrev TakesIt : Type 0
+      TakesIt = IsShareOfPiece (piece_after o.launch s.history.acts t) (takes 0) one.act.act.op
 
-    module _ {S : Type 0} (taken : S → Option (List ℕ)) (takes : S → ℕ → Option ℕ) (sink next : S) (new : List Recorded)
-        (one : AddsOne t s.history.acts new) (run : IsRun o.launch new) (seen seen' : Option (List Recorded))
-        (told : HasTold s.history.acts new seen seen' (taken sink) (taken next))
-        (share : AddsShare (Some request) (takes sink) s.history.acts new) (silent : IsSilent request → next ≡ sink) where
-      abbrev piece : Option (List ℕ)
-      piece = piece_after o.launch s.history.acts t
+      paid : OwesNoFence (doing_of s.machine t) → TakesIt
+      paid ready = asked-share (takes 0) (shown_in s.machine).number request (piece_after o.launch s.history.acts t)
+          (asks-piece ready) one.act.act.op (act-share request (takes 0) t s.history.acts new one share)
 
-      abbrev PutsIt : Type 0
-      PutsIt = Puts taken takes piece one.act.act.op sink next
-
-      paid : OwesNoFence (doing_of s.machine t) → owes_fence (known_in o s.machine).unfenced t ≡ false → PutsIt
-      paid ready none = asked-puts taken takes sink next (shown_in s.machine).number request piece (asks-piece ready) one.act
-          (rule new one run ∙ none) (act-share request (takes sink) t s.history.acts new one share)
-          (act-output t s.history.acts new one seen seen' (taken sink) (taken next) told) silent
-
-      owing : (p : Place) → unfenced_at (known_in o s.machine).unfenced t ≡ Some p → (q : Request Ref Item)
-          → Some q ≡ Some request → IsSome (given q) → PutsIt
-      owing p at q is gives = fence-puts taken takes sink next piece one.act.act.op
+      owing : (p : Place) → unfenced_at (known_in o s.machine).unfenced t ≡ Some p → TakesIt
+      owing p at = fence-share (takes 0) (piece_after o.launch s.history.acts t) one.act.act.op
           (rule new one run ∙ owes-is (known_in o s.machine).unfenced t ∙ ap is_there at)
-          (silent (given-silent request (subst (λ (r : Request Ref Item). IsSome (given r)) (some-one q request is) gives)))
 
-      puts-by : (d : Doing) → doing_of s.machine t ≡ d → PutsIt
-      puts-by Nothing is = paid (inl is) (is-doing Nothing is).1
-      puts-by Converting is = paid (inr is) (is-doing Converting is).1
-      puts-by (Writing line) is =
-          let its = lags (Writing line) is in
-          let at = (is-doing (Writing line) is).1 in
-          owing at.0 at.1 its.0 (sym its.1 ∙ due.asks.asks) its.2
-      puts-by Fencing is =
-          let its = lags Fencing is in
-          let at = (is-doing Fencing is).1 in
-          owing at.0 at.1 its.0 (sym its.1 ∙ due.asks.asks) its.2
+      takes-by : (d : Doing) → doing_of s.machine t ≡ d → TakesIt
+      takes-by Nothing is = paid (inl is)
+      takes-by Converting is = paid (inr is)
+      takes-by (Writing line) is = let at = (is-doing (Writing line) is).1 in owing at.0 at.1
+      takes-by Fencing is = let at = (is-doing Fencing is).1 in owing at.0 at.1
 
-      pub act-shares : PrintsShares taken takes o.launch None sink next s.history.acts new
-      act-shares = shares-one taken takes o.launch t sink next s.history.acts new one (puts-by (doing_of s.machine t) refl)
+      pub act-shares : PrintsShares o.launch takes takes' s.history.acts new
+      act-shares = shares-one o.launch takes takes' t s.history.acts new one (takes-by (doing_of s.machine t) refl) leaves

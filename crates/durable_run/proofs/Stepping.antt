@@ -24,9 +24,10 @@ use Rattle.machine.specs.Passed.{Shared, ThreadNotes, asked_by, taken, waits_on}
 use Rattle.machine.specs.declared.events.Event.TheVariants as event
 use Rattle.machine.specs.declared.events.Halt.{Halt}
 use Rattle.machine.specs.declared.events.Halt.TheVariants.{Met, Stuck}
+use Rattle.machine.specs.Events.{KeepsBound}
 use Rattle.machine.specs.Remembering.{GoesOnWaiting, Remembers, RemembersOwn as EventRemembersOwn}
 use Rattle.machine.specs.Running.{RemembersAsked}
-use Rattle.durable_run.specs.Events.{HasAsked, HasBegun, LeavesAlone, RemembersAfter, RemembersOwn, StepsTo}
+use Rattle.durable_run.specs.Events.{HasAsked, HasBegun, LeavesAlone, RemembersAfter, RemembersOwn, StepsTo, event_of}
 use Rattle.durable_run.specs.Turning.{IsReady, asks_next, is_live}
 use Rattle.durable_run.specs.declared.steps.Stepped.{Stepped}
 use Rattle.durable_run.specs.declared.steps.Stepped.TheVariants.{Acted, Micro, WouldWait, Over}
@@ -54,6 +55,13 @@ steps-from o first set x t Micro s new notes frames goes = goes
 steps-from o first set x t (WouldWait on) s new notes frames goes =
     (goes.0, (goes.1.0, waits-from o first on s new notes t goes.1.0 goes.1.1))
 steps-from o first set x t (Over halt) s new notes frames goes = goes
+
+pub bound-from : (went : Stepped) (s new : Shared) (notes : ThreadNotes)
+    → KeepsBound (event_of went) (record s { notes = notes }) new → KeepsBound (event_of went) s new
+bound-from Acted s new notes bound = bound
+bound-from Micro s new notes bound = bound
+bound-from (WouldWait on) s new notes bound = bound
+bound-from (Over halt) s new notes bound = bound
 
 -- ---- what is noted of the threads
 

@@ -26,7 +26,7 @@ use Rattle.machine.specs.declared.events.Halt.TheVariants.{Met, Stuck}
 use Rattle.machine.specs.Halts.{fault_of_halt}
 use Rattle.machine.specs.Events.{AddsOne, CallsAtMostOnce, FindsConversion, FindsWait, LeavesOthers, logs_word}
 use Rattle.machine.specs.Remembering.{GoesOnWaiting, IsNext}
-use Rattle.durable_run.specs.Telling.{AddsShare, HasTold, IsCaused}
+use Rattle.durable_run.specs.Telling.{AddsShare, HasTold, IsCaused, LeavesShares}
 use Rattle.durable_run.specs.Turning.{AsksListed, EndsAt, HasFrames, IsReady, is_live}
 use Rattle.durable_run.specs.declared.steps.Stepped.{Stepped}
 use Rattle.durable_run.specs.declared.steps.Stepped.TheVariants.{Acted, Micro, WouldWait, Over}
@@ -37,10 +37,10 @@ use Rattle.durable_run.specs.declared.steps.Stepped.TheVariants.{Acted, Micro, W
 pub record Outside : Type 0 where
   pub seen : Option (List Recorded)
   pub taken : Option (List ℕ)
-  pub takes : ℕ → Option ℕ
+  pub takes : ℕ → ℕ → Option ℕ
   pub faults : ℕ
 
-abbrev pub outside : Option (List Recorded) → Option (List ℕ) → (ℕ → Option ℕ) → ℕ → Outside
+abbrev pub outside : Option (List Recorded) → Option (List ℕ) → (ℕ → ℕ → Option ℕ) → ℕ → Outside
 outside seen taken takes faults =
     record { seen = seen; taken = taken; takes = takes; faults = faults }
 
@@ -49,7 +49,8 @@ outside seen taken takes faults =
 pub record Tells (request : Request Ref Item) (over : Option RunFault) (old new : Shared) (out out' : Outside)
     : Type 0 where
   pub told : HasTold old.history.acts new.history.acts out.seen out'.seen out.taken out'.taken
-  pub share : AddsShare (Some request) out.takes old.history.acts new.history.acts
+  pub share : AddsShare (Some request) (out.takes 0) old.history.acts new.history.acts
+  pub leaves : LeavesShares out.takes out'.takes old.history.acts new.history.acts
   pub cause : IsCaused over out.faults out'.faults (memory_of old.machine).faults
       (memory_of new.machine).faults
 

@@ -8,6 +8,7 @@ pub use Rattle.machine.specs.Passed.{IsDoing, KeepsRun}
 pub use Rattle.machine.specs.Passed.{Opening, doing_of, empty_log, known_in, layout_in, log_of, memory_of, shown_in}
 pub use Rattle.machine.specs.Passed.{Doing}
 pub use Rattle.machine.specs.Passed.{Nothing}
+pub use Rattle.machine.specs.Passed.{work_left}
 pub use Rattle.machine.specs.Halts.{fault_of_halt}
 pub use Rattle.machine.specs.declared.events.Halt.{Halt}
 pub use Rattle.machine.specs.declared.events.Halt.TheVariants.{Stuck}

@@ -1,7 +1,7 @@
 -- What the outside is told of a run, and how it is over by the outside.
-use Rattle.std.specs.Prelude.{◌≡◌, ◌≤◌, ℕ, List, ◌++◌, Option, Some, None, All}
+use Rattle.std.specs.Prelude.{◌≡◌, ◌≤◌, ℕ, List, ◌++◌, length, Option, Some, None, All}
 use Rattle.ap_base.specs.Causes.{Rose}
-use Rattle.ap_base.specs.Sinks.{with_bytes}
+use Rattle.ap_base.specs.Sinks.{TakesBehind, with_bytes}
 use Rattle.ap_base.specs.declared.reference.Ref.{Ref}
 use Rattle.ap_base.specs.declared.reference.Item.{Item}
 use Rattle.run_types.specs.declared.fault.RunFault.{RunFault}
@@ -26,6 +26,13 @@ pub record HasTold (old new : List Recorded) (sees sees' : Option (List Recorded
   pub acts : new ≡ old ++ further
   pub watched : sees' ≡ with_all sees further
   pub printed : takes' ≡ with_bytes takes (output_of further)
+
+-- From the one list of acts to the other there were further ones. Behind what they print, the sink takes what it would have taken
+-- before.
+pub record LeavesShares (takes takes' : ℕ → ℕ → Option ℕ) (old new : List Recorded) : Type 0 where
+  pub further : List Recorded
+  pub acts : new ≡ old ++ further
+  pub behind : TakesBehind takes takes' (length (output_of further))
 
 -- what an operation prints of a request is its share
 abbrev pub IsShareOf : Option (Request Ref Item) → (ℕ → Option ℕ) → Op → Type 0

@@ -7,7 +7,7 @@ ghost use Rattle.twin_forms.specs.Table.{Entry};
 ghost use Rattle.machine.specs.Passed.{IsSilent, Opening, SameImage, memory_of, plain_waits};
 ghost use Rattle.machine.specs.declared.events.Halt.TheVariants.{Met};
 ghost use Rattle.machine.specs.Events.{AddsActs, CallsAtMostOnce, FindsConversion, FindsWait, IsAnswerTo, IsUnanswered};
-ghost use Rattle.machine.specs.Events.{LeavesOthers, logs_word};
+ghost use Rattle.machine.specs.Events.{KeepsBound, LeavesOthers, logs_word};
 ghost use Rattle.machine.specs.Halts.{lacks};
 ghost use Rattle.machine.specs.Passed.{measure};
 ghost use Rattle.machine.specs.Remembering.{IsNext, LeadsTo, Remembers};
@@ -68,6 +68,7 @@ pub(crate) fn told_event<C: Types, I: Image, S: Sink, W: Watcher>(
     ensures numbers { heap.new.machine.spaces.numbers ≡ heap.old.machine.spaces.numbers }
     ensures quiet { result ≡ Event.Micro → heap.new.history.acts ≡ heap.old.history.acts
         → measure heap.new.machine < measure heap.old.machine }
+    ensures work { KeepsBound result heap.old heap.new }
     ensures waits { (on : OnOf) → result ≡ Event.WouldWait on → measure heap.new.machine ≤ measure heap.old.machine }
 {
     let before = heap.acts().len();

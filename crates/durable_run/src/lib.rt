@@ -12,7 +12,7 @@ mod steps;
 
 pub use machine::{
     Halt, SharedHeap, each_stop_is_allowed, events_keep_lines, lines_stay_unwritten,
-    others_keep_theirs,
+    others_keep_theirs, quiet_steps_are_few,
 };
 pub use parts::is_live;
 pub use run::Run;

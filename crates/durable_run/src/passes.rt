@@ -48,7 +48,7 @@ pub(crate) fn pass_over<
         (S.taken run.old.sink) (S.taken run.new.sink) }
     ensures shares { (o : Opening) (first : ℕ)
         → IsReady o first (C.facts set.now) (H.setting host.now) run.old.heap run.old.frames.items
-        → PrintsShares S.taken S.takes o.launch (fault_of_pass run.new.heap result) run.old.sink run.new.sink
+        → PrintsShares o.launch (S.takes run.old.sink) (S.takes run.new.sink)
         run.old.heap.history.acts run.new.heap.history.acts }
     ensures cause { IsCaused (fault_of_pass run.new.heap result) (S.faults run.old.sink) (S.faults run.new.sink)
         (memory_of run.old.heap.machine).faults (memory_of run.new.heap.machine).faults }

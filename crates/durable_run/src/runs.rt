@@ -82,7 +82,7 @@ fn next_act<
         (S.taken run.old.sink) (S.taken run.new.sink) }
     ensures shares { (o : Opening) (first : ℕ)
         → IsReady o first (C.facts set.now) (H.setting host.now) run.old.heap run.old.frames.items
-        → PrintsShares S.taken S.takes o.launch (fault_of_pass run.new.heap result) run.old.sink run.new.sink
+        → PrintsShares o.launch (S.takes run.old.sink) (S.takes run.new.sink)
         run.old.heap.history.acts run.new.heap.history.acts }
     ensures cause { IsCaused (fault_of_pass run.new.heap result) (S.faults run.old.sink) (S.faults run.new.sink)
         (memory_of run.old.heap.machine).faults (memory_of run.new.heap.machine).faults }
@@ -119,10 +119,10 @@ pub fn run_threads<
     ensures told { HasTold run.old.heap.history.acts run.new.heap.history.acts
         (W.seen run.old.watcher) (W.seen run.new.watcher)
         (S.taken run.old.sink) (S.taken run.new.sink) }
-    // Each print took the share of a state of the sink that had taken what the acts before it print.
+    // Each print took its share, as the sink told it at first; and what the sink takes behind them all.
     ensures shares { (o : Opening) (first : ℕ)
         → IsReady o first (C.facts set.now) (H.setting host.now) run.old.heap run.old.frames.items
-        → PrintsShares S.taken S.takes o.launch (fault_in result) run.old.sink run.new.sink
+        → PrintsShares o.launch (S.takes run.old.sink) (S.takes run.new.sink)
         run.old.heap.history.acts run.new.heap.history.acts }
     ensures cause { IsCaused (fault_in result) (S.faults run.old.sink) (S.faults run.new.sink)
         (memory_of run.old.heap.machine).faults (memory_of run.new.heap.machine).faults }

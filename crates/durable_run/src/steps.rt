@@ -6,9 +6,10 @@ ghost use Rattle.private_steps.specs.Ahead.{HasCome};
 ghost use Rattle.run_forms.specs.Views.{ThreadFrames};
 ghost use Rattle.machine.specs.Passed.{Opening, memory_of};
 ghost use Rattle.machine.specs.declared.events.Halt.TheVariants.{Met};
+ghost use Rattle.machine.specs.Events.{KeepsBound};
 ghost use Rattle.machine.specs.Halts.{lacks};
 ghost use Rattle.machine.specs.Passed.{asked_by, started_as};
-ghost use Rattle.durable_run.specs.Events.{AddsBy, FindsItsWait, HasAsked, HasBegun, LeavesAlone, LeavesLess, RemembersAfter, StepsTo, fault_of};
+ghost use Rattle.durable_run.specs.Events.{AddsBy, FindsItsWait, HasAsked, HasBegun, LeavesAlone, LeavesLess, RemembersAfter, StepsTo, event_of, fault_of};
 ghost use Rattle.durable_run.specs.Events.{with_begun};
 ghost use Rattle.durable_run.specs.Shares.{PrintsShares};
 ghost use Rattle.durable_run.specs.Telling.{AddsShare, HasTold, IsCaused};
@@ -94,10 +95,10 @@ fn goes_on<C: Types, I: Image, H: Host<Native, Ref, NativeState, Item>, S: Sink,
         (W.seen run.old.watcher) (W.seen run.new.watcher)
         (S.taken run.old.sink) (S.taken run.new.sink) }
     ensures share { AddsShare (Some request.old)
-        (S.takes run.old.sink) run.old.heap.history.acts run.new.heap.history.acts }
+        (S.takes run.old.sink 0) run.old.heap.history.acts run.new.heap.history.acts }
     ensures shares { (o : Opening) (first : ℕ) → HasAsked o first (C.facts set.now) (H.setting host.now)
         run.old.heap run.old.frames.items t request.old
-        → PrintsShares S.taken S.takes o.launch (fault_of run.new.heap result) run.old.sink run.new.sink
+        → PrintsShares o.launch (S.takes run.old.sink) (S.takes run.new.sink)
         run.old.heap.history.acts run.new.heap.history.acts }
     ensures cause { IsCaused (fault_of run.new.heap result) (S.faults run.old.sink) (S.faults run.new.sink)
         (memory_of run.old.heap.machine).faults (memory_of run.new.heap.machine).faults }
@@ -108,6 +109,7 @@ fn goes_on<C: Types, I: Image, H: Host<Native, Ref, NativeState, Item>, S: Sink,
     ensures finds { (o : Opening) (first : ℕ) → HasAsked o first (C.facts set.now) (H.setting host.now)
         run.old.heap run.old.frames.items t request.old → FindsItsWait o t result run.old.heap.machine }
     ensures alone { LeavesAlone t (Some request.old) result run.old.heap run.new.heap (run.new.sink ≡ run.old.sink) }
+    ensures work { KeepsBound (event_of result) run.old.heap run.new.heap }
     ensures turns { run.new.turns ≡ run.old.turns }
 {
     machine::machines_ask_as_plain_runs();
@@ -152,10 +154,10 @@ fn continues<C: Types, I: Image, H: Host<Native, Ref, NativeState, Item>, S: Sin
         (W.seen run.old.watcher) (W.seen run.new.watcher)
         (S.taken run.old.sink) (S.taken run.new.sink) }
     ensures share { AddsShare (asked_by run.old.heap.notes t)
-        (S.takes run.old.sink) run.old.heap.history.acts run.new.heap.history.acts }
+        (S.takes run.old.sink 0) run.old.heap.history.acts run.new.heap.history.acts }
     ensures shares { (o : Opening) (first : ℕ)
         → IsReady o first (C.facts set.now) (H.setting host.now) run.old.heap run.old.frames.items
-        → PrintsShares S.taken S.takes o.launch (fault_of run.new.heap result) run.old.sink run.new.sink
+        → PrintsShares o.launch (S.takes run.old.sink) (S.takes run.new.sink)
         run.old.heap.history.acts run.new.heap.history.acts }
     ensures cause { IsCaused (fault_of run.new.heap result) (S.faults run.old.sink) (S.faults run.new.sink)
         (memory_of run.old.heap.machine).faults (memory_of run.new.heap.machine).faults }
@@ -168,6 +170,7 @@ fn continues<C: Types, I: Image, H: Host<Native, Ref, NativeState, Item>, S: Sin
         → FindsItsWait o t result run.old.heap.machine }
     ensures alone { LeavesAlone t (asked_by run.old.heap.notes t) result run.old.heap run.new.heap
         (run.new.sink ≡ run.old.sink) }
+    ensures work { KeepsBound (event_of result) run.old.heap run.new.heap }
     ensures turns { run.new.turns ≡ run.old.turns }
 {
     let Some(mut request) = run.heap.take_asked(t) else {
@@ -198,11 +201,11 @@ fn asks<C: Types, I: Image, H: Host<Native, Ref, NativeState, Item>, S: Sink, W:
         (S.taken run.old.sink) (S.taken run.new.sink) }
     ensures share { (before now : ThreadFrames) → HasCome (H.setting host.now) stop before now
         → slice_get run.old.frames.items t ≡ Some now → AddsShare (turn (H.setting host.now) before).asks
-        (S.takes run.old.sink) run.old.heap.history.acts run.new.heap.history.acts }
+        (S.takes run.old.sink 0) run.old.heap.history.acts run.new.heap.history.acts }
     ensures shares { (o : Opening) (first : ℕ) (all : List ThreadFrames) (before now : ThreadFrames)
         → HasBegun o first (C.facts set.now) (H.setting host.now) run.old.heap all t stop before now
         → run.old.frames.items ≡ slice_set all t now
-        → PrintsShares S.taken S.takes o.launch (fault_of run.new.heap result) run.old.sink run.new.sink
+        → PrintsShares o.launch (S.takes run.old.sink) (S.takes run.new.sink)
         run.old.heap.history.acts run.new.heap.history.acts }
     ensures cause { IsCaused (fault_of run.new.heap result) (S.faults run.old.sink) (S.faults run.new.sink)
         (memory_of run.old.heap.machine).faults (memory_of run.new.heap.machine).faults }
@@ -219,6 +222,7 @@ fn asks<C: Types, I: Image, H: Host<Native, Ref, NativeState, Item>, S: Sink, W:
         → slice_get run.old.frames.items t ≡ Some now
         → LeavesAlone t (turn (H.setting host.now) before).asks result run.old.heap run.new.heap
         (run.new.sink ≡ run.old.sink) }
+    ensures work { KeepsBound (event_of result) run.old.heap run.new.heap }
     ensures turns { run.new.turns ≡ run.old.turns }
 {
     machine::machines_ask_as_plain_runs();
@@ -250,11 +254,11 @@ pub fn step<
     // A print isn't cut short, where the sink tells what it takes.
     ensures share { (fs : ThreadFrames) → slice_get run.old.frames.items t ≡ Some fs
         → AddsShare (asks_next (H.setting host.now) (asked_by run.old.heap.notes t) fs)
-        (S.takes run.old.sink) run.old.heap.history.acts run.new.heap.history.acts }
-    // The share of what its thread asks in the plain run; and the sink's state behind it.
+        (S.takes run.old.sink 0) run.old.heap.history.acts run.new.heap.history.acts }
+    // The share of what its thread asks in the plain run; and what the sink takes behind it.
     ensures shares { (o : Opening) (first : ℕ)
         → IsReady o first (C.facts set.now) (H.setting host.now) run.old.heap run.old.frames.items
-        → PrintsShares S.taken S.takes o.launch (fault_of run.new.heap result) run.old.sink run.new.sink
+        → PrintsShares o.launch (S.takes run.old.sink) (S.takes run.new.sink)
         run.old.heap.history.acts run.new.heap.history.acts }
     ensures cause { IsCaused (fault_of run.new.heap result) (S.faults run.old.sink) (S.faults run.new.sink)
         (memory_of run.old.heap.machine).faults (memory_of run.new.heap.machine).faults }
@@ -275,6 +279,8 @@ pub fn step<
     ensures alone { (fs : ThreadFrames) → slice_get run.old.frames.items t ≡ Some fs
         → LeavesAlone t (asks_next (H.setting host.now) (asked_by run.old.heap.notes t) fs) result
         run.old.heap run.new.heap (run.new.sink ≡ run.old.sink) }
+    // Steps of persistence stay few, for the acts that it adds and the lines that it takes.
+    ensures work { KeepsBound (event_of result) run.old.heap run.new.heap }
     ensures turns { run.new.turns ≡ turns_after (asked_by run.old.heap.notes t) t run.old.turns }
 {
     if run.heap.has_asked(t) {

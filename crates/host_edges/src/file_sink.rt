@@ -89,7 +89,7 @@ impl Sink for FileSink {
 
     ghost taken = { λ _. None };
 
-    ghost takes = { λ _ _. None };
+    ghost takes = { λ _ _ _. None };
 
     fn put(&mut self, piece: &[u8]) -> Result<usize, SinkFailed> {
         match self.write(piece) {

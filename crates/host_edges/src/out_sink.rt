@@ -26,7 +26,7 @@ impl<R: Print + Send + Drop> Sink for OutSink<R> {
 
     ghost taken = { λ _. None };
 
-    ghost takes = { λ _ _. None };
+    ghost takes = { λ _ _ _. None };
 
     fn put(&mut self, piece: &[u8]) -> Result<usize, SinkFailed> {
         match io::writer(&self.rt).write(piece) {

@@ -69,7 +69,8 @@ back_shows first a known back = record {
 }
 
 pub goes_by_looks : (a b : Memory) → Looks a b → GoesOn a b
-goes_by_looks a b looks = goes_by_fetch Nothing a b looks.changes looks.counts looks.calls
+goes_by_looks a b looks =
+    goes_by_fetch Nothing a b looks.changes looks.counts (λ fits. (omega (arith, looks.calls), omega (arith, fits, looks.calls)))
 
 -- the directory's words are those that were shown at first
 pub directory_read : (first m : Memory) (used : ℕ) → min_lines ≤ m.size → used ≤ directory_words → AllKnown first → Looks first m

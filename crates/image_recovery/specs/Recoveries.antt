@@ -1,9 +1,9 @@
 -- What a recovery comes to: an image that is recovered, or one that isn't. Of this project's own format.
-use Rattle.std.specs.Prelude.{◌≡◌, ◌≢◌, ◌⊎◌, ◌≤◌, ℕ, List, None}
+use Rattle.std.specs.Prelude.{◌≡◌, ◌≢◌, ◌⊎◌, ◌≤◌, ◌+◌, ◌*◌, ℕ, List, None}
 use Rattle.ap_base.specs.Causes.{Rose}
 use Rattle.graph_model.specs.declared.types.Graph.{Graph}
 use Rattle.line_memory.specs.Memory.{Memory, shown}
-use Rattle.image_layout.specs.Places.{max_lines, min_lines}
+use Rattle.image_layout.specs.Places.{max_lines, min_lines, logs, log_entries}
 use Rattle.image_meaning.specs.Checks.{Words}
 use Rattle.image_meaning.specs.Directories.{Directory, no_entries}
 use Rattle.image_meaning.specs.Laws.{Opens}
@@ -40,6 +40,11 @@ pub record StoresItsOwn (old new : Memory) : Type 0 where
   pub blank : AllKnown old → shown old 0 0 ≡ 0 → ChangesTo (OfLayout old.size) old new
   pub used : AllKnown old → shown old 0 0 ≢ 0 → ChangesTo (IsRestored (shown old)) old new
   pub refused : AllKnown old → FailsFirst old.size (shown old) → ChangesTo Nothing old new
+
+-- The most calls of the image that a recovery makes: a write-back for each entry of each log and for each log's count, and a fence
+-- behind the entries and behind the counts. A blank image takes fewer.
+abbrev pub most_recovery_calls : ℕ
+most_recovery_calls = logs * log_entries + logs + 2
 
 -- This was found in an image, and it is recovered.
 pub record Recovers (old new : Memory) (directory : Kept) (graph : Graph) (lines : List ℕ) (free undone : ℕ) : Type 0 where

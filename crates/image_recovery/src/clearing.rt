@@ -1,10 +1,10 @@
 // The logs are emptied.
-ghost use Rattle.std.specs.Prelude.{◌≡◌, ◌<◌, ◌≤◌, ℕ, None, OnOk};
+ghost use Rattle.std.specs.Prelude.{◌≡◌, ◌<◌, ◌≤◌, ◌+◌, ℕ, None, OnOk};
 ghost use Rattle.ap_base.specs.Causes.{HasCause};
 ghost use Rattle.line_memory.specs.Memory.{Memory, shown};
 ghost use Rattle.image_layout.specs.Places.{min_lines, logs, log_head_line};
 ghost use Rattle.image_meaning.specs.Logs.{logs_fault};
-ghost use Rattle.word_changes.specs.Changes.{Tells, AllKnown, ChangesTo, StopsLeave, GoesOn};
+ghost use Rattle.word_changes.specs.Changes.{Tells, AllKnown, ChangesTo, StopsLeave, CallsAtMost, GoesOn};
 ghost use Rattle.image_walk.specs.Walking.{Looks};
 ghost use Rattle.image_recovery.specs.Putting.{IsCleared, IsClearedAt, AllWritten, AllDurable, PutsBack, IsRecovered};
 ghost use Rattle.image_recovery.specs.Putting.{IsRecoveringIn};
@@ -30,6 +30,7 @@ pub fn empty_logs<I: Image>(memory: &mut LineMemory<I>) -> Result<(), ImageFaile
     ensures durable { Tells memory.old → AllWritten memory.old → OnOk result (AllDurable memory.new) }
     ensures changes { ChangesTo IsCleared memory.old memory.new }
     ensures goes_on { GoesOn memory.old memory.new }
+    ensures calls { CallsAtMost memory.old memory.new (logs + 1) }
     ensures cause { HasCause memory.old.faults memory.new.faults result }
 {
     for thread in 0..LOGS as u8 {
@@ -46,6 +47,7 @@ fn empty_log<I: Image>(memory: &mut LineMemory<I>, thread: u8) -> Result<(), Ima
     ensures written { Tells memory.old → AllWritten memory.old → OnOk result (AllWritten memory.new) }
     ensures changes { ChangesTo (IsClearedAt thread) memory.old memory.new }
     ensures goes_on { GoesOn memory.old memory.new }
+    ensures calls { CallsAtMost memory.old memory.new 1 }
     ensures cause { HasCause memory.old.faults memory.new.faults result }
 {
     let head = head_spot(thread);

@@ -4,8 +4,8 @@ ghost use Rattle.ap_base.specs.Causes.{Rose};
 ghost use Rattle.line_memory.specs.Memory.{shown};
 ghost use Rattle.image_layout.specs.Places.{min_lines, max_lines, first_object_line, version};
 ghost use Rattle.image_meaning.specs.Meaning.{empty_graph};
-ghost use Rattle.word_changes.specs.Changes.{Tells, AllKnown, ChangesTo, IsFixed, StopsLeave, GoesOn};
-ghost use Rattle.directories.specs.Formatting.{IsFormatted, IsBlankOrFormatted, OfLayout};
+ghost use Rattle.word_changes.specs.Changes.{Tells, AllKnown, ChangesTo, IsFixed, StopsLeave, CallsAtMost, GoesOn};
+ghost use Rattle.directories.specs.Formatting.{IsFormatted, IsBlankOrFormatted, OfLayout, most_formatting_calls};
 ghost use Rattle.image_recovery.specs.Putting.{AllDurable};
 ghost use Rattle.image_recovery.specs.Recovered.{FindsNothing, IsBadFault};
 
@@ -37,6 +37,7 @@ pub(crate) fn recover_blank<I: Image>(
     ensures stops { Tells memory.old → IsFixed memory.old 0 0 0
         → StopsLeave memory.old memory.new (IsBlankOrFormatted memory.old.size) }
     ensures goes_on { GoesOn memory.old memory.new }
+    ensures calls { CallsAtMost memory.old memory.new most_formatting_calls }
     ensures later { memory.old.faults ≤ memory.new.faults }
     ensures cause { IsErrOf result RecoverFault.ImageFailed → Rose memory.old.faults memory.new.faults }
 {

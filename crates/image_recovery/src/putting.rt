@@ -1,11 +1,11 @@
 // The entries of the logs are put back.
-ghost use Rattle.std.specs.Prelude.{◌≡◌, ◌<◌, ◌≤◌, ◌/◌, ◌%◌, ◌++◌, ◌∷◌, ℕ, List, false, None, OnOk};
+ghost use Rattle.std.specs.Prelude.{◌≡◌, ◌<◌, ◌≤◌, ◌+◌, ◌*◌, ◌/◌, ◌%◌, ◌++◌, ◌∷◌, ℕ, List, false, None, OnOk};
 ghost use Rattle.ap_base.specs.Causes.{HasCause};
 ghost use Rattle.line_memory.specs.Memory.{Memory, shown};
 ghost use Rattle.image_layout.specs.Places.{min_lines, max_lines, logs, log_entries};
 ghost use Rattle.image_meaning.specs.Checks.{Words};
 ghost use Rattle.image_meaning.specs.Logs.{Logged, log_count, logged_at, log_of, logs_below, logs_fault, is_log_line};
-ghost use Rattle.word_changes.specs.Changes.{Tells, AllKnown, ChangesTo, GoesOn};
+ghost use Rattle.word_changes.specs.Changes.{Tells, AllKnown, ChangesTo, CallsAtMost, GoesOn};
 ghost use Rattle.image_walk.specs.Walking.{Looks};
 ghost use Rattle.image_recovery.specs.Putting.{LogsSay, IsPutBack, AllWritten, AllDurable, PutsBack, IsPutting};
 
@@ -30,6 +30,7 @@ pub fn put_back_logs<I: Image>(memory: &mut LineMemory<I>) -> Result<(), ImageFa
     ensures changes { (first : Memory) → AllKnown first → Looks first memory.old → logs_fault first.size (shown first) ≡ None
         → ChangesTo (IsPutBack (shown first)) first memory.new }
     ensures goes_on { GoesOn memory.old memory.new }
+    ensures calls { CallsAtMost memory.old memory.new (logs * log_entries + 1) }
     ensures cause { HasCause memory.old.faults memory.new.faults result }
 {
     for thread in 0..LOGS as u8 {
@@ -49,6 +50,7 @@ fn put_back_log<I: Image>(memory: &mut LineMemory<I>, thread: u8) -> Result<(), 
     ensures changes { (c : Words) (first : Memory) → logs_fault memory.old.size c ≡ None
         → IsPutting c (logs_below c thread) first memory.old → ChangesTo (IsPutBack c) first memory.new }
     ensures goes_on { GoesOn memory.old memory.new }
+    ensures calls { CallsAtMost memory.old memory.new log_entries }
     ensures cause { HasCause memory.old.faults memory.new.faults result }
 {
     let head = head_spot(thread);
@@ -89,6 +91,7 @@ fn put_back_entry<I: Image>(
     ensures changes { (c : Words) (first : Memory) (done : List Logged) → logs_fault memory.old.size c ≡ None
         → n < log_count c thread → IsPutting c done first memory.old → ChangesTo (IsPutBack c) first memory.new }
     ensures goes_on { GoesOn memory.old memory.new }
+    ensures calls { CallsAtMost memory.old memory.new 1 }
     ensures cause { HasCause memory.old.faults memory.new.faults result }
 {
     let spot = entry_spot(thread, n);
@@ -115,6 +118,7 @@ fn put_back_word<I: Image>(
         → is_log_line (place / 8) ≡ false → LogsSay c (place / 8) (place % 8) old → IsPutting c done first memory.old
         → ChangesTo (IsPutBack c) first memory.new }
     ensures goes_on { GoesOn memory.old memory.new }
+    ensures calls { CallsAtMost memory.old memory.new 1 }
     ensures cause { HasCause memory.old.faults memory.new.faults result }
 {
     if place / 8 >= memory.lines() {

@@ -5,10 +5,11 @@ ghost use Rattle.line_memory.specs.Memory.{Memory, shown};
 ghost use Rattle.image_layout.specs.Places.{min_lines, max_lines, directory_words};
 ghost use Rattle.image_meaning.specs.Logs.{logs_fault};
 ghost use Rattle.image_meaning.specs.Meaning.{meaning};
-ghost use Rattle.word_changes.specs.Changes.{Nothing, Tells, AllKnown, ChangesTo, StopsLeave, GoesOn};
+ghost use Rattle.word_changes.specs.Changes.{Nothing, Tells, AllKnown, ChangesTo, StopsLeave, CallsAtMost, GoesOn};
 ghost use Rattle.image_walk.specs.Walking.{Looks, IsFaultOf};
 ghost use Rattle.image_recovery.specs.Putting.{IsPutBack, IsRestored, AllWritten, AllDurable, IsRecovered, IsRecoveringIn};
 ghost use Rattle.image_recovery.specs.Recovered.{IsUsed, FailsFirst, FindsImage, IsBadFault};
+ghost use Rattle.image_recovery.specs.Recoveries.{most_recovery_calls};
 
 use crate::clearing::empty_logs;
 use crate::front::read_front;
@@ -68,6 +69,7 @@ pub(crate) fn recover_used<I: Image>(
         → logs_fault first.size (shown first) ≡ None
         → StopsLeave first memory.new (IsRecoveringIn first.size (shown first)) }
     ensures goes_on { GoesOn memory.old memory.new }
+    ensures calls { CallsAtMost memory.old memory.new most_recovery_calls }
     ensures later { memory.old.faults ≤ memory.new.faults }
     ensures cause { IsErrOf result RecoverFault.ImageFailed → Rose memory.old.faults memory.new.faults }
 {

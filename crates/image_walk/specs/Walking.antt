@@ -17,7 +17,7 @@ use Rattle.image_meaning.specs.Checks.{Words, fails_unless, then_check}
 use Rattle.image_meaning.specs.Directories.{Directory}
 use Rattle.image_meaning.specs.Logs.{is_log_line}
 use Rattle.image_meaning.specs.Objects.{is_reference, value_of, kind_of, holds_slots, object_slot, is_within}
-use Rattle.word_changes.specs.Changes.{AllKnown, Nothing, ChangesTo, CallsGoOn}
+use Rattle.word_changes.specs.Changes.{AllKnown, Nothing, ChangesTo}
 use Rattle.image_walk.specs.declared.fault.RecoverFault.{RecoverFault}
 use Rattle.image_walk.specs.declared.fault.RecoverFault.TheVariants.{Bad, ImageFailed, OutOfMemory}
 
@@ -26,12 +26,12 @@ pub record Shows (m : Memory) (words : Words) : Type 0 where
   pub known : AllKnown m
   pub same : (l w : ℕ) → l < m.size → is_log_line l ≡ false → shown m l w ≡ words l w
 
--- Lines were fetched, and nothing was stored or written: what was shown is shown still.
+-- Lines were fetched, and nothing was stored or written: what was shown is shown still. No call of the image was made.
 pub record Looks (old new : Memory) : Type 0 where
   pub changes : ChangesTo Nothing old new
   pub keeps : (words : Words) → Shows old words → Shows new words
   pub counts : (begin : ℕ) → CountsFrom begin old → CountsFrom begin new
-  pub calls : CallsGoOn old new
+  pub calls : new.calls ≡ old.calls
   pub later : old.faults ≤ new.faults
 
 -- ---- faults

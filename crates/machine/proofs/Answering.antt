@@ -8,7 +8,7 @@ use Rattle.plain_model.specs.Facts.{SetFacts}
 use Rattle.step_forms.specs.declared.stepped.Stepped.{Stepped}
 use Rattle.step_forms.specs.Becomes.{IsNoStore, given}
 use Rattle.step_forms.specs.Follows.{Agrees}
-use Rattle.shared_heap.specs.Passed.{FaultsGo, OutputGoes, SharesGo}
+use Rattle.shared_heap.specs.Passed.{BehindGoes, FaultsGo, OutputGoes, SharesGo}
 use Rattle.run_forms.specs.Views.{ThreadFrames}
 use Rattle.twin_forms.specs.Table.{Entry}
 use Rattle.region_log.specs.declared.entry.Underway.TheVariants.{Nothing as Idle}
@@ -81,12 +81,12 @@ module _ (laws : Laws) (set : SetFacts) (s : Shared) (t : ℕ) (request : Reques
           (subst (λ (y : Shared). HasPlanned o first set y es threads t fs request store) same
           (has-planned o first es threads fs due))
 
-      pub store-serves : (takes : ℕ → Option ℕ) (taken : Option (List ℕ)) (faults : ℕ)
-          → Serves set t request result s new takes taken taken faults faults
+      pub store-serves : (takes : ℕ → ℕ → Option ℕ) (taken : Option (List ℕ)) (faults : ℕ)
+          → Serves set t request result s new takes takes taken taken faults faults
       store-serves takes taken faults = record {
         comes = store-comes;
-        told = spares-output result s.history.acts new.history.acts taken from-start.sink;
-        share = spares-share result s.history.acts new.history.acts request takes from-start.sink;
+        told = spares-output result s.history.acts new.history.acts taken takes from-start.sink;
+        share = spares-share result s.history.acts new.history.acts request (takes 0) from-start.sink;
         cause = spares-cause result faults from-start.sink.fault;
       }
 
@@ -104,15 +104,16 @@ module _ (laws : Laws) (set : SetFacts) (s : Shared) (t : ℕ) (request : Reques
     step-comes o first es threads fs due = subst (λ e. Comes o first es threads t fs request e s new) (sym is_event)
         (stepped-comes laws o first set s es threads t fs request due room ready new idle outside notes result steps none)
 
-    pub step-serves : IsDueFor set s t request → (takes : ℕ → Option ℕ) (taken taken' : Option (List ℕ))
-        (faults faults' : ℕ) → OutputGoes request taken result taken' → SharesGo request takes result
-        → FaultsGo request faults result faults'
-        → Serves set t request event s new takes taken taken' faults faults'
-    step-serves (o, first, es, threads, fs, due) takes taken taken' faults faults' put share go = record {
+    pub step-serves : IsDueFor set s t request → (takes takes' : ℕ → ℕ → Option ℕ) (taken taken' : Option (List ℕ))
+        (faults faults' : ℕ) → OutputGoes request taken result taken' → BehindGoes request takes result takes'
+        → SharesGo request (takes 0) result → FaultsGo request faults result faults'
+        → Serves set t request event s new takes takes' taken taken' faults faults'
+    step-serves (o, first, es, threads, fs, due) takes takes' taken taken' faults faults' put left share go = record {
       comes = step-comes;
       told = stepped-told laws o first set s es threads t fs request due room ready new result steps none taken taken'
-          put;
-      share = stepped-share laws o first set s es threads t fs request due room ready new result steps none takes share;
+          takes takes' put left;
+      share = stepped-share laws o first set s es threads t fs request due room ready new result steps none (takes 0)
+          share;
       cause = subst (λ e. HasSinkCause e faults faults') (sym is_event)
           (stepped-cause laws o first set s es threads t fs request due room ready new result steps none faults faults'
           go);
@@ -125,27 +126,29 @@ pub spared-serves : (set : SetFacts) (s new : Shared) (t : ℕ) (request : Reque
     → IsDue o first set s es threads t fs request
     → Comes o first es threads t fs request result s new)
     → SparesSink result s.history.acts new.history.acts
-    → (takes : ℕ → Option ℕ) (taken : Option (List ℕ)) (faults : ℕ)
-    → Serves set t request result s new takes taken taken faults faults
+    → (takes : ℕ → ℕ → Option ℕ) (taken : Option (List ℕ)) (faults : ℕ)
+    → Serves set t request result s new takes takes taken taken faults faults
 spared-serves set s new t request result comes spares takes taken faults = record {
   comes = comes;
-  told = spares-output result s.history.acts new.history.acts taken spares;
-  share = spares-share result s.history.acts new.history.acts request takes spares;
+  told = spares-output result s.history.acts new.history.acts taken takes spares;
+  share = spares-share result s.history.acts new.history.acts request (takes 0) spares;
   cause = spares-cause result faults spares.fault;
 }
 
 pub comes-serves : (set : SetFacts) (s new : Shared) (t : ℕ) (request : Request Ref Item) (result : Event)
-    → ComesTo t result s new → (takes : ℕ → Option ℕ) (taken : Option (List ℕ)) (faults : ℕ)
-    → Serves set t request result s new takes taken taken faults faults
+    → ComesTo t result s new → (takes : ℕ → ℕ → Option ℕ) (taken : Option (List ℕ)) (faults : ℕ)
+    → Serves set t request result s new takes takes taken taken faults faults
 comes-serves set s new t request result x = spared-serves set s new t request result
     (λ o first es threads fs due. x.comes o first set es threads fs request due) x.sink
 
 -- the sink was left alone
 pub serves-as : (set : SetFacts) (s new : Shared) (t : ℕ) (request : Request Ref Item) (result event : Event)
-    (takes : ℕ → Option ℕ) (taken taken' : Option (List ℕ)) (faults faults' : ℕ)
-    → Serves set t request result s new takes taken taken faults faults → event ≡ result → taken' ≡ taken
-    → faults' ≡ faults → Serves set t request event s new takes taken taken' faults faults'
-serves-as set s new t request result event takes taken taken' faults faults' x is same_taken same_faults =
-    subst (λ e. Serves set t request e s new takes taken taken' faults faults') (sym is)
-    (subst (λ put. Serves set t request result s new takes taken put faults faults') (sym same_taken)
-    (subst (λ n. Serves set t request result s new takes taken taken faults n) (sym same_faults) x))
+    (takes takes' : ℕ → ℕ → Option ℕ) (taken taken' : Option (List ℕ)) (faults faults' : ℕ)
+    → Serves set t request result s new takes takes taken taken faults faults → event ≡ result → takes' ≡ takes
+    → taken' ≡ taken → faults' ≡ faults → Serves set t request event s new takes takes' taken taken' faults faults'
+serves-as set s new t request result event takes takes' taken taken' faults faults' x is same_takes same_taken
+    same_faults =
+    subst (λ e. Serves set t request e s new takes takes' taken taken' faults faults') (sym is)
+    (subst (λ (left : ℕ → ℕ → Option ℕ). Serves set t request result s new takes left taken taken' faults faults') (sym same_takes)
+    (subst (λ put. Serves set t request result s new takes takes taken put faults faults') (sym same_taken)
+    (subst (λ n. Serves set t request result s new takes takes taken taken faults n) (sym same_faults) x)))

@@ -220,8 +220,8 @@ module _ (laws : Laws) (set : SetFacts) (s between new : Shared) (t : ℕ) (requ
     (ready : IsReady (doing_of s.machine t)) (idle : (log_of s.machine t).underway ≡ Idle) (from : At)
     (is_begin : request ≡ ask.Begin from) (result : Stepped) (x : StepsTo set t request result s between)
     (none : IsNoStore result) (opens : new ≡ with_log_of between t (one_deeper (log_of between.machine t))) where
-  pub begun-serves : IsDueFor set s t request → (takes : ℕ → Option ℕ) (taken : Option (List ℕ)) (faults : ℕ)
-      → Serves set t request (event_of request result) s new takes taken taken faults faults
+  pub begun-serves : IsDueFor set s t request → (takes : ℕ → ℕ → Option ℕ) (taken : Option (List ℕ)) (faults : ℕ)
+      → Serves set t request (event_of request result) s new takes takes taken taken faults faults
   begun-serves (o, first, es, threads, fs, due) = spared-serves set s new t request (event_of request result)
       (λ o2 first2 es2 threads2 fs2 due2. begun-comes laws o2 first2 set s es2 threads2 t fs2 request due2 room counted ready idle
       from is_begin between result x none new opens)

@@ -524,8 +524,8 @@ module _ (laws : Laws) (set : SetFacts) (s : Shared) (t : ℕ) (request : Reques
     (room : length s.history.acts < s.history.limit) (ready : IsReady (doing_of s.machine t))
     (is_open : 0 < (log_of s.machine t).depth) (from : At) (is_end : request ≡ ask.End from) where
   abbrev ServesBy : Event → Shared → Type 0
-  ServesBy result new = (takes : ℕ → Option ℕ) (taken : Option (List ℕ)) (faults : ℕ)
-      → Serves set t request result s new takes taken taken faults faults
+  ServesBy result new = (takes : ℕ → ℕ → Option ℕ) (taken : Option (List ℕ)) (faults : ℕ)
+      → Serves set t request result s new takes takes taken taken faults faults
 
   pub part-serves : (new : Shared) → EndsOnTo t s new
       → (memory_of s.machine).faults ≤ (memory_of new.machine).faults → ServesBy Micro new

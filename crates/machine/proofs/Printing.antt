@@ -1,10 +1,10 @@
 -- What a step puts into the sink.
-use Rattle.std.proofs.Common.{◌≡◌, inl, inr, ℕ, ◌≤◌, Bool, true, false, List, [], ◌∷◌, ◌++◌, Option, Some, None, refl, sym, ◌∙◌}
-use Rattle.std.proofs.Common.{ap, subst, arith, if◌then◌else◌}
+use Rattle.std.proofs.Common.{◌≡◌, inl, inr, ℕ, ◌+◌, ◌≤◌, Bool, true, false, List, [], ◌∷◌, ◌++◌, Option, Some, None, refl, sym, ◌∙◌}
+use Rattle.std.proofs.Common.{ap, length, subst, arith, if◌then◌else◌}
 use Rattle.std.specs.Prelude.{IsSome}
 use Rattle.std.proofs.lemmas.List.{append-nil}
 use Rattle.ap_base.specs.Causes.{Rose}
-use Rattle.ap_base.specs.Sinks.{with_bytes}
+use Rattle.ap_base.specs.Sinks.{TakesBehind, with_bytes}
 use Rattle.ap_base.specs.declared.reference.Ref.{Ref}
 use Rattle.ap_base.specs.declared.reference.Item.{Item}
 use Rattle.run_types.specs.declared.resolved.At.{At}
@@ -34,7 +34,7 @@ use Rattle.step_forms.specs.declared.stepped.Stepped.{Stepped}
 use Rattle.step_forms.specs.declared.stepped.Stepped.TheVariants as stepped
 use Rattle.step_forms.specs.Becomes.{given}
 use Rattle.step_forms.specs.Follows.{IsFullOf, IsLimit, IsStep}
-use Rattle.shared_heap.specs.Passed.{FaultsGo, OutputGoes, SharesGo}
+use Rattle.shared_heap.specs.Passed.{BehindGoes, FaultsGo, OutputGoes, SharesGo}
 use Rattle.run_forms.proofs.Visible.{is_print, prints}
 use Rattle.machine.specs.declared.events.Event.{Event}
 use Rattle.machine.specs.declared.events.Event.TheVariants.{Did, Micro, WouldWait, Over}
@@ -52,21 +52,28 @@ silent : (o : Op) → IsNoPrint o → printed_by o ≡ []
 silent (op.Print bytes) none = absurd none
 silent o none = refl
 
-pub spares-output : (result : Event) (old new : List Recorded) (takes : Option (List ℕ)) → SparesSink
-    result old new
-    → TakesOutput old new takes takes
-spares-output result old new takes spares = elim spares.acts [
+-- a sink that is as it was takes what it took
+pub behind-none : (before now : ℕ → ℕ → Option ℕ) → now ≡ before → TakesBehind before now 0
+behind-none before now same = λ further count. let zero : further ≡ 0 + further = omega arith in
+    ap (λ (takes : ℕ → ℕ → Option ℕ). takes further count) same ∙ ap (λ (n : ℕ). before n count) zero
+
+pub spares-output : (result : Event) (old new : List Recorded) (taken : Option (List ℕ)) (takes : ℕ → ℕ → Option ℕ)
+    → SparesSink result old new → TakesOutput old new taken taken takes takes
+spares-output result old new taken takes spares = elim spares.acts [
   | inl same ↦ record {
     further = [];
     acts = same ∙ sym (append-nil old);
-    output = bytes-none takes;
+    output = bytes-none taken;
+    behind = behind-none takes takes refl;
   }
-  | inr one ↦ record {
-    further = one.0 ∷ [];
-    acts = one.1;
-    output = bytes-none takes ∙ ap (with_bytes takes)
-        (sym (append-nil (printed_by one.0.act.op) ∙ silent one.0.act.op one.2));
-  }
+  | inr one ↦
+      let nothing = sym (append-nil (printed_by one.0.act.op) ∙ silent one.0.act.op one.2) in record {
+        further = one.0 ∷ [];
+        acts = one.1;
+        output = bytes-none taken ∙ ap (with_bytes taken) nothing;
+        behind = subst (λ (bytes : List ℕ). TakesBehind takes takes (length bytes)) nothing
+            (behind-none takes takes refl);
+      }
 ]
 
 share-none : (q : Request Ref Item) (takes : ℕ → Option ℕ) (o : Op) → IsNoPrint o → IsShare q takes o
@@ -102,6 +109,11 @@ pub given-output : (q : Request Ref Item) (takes : Option (List ℕ)) (result : 
 given-output (ask.Print from piece) takes result gives = absurd (let no = gives in cc)
 given-output q takes result gives = refl
 
+pub given-behind : (q : Request Ref Item) (takes : ℕ → ℕ → Option ℕ) (result : Stepped) → IsSome (given q)
+    → BehindGoes q takes result takes
+given-behind (ask.Print from piece) takes result gives = absurd (let no = gives in cc)
+given-behind q takes result gives = refl
+
 pub given-shares : (q : Request Ref Item) (takes : ℕ → Option ℕ) (result : Stepped) → IsSome (given q)
     → SharesGo q takes result
 given-shares (ask.Print from piece) takes result gives = absurd (let no = gives in cc)
@@ -123,6 +135,14 @@ printed-so number (ask.Print from piece) o r before now quiet e = e
 printed-so number q o r before now quiet e =
     e ∙ bytes-none before ∙ ap (with_bytes before) (sym (printed-none o (quiet refl)))
 
+pub behind-so : (number : Ref → Option ℕ) (q : Request Ref Item) (o : Op) (r : Reply Ref Item) (before now : ℕ → ℕ → Option ℕ)
+    → (prints (plain_request number q) ≡ false → is_print o ≡ false)
+    → BehindGoes q before (stepped.Did o r) now → TakesBehind before now (length (printed_by o))
+behind-so number (ask.Print from piece) o r before now quiet e = e
+behind-so number q o r before now quiet e =
+    subst (λ (bytes : List ℕ). TakesBehind before now (length bytes)) (sym (printed-none o (quiet refl)))
+    (behind-none before now e)
+
 -- nothing is told where nothing was done
 abbrev pub IsNotDone : Stepped → Type 0
 IsNotDone (stepped.Did o r) = ⊥
@@ -133,6 +153,12 @@ pub printed-not : (q : Request Ref Item) (result : Stepped) (before now : Option
 printed-not (ask.Print from piece) (stepped.Did o r) before now is e = absurd is
 printed-not (ask.Print from piece) result before now is e = e
 printed-not q result before now is e = e
+
+pub behind-not : (q : Request Ref Item) (result : Stepped) (before now : ℕ → ℕ → Option ℕ) → IsNotDone result
+    → BehindGoes q before result now → TakesBehind before now 0
+behind-not (ask.Print from piece) (stepped.Did o r) before now is e = absurd is
+behind-not (ask.Print from piece) result before now is e = e
+behind-not q result before now is e = behind-none before now e
 
 pub share-so : (q : Request Ref Item) (takes : ℕ → Option ℕ) (o : Op) (r : Reply Ref Item)
     → SharesGo q takes (stepped.Did o r) → IsShare q takes o

@@ -4,7 +4,7 @@ use Rattle.std.proofs.Common.{◌≢◌, ◌≤◌}
 use Rattle.std.proofs.Common.{Option, Some, refl, sym, ◌∙◌, ap, subst, arith}
 use Rattle.std.specs.Prelude.{slice_set}
 use Rattle.std.proofs.lemmas.List.{append-nil, length-map}
-use Rattle.ap_base.specs.Sinks.{with_bytes}
+use Rattle.ap_base.specs.Sinks.{TakesBehind, with_bytes}
 use Rattle.ap_base.specs.declared.reference.Ref.{Ref}
 use Rattle.ap_base.specs.declared.reference.Item.{Item}
 use Rattle.run_types.specs.declared.fault.RunFault.TheVariants as fault
@@ -31,7 +31,7 @@ use Rattle.step_forms.specs.declared.stepped.Stepped.TheVariants as stepped
 use Rattle.step_forms.specs.Becomes.{Becomes, IsNoStore}
 use Rattle.step_forms.specs.Follows.{IsStep, stored_as}
 use Rattle.line_memory.specs.Memory.{SameImage}
-use Rattle.shared_heap.specs.Passed.{FaultsGo, IsSilent, OutputGoes, SharesGo}
+use Rattle.shared_heap.specs.Passed.{BehindGoes, FaultsGo, IsSilent, OutputGoes, SharesGo}
 use Rattle.run_forms.specs.Views.{ThreadFrames}
 use Rattle.run_forms.specs.Standing.{plain_code}
 use Rattle.run_forms.specs.Ends.{Ends, IsEndedBy, from_in}
@@ -66,7 +66,7 @@ use Rattle.machine.proofs.Doing.{answers}
 use Rattle.machine.proofs.Finding.{does-waits-none, finds-plain, waits-silent}
 use Rattle.machine.proofs.Leaving.{asked, few, fits, Kept, goes-on, same-room}
 use Rattle.machine.proofs.Memory.{does-stay, stays, StaysPut}
-use Rattle.machine.proofs.Printing.{bytes-none, last-same, other-cause, over-cause, printed-not, printed-so, share-so}
+use Rattle.machine.proofs.Printing.{behind-not, behind-so, bytes-none, last-same, other-cause, over-cause, printed-not, printed-so, share-so}
 use Rattle.machine.proofs.Steps.{DoesFine, MayMake, broken-over, did-fine, may-make, stores-alone, StartsNoneBy, starts-none}
 use Rattle.convert_waits.specs.Stuck.{IsPlain, HoldsWait}
 use Rattle.graph_model.specs.declared.types.Value.TheVariants.{Obj as Object}
@@ -346,14 +346,19 @@ module _ (laws : Laws) (o : Opening) (first : ℕ) (set : SetFacts) (s : Shared)
           (taken_by operation) plain operation (plain_reply (shown_in new.machine).number r)
           (asked laws o first set s es threads t fs request due ready).fit quiet does-it).1
 
-      did-told : (takes takes' : Option (List ℕ)) → OutputGoes request takes (stepped.Did operation r) takes'
-          → TakesOutput s.history.acts new.history.acts takes takes'
-      did-told takes takes' put = record {
-        further = act ∷ [];
-        acts = did-acts;
-        output = printed-so (shown_in s.machine).number request operation r takes takes' silent-print put
-            ∙ ap (with_bytes takes) (sym (append-nil (printed_by operation)));
-      }
+      did-told : (taken taken' : Option (List ℕ)) (takes takes' : ℕ → ℕ → Option ℕ)
+          → OutputGoes request taken (stepped.Did operation r) taken'
+          → BehindGoes request takes (stepped.Did operation r) takes'
+          → TakesOutput s.history.acts new.history.acts taken taken' takes takes'
+      did-told taken taken' takes takes' put left =
+          let alone = sym (append-nil (printed_by operation)) in record {
+            further = act ∷ [];
+            acts = did-acts;
+            output = printed-so (shown_in s.machine).number request operation r taken taken' silent-print put
+                ∙ ap (with_bytes taken) alone;
+            behind = subst (λ (bytes : List ℕ). TakesBehind takes takes' (length bytes)) alone
+                (behind-so (shown_in s.machine).number request operation r takes takes' silent-print left);
+          }
 
       did-share : (takes : ℕ → Option ℕ) → SharesGo request takes (stepped.Did operation r) → (a : Recorded)
           → new.history.acts ≡ s.history.acts ++ a ∷ [] → IsShare request takes a.act.op
@@ -597,27 +602,34 @@ module _ (laws : Laws) (o : Opening) (first : ℕ) (set : SetFacts) (s : Shared)
 
     -- ---- what is put into the sink
 
-    told-nothing : (result : Stepped) (takes takes' : Option (List ℕ)) → new.history ≡ s.history
-        → takes' ≡ takes → TakesOutput s.history.acts new.history.acts takes takes'
-    told-nothing result takes takes' same put = record {
+    told-nothing : (taken taken' : Option (List ℕ)) (takes takes' : ℕ → ℕ → Option ℕ) → new.history ≡ s.history
+        → taken' ≡ taken → TakesBehind takes takes' 0
+        → TakesOutput s.history.acts new.history.acts taken taken' takes takes'
+    told-nothing taken taken' takes takes' same put left = record {
       further = [];
       acts = ap (λ (y : History). y.acts) same ∙ sym (append-nil s.history.acts);
-      output = put ∙ bytes-none takes;
+      output = put ∙ bytes-none taken;
+      behind = left;
     }
 
     pub stepped-told : (result : Stepped) → StepsTo set t request result s new → IsNoStore result
-        → (takes takes' : Option (List ℕ)) → OutputGoes request takes result takes'
-        → TakesOutput s.history.acts new.history.acts takes takes'
-    stepped-told (stepped.Did operation r) x none takes takes' put = did-told operation r x none takes
-        takes' put
-    stepped-told (stepped.Waits on) x none takes takes' put = told-nothing (stepped.Waits on) takes takes'
-        x.history
-        (printed-not request (stepped.Waits on) takes takes' tt put)
-    stepped-told stepped.Wrong x none takes takes' put = told-nothing stepped.Wrong takes takes' x.history
-        (printed-not request stepped.Wrong takes takes' tt put)
-    stepped-told (stepped.Over f) x none takes takes' put = told-nothing (stepped.Over f) takes takes'
-        x.history
-        (printed-not request (stepped.Over f) takes takes' tt put)
+        → (taken taken' : Option (List ℕ)) (takes takes' : ℕ → ℕ → Option ℕ) → OutputGoes request taken result taken'
+        → BehindGoes request takes result takes'
+        → TakesOutput s.history.acts new.history.acts taken taken' takes takes'
+    stepped-told (stepped.Did operation r) x none taken taken' takes takes' put left =
+        did-told operation r x none taken taken' takes takes' put left
+    stepped-told (stepped.Waits on) x none taken taken' takes takes' put left =
+        told-nothing taken taken' takes takes' x.history
+        (printed-not request (stepped.Waits on) taken taken' tt put)
+        (behind-not request (stepped.Waits on) takes takes' tt left)
+    stepped-told stepped.Wrong x none taken taken' takes takes' put left =
+        told-nothing taken taken' takes takes' x.history
+        (printed-not request stepped.Wrong taken taken' tt put)
+        (behind-not request stepped.Wrong takes takes' tt left)
+    stepped-told (stepped.Over f) x none taken taken' takes takes' put left =
+        told-nothing taken taken' takes takes' x.history
+        (printed-not request (stepped.Over f) taken taken' tt put)
+        (behind-not request (stepped.Over f) takes takes' tt left)
 
     no-more : {P : Type 0} → new.history ≡ s.history → (a : Recorded)
         → new.history.acts ≡ s.history.acts ++ a ∷ [] → P

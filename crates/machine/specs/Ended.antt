@@ -102,10 +102,10 @@ pub record StoreComesTo (t : ℕ) (store : Store) (result : Event) (old new : Sh
 -- What an event comes to for each run of the set of which one is due with this request, and what the sink was
 -- given in it.
 pub record Serves (set : SetFacts) (t : ℕ) (request : Request Ref Item) (result : Event) (old new : Shared)
-    (takes : ℕ → Option ℕ) (taken taken' : Option (List ℕ)) (faults faults' : ℕ) : Type 0 where
+    (takes takes' : ℕ → ℕ → Option ℕ) (taken taken' : Option (List ℕ)) (faults faults' : ℕ) : Type 0 where
   pub comes : (o : Opening) (first : ℕ) (es : List Entry) (threads : List ThreadFrames) (fs : ThreadFrames)
       → IsDue o first set old es threads t fs request → Comes o first es threads t fs request result old new
-  pub told : TakesOutput old.history.acts new.history.acts taken taken'
+  pub told : TakesOutput old.history.acts new.history.acts taken taken' takes takes'
   pub share : (act : Recorded) → new.history.acts ≡ old.history.acts ++ act ∷ []
-      → IsShare request takes act.act.op
+      → IsShare request (takes 0) act.act.op
   pub cause : HasSinkCause result faults faults'

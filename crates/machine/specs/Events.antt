@@ -1,7 +1,7 @@
 -- What an event of a thread over a shared heap comes to.
 use Rattle.std.specs.Prelude.{◌≡◌, ◌≢◌, ◌⊎◌, ℕ, ◌+◌, ◌-◌, ◌*◌, ◌<◌, ◌≤◌, Bool, false, List, [], ◌∷◌, ◌++◌, length, Option, Some, None, IfSome}
 use Rattle.ap_base.specs.Causes.{Rose}
-use Rattle.ap_base.specs.Sinks.{with_bytes}
+use Rattle.ap_base.specs.Sinks.{TakesBehind, with_bytes}
 use Rattle.ap_base.specs.declared.reference.Ref.{Ref}
 use Rattle.ap_base.specs.declared.reference.Item.{Item}
 use Rattle.run_types.specs.declared.fault.RunFault.{RunFault}
@@ -204,11 +204,12 @@ AddsActs (Did r) t old new = AddsOne t old new
 AddsActs Micro t old new = (new ≡ old) ⊎ AddsOne t old new
 AddsActs other t old new = new ≡ old
 
--- The sink took the output of the acts that were added, and nothing else.
-pub record TakesOutput (old new : List Recorded) (takes takes' : Option (List ℕ)) : Type 0 where
+-- The sink took the output of the acts that were added, and nothing else; behind it, it takes what it would have taken before.
+pub record TakesOutput (old new : List Recorded) (taken taken' : Option (List ℕ)) (takes takes' : ℕ → ℕ → Option ℕ) : Type 0 where
   pub further : List Recorded
   pub acts : new ≡ old ++ further
-  pub output : takes' ≡ with_bytes takes (output_of further)
+  pub output : taken' ≡ with_bytes taken (output_of further)
+  pub behind : TakesBehind takes takes' (length (output_of further))
 
 -- an operation that prints what was asked prints as many bytes of the piece as the sink takes of the whole,
 -- where the sink tells that

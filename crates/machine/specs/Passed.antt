@@ -10,7 +10,7 @@ pub use Rattle.machine_threads.specs.Passed.{RunsFinish}
 pub use Rattle.machine_threads.specs.Passed.{StartsTakeNoLines}
 pub use Rattle.machine_threads.specs.Passed.{TakesLines, lines_from}
 pub use Rattle.machine_threads.specs.Passed.{StartsHaveUnwritten}
-pub use Rattle.machine_threads.specs.Passed.{measure}
+pub use Rattle.machine_threads.specs.Passed.{measure, work_left}
 pub use Rattle.machine_threads.specs.Passed.{Asks, Begins, IsReady, RunsAsPlain, all_acted}
 pub use Rattle.machine_threads.specs.Passed.{EachStopIsAllowed}
 pub use Rattle.machine_threads.specs.Keeping.{AllKeep, AsksSomeStore, BeginnersKeepTheirs, IsUnbegun, KeepsThread, LagsByItsStore}

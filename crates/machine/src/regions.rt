@@ -52,7 +52,7 @@ pub(crate) fn begin<C: Types, I: Image, S: Sink>(
     requires ready { IsReady (doing_of heap.old.machine t) }
     requires idle { (log_of heap.old.machine t).underway ≡ underway.Nothing }
     requires is_begin { (from : At) × (request.now ≡ ask.Begin from) }
-    ensures serves { Serves (C.facts set.now) t request.now result heap.old heap.new (S.takes sink.old)
+    ensures serves { Serves (C.facts set.now) t request.now result heap.old heap.new (S.takes sink.old) (S.takes sink.new)
         (S.taken sink.old) (S.taken sink.new) (S.faults sink.old) (S.faults sink.new) }
     ensures sink { sink.new ≡ sink.old }
 {
@@ -79,7 +79,7 @@ pub(crate) fn end<C: Types, I: Image, S: Sink>(
     requires can { CanEnd (log_of heap.old.machine t).underway }
     requires open { 0 < (log_of heap.old.machine t).depth }
     requires is_end { (from : At) × (request.now ≡ ask.End from) }
-    ensures serves { Serves (C.facts set.now) t request.now result heap.old heap.new (S.takes sink.old)
+    ensures serves { Serves (C.facts set.now) t request.now result heap.old heap.new (S.takes sink.old) (S.takes sink.new)
         (S.taken sink.old) (S.taken sink.new) (S.faults sink.old) (S.faults sink.new) }
     ensures sink { sink.new ≡ sink.old }
 {

@@ -71,9 +71,9 @@ pub fn event<C: Types, I: Image, S: Sink>(
     ensures others { LeavesOthers result t heap.old.machine heap.new.machine }
     ensures acts { AddsActs result t heap.old.history.acts heap.new.history.acts }
     ensures told { TakesOutput heap.old.history.acts heap.new.history.acts (S.taken sink.old)
-        (S.taken sink.new) }
+        (S.taken sink.new) (S.takes sink.old) (S.takes sink.new) }
     ensures share { (act : Recorded) → heap.new.history.acts ≡ heap.old.history.acts ++ act ∷ []
-        → IsShare request.old (S.takes sink.old) act.act.op }
+        → IsShare request.old (S.takes sink.old 0) act.act.op }
     // Only a print calls the sink, which answers it or ends the run; and then the image isn't called.
     ensures sink { IsUnanswered result → sink.new ≡ sink.old }
     ensures silent { IsSilent request.old → sink.new ≡ sink.old }
@@ -120,7 +120,7 @@ fn attempt<C: Types, I: Image, S: Sink>(
         × (fs : ThreadFrames) × IsDue o first (C.facts set.now) heap.old es threads t fs request.now }
     requires room { length heap.old.history.acts < heap.old.history.limit }
     requires counted { heap.old.history.limit < 2 ^ 32 }
-    ensures serves { Serves (C.facts set.now) t request.now result heap.old heap.new (S.takes sink.old)
+    ensures serves { Serves (C.facts set.now) t request.now result heap.old heap.new (S.takes sink.old) (S.takes sink.new)
         (S.taken sink.old) (S.taken sink.new) (S.faults sink.old) (S.faults sink.new) }
     ensures sink { IsUnanswered result → sink.new ≡ sink.old }
     ensures silent { IsSilent request.now → sink.new ≡ sink.old }
@@ -175,7 +175,7 @@ fn go_on<C: Types, I: Image, S: Sink>(
     requires room { length heap.old.history.acts < heap.old.history.limit }
     requires counted { heap.old.history.limit < 2 ^ 32 }
     requires ready { IsReady (doing_of heap.old.machine t) }
-    ensures serves { Serves (C.facts set.now) t request.now result heap.old heap.new (S.takes sink.old)
+    ensures serves { Serves (C.facts set.now) t request.now result heap.old heap.new (S.takes sink.old) (S.takes sink.new)
         (S.taken sink.old) (S.taken sink.new) (S.faults sink.old) (S.faults sink.new) }
     ensures sink { IsUnanswered result → sink.new ≡ sink.old }
     ensures silent { IsSilent request.now → sink.new ≡ sink.old }
@@ -216,7 +216,7 @@ fn answer<C: Types, I: Image, S: Sink>(
     requires ready { IsReady (doing_of heap.old.machine t) }
     requires idle { (log_of heap.old.machine t).underway ≡ underway.Nothing }
     requires outside { IsOutside (log_of heap.old.machine t).depth request.now }
-    ensures serves { Serves (C.facts set.now) t request.now result heap.old heap.new (S.takes sink.old)
+    ensures serves { Serves (C.facts set.now) t request.now result heap.old heap.new (S.takes sink.old) (S.takes sink.new)
         (S.taken sink.old) (S.taken sink.new) (S.faults sink.old) (S.faults sink.new) }
     ensures sink { IsUnanswered result → sink.new ≡ sink.old }
     ensures silent { IsSilent request.now → sink.new ≡ sink.old }

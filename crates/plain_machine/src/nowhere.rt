@@ -16,7 +16,7 @@ impl Sink for Nowhere {
 
     ghost taken = { λ sink. None };
 
-    ghost takes = { λ sink n. Some n };
+    ghost takes = { λ sink further n. Some n };
 
     fn put(&mut self, piece: &[u8]) -> Result<usize, SinkFailed> {
         Ok(piece.len())

@@ -24,7 +24,8 @@ impl NativeMethods<Native> for BuiltIns {
 ///
 /// # Errors
 ///
-/// Want of memory, and of numbers: tables of more than 2^32 rows would take more than 32 GB.
+/// Want of memory. So are 2^32 instructions or more, which no set has of class files as the program accepts them
+/// (`accepted_sets_have_room` of `class_code`).
 pub fn program_of(alloc: Global, set: &ClassSet) -> Result<Program<Native>, AllocError>
     ensures { IfOk result (λ program. program ≡ set_program set.now) }
 {

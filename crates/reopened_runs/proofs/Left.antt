@@ -137,7 +137,7 @@ module _ (words : List (List ℕ)) (before after : Outside) (SameSource SameImag
     done = subst (λ (o : Option Command). Does (of_top o) before after SameSource SameImage how opening all ⊎ Idle) asked meets.does
 
     abbrev pub Ran : Type 0
-    Ran = OfChoice (ComesTo run.main before.left) (RunsAs run.limits (over before.image opening all after.image) how)
+    Ran = OfChoice (ComesTo run.main before.left) (RunsAs run.limits (over before.image before.takes opening all after.image) how)
 
     -- it ran over the image, or the image is as it was and there are no acts
     pub ran_or_same : Ran ⊎ (SameImage × (all ≡ []))

@@ -45,22 +45,22 @@ module _ (law : StoppedRunsOpenAgain) (words : List (List ℕ))
     refused : stage_of how' ≡ OfOpening → OfChoice (AreAsked run files') Refused
     refused staged = ⊎_elim
         (λ runs.
-        let cause : OfChoice (ComesTo run.main again.left) (EndsOver run.limits (over again.image opening' acts' end.image) how') =
+        let cause : OfChoice (ComesTo run.main again.left) (EndsOver run.limits (over again.image again.takes opening' acts' end.image) how') =
         staged_cause how' staged runs.runs.cause in
         record {
           choice = cause.choice;
           given = given words again end SameSource' SameImage' how' opening' acts' meets' run asked files' told' cause.choice cause.given;
-          holds = law.refusals cause.choice.set cause.choice.main run.limits again.image opening' acts' end.image how' cause.holds staged;
+          holds = law.refusals cause.choice.set cause.choice.main run.limits again.image again.takes opening' acts' end.image how' cause.holds staged;
         })
         (λ idle. absurd (let no : OfMemory ≡ OfOpening = sym (ap stage_of idle.0) ∙ staged in cc))
         (done words again end SameSource' SameImage' how' opening' acts' meets' run asked)
       where
         staged_cause : (s : Status) → stage_of s ≡ OfOpening
-            → IsCauseOf (ComesTo run.main again.left) run.limits (over again.image opening' acts' end.image) s
-            → OfChoice (ComesTo run.main again.left) (EndsOver run.limits (over again.image opening' acts' end.image) s)
+            → IsCauseOf (ComesTo run.main again.left) run.limits (over again.image again.takes opening' acts' end.image) s
+            → OfChoice (ComesTo run.main again.left) (EndsOver run.limits (over again.image again.takes opening' acts' end.image) s)
         staged_cause s staged cause =
             subst (λ (stage : Stage). IsCauseAt stage (ComesTo run.main again.left) run.limits
-            (over again.image opening' acts' end.image) s) staged cause
+            (over again.image again.takes opening' acts' end.image) s) staged cause
 
     -- what the first run was given, in what the files give
     mine : (choice : Choice) → ComesTo run.main before.left (Ok choice) → AreAsked run files (Ok choice)
@@ -113,9 +113,9 @@ module _ (law : StoppedRunsOpenAgain) (words : List (List ℕ))
         goes_on more =
             let of' = ran words again end SameSource' SameImage' how' opening' acts' meets' run asked more in
             let theirs = given words again end SameSource' SameImage' how' opening' acts' meets' run asked files' told' of'.choice of'.given in
-            let ended : HasEndedSo of'.choice.set of'.choice.main run.limits again.image opening' acts' how' = ⊎_elim
+            let ended : HasEndedSo of'.choice.set of'.choice.main run.limits again.image again.takes opening' acts' how' = ⊎_elim
             (λ unrun. absurd (more unrun.0))
-            (λ (so : HasEndedSo of'.choice.set of'.choice.main run.limits again.image opening' acts' how'). so)
+            (λ (so : HasEndedSo of'.choice.set of'.choice.main run.limits again.image again.takes opening' acts' how'). so)
             of'.holds.ends in
             let opened : IsOpenedSo of.choice.set again.image ended.graph =
             subst (λ (choice : Choice). IsOpenedSo choice.set again.image ended.graph) (one_choice files_are of'.choice of.choice theirs (mine of.choice of.given)) ended.of in

@@ -5,7 +5,7 @@ use Rattle.ap_base.specs.Causes.{Rose}
 use Rattle.ap_base.specs.declared.source.NamedBytes.{NamedBytes}
 use Rattle.graph_model.specs.declared.types.Graph.{Graph}
 use Rattle.line_image.specs.Crash.{first_word}
-use Rattle.line_image.specs.Memory.{faults_of, size_of, trace_of}
+use Rattle.line_image.specs.Memory.{faults_of, size_of, told_of, trace_of}
 use Rattle.line_image.specs.Told.{Told}
 use Rattle.line_image.specs.Trace.{LeavesNow, LeftWithin}
 use Rattle.line_image.specs.declared.memory.MemoryImage.{MemoryImage}
@@ -14,6 +14,7 @@ use Rattle.image_meaning.specs.Checks.{Words}
 use Rattle.image_meaning.specs.Directories.{Directory}
 use Rattle.image_meaning.specs.Entries.{DirectoryEntry}
 use Rattle.image_meaning.specs.Meaning.{StandsFor}
+use Rattle.image_opening.specs.Unopened.{IsBadThere}
 use Rattle.image_opening.specs.declared.not_opened.NotOpened.{NotOpened}
 use Rattle.image_opening.specs.declared.not_opened.NotOpened.TheVariants.{BadImage, ImageFailed, OutOfMemory}
 use Rattle.run_history.specs.Kept.{IsAllowedFrom, acts_before}
@@ -77,12 +78,13 @@ RecoversAsBefore gives start before graph =
 abbrev pub IsUntouched : MemoryImage → Type 0
 IsUntouched image = (trace_of image).done ≡ []
 
--- This was found of an image that a stop left: the graph for which its words stand. Where there is one, it isn't a bad image; and it failed
--- only where its count of faults rose.
+-- This was found of an image that a stop left: the graph for which its words stand. Where there is one, it isn't a bad image; where it is
+-- told to be bad it is so, by that line and reason; and it failed only where its count of faults rose.
 pub record IsFoundIn (left back : MemoryImage) (found : Result Graph NotOpened) : Type 0 where
   pub opened : IfOk found (λ it. StandsFor (size_of left) (first_word (trace_of left)) it)
   pub stood : (graph : Graph) → StandsFor (size_of left) (first_word (trace_of left)) graph → IfOk found (λ it. it ≡ graph)
   pub refused : (graph : Graph) → StandsFor (size_of left) (first_word (trace_of left)) graph → IfErr found IsNoBadImage
+  pub bad : IfErr found (IsBadThere (told_of left))
   pub cause : IsErrOf found ImageFailed → Rose (faults_of left) (faults_of back)
 
 -- The image was given back, and this was found of it.

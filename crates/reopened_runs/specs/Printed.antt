@@ -1,21 +1,37 @@
 -- What a run printed, and of what.
-use Rattle.std.specs.Prelude.{◌≡◌, ◌≢◌, ◌++◌, ◌-◌, ℕ, List, [], Ok}
+use Rattle.std.specs.Prelude.{◌≡◌, ◌≢◌, ◌∷◌, ◌++◌, ◌-◌, ℕ, List, [], length, Some, Ok, Option}
+use Rattle.ap_base.specs.Sinks.{SinkState, share_of}
 use Rattle.ap_base.specs.declared.reference.Ref.{Ref}
 use Rattle.ap_base.specs.declared.source.NamedBytes.{NamedBytes}
 use Rattle.graph_model.specs.declared.types.Graph.{Graph}
 use Rattle.line_image.specs.Told.{Told}
 use Rattle.plain_model.specs.Ends.{Ending, EndsAs}
-use Rattle.plain_model.specs.Runs.{output_of}
+use Rattle.plain_model.specs.Runs.{output_of, request_after}
+use Rattle.natives.specs.declared.requests.Request.TheVariants as ask
+use Rattle.run_types.specs.declared.resolved.At.{At}
+use Rattle.run_history.specs.declared.act.Op.TheVariants as op
 use Rattle.run_history.specs.Recorded.{Recorded}
 use Rattle.command_words.specs.declared.command.Run.{Run as RunWords}
-use Rattle.autopersist.specs.Passed.{HadNoFault, IsOpenedSo, IsRun, Launch, Limits, Linked, Main, OfChoice, Status, launch_over, main_of}
-use Rattle.autopersist.specs.Passed.{plain_code, status_of_ending}
+use Rattle.autopersist.specs.Passed.{HadNoFault, IsOpenedSo, IsRun, Launch, Limits, Linked, Main, OfChoice, Status}
+use Rattle.autopersist.specs.Passed.{launch_over, main_of, plain_code, status_of_ending}
 use Rattle.reopened_runs.specs.Left.{AreAsked, AsksRun}
 
+-- how many bytes of a piece a sink in memory takes, once it took so many more
+abbrev pub takes_of : SinkState → (ℕ → ℕ → Option ℕ)
+takes_of sink further length = Some (share_of sink further length)
+
+-- Wherever the plain run asks to print a piece, the act that prints takes as many of its bytes as the sink has room for behind what was
+-- printed before, and takes at most.
+abbrev pub PrintsWhatFits : Launch → SinkState → List Recorded → Type 0
+PrintsWhatFits launch sink acts = (before : List Recorded) (a : Recorded) (behind : List Recorded) → acts ≡ before ++ a ∷ behind
+    → (from : At) (piece bytes : List ℕ)
+    → request_after launch.set launch.main launch.opening (plain_code launch) before a.act.thread ≡ Some (ask.Print from piece)
+    → a.act.op ≡ op.Print bytes → length bytes ≡ share_of sink (length (output_of before)) (length piece)
+
 -- From the graph with which the image was opened for the set, the acts are a plain run of the set from `main` of this class on, of which no
--- act met a fault; and it ended as the status says.
-pub record RunsPlainly (set : Linked) (name : List ℕ) (start : Told) (opening : Graph) (acts : List Recorded) (limits : Limits)
-    (how : Status) : Type 0 where
+-- act met a fault, and each print took what fits; and it ended as the status says.
+pub record RunsPlainly (set : Linked) (name : List ℕ) (start : Told) (sink : SinkState) (opening : Graph) (acts : List Recorded)
+    (limits : Limits) (how : Status) : Type 0 where
   pub of : IsOpenedSo set start opening
   pub main : Main
   pub found : main_of of.numbered name ≡ Ok main
@@ -24,15 +40,16 @@ pub record RunsPlainly (set : Linked) (name : List ℕ) (start : Told) (opening 
   pub launch_is : launch ≡ launch_over of.numbered main limits opening literals
   pub run : IsRun launch acts
   pub unfaulted : HadNoFault launch acts
+  pub shares : PrintsWhatFits launch sink acts
   pub ending : Ending
   pub ended : EndsAs launch.set launch.main launch.opening (plain_code launch) launch.limits (start.size - of.free) acts ending
   pub is : how ≡ status_of_ending of.numbered ending
 
 -- A run of these words and files, over an image that told `start`.
-pub record Prints (words : List (List ℕ)) (files : List NamedBytes) (start : Told) (taken taken' : List ℕ) (opening : Graph)
+pub record Prints (words : List (List ℕ)) (files : List NamedBytes) (start : Told) (sink sink' : SinkState) (opening : Graph)
     (acts : List Recorded) (how : Status) : Type 0 where
   -- The sink took the output of the acts, whatever the status, a fault of the sink among them; and no other byte.
-  pub printed : (run : RunWords) → AsksRun words run → taken' ≡ taken ++ output_of acts
+  pub printed : (run : RunWords) → AsksRun words run → sink'.taken ≡ sink.taken ++ output_of acts
   -- These are a plain run of what the files give, where there are any.
   pub ran : (run : RunWords) → AsksRun words run → acts ≢ []
-      → OfChoice (AreAsked run files) (λ choice. RunsPlainly choice.set choice.main start opening acts run.limits how)
+      → OfChoice (AreAsked run files) (λ choice. RunsPlainly choice.set choice.main start sink opening acts run.limits how)

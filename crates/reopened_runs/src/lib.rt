@@ -3,11 +3,9 @@
 #![tactic(auto)]
 
 mod again;
-mod printing;
 mod stopping;
 mod whole;
 
 pub use again::{Given, Ran, Twice, run_twice};
-pub use printing::{Printed, run_and_print};
 pub use stopping::{Stop, Stopped, run_and_recover, run_and_recover_other};
-pub use whole::run_whole;
+pub use whole::{Printed, run_and_print, run_whole};

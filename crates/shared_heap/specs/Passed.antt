@@ -6,4 +6,4 @@ pub use Rattle.store_barrier.specs.Laws.{Asks, ConversionsAreAsked, DurableLines
 pub use Rattle.store_barrier.specs.Laws.{DurableWordsAgree, GuardedBy, GuardsAgree, PlacesMayBeGuarded}
 pub use Rattle.store_barrier.specs.Laws.{StoredPlacesAreKept, StoresAreLogged, StoresAreOutside, StoresKeepDurable}
 pub use Rattle.store_barrier.specs.Regions.{HasLogged, IsApart, IsLineLeft, LogsFirst, Races}
-pub use Rattle.store_barrier.specs.Passed.{AtMost, FaultsGo, IsSilent, OutputGoes, SharesGo}
+pub use Rattle.store_barrier.specs.Passed.{AtMost, BehindGoes, FaultsGo, IsSilent, OutputGoes, SharesGo}

@@ -6,7 +6,7 @@ ghost use Rattle.shared_objects.specs.Worlds.{KnowsMonitors};
 ghost use Rattle.step_forms.specs.Becomes.{IsNoStore, given};
 ghost use Rattle.step_forms.specs.Follows.{Agrees};
 ghost use Rattle.object_steps.specs.Stores.{CanStore, IsKeptOf, place_of};
-ghost use Rattle.store_barrier.specs.Passed.{FaultsGo, IsSilent, OutputGoes, SharesGo};
+ghost use Rattle.store_barrier.specs.Passed.{BehindGoes, FaultsGo, IsSilent, OutputGoes, SharesGo};
 ghost use Rattle.twin_forms.specs.Table.{Entry};
 ghost use Rattle.two_spaces.specs.Whole.{IsWhole, Stands};
 ghost use Rattle.store_barrier.specs.Passed.{memory_of, shown_in};
@@ -89,8 +89,9 @@ impl<I: Image> SharedHeap<I> {
         ensures steps { StepsTo (C.facts set.now) t request.now result self.old self.new }
         ensures threads { AreOf64 self.new.notes }
         ensures no_store { IsNoStore result }
-        ensures share { SharesGo request.now (S.takes sink.old) result }
+        ensures share { SharesGo request.now (S.takes sink.old 0) result }
         ensures output { OutputGoes request.now (S.taken sink.old) result (S.taken sink.new) }
+        ensures behind { BehindGoes request.now (S.takes sink.old) result (S.takes sink.new) }
         ensures cause { FaultsGo request.now (S.faults sink.old) result (S.faults sink.new) }
         ensures silent { IsSilent request.now → sink.new ≡ sink.old }
     {

@@ -24,7 +24,7 @@ use Rattle.step_forms.specs.Becomes.{MayBeStored, MayKeep, AsksStore, given}
 use Rattle.step_forms.specs.Follows.{Agrees, IsStep}
 use Rattle.step_forms.specs.Needs.{Here, IsAskable}
 use Rattle.step_forms.proofs.Going.{over_goes}
-use Rattle.shared_steps.specs.Output.{OutputGoes, FaultsGo, SharesGo}
+use Rattle.shared_steps.specs.Output.{BehindGoes, OutputGoes, FaultsGo, SharesGo}
 
 -- what may be stored, by what the request is
 pub may_is : (set : SetFacts) (shown : Shown) (rest : Rest) (t : ℕ) {may : Place → Item → Type 0}
@@ -93,6 +93,15 @@ quiet_faults q r before result is goes = faults_are q r before result before is 
 pub share_is : (q r : Request Ref Item) (takes : ℕ → Option ℕ) (result : Stepped) → q ≡ r
     → SharesGo r takes result → SharesGo q takes result
 share_is q r takes result is goes = subst (λ (x : Request Ref Item). SharesGo x takes result) (sym is) goes
+
+pub behind_is : (q r : Request Ref Item) (before : ℕ → ℕ → Option ℕ) (result : Stepped) (now : ℕ → ℕ → Option ℕ) → q ≡ r
+    → BehindGoes r before result now → BehindGoes q before result now
+behind_is q r before result now is goes = subst (λ (x : Request Ref Item). BehindGoes x before result now)
+    (sym is) goes
+
+pub quiet_behind : (q r : Request Ref Item) (before : ℕ → ℕ → Option ℕ) (result : Stepped) → q ≡ r
+    → BehindGoes r before result before → BehindGoes q before result before
+quiet_behind q r before result is goes = behind_is q r before result before is goes
 
 -- a request that gives nothing, and one that gives an item
 pub given_none : {q r : Request Ref Item} (P : Item → Type 0) → q ≡ r → given r ≡ None → IfSome (given q) P

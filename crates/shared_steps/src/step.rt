@@ -4,7 +4,7 @@ ghost use Rattle.step_forms.specs.Follows.{Agrees, IsStep};
 ghost use Rattle.step_forms.specs.Needs.{IsAskable};
 ghost use Rattle.shared_steps.specs.Giving.{StoresGiven};
 ghost use Rattle.std.specs.Prelude.{◌≡◌};
-ghost use Rattle.shared_steps.specs.Output.{FaultsGo, IsSilent, OutputGoes, SharesGo};
+ghost use Rattle.shared_steps.specs.Output.{BehindGoes, FaultsGo, IsSilent, OutputGoes, SharesGo};
 
 use ap_base::{Sink, ThreadNo};
 use natives::Request;
@@ -39,8 +39,9 @@ pub fn take_step<C: Types, O: Objects, S: Sink>(
         (O.shown objects.old) rest.old result (O.shown objects.new) rest.new }
     ensures heap { Becomes O.shown O.stores O.makes objects.old result objects.new }
     ensures given { StoresGiven O.shown O.stores objects.old request.now result objects.new }
-    ensures share { SharesGo request.now (S.takes sink.old) result }
+    ensures share { SharesGo request.now (S.takes sink.old 0) result }
     ensures output { OutputGoes request.now (S.taken sink.old) result (S.taken sink.new) }
+    ensures behind { BehindGoes request.now (S.takes sink.old) result (S.takes sink.new) }
     ensures cause { FaultsGo request.now (S.faults sink.old) result (S.faults sink.new) }
     ensures silent { IsSilent request.now → sink.new ≡ sink.old }
 {

@@ -4,7 +4,7 @@ ghost use Rattle.std.specs.Prelude.{Err};
 ghost use Rattle.ap_base.specs.Causes.{Rose};
 ghost use Rattle.ap_base.specs.Sources as given;
 ghost use Rattle.ap_base.specs.declared.source.NamedBytes.{NamedBytes as File};
-ghost use Rattle.class_file.specs.Classes.{CanBeRead};
+ghost use Rattle.class_file.specs.Classes.{CanBeRead, HasAtMost};
 ghost use Rattle.source_classes.specs.Files.{class_of};
 ghost use Rattle.source_classes.specs.Reading.{IsReadAs, HasNoCause, IsOfFiles, FilesComeTo, IsLeft};
 
@@ -22,6 +22,7 @@ const MOST_FILES: u32 = 4_096;
 fn class_of(alloc: Global, file: NamedBytes) -> Result<ClassFile, Status>
     ensures class { IsReadAs (λ class. class) result (class_of file) }
     ensures readable { IfOk result CanBeRead }
+    ensures small { IfOk result (HasAtMost 1048576) }
     ensures files { IfErr result IsOfFiles }
     ensures no_source { IfErr result (λ s. s ≢ Status.SourceFault) }
 {
@@ -80,6 +81,7 @@ pub fn read_files<C: ClassSource>(alloc: Global, source: &mut C) -> Result<Vec<C
         FilesComeTo (C.left source.old) (Ok classes.items)) }
     ensures few { IfOk result (λ classes. length classes.items ≤ 4096) }
     ensures readable { IfOk result (λ classes. All CanBeRead classes.items) }
+    ensures small { IfOk result (λ classes. All (HasAtMost 1048576) classes.items) }
     ensures refused { IfErr result (λ s. HasNoCause s ⊎ FilesComeTo (C.left source.old) (Err s)) }
     ensures whole { OnOk result ((files : List File) → C.left source.old ≡ Some files
         → C.left source.new ≡ Some []) }

@@ -7,4 +7,4 @@ pub use Rattle.machine_forms.specs.Machines.{Machine, doing_of, empty_log, log_o
 pub use Rattle.machine_forms.specs.Naming.{HasToSeal, group_names, member_names, names_below, queue_names}
 pub use Rattle.machine_forms.specs.declared.doing.Doing.{Doing}
 pub use Rattle.machine_forms.specs.declared.doing.Doing.TheVariants.{Converting, Fencing, Nothing, Writing}
-pub use Rattle.machine_forms.specs.Passed.{AtMost, FaultsGo, IsSilent, OutputGoes, SharesGo}
+pub use Rattle.machine_forms.specs.Passed.{AtMost, BehindGoes, FaultsGo, IsSilent, OutputGoes, SharesGo}

@@ -1,6 +1,6 @@
 -- What steps on a line memory do to the words that they store to, and to all others. A processor's cache may hold any of the lines (CLWB and
 -- SFENCE, Intel 64 and IA-32 Architectures Software Developer's Manual, volume 2): nothing here says that all are resident.
-use Rattle.std.specs.Prelude.{◌≡◌, ◌⊎◌, ◌<◌, ◌≤◌, ◌^◌, ℕ}
+use Rattle.std.specs.Prelude.{◌≡◌, ◌⊎◌, ◌<◌, ◌≤◌, ◌+◌, ◌^◌, ℕ}
 use Rattle.line_image.specs.Trace.{Outcome}
 use Rattle.ap_base.specs.Causes.{next_count}
 use Rattle.line_memory.specs.Memory.{Memory, shown, IsKnown, IsTelling, CanLeave, CanLeaveAll, IsWritten, KeepsTelling}
@@ -54,6 +54,10 @@ pub record ChangesTo (Gives : ℕ → ℕ → ℕ → Type 0) (old new : Memory)
 -- the count of the memory's calls, of 64 bits, didn't fall
 abbrev pub CallsGoOn : Memory → Memory → Type 0
 CallsGoOn old new = old.calls < 2 ^ 64 → (old.calls ≤ new.calls) × (new.calls < 2 ^ 64)
+
+-- so many further calls of the image were made, or fewer
+abbrev pub CallsAtMost : Memory → Memory → ℕ → Type 0
+CallsAtMost old new most = new.calls ≤ old.calls + most
 
 -- two calls of the image were made: both counts go up by two, and stay at their end
 pub record TwoCalls (old new : Memory) : Type 0 where

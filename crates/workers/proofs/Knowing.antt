@@ -19,10 +19,12 @@ use Rattle.durable_run.specs.declared.runs.RunEnd.TheVariants as ends
 use Rattle.durable_run.specs.declared.steps.Stepped.{Stepped}
 use Rattle.durable_run.specs.declared.steps.Stepped.TheVariants.{Acted, Micro, WouldWait, Over}
 use Rattle.durable_run.specs.Events.{StepsTo, fault_of}
+use Rattle.durable_run.specs.Shares.{PrintsShares}
 use Rattle.durable_run.specs.Telling.{HasTold, IsCaused}
 use Rattle.durable_run.specs.Turning.{EndsBy, IsReady, fault_in}
 use Rattle.workers.specs.Held.{Began, GoesOn, HasLeft, Held, Holds, IsOf, Knows, began, held}
 use Rattle.workers.proofs.Ending.{size-same, waits-long}
+use Rattle.workers.proofs.Sharing.{shares-both, shares-nothing}
 use Rattle.workers.proofs.Telling.{caused-since, told-both, told-nothing}
 
 pub none-of : (over : Option RunFault) → is_some over ≡ false → over ≡ None
@@ -31,16 +33,17 @@ none-of (Some f) is = absurd (let no : true ≡ false = is in cc)
 
 module _ (set : SetFacts) (x : Setting Native Ref (NativeState Ref) Item) where
   pub starts : (entry : Option Began) (s : Shared) (frames : List ThreadFrames) (seen : Option (List Recorded))
-      (taken : Option (List ℕ)) (faults : ℕ) → entry ≡ Some (began set x s frames seen taken faults)
+      (taken : Option (List ℕ)) (takes : ℕ → ℕ → Option ℕ) (faults : ℕ) → entry ≡ Some (began set x s frames seen taken takes faults)
       → ((o : Opening) × (first : ℕ) × IsReady o first set x s frames)
-      → Knows entry (held s frames seen taken faults None)
-  starts entry s frames seen taken faults is ready = (
-    began set x s frames seen taken faults,
+      → Knows entry (held s frames seen taken faults None) takes
+  starts entry s frames seen taken takes faults is ready = (
+    began set x s frames seen taken takes faults,
     is,
     record {
       some = ready;
       goes = λ o first now. now;
       told = told-nothing s.history.acts seen taken;
+      shares = λ o first now. shares-nothing o.launch takes s.history.acts;
       cause = (omega arith, omega arith);
     },
   )
@@ -57,9 +60,9 @@ module _ (set : SetFacts) (x : Setting Native Ref (NativeState Ref) Item) where
 
   -- An event of some opening may come, where the run isn't over.
   pub ready-now : (entry : Option Began) (s : Shared) (frames : List ThreadFrames) (seen : Option (List Recorded))
-      (taken : Option (List ℕ)) (faults : ℕ) → Knows entry (held s frames seen taken faults None) → IsOf set x entry
-      → (o : Opening) × (first : ℕ) × IsReady o first set x s frames
-  ready-now entry s frames seen taken faults knows same =
+      (taken : Option (List ℕ)) (takes : ℕ → ℕ → Option ℕ) (faults : ℕ) → Knows entry (held s frames seen taken faults None) takes
+      → IsOf set x entry → (o : Opening) × (first : ℕ) × IsReady o first set x s frames
+  ready-now entry s frames seen taken takes faults knows same =
       let e = knows.0 in
       let holds = knows.2 in
       let is = of-entry entry e knows.1 same in
@@ -73,14 +76,16 @@ module _ (set : SetFacts) (x : Setting Native Ref (NativeState Ref) Item) where
       )
 
   module _ (entry : Option Began) (t : ℕ) (went : Stepped) (old new : Shared) (before after : List ThreadFrames)
-      (seen seen' : Option (List Recorded)) (taken taken' : Option (List ℕ)) (faults faults' : ℕ) where
+      (seen seen' : Option (List Recorded)) (taken taken' : Option (List ℕ)) (takes takes' : ℕ → ℕ → Option ℕ) (faults faults' : ℕ) where
     -- an event
-    pub steps-on : Knows entry (held old before seen taken faults None) → IsOf set x entry
+    pub steps-on : Knows entry (held old before seen taken faults None) takes → IsOf set x entry
         → ((o : Opening) (first : ℕ) → IsReady o first set x old before → StepsTo o first set x t went old new after)
         → HasTold old.history.acts new.history.acts seen seen' taken taken'
+        → ((o : Opening) (first : ℕ) → IsReady o first set x old before
+        → PrintsShares o.launch takes takes' old.history.acts new.history.acts)
         → IsCaused (fault_of new went) faults faults' (memory_of old.machine).faults (memory_of new.machine).faults
-        → Knows entry (held new after seen' taken' faults' (fault_of new went))
-    steps-on knows same steps told cause =
+        → Knows entry (held new after seen' taken' faults' (fault_of new went)) takes'
+    steps-on knows same steps told shares cause =
         let e = knows.0 in
         let holds = knows.2 in
         let is = of-entry entry e knows.1 same in (
@@ -98,18 +103,27 @@ module _ (set : SetFacts) (x : Setting Native Ref (NativeState Ref) Item) where
                 subst (λ (y : Setting Native Ref (NativeState Ref) Item). GoesOn o first e.set y (fault_of new went) new after)
                 is.1 (subst (λ (f : SetFacts). GoesOn o first f x (fault_of new went) new after) is.0 now);
             told = told-both _ _ _ _ _ _ _ _ _ holds.told told;
+            shares = λ (o : Opening) (first : ℕ) (was : IsReady o first e.set e.setting e.heap e.frames).
+                let ready : IsReady o first e.set e.setting old before = holds.goes o first was in
+                let mine : IsReady o first set x old before =
+                subst (λ (y : Setting Native Ref (NativeState Ref) Item). IsReady o first set y old before) (sym is.1)
+                (subst (λ (f : SetFacts). IsReady o first f e.setting old before) (sym is.0) ready) in
+                shares-both o.launch e.takes takes takes' e.heap.history.acts old.history.acts new.history.acts
+                (holds.shares o first was) (shares o first mine);
             cause = caused-since (fault_of new went) _ _ _ _ _ _ holds.cause cause;
           },
         )
 
-    pub steps-so : Knows entry (held old before seen taken faults None) → IsOf set x entry
+    pub steps-so : Knows entry (held old before seen taken faults None) takes → IsOf set x entry
         → ((o : Opening) (first : ℕ) → IsReady o first set x old before → StepsTo o first set x t went old new after)
         → HasTold old.history.acts new.history.acts seen seen' taken taken'
+        → ((o : Opening) (first : ℕ) → IsReady o first set x old before
+        → PrintsShares o.launch takes takes' old.history.acts new.history.acts)
         → IsCaused (fault_of new went) faults faults' (memory_of old.machine).faults (memory_of new.machine).faults
-        → (over : Option RunFault) → over ≡ fault_of new went → Knows entry (held new after seen' taken' faults' over)
-    steps-so knows same steps told cause over is =
-        subst (λ (f : Option RunFault). Knows entry (held new after seen' taken' faults' f)) (sym is)
-        (steps-on knows same steps told cause)
+        → (over : Option RunFault) → over ≡ fault_of new went → Knows entry (held new after seen' taken' faults' over) takes'
+    steps-so knows same steps told shares cause over is =
+        subst (λ (f : Option RunFault). Knows entry (held new after seen' taken' faults' f) takes') (sym is)
+        (steps-on knows same steps told shares cause)
 
   -- where an event of thread t left the run over, each of the 64 threads' waits is noted
   pub noted-waits : (t : ℕ) (halt : Halt) (went : Stepped) (old new : Shared) (before after : List ThreadFrames)
@@ -131,50 +145,59 @@ no-fault s (Over halt) isnt = absurd (isnt halt refl)
 -- ---- the end
 
 module _ (entry : Option Began) (k : Held) (s : Shared) (frames : List ThreadFrames) (seen : Option (List Recorded))
-    (taken : Option (List ℕ)) (faults : ℕ) (over : Option RunFault) (is : k ≡ held s frames seen taken faults over) where
-  of-held : (how : Option RunFault) → over ≡ how → (e : Began) → Holds e k → Holds e (held s frames seen taken faults how)
+    (taken : Option (List ℕ)) (takes : ℕ → ℕ → Option ℕ) (faults : ℕ) (over : Option RunFault)
+    (is : k ≡ held s frames seen taken faults over) where
+  of-held : (how : Option RunFault) → over ≡ how → (e : Began) → Holds e k takes → Holds e (held s frames seen taken faults how) takes
   of-held how same e holds =
-      subst (λ (f : Option RunFault). Holds e (held s frames seen taken faults f)) same (subst (Holds e) is holds)
+      subst (λ (f : Option RunFault). Holds e (held s frames seen taken faults f) takes) same
+      (subst (λ (h : Held). Holds e h takes) is holds)
 
   -- the run was over under the lock
-  pub left-over : Knows entry k → (f : RunFault) → over ≡ Some f
-      → IfSome entry (λ e. HasLeft e (ends.Over f) s seen taken faults)
+  pub left-over : Knows entry k takes → (f : RunFault) → over ≡ Some f
+      → IfSome entry (λ e. HasLeft e (ends.Over f) s seen taken takes faults)
   left-over knows f same =
       let e = knows.0 in
       let holds = of-held (Some f) same e knows.2 in
       let r = holds.some in
-      subst (λ (b : Option Began). IfSome b (λ e. HasLeft e (ends.Over f) s seen taken faults)) (sym knows.1) (record {
+      subst (λ (b : Option Began). IfSome b (λ e. HasLeft e (ends.Over f) s seen taken takes faults)) (sym knows.1) (record {
         ends = holds.goes;
         told = holds.told;
+        shares = holds.shares;
         cause = holds.cause;
         size = size-same r.0 r.1 e.set e.setting e.heap s e.frames r.2 (holds.goes r.0 r.1 r.2).0;
       })
 
   module _ (set : SetFacts) (x : Setting Native Ref (NativeState Ref) Item) where
     -- An event of some opening may come, where it wasn't over.
-    pub ready-left : Knows entry k → IsOf set x entry → over ≡ None → (o : Opening) × (first : ℕ) × IsReady o first set x s frames
-    ready-left knows same none = ready-now set x entry s frames seen taken faults
+    pub ready-left : Knows entry k takes → IsOf set x entry → over ≡ None → (o : Opening) × (first : ℕ) × IsReady o first set x s frames
+    ready-left knows same none = ready-now set x entry s frames seen taken takes faults
         (knows.0, knows.1, of-held None none knows.0 knows.2) same
 
     -- it went on so, to its end
-    pub left-rest : Knows entry k → IsOf set x entry → over ≡ None → (end : RunEnd) (s' : Shared)
-        (seen' : Option (List Recorded)) (taken' : Option (List ℕ)) (faults' : ℕ)
+    pub left-rest : Knows entry k takes → IsOf set x entry → over ≡ None → (end : RunEnd) (s' : Shared)
+        (seen' : Option (List Recorded)) (taken' : Option (List ℕ)) (takes' : ℕ → ℕ → Option ℕ) (faults' : ℕ)
         → ((o : Opening) (first : ℕ) → IsReady o first set x s frames → EndsBy o first end s')
         → HasTold s.history.acts s'.history.acts seen seen' taken taken'
+        → ((o : Opening) (first : ℕ) → IsReady o first set x s frames
+        → PrintsShares o.launch takes takes' s.history.acts s'.history.acts)
         → IsCaused (fault_in end) faults faults' (memory_of s.machine).faults (memory_of s'.machine).faults
         → (memory_of s'.machine).size ≡ (memory_of s.machine).size
-        → IfSome entry (λ e. HasLeft e end s' seen' taken' faults')
-    left-rest knows same none end s' seen' taken' faults' goes told cause size =
+        → IfSome entry (λ e. HasLeft e end s' seen' taken' takes' faults')
+    left-rest knows same none end s' seen' taken' takes' faults' goes told shares cause size =
         let e = knows.0 in
         let holds = of-held None none e knows.2 in
         let of = of-entry set x entry e knows.1 same in
         let r = holds.some in
-        subst (λ (b : Option Began). IfSome b (λ e. HasLeft e end s' seen' taken' faults')) (sym knows.1) (record {
+        let mine = λ (o : Opening) (first : ℕ) (was : IsReady o first e.set e.setting e.heap e.frames).
+        subst (λ (y : Setting Native Ref (NativeState Ref) Item). IsReady o first set y s frames) (sym of.1)
+        (subst (λ (f : SetFacts). IsReady o first f e.setting s frames) (sym of.0) (holds.goes o first was)) in
+        subst (λ (b : Option Began). IfSome b (λ e. HasLeft e end s' seen' taken' takes' faults')) (sym knows.1) (record {
           ends = λ (o : Opening) (first : ℕ) (was : IsReady o first e.set e.setting e.heap e.frames).
-              let now : IsReady o first e.set e.setting s frames = holds.goes o first was in
-              goes o first (subst (λ (y : Setting Native Ref (NativeState Ref) Item). IsReady o first set y s frames) (sym of.1)
-              (subst (λ (f : SetFacts). IsReady o first f e.setting s frames) (sym of.0) now));
+              goes o first (mine o first was);
           told = told-both _ _ _ _ _ _ _ _ _ holds.told told;
+          shares = λ (o : Opening) (first : ℕ) (was : IsReady o first e.set e.setting e.heap e.frames).
+              shares-both o.launch e.takes takes takes' e.heap.history.acts s.history.acts s'.history.acts
+              (holds.shares o first was) (shares o first (mine o first was));
           cause = caused-since (fault_in end) _ _ _ _ _ _ holds.cause cause;
           size =
               let now : IsReady r.0 r.1 e.set e.setting s frames = holds.goes r.0 r.1 r.2 in
@@ -183,7 +206,7 @@ module _ (entry : Option Began) (k : Held) (s : Shared) (frames : List ThreadFra
 
 -- what is left of the run of this name
 pub left-of : (entry : Option Began) (b : Began) → entry ≡ Some b → (end : RunEnd) (s : Shared) (seen : Option (List Recorded))
-    (taken : Option (List ℕ)) (faults : ℕ) → IfSome entry (λ e. HasLeft e end s seen taken faults)
-    → HasLeft b end s seen taken faults
-left-of entry b is end s seen taken faults left =
-    subst (λ (e : Option Began). IfSome e (λ e. HasLeft e end s seen taken faults)) is left
+    (taken : Option (List ℕ)) (takes : ℕ → ℕ → Option ℕ) (faults : ℕ) → IfSome entry (λ e. HasLeft e end s seen taken takes faults)
+    → HasLeft b end s seen taken takes faults
+left-of entry b is end s seen taken takes faults left =
+    subst (λ (e : Option Began). IfSome e (λ e. HasLeft e end s seen taken takes faults)) is left

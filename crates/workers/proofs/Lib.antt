@@ -1,5 +1,6 @@
 mod Ending
 mod Filling
 mod Knowing
+mod Sharing
 mod Telling
 pub mod Passed

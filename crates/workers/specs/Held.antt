@@ -13,11 +13,12 @@ use Rattle.durable_run.specs.Passed.{Opening, memory_of}
 use Rattle.durable_run.specs.Passed.{Shared}
 use Rattle.durable_run.specs.declared.runs.RunEnd.{RunEnd}
 use Rattle.durable_run.specs.declared.runs.RunEnd.TheVariants.{Over}
+use Rattle.durable_run.specs.Shares.{PrintsShares}
 use Rattle.durable_run.specs.Telling.{HasTold, IsCaused}
 use Rattle.durable_run.specs.Turning.{EndsBy, IsReady, fault_in}
 
--- What a run began with: class set, setting, heap with its history, the threads' frames; what the watcher had seen, what the
--- sink had taken, and how often it had failed.
+-- What a run began with: class set, setting, heap with its history, the threads' frames; what the watcher had seen; what the
+-- sink had taken, what it takes, and how often it had failed.
 pub record Began : Type 0 where
   pub set : SetFacts
   pub setting : Setting Native Ref (NativeState Ref) Item
@@ -25,6 +26,7 @@ pub record Began : Type 0 where
   pub frames : List ThreadFrames
   pub seen : Option (List Recorded)
   pub taken : Option (List ℕ)
+  pub takes : ℕ → ℕ → Option ℕ
   pub faults : ℕ
 
 -- What lies under the lock, with the fault by which the run is over, if it is.
@@ -37,14 +39,15 @@ pub record Held : Type 0 where
   pub over : Option RunFault
 
 abbrev pub began : SetFacts → Setting Native Ref (NativeState Ref) Item → Shared → List ThreadFrames
-    → Option (List Recorded) → Option (List ℕ) → ℕ → Began
-began set x s frames seen taken faults = record {
+    → Option (List Recorded) → Option (List ℕ) → (ℕ → ℕ → Option ℕ) → ℕ → Began
+began set x s frames seen taken takes faults = record {
   set = set;
   setting = x;
   heap = s;
   frames = frames;
   seen = seen;
   taken = taken;
+  takes = takes;
   faults = faults;
 }
 
@@ -69,23 +72,28 @@ GoesOn o first set x None s frames = IsReady o first set x s frames
 GoesOn o first set x (Some f) s frames = EndsBy o first (Over f) s
 
 -- Whatever opening an event might have come of as it began: it goes on with the run of that opening, or that run is over.
--- Watcher and sink were told its further acts. A fault of the outside has its cause.
-pub record Holds (e : Began) (k : Held) : Type 0 where
+-- Watcher and sink were told its further acts, of which each print took its share; the sink takes this now. A fault of the outside
+-- has its cause.
+pub record Holds (e : Began) (k : Held) (takes : ℕ → ℕ → Option ℕ) : Type 0 where
   pub some : (o : Opening) × (first : ℕ) × IsReady o first e.set e.setting e.heap e.frames
   pub goes : (o : Opening) (first : ℕ) → IsReady o first e.set e.setting e.heap e.frames
       → GoesOn o first e.set e.setting k.over k.heap k.frames
   pub told : HasTold e.heap.history.acts k.heap.history.acts e.seen k.seen e.taken k.taken
+  pub shares : (o : Opening) (first : ℕ) → IsReady o first e.set e.setting e.heap e.frames
+      → PrintsShares o.launch e.takes takes e.heap.history.acts k.heap.history.acts
   pub cause : IsCaused k.over e.faults k.faults (memory_of e.heap.machine).faults (memory_of k.heap.machine).faults
 
 -- it holds of what the run's name says that it began with
-abbrev pub Knows : Option Began → Held → Type 0
-Knows entry k = (e : Began) × (entry ≡ Some e) × Holds e k
+abbrev pub Knows : Option Began → Held → (ℕ → ℕ → Option ℕ) → Type 0
+Knows entry k takes = (e : Began) × (entry ≡ Some e) × Holds e k takes
 
--- What is left of a run that began so and ended so: its acts are a plain run, which is kept; the outside was told those since;
--- a fault of the outside has its cause; and the image keeps its size.
+-- What is left of a run that began so and ended so: its acts are a plain run, which is kept; the outside was told those since,
+-- of which each print took its share; a fault of the outside has its cause; and the image keeps its size.
 pub record HasLeft (e : Began) (end : RunEnd) (s : Shared) (seen : Option (List Recorded)) (taken : Option (List ℕ))
-    (faults : ℕ) : Type 0 where
+    (takes : ℕ → ℕ → Option ℕ) (faults : ℕ) : Type 0 where
   pub ends : (o : Opening) (first : ℕ) → IsReady o first e.set e.setting e.heap e.frames → EndsBy o first end s
   pub told : HasTold e.heap.history.acts s.history.acts e.seen seen e.taken taken
+  pub shares : (o : Opening) (first : ℕ) → IsReady o first e.set e.setting e.heap e.frames
+      → PrintsShares o.launch e.takes takes e.heap.history.acts s.history.acts
   pub cause : IsCaused (fault_in end) e.faults faults (memory_of e.heap.machine).faults (memory_of s.machine).faults
   pub size : (memory_of s.machine).size ≡ (memory_of e.heap.machine).size

@@ -11,7 +11,7 @@ mod waiting;
 
 pub use durable_run::{
     Halt, Run, RunEnd, SharedHeap, Stepped, each_stop_is_allowed, events_keep_lines, is_live,
-    lines_stay_unwritten, others_keep_theirs, run_threads, step,
+    lines_stay_unwritten, others_keep_theirs, quiet_steps_are_few, run_threads, step,
 };
 pub use locked::Naming;
 pub use meeting::MeetingGate;

@@ -49,7 +49,7 @@ impl<J: Naming, I: Image, S: Sink, W: Watcher> Model for Locked<J, I, S, W> {
         (S.faults k.run.sink) k.over };
 
     ghost invariant = { λ k. Knows J.entry (held k.run.heap k.run.frames.items (W.seen k.run.watcher)
-        (S.taken k.run.sink) (S.faults k.run.sink) k.over) };
+        (S.taken k.run.sink) (S.faults k.run.sink) k.over) (S.takes k.run.sink) };
 }
 
 /// What a worker is told of an event.
@@ -130,7 +130,7 @@ impl<J: Naming, I: Image, S: Sink, W: Watcher> Locked<J, I, S, W> {
         host: &H,
     ) -> Locked<J, I, S, W>
         requires entry { J.entry ≡ Some (began (C.facts set.now) (H.setting host.now) run.heap run.frames.items
-            (W.seen run.watcher) (S.taken run.sink) (S.faults run.sink)) }
+            (W.seen run.watcher) (S.taken run.sink) (S.takes run.sink) (S.faults run.sink)) }
         requires ready { (o : Opening) × (first : ℕ)
             × IsReady o first (C.facts set.now) (H.setting host.now) run.heap run.frames.items }
         ensures new { result ≡ held run.heap run.frames.items (W.seen run.watcher) (S.taken run.sink)
@@ -293,7 +293,7 @@ impl<J: Naming, I: Image, S: Sink, W: Watcher> Locked<J, I, S, W> {
     pub(crate) fn finish(self) -> (Option<RunFault>, Run<I, S, W>)
         ensures left { self ≡ held result.1.heap result.1.frames.items (W.seen result.1.watcher)
             (S.taken result.1.sink) (S.faults result.1.sink) result.0 }
-        ensures knows { Knows J.entry self }
+        ensures knows { Knows J.entry self (S.takes result.1.sink) }
     {
         let Locked { run, over, .. } = self;
         (over, run)

@@ -1,6 +1,7 @@
 // Whole runs.
 ghost use Rattle.std.specs.Prelude.{◌≡◌, ℕ, IfSome, Some};
 ghost use Rattle.durable_run.specs.Passed.{Opening, memory_of};
+ghost use Rattle.durable_run.specs.Shares.{PrintsShares};
 ghost use Rattle.durable_run.specs.Telling.{HasTold, IsCaused};
 ghost use Rattle.durable_run.specs.Turning.{EndsBy, IsReady, fault_in};
 ghost use Rattle.workers.specs.Held.{IsOf, HasLeft, began};
@@ -110,7 +111,7 @@ fn ended<
 >(locked: Locked<J, I, S, W>, set: &C, host: &H, gate: &G) -> (RunEnd, Run<I, S, W>)
     requires of { IsOf (C.facts set.now) (H.setting host.now) J.entry }
     ensures left { IfSome J.entry (λ e. HasLeft e result.0 result.1.heap (W.seen result.1.watcher)
-        (S.taken result.1.sink) (S.faults result.1.sink)) }
+        (S.taken result.1.sink) (S.takes result.1.sink) (S.faults result.1.sink)) }
 {
     let (over, mut run) = locked.finish();
     match over {
@@ -133,12 +134,13 @@ fn run_named<
     W: Watcher + Send,
 >(rt: &R, run: Run<I, S, W>, set: &C, host: &H, workers: u8, gate: &G) -> (RunEnd, Run<I, S, W>)
     requires entry { J.entry ≡ Some (began (C.facts set.now) (H.setting host.now) run.heap run.frames.items
-        (W.seen run.watcher) (S.taken run.sink) (S.faults run.sink)) }
+        (W.seen run.watcher) (S.taken run.sink) (S.takes run.sink) (S.faults run.sink)) }
     requires ready { (o : Opening) × (first : ℕ)
         × IsReady o first (C.facts set.now) (H.setting host.now) run.heap run.frames.items }
     ensures left { HasLeft (began (C.facts set.now) (H.setting host.now) run.heap run.frames.items
-        (W.seen run.watcher) (S.taken run.sink) (S.faults run.sink))
-        result.0 result.1.heap (W.seen result.1.watcher) (S.taken result.1.sink) (S.faults result.1.sink) }
+        (W.seen run.watcher) (S.taken run.sink) (S.takes run.sink) (S.faults run.sink))
+        result.0 result.1.heap (W.seen result.1.watcher) (S.taken result.1.sink) (S.takes result.1.sink)
+        (S.faults result.1.sink) }
 {
     let locked: Locked<J, I, S, W> = Locked::new(run, set, host);
     let locked = work_off(rt, locked, set, host, gate, workers);
@@ -168,6 +170,11 @@ pub fn run_all<
         → EndsBy o first result.0 result.1.heap }
     ensures told { HasTold run.heap.history.acts result.1.heap.history.acts (W.seen run.watcher)
         (W.seen result.1.watcher) (S.taken run.sink) (S.taken result.1.sink) }
+    // Each print of the further acts took the share of its piece, by what the sink that was given takes.
+    ensures shares { (o : Opening) (first : ℕ)
+        → IsReady o first (C.facts set.now) (H.setting host.now) run.heap run.frames.items
+        → PrintsShares o.launch (S.takes run.sink) (S.takes result.1.sink)
+        run.heap.history.acts result.1.heap.history.acts }
     ensures cause { IsCaused (fault_in result.0) (S.faults run.sink) (S.faults result.1.sink)
         (memory_of run.heap.machine).faults (memory_of result.1.heap.machine).faults }
     ensures size { (memory_of result.1.heap.machine).size ≡ (memory_of run.heap.machine).size }

@@ -56,9 +56,10 @@ impl Before {
 /// How many events a thread may have in a round.
 const ROUND: u32 = 128;
 
-/// The threads that may have an event: all but those whose last one waited, where none of another has ended that wait since, and those
-/// that have had their events of this round, or gave a thread that waited its turn. A round ends once no thread that lives is left with
-/// an event in it. So a thread that looks for something again and again leaves the others time to do it, however the host divides its own.
+/// The threads that may have an event: all but those whose last one waited, where none of another may have ended that wait since, and
+/// those that have had their events of this round, or gave threads that waited their turn. A round ends once no thread that lives is left
+/// with an event in it. So a thread that looks for something again and again leaves the others time to do it, however the host divides
+/// its own.
 #[derive(Drop)]
 pub(crate) struct Due {
     waits: [bool; 64],
@@ -66,6 +67,10 @@ pub(crate) struct Due {
     some_wait: bool,
     // How many events each has had in this round.
     had: [u32; 64],
+    // How many of them one had had that gave others its turn, until one of them goes on.
+    gave: [Option<u32>; 64],
+    // By whom the wait of each may have ended, until it is asked again.
+    freed_by: [Option<ThreadNo>; 64],
     // Whether a host thread sees to it that the round ends.
     watched: bool,
 }
@@ -76,6 +81,7 @@ fn frees(on: &On, t: ThreadNo, act: Option<&Op>) -> bool {
         On::Monitor(owner) => *owner == t && matches!(act, Some(Op::Exit { .. })),
         On::Init(other) => *other == t && matches!(act, Some(Op::Init { .. })),
         On::Join(_) => false,
+        // the fence of whichever thread may settle the one that converts
         On::Conversion(_) => true,
     }
 }
@@ -87,6 +93,8 @@ impl Due {
             waits: [false; 64],
             some_wait: false,
             had: [0; 64],
+            gave: [None; 64],
+            freed_by: [None; 64],
             watched: false,
         }
     }
@@ -118,13 +126,17 @@ impl Due {
     /// Ends the round.
     pub(crate) fn end_round(&mut self) {
         self.had = [0; 64];
+        for at in 0..64 {
+            self.gave[at] = None;
+            self.freed_by[at] = None;
+        }
     }
 
     // All may have one again.
     fn refill(&mut self) {
         self.waits = [false; 64];
         self.some_wait = false;
-        self.had = [0; 64];
+        self.end_round();
     }
 
     // The threads whose wait the event of another may have ended, and whether there is one.
@@ -143,6 +155,7 @@ impl Due {
             if let Some(on) = heap.waiting(other) {
                 if frees(&on, t, act) {
                     self.waits[other.number() as usize] = false;
+                    self.freed_by[other.number() as usize] = Some(t);
                     freed = true;
                 }
             }
@@ -162,29 +175,74 @@ impl Due {
         false
     }
 
-    // Counts an event of a thread, which waits or not. Where it gave another its turn, it has no more in this round: else it might take
-    // a monitor again before that one's host thread is there.
-    fn count(&mut self, t: ThreadNo, waits: bool, gave: bool) {
+    // Whether another thread that lives and doesn't wait has had its events of this round.
+    fn another_has_had_all(&self, threads: &Threads, t: ThreadNo) -> bool {
+        for n in 0..64 {
+            if let Some(other) = ThreadNo::new(n) {
+                if other != t && self.has_had_all(other) && is_live(threads, other) {
+                    return true;
+                }
+            }
+        }
+        false
+    }
+
+    // Counts an event of a thread. One that is asked again in vain isn't counted. Where it gave others its turn, it has no more in this
+    // round: else it might take a monitor again before their host threads are there.
+    fn count(&mut self, t: ThreadNo, came: Came, gave: bool) {
         let at = t.number() as usize;
-        self.had[at] = if gave {
-            ROUND
+        let had = if came == Came::StillWaits {
+            self.had[at]
         } else {
             self.had[at].saturating_add(1)
         };
-        self.waits[at] = waits;
-        self.some_wait |= waits;
+        if gave {
+            self.gave[at] = Some(had);
+        }
+        self.had[at] = if gave { ROUND } else { had };
+        self.waits[at] = came == Came::Waits || came == Came::StillWaits;
+        self.some_wait |= self.waits[at];
     }
 
-    // Ends the round, where no thread that lives is left with an event in it. Were each to wait, all might have one: as the run is
-    // over at the event by which all wait, that doesn't come.
-    fn renew(&mut self, threads: &Threads) -> bool {
+    // Whether the wait of some thread may have ended by this one, and it wasn't asked again since.
+    fn has_freed(&self, by: ThreadNo) -> bool {
+        self.freed_by.iter().any(|freed| *freed == Some(by))
+    }
+
+    // What the event of a thread, whose wait may have ended by another, changes for that one. Where all that it freed wait still, it left
+    // something else than they wait for, and has its events back: whether it has.
+    fn give_back(&mut self, t: ThreadNo, came: Came) -> bool {
+        let Some(giver) = self.freed_by[t.number() as usize] else {
+            return false;
+        };
+        self.freed_by[t.number() as usize] = None;
+        let at = giver.number() as usize;
+        if came != Came::StillWaits {
+            self.gave[at] = None;
+            return false;
+        }
+        match self.gave[at] {
+            Some(had) if !self.has_freed(giver) => {
+                self.had[at] = had;
+                self.gave[at] = None;
+                had < ROUND
+            }
+            _ => false,
+        }
+    }
+
+    // Ends the round of a thread, where none that lives is left with an event in it. Whether another thread may have one by that. Were
+    // each to wait, all might have one: as the run is over at the event by which all wait, that doesn't come.
+    fn renew(&mut self, threads: &Threads, t: ThreadNo) -> bool {
         if self.has_live(threads) {
             return false;
         }
+        let another = self.another_has_had_all(threads, t);
         self.end_round();
-        if !self.has_live(threads) {
-            self.refill();
+        if self.has_live(threads) {
+            return another;
         }
+        self.refill();
         true
     }
 
@@ -207,9 +265,10 @@ impl Due {
             freed = self.free(heap, t, act);
             gave = freed && matches!(act, Some(Op::Exit { .. } | Op::Init { .. }));
         }
-        self.count(t, came == Came::Waits || came == Came::StillWaits, gave);
-        let renewed = !self.has(t) && self.renew(heap.threads());
-        if freed || renewed {
+        self.count(t, came, gave);
+        let given = self.give_back(t, came);
+        let renewed = !self.has(t) && self.renew(heap.threads(), t);
+        if freed || given || renewed {
             Rouses::Waiting
         } else {
             Rouses::Nobody

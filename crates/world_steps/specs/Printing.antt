@@ -1,5 +1,5 @@
 -- What a print puts into the sink.
-use Rattle.std.specs.Prelude.{◌≡◌, ◌≤◌, ℕ, List, length, Option, IfSome}
+use Rattle.std.specs.Prelude.{◌≡◌, ◌≤◌, ℕ, List, [], length, Option, IfSome}
 use Rattle.ap_base.specs.Sinks.{with_bytes}
 use Rattle.ap_base.specs.Causes.{Rose}
 use Rattle.run_history.specs.declared.act.Op.TheVariants as op
@@ -11,6 +11,11 @@ use Rattle.step_forms.specs.declared.stepped.Stepped.TheVariants as stepped
 abbrev pub PrintsTo : Option (List ℕ) → Stepped → Option (List ℕ) → Type 0
 PrintsTo before (stepped.Did o r) now = now ≡ with_bytes before (printed_by o)
 PrintsTo before other now = now ≡ before
+
+-- what it prints
+abbrev pub printed_in : Stepped → List ℕ
+printed_in (stepped.Did o r) = printed_by o
+printed_in other = []
 
 -- the run is over only where the sink failed
 abbrev pub HasSinkCause : ℕ → ℕ → Stepped → Type 0

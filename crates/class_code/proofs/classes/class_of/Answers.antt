@@ -1,4 +1,4 @@
-use Rattle.std.proofs.Common.{◌≡◌, length, ap, sym, ◌∙◌}
+use Rattle.std.proofs.Common.{length, ap, sym, ◌∙◌}
 use Rattle.std.specs.Prelude.{nat_lt}
 use Rattle.plain_model.specs.Facts.{class_at}
 use Rattle.class_set.specs.Linked.{Linked, class_count}

@@ -4,7 +4,18 @@ use Rattle.class_code.specs.Entries.{rows_in, signature_rows}
 use Rattle.class_code.specs.Signatures.{text_of}
 use Rattle.class_code.proofs.Rowed.{rows_more}
 use Rattle.class_code.proofs.Signed.{texts_more}
+use Rattle.class_code.proofs.Sizes.{in_few, signature_few, signed_few}
 use Rattle.class_code.proofs.signatures.add_entries.Goals as goal
+
+pub add_entry-requires : goal.add_entry-requires
+add_entry-requires c =
+    let pool = c.args.pool.now in
+    let index = c.loop-index.index in
+    let counted = ap length (c.loop-index.invariant 0) in
+    let signed = signed_few c.args.signatures.now (rows_in signature_rows 0 pool index) in
+    let few = in_few (signature_rows 0 pool) (signature_few 0 pool) index in
+    let room = c.requires in
+    omega (arith, counted, signed, few, room)
 
 pub loop-index-preserved : goal.loop-index-preserved
 loop-index-preserved c = λ class.

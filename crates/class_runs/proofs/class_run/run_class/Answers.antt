@@ -46,7 +46,7 @@ pub returns-in-Ok-clause-answers : goal.returns-in-Ok-clause-answers
 returns-in-Ok-clause-answers g c =
     let start = g.I.Image.told c.args.image in
     answered c.args.class.now (g.C.ClassSource.left c.args.source) c.in-Ok.classes.items c.in-Ok.ensures.classes c.args.limits.now
-    (over start c.run_classes-ran.result.opening [] start) c.run_classes-ran.result.status c.run_classes-ran.ensures.answers
+    (over start (g.S.Sink.takes c.args.sink) c.run_classes-ran.result.opening [] start) c.run_classes-ran.result.status c.run_classes-ran.ensures.answers
 
 pub returns-in-Ok-clause-source_fault : goal.returns-in-Ok-clause-source_fault
 returns-in-Ok-clause-source_fault g c = λ is.
@@ -56,7 +56,7 @@ pub returns-in-Ok-clause-left : goal.returns-in-Ok-clause-left
 returns-in-Ok-clause-left g c = λ none files told.
     let start = g.I.Image.told c.args.image in
     leaves c.args.class.now (g.C.ClassSource.left c.args.source) c.in-Ok.classes.items c.in-Ok.ensures.classes c.args.limits.now
-    (over start c.run_classes-ran.result.opening [] start) c.run_classes-ran.result.status c.run_classes-ran.ensures.of files
+    (over start (g.S.Sink.takes c.args.sink) c.run_classes-ran.result.opening [] start) c.run_classes-ran.result.status c.run_classes-ran.ensures.of files
     (g.C.ClassSource.left c.read_files.new.source) told (c.in-Ok.ensures.whole files told)
 
 pub returns-in-Ok-clause-theorem : goal.returns-in-Ok-clause-theorem
@@ -81,5 +81,5 @@ refused name left limits passed s of cause files told =
 pub returns-in-Err-clause-answers : goal.returns-in-Err-clause-answers
 returns-in-Err-clause-answers g c =
     let start = g.I.Image.told c.args.image in
-    refused c.args.class.now (g.C.ClassSource.left c.args.source) c.args.limits.now (over start c.no_graph.result [] start)
+    refused c.args.class.now (g.C.ClassSource.left c.args.source) c.args.limits.now (over start (g.S.Sink.takes c.args.sink) c.no_graph.result [] start)
     c.in-Err.status c.in-Err.ensures.files c.in-Err.ensures.refused

@@ -1,4 +1,4 @@
-use Rattle.std.proofs.Common.{◌≡◌, ◌⊎◌, ℕ, inl, inr, List, [], Result, Ok, Err, subst}
+use Rattle.std.proofs.Common.{◌≡◌, ◌⊎◌, ℕ, inl, inr, List, [], Result, Ok, Err, subst, Option}
 use Rattle.graph_model.specs.declared.types.Graph.{Graph}
 use Rattle.line_image.specs.Told.{Told}
 use Rattle.run_types.specs.declared.limits.Limits.{Limits}
@@ -21,9 +21,9 @@ use Rattle.class_runs.proofs.class_run.run_classes.Goals as goal
 -- ---- a run of what the classes give
 
 module _ (name : List ℕ) (classes : List ClassFile) (set : Linked) (main text : List ℕ) (limits : Limits) (start : Told)
-    (opening : Graph) (acts : List Recorded) (after : Told) (how : Status) (same_text : text ≡ main)
+    (takes : ℕ → ℕ → Option ℕ) (opening : Graph) (acts : List Recorded) (after : Told) (how : Status) (same_text : text ≡ main)
     (found : ClassesGive name (kept_files classes) (Ok (record { set = set; main = main })))
-    (ran : SetRunsOver set text limits start opening acts after how)
+    (ran : SetRunsOver set text limits start takes opening acts after how)
   where
     abbrev gives : Result Choice Status → Type 0
     gives answer = ClassesGive name (kept_files classes) answer
@@ -32,13 +32,13 @@ module _ (name : List ℕ) (classes : List ClassFile) (set : Linked) (main text 
     choice = record { set = set; main = main }
 
     abbrev passed : runs.Over
-    passed = over start opening acts after
+    passed = over start takes opening acts after
 
-    whole : SetRunsOver set main limits start opening acts after how
-    whole = subst (λ (n : List ℕ). SetRunsOver set n limits start opening acts after how) same_text ran
+    whole : SetRunsOver set main limits start takes opening acts after how
+    whole = subst (λ (n : List ℕ). SetRunsOver set n limits start takes opening acts after how) same_text ran
 
     of : IsOfRun how
-    of = of_run set main limits start opening acts after how whole.ends
+    of = of_run set main limits start takes opening acts after how whole.ends
 
     ran_so : OfChoice gives (RunsAs limits passed how)
     ran_so = record { choice = choice; given = found; holds = whole }
@@ -50,42 +50,42 @@ module _ (name : List ℕ) (classes : List ClassFile) (set : Linked) (main text 
     answered = answers_by_run gives (one_of_classes name classes) limits passed choice how found of
 
     early : how ≡ status.OutOfMemory → acts ≡ []
-    early is = memory_early set main limits start opening acts after how is whole.ends
+    early is = memory_early set main limits start takes opening acts after how is whole.ends
 
 pub returns-in-Ok-clause-cause : goal.returns-in-Ok-clause-cause
 returns-in-Ok-clause-cause g c =
     caused c.args.class.now c.args.classes.items c.in-Ok.field-0.set c.in-Ok.field-0.main.items c.as_slice.result.now
-    c.args.limits.now (g.I.Image.told c.args.image) c.run_set.result.opening c.run_set.result.acts.acts
+    c.args.limits.now (g.I.Image.told c.args.image) (g.S.Sink.takes c.args.sink) c.run_set.result.opening c.run_set.result.acts.acts
     (g.I.Image.told c.run_set.result.image) c.run_set.result.status c.as_slice.ensures.value c.in-Ok.ensures.found c.run_set.ensures.ran
 
 pub returns-in-Ok-clause-answers : goal.returns-in-Ok-clause-answers
 returns-in-Ok-clause-answers g c =
     answered c.args.class.now c.args.classes.items c.in-Ok.field-0.set c.in-Ok.field-0.main.items c.as_slice.result.now
-    c.args.limits.now (g.I.Image.told c.args.image) c.run_set.result.opening c.run_set.result.acts.acts
+    c.args.limits.now (g.I.Image.told c.args.image) (g.S.Sink.takes c.args.sink) c.run_set.result.opening c.run_set.result.acts.acts
     (g.I.Image.told c.run_set.result.image) c.run_set.result.status c.as_slice.ensures.value c.in-Ok.ensures.found c.run_set.ensures.ran
 
 pub returns-in-Ok-clause-of : goal.returns-in-Ok-clause-of
 returns-in-Ok-clause-of g c =
     inr (of c.args.class.now c.args.classes.items c.in-Ok.field-0.set c.in-Ok.field-0.main.items c.as_slice.result.now
-    c.args.limits.now (g.I.Image.told c.args.image) c.run_set.result.opening c.run_set.result.acts.acts
+    c.args.limits.now (g.I.Image.told c.args.image) (g.S.Sink.takes c.args.sink) c.run_set.result.opening c.run_set.result.acts.acts
     (g.I.Image.told c.run_set.result.image) c.run_set.result.status c.as_slice.ensures.value c.in-Ok.ensures.found c.run_set.ensures.ran)
 
 pub returns-in-Ok-clause-no_memory : goal.returns-in-Ok-clause-no_memory
 returns-in-Ok-clause-no_memory g c =
     early c.args.class.now c.args.classes.items c.in-Ok.field-0.set c.in-Ok.field-0.main.items c.as_slice.result.now
-    c.args.limits.now (g.I.Image.told c.args.image) c.run_set.result.opening c.run_set.result.acts.acts
+    c.args.limits.now (g.I.Image.told c.args.image) (g.S.Sink.takes c.args.sink) c.run_set.result.opening c.run_set.result.acts.acts
     (g.I.Image.told c.run_set.result.image) c.run_set.result.status c.as_slice.ensures.value c.in-Ok.ensures.found c.run_set.ensures.ran
 
 pub returns-in-Ok-clause-theorem : goal.returns-in-Ok-clause-theorem
 returns-in-Ok-clause-theorem g c =
     inr (ran_so c.args.class.now c.args.classes.items c.in-Ok.field-0.set c.in-Ok.field-0.main.items c.as_slice.result.now
-    c.args.limits.now (g.I.Image.told c.args.image) c.run_set.result.opening c.run_set.result.acts.acts
+    c.args.limits.now (g.I.Image.told c.args.image) (g.S.Sink.takes c.args.sink) c.run_set.result.opening c.run_set.result.acts.acts
     (g.I.Image.told c.run_set.result.image) c.run_set.result.status c.as_slice.ensures.value c.in-Ok.ensures.found c.run_set.ensures.ran)
 
 pub returns-in-Ok-clause-early : goal.returns-in-Ok-clause-early
 returns-in-Ok-clause-early g c =
     inl (of c.args.class.now c.args.classes.items c.in-Ok.field-0.set c.in-Ok.field-0.main.items c.as_slice.result.now
-    c.args.limits.now (g.I.Image.told c.args.image) c.run_set.result.opening c.run_set.result.acts.acts
+    c.args.limits.now (g.I.Image.told c.args.image) (g.S.Sink.takes c.args.sink) c.run_set.result.opening c.run_set.result.acts.acts
     (g.I.Image.told c.run_set.result.image) c.run_set.result.status c.as_slice.ensures.value c.in-Ok.ensures.found c.run_set.ensures.ran)
 
 pub returns-in-Ok-clause-size : goal.returns-in-Ok-clause-size
@@ -116,7 +116,7 @@ returns-in-Err-clause-cause g c =
 pub returns-in-Err-clause-answers : goal.returns-in-Err-clause-answers
 returns-in-Err-clause-answers g c =
     let start = g.I.Image.told c.args.image in
-    answers c.args.class.now c.args.classes.items c.args.limits.now (over start c.unbegun.result.opening [] start) c.in-Err.status
+    answers c.args.class.now c.args.classes.items c.args.limits.now (over start (g.S.Sink.takes c.args.sink) c.unbegun.result.opening [] start) c.in-Err.status
     c.unbegun.result.status c.unbegun.ensures.status c.in-Err.ensures.of_classes c.in-Err.ensures.refused
 
 pub returns-in-Err-clause-of : goal.returns-in-Err-clause-of

@@ -5,7 +5,8 @@ pub returns : goal.returns
 returns c =
     let law = c.opened_images_open_again.ensures.again in record {
       again = record {
-        refusals = λ set name limits start opening acts after how ends is. refused set name limits start opening acts after how is ends;
+        refusals = λ set name limits start takes opening acts after how ends is.
+            refused set name limits start takes opening acts after how is ends;
         not_bad = not_bad;
         unrefused = unrefused law;
         unrefused_behind = λ set start opening all acts left stands again after is how cannot.

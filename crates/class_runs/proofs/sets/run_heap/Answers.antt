@@ -33,8 +33,9 @@ returns-in-Ok-clause-ran g c = λ start old can.
     let o = opening_over start heap.spaces.heap.memory (entries_in can.directory)
     (launch_over set c.args.main.now c.args.limits.now heap.graph l.literals) in
     has_run_over old set c.args.class.now c.args.limits.now start heap can c.args.main.now c.requires.main
-    c.in-Ok.launched l result.opening result.acts.acts after result.status
-    (subst (λ (graph : Graph). RanBy o heap.free set graph result.opening result.acts.acts after result.status)
+    c.in-Ok.launched l (g.S.Sink.takes c.args.sink) result.opening result.acts.acts after result.status
+    (subst (λ (graph : Graph). RanBy o heap.free set graph (g.S.Sink.takes c.args.sink) result.opening
+    result.acts.acts after result.status)
     c.in-Ok.ensures.graph (c.run_launched.ensures.ran o heap.free l.ready))
     c.each_stop_is_allowed.ensures.stops
 

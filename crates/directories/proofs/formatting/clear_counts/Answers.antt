@@ -10,7 +10,7 @@ pub loop-thread-init : goal.loop-thread-init
 loop-thread-init g c =
     let m : Memory = c.args.memory.now in
     let begin = counts_begin m in
-    record { wrote = begin.0; changes = begin.1; goes_on = goes_nowhere m; later = omega arith }
+    record { wrote = begin.0; changes = begin.1; goes_on = goes_nowhere m; calls = omega arith; later = omega arith }
 
 pub returns-in_err-write_word-clause-changes : goal.returns-in_err-write_word-clause-changes
 returns-in_err-write_word-clause-changes g c =
@@ -44,5 +44,12 @@ loop-thread-preserved g c =
       wrote = counts_more t a b d (counts_within b.size enough t few) so_far.changes so_far.wrote put wrote;
       changes = counts_changes t a b d so_far.changes put;
       goes_on = goes_more a b d so_far.goes_on c.write_word.ensures.goes_on;
+      calls = omega (arith, so_far.calls, c.write_word.ensures.calls);
       later = omega (arith, so_far.later, c.write_word.ensures.cause.later);
     }
+
+pub returns-in_err-write_word-clause-calls : goal.returns-in_err-write_word-clause-calls
+returns-in_err-write_word-clause-calls g c = omega (arith, c.loop-thread.invariant.calls, c.write_word.ensures.calls)
+
+pub returns-clause-calls : goal.returns-clause-calls
+returns-clause-calls g c = omega (arith, c.loop-thread.invariant.calls)

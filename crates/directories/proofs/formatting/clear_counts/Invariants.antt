@@ -1,6 +1,6 @@
 -- The counts so far are cleared and written.
 use Rattle.std.proofs.Common.{◌≤◌}
-use Rattle.word_changes.specs.Changes.{ChangesTo, GoesOn, WritesAll}
+use Rattle.word_changes.specs.Changes.{ChangesTo, CallsAtMost, GoesOn, WritesAll}
 use Rattle.directories.specs.Formatting.{OfCounts}
 use Rattle.directories.proofs.formatting.clear_counts.Given as goal
 
@@ -9,5 +9,6 @@ invariant-loop-thread g l = record {
   wrote : WritesAll (OfCounts l.thread) l.fn.memory l.memory;
   changes : ChangesTo (OfCounts l.thread) l.fn.memory l.memory;
   goes_on : GoesOn l.fn.memory l.memory;
+  calls : CallsAtMost l.fn.memory l.memory l.thread;
   later : l.fn.memory.faults ≤ l.memory.faults;
 }

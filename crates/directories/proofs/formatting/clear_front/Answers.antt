@@ -1,3 +1,4 @@
+use Rattle.std.proofs.Common.{arith}
 use Rattle.std.proofs.lemmas.Result.{on_ok_weaker}
 use Rattle.word_changes.specs.Changes.{Nothing}
 use Rattle.word_changes.proofs.Going.{goes_more, goes_by_call}
@@ -42,3 +43,12 @@ returns-clause-goes_on g c =
     goes_more c.args.memory.now c.clear_counts.new.memory c.make_fence.new.memory
     (goes_more c.args.memory.now c.clear_slots.new.memory c.clear_counts.new.memory c.clear_slots.ensures.goes_on c.clear_counts.ensures.goes_on)
     (goes_by_call Nothing c.clear_counts.new.memory c.make_fence.new.memory c.make_fence.ensures.changes c.make_fence.ensures.count)
+
+pub returns-in_err-clear_slots-clause-calls : goal.returns-in_err-clear_slots-clause-calls
+returns-in_err-clear_slots-clause-calls g c = omega (arith, c.clear_slots.ensures.calls)
+
+pub returns-in_err-clear_counts-clause-calls : goal.returns-in_err-clear_counts-clause-calls
+returns-in_err-clear_counts-clause-calls g c = omega (arith, c.clear_slots.ensures.calls, c.clear_counts.ensures.calls)
+
+pub returns-clause-calls : goal.returns-clause-calls
+returns-clause-calls g c = omega (arith, c.clear_slots.ensures.calls, c.clear_counts.ensures.calls, c.make_fence.ensures.count.calls)

@@ -1,3 +1,4 @@
+use Rattle.line_memory.proofs.Residence.{every_line_is_resident}
 use Rattle.std.proofs.Common.{◌+◌, arith}
 use Rattle.std.proofs.lemmas.Result.{on_ok_weaker}
 use Rattle.word_changes.specs.Changes.{Nothing}
@@ -39,3 +40,13 @@ returns-clause-goes_on g c =
     c.args.memory.now c.fetch_line.new.memory c.clear_words.new.memory c.write_line.new.memory
     c.fetch_line.ensures.changes c.clear_words.ensures.changes c.write_line.ensures.changes
     c.fetch_line.ensures.counts c.fetch_line.ensures.calls c.clear_words.ensures.same c.write_line.ensures.count
+
+pub returns-in_err-fetch_line-clause-calls : goal.returns-in_err-fetch_line-clause-calls
+returns-in_err-fetch_line-clause-calls g c =
+    let same = (c.fetch_line.ensures.at_once (every_line_is_resident c.args.memory.now c.args.line c.requires)).1 in
+    omega (arith, same.calls)
+
+pub returns-clause-calls : goal.returns-clause-calls
+returns-clause-calls g c =
+    let same = (c.fetch_line.ensures.at_once (every_line_is_resident c.args.memory.now c.args.line c.requires)).1 in
+    omega (arith, same.calls, c.clear_words.ensures.same.calls, c.write_line.ensures.count.calls)

@@ -8,7 +8,7 @@ pub loop-line-init : goal.loop-line-init
 loop-line-init g c =
     let m : Memory = c.args.memory.now in
     let begin = lines_begin 1 m in
-    record { wrote = begin.0; changes = begin.1; goes_on = goes_nowhere m; later = omega arith }
+    record { wrote = begin.0; changes = begin.1; goes_on = goes_nowhere m; calls = omega arith; later = omega arith }
 
 pub returns-in_err-clear_line-clause-changes : goal.returns-in_err-clear_line-clause-changes
 returns-in_err-clear_line-clause-changes g c =
@@ -33,9 +33,16 @@ loop-line-preserved g c =
           so_far.changes so_far.wrote c.clear_line.ensures.changes c.in_ok-clear_line.ensures.wrote;
       changes = lines_changes 1 line a b d (omega arith) so_far.changes c.clear_line.ensures.changes;
       goes_on = goes_more a b d so_far.goes_on c.clear_line.ensures.goes_on;
+      calls = omega (arith, so_far.calls, c.clear_line.ensures.calls);
       later = omega (arith, so_far.later, c.clear_line.ensures.cause.later);
     }
 
 pub returns-clause-changes : goal.returns-clause-changes
 returns-clause-changes g c =
     lines_of_slots 1 c.loop-line.line c.args.memory.now c.loop-line.memory (omega arith) (omega arith) c.loop-line.invariant.changes
+
+pub returns-in_err-clear_line-clause-calls : goal.returns-in_err-clear_line-clause-calls
+returns-in_err-clear_line-clause-calls g c = omega (arith, c.loop-line.invariant.calls, c.clear_line.ensures.calls)
+
+pub returns-clause-calls : goal.returns-clause-calls
+returns-clause-calls g c = omega (arith, c.loop-line.invariant.calls)

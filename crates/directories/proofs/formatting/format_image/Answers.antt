@@ -1,3 +1,4 @@
+use Rattle.std.proofs.Common.{arith}
 use Rattle.std.proofs.lemmas.Result.{on_ok_weaker}
 use Rattle.word_changes.specs.Changes.{Nothing}
 use Rattle.word_changes.proofs.Going.{goes_more, goes_by_call}
@@ -86,3 +87,12 @@ returns-clause-order g c tells =
     mark_stops c.args.memory.now.size c.args.memory.now c.write_front.new.memory c.make_fence.new.memory
     (c.write_front.ensures.order tells) (c.in_ok-write_front.ensures.fixed tells)
     (fence_behind c.write_front.new.memory c.write_word.new.memory c.make_fence.new.memory c.write_word.ensures.changes c.make_fence.ensures.changes)
+
+pub returns-in_err-write_front-clause-calls : goal.returns-in_err-write_front-clause-calls
+returns-in_err-write_front-clause-calls g c = omega (arith, c.write_front.ensures.calls)
+
+pub returns-in_err-write_word-clause-calls : goal.returns-in_err-write_word-clause-calls
+returns-in_err-write_word-clause-calls g c = omega (arith, c.write_front.ensures.calls, c.write_word.ensures.calls)
+
+pub returns-clause-calls : goal.returns-clause-calls
+returns-clause-calls g c = omega (arith, c.write_front.ensures.calls, c.write_word.ensures.calls, c.make_fence.ensures.count.calls)

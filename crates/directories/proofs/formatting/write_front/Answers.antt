@@ -1,4 +1,4 @@
-use Rattle.std.proofs.Common.{inl}
+use Rattle.std.proofs.Common.{inl, arith}
 use Rattle.std.proofs.lemmas.Result.{on_ok_weaker}
 use Rattle.word_changes.specs.Changes.{Nothing}
 use Rattle.word_changes.proofs.Changing.{changes_weaker, changes_more, changes_nowhere}
@@ -85,3 +85,12 @@ returns-clause-goes_on g c =
     (goes_more c.args.memory.now c.clear_front.new.memory c.write_superblock.new.memory
     c.clear_front.ensures.goes_on c.write_superblock.ensures.goes_on)
     (goes_by_call Nothing c.write_superblock.new.memory c.make_fence.new.memory c.make_fence.ensures.changes c.make_fence.ensures.count)
+
+pub returns-in_err-clear_front-clause-calls : goal.returns-in_err-clear_front-clause-calls
+returns-in_err-clear_front-clause-calls g c = omega (arith, c.clear_front.ensures.calls)
+
+pub returns-in_err-write_superblock-clause-calls : goal.returns-in_err-write_superblock-clause-calls
+returns-in_err-write_superblock-clause-calls g c = omega (arith, c.clear_front.ensures.calls, c.write_superblock.ensures.calls)
+
+pub returns-clause-calls : goal.returns-clause-calls
+returns-clause-calls g c = omega (arith, c.clear_front.ensures.calls, c.write_superblock.ensures.calls, c.make_fence.ensures.count.calls)

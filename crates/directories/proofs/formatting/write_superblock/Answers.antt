@@ -1,3 +1,4 @@
+use Rattle.line_memory.proofs.Residence.{every_line_is_resident}
 use Rattle.std.proofs.Common.{◌∙◌, ℕ, subst, arith}
 use Rattle.std.proofs.lemmas.Result.{on_ok_weaker}
 use Rattle.word_changes.specs.Changes.{Nothing, IsGiven, ChangesTo}
@@ -61,3 +62,13 @@ returns-clause-goes_on g c =
     (same_thrice c.fetch_line.new.memory c.put_word.new.memory c.put_word-2.new.memory c.put_word-3.new.memory
     c.put_word.ensures.same c.put_word-2.ensures.same c.put_word-3.ensures.same)
     c.write_line.ensures.count
+
+pub returns-in_err-fetch_line-clause-calls : goal.returns-in_err-fetch_line-clause-calls
+returns-in_err-fetch_line-clause-calls g c =
+    let same = (c.fetch_line.ensures.at_once (every_line_is_resident c.args.memory.now 0 (omega (arith, c.requires)))).1 in
+    omega (arith, same.calls)
+
+pub returns-clause-calls : goal.returns-clause-calls
+returns-clause-calls g c =
+    let same = (c.fetch_line.ensures.at_once (every_line_is_resident c.args.memory.now 0 (omega (arith, c.requires)))).1 in
+    omega (arith, same.calls, c.put_word.ensures.same.calls, c.put_word-2.ensures.same.calls, c.put_word-3.ensures.same.calls, c.write_line.ensures.count.calls)

@@ -1,3 +1,5 @@
+use Rattle.std.proofs.Common.{arith}
+use Rattle.line_memory.proofs.Residence.{every_line_is_resident}
 use Rattle.std.proofs.lemmas.Result.{on_ok_weaker}
 use Rattle.word_changes.specs.Changes.{IsGiven, Nothing}
 use Rattle.word_changes.proofs.Changing.{changes_nowhere}
@@ -37,3 +39,13 @@ returns-clause-goes_on g c =
     c.args.memory.now c.fetch_line.new.memory c.put_word.new.memory c.write_line.new.memory
     c.fetch_line.ensures.changes c.put_word.ensures.changes c.write_line.ensures.changes
     c.fetch_line.ensures.counts c.fetch_line.ensures.calls c.put_word.ensures.same c.write_line.ensures.count
+
+pub returns-in_err-fetch_line-clause-calls : goal.returns-in_err-fetch_line-clause-calls
+returns-in_err-fetch_line-clause-calls g c =
+    let same = (c.fetch_line.ensures.at_once (every_line_is_resident c.args.memory.now c.args.spot.line c.requires)).1 in
+    omega (arith, same.calls)
+
+pub returns-clause-calls : goal.returns-clause-calls
+returns-clause-calls g c =
+    let same = (c.fetch_line.ensures.at_once (every_line_is_resident c.args.memory.now c.args.spot.line c.requires)).1 in
+    omega (arith, same.calls, c.put_word.ensures.same.calls, c.write_line.ensures.count.calls)

@@ -1,7 +1,8 @@
-use Rattle.std.proofs.Common.{ap}
+use Rattle.std.proofs.Common.{ap, ◌∙◌}
 use Rattle.natives.specs.Methods.{native_at}
 use Rattle.program_host.specs.Hosts.{setting_in}
-use Rattle.workers.specs.Passed.{memory_of}
+use Rattle.workers.specs.Passed.{memory_of, work_left}
+use Rattle.set_opening.specs.Passed.{spaces_of}
 use Rattle.workers.specs.Passed.{Shared}
 use Rattle.durable_launch.proofs.Launching.{ready_as}
 use Rattle.durable_launch.proofs.launches.launch.Goals as goal
@@ -36,5 +37,7 @@ returns-in-Ok-new-clause-ready g c start old can =
       literals = heap.literals.items;
       ready = ready;
       empty = ap (λ (s : Shared). s.history.acts) c.in-Ok-new.ensures.made;
+      work = ap (λ (s : Shared). work_left s.machine) c.in-Ok-new.ensures.made
+          ∙ c.quiet_steps_are_few.ensures.first (spaces_of heap.spaces) heap.free c.in-Ok.field-0.rest limits.acts;
       memory = ap (λ (s : Shared). memory_of s.machine) c.in-Ok-new.ensures.made;
     }

@@ -6,7 +6,7 @@ use Rattle.durable_run.specs.Events.{StepsTo}
 use Rattle.machine.specs.Passed.{asked_by}
 use Rattle.durable_run.specs.Turning.{IsReady, asks_next, is_live}
 use Rattle.durable_run.specs.declared.steps.Stepped.{Stepped}
-use Rattle.durable_run.proofs.Passing.{IsGoing, all-ended, cause-on, dead-on, goes-less, goes-on, goes-past, has-frames, not-over, ready-on, room-so, shares-on}
+use Rattle.durable_run.proofs.Passing.{IsGoing, all-ended, cause-on, dead-on, goes-less, goes-on, goes-past, has-frames, not-over, ready-on, room-so}
 use Rattle.durable_run.proofs.Passing.{waits-begin}
 use Rattle.durable_run.proofs.Places.{next-is}
 use Rattle.durable_run.proofs.Sharing.{shares-both, shares-nothing}
@@ -22,7 +22,7 @@ threads-init g c =
     let x = g.H.Host.setting c.args.host.now in record {
       ready = λ o first ready. ready;
       told = told-nothing c.args.run.now.heap.history.acts _ _;
-      shares = λ o first ready. shares-nothing g.S.Sink.taken g.S.Sink.takes o.launch c.args.run.now.sink
+      shares = λ o first ready. shares-nothing o.launch (g.S.Sink.takes c.args.run.now.sink)
           c.args.run.now.heap.history.acts;
       cause = (omega arith, omega arith);
       going = inr (λ o first ready. waits-begin o first set x c.args.run.now.heap c.args.run.now.frames.items ready
@@ -90,12 +90,8 @@ threads-preserved g c =
       ready = λ o first ready. ready-on o first set x t went s new c.step-went.new.run.frames.items isnt
           (c.step-went.ensures.goes o first (c.threads.invariant.ready o first ready));
       told = told-both _ _ _ _ _ _ _ _ _ c.threads.invariant.told c.step-went.ensures.told;
-      shares = λ o first ready. shares-both g.S.Sink.taken g.S.Sink.takes o.launch None c.args.run.now.sink
-          c.threads.run.sink c.step-went.new.run.sink old.history.acts s.history.acts new.history.acts
-          (c.threads.invariant.shares o first ready)
-          (shares-on g.S.Sink.taken g.S.Sink.takes o.launch new went c.threads.run.sink c.step-went.new.run.sink
-          s.history.acts new.history.acts isnt
-          (c.step-went.ensures.shares o first (c.threads.invariant.ready o first ready)));
+      shares = λ o first ready. shares-both o.launch _ _ _ _ _ _ (c.threads.invariant.shares o first ready)
+          (c.step-went.ensures.shares o first (c.threads.invariant.ready o first ready));
       cause = caused-since None _ _ _ _ _ _ c.threads.invariant.cause
           (cause-on new went _ _ _ _ isnt c.step-went.ensures.cause);
       going = subst (λ (n : ℕ). IsGoing
@@ -138,9 +134,7 @@ returns-clause-goes g c o first ready =
 
 pub returns-in-Over-clause-shares : goal.returns-in-Over-clause-shares
 returns-in-Over-clause-shares g c o first ready =
-    shares-both g.S.Sink.taken g.S.Sink.takes o.launch _ c.args.run.now.sink c.threads.run.sink c.step-went.new.run.sink
-    c.args.run.now.heap.history.acts c.threads.run.heap.history.acts c.step-went.new.run.heap.history.acts
-    (c.threads.invariant.shares o first ready)
+    shares-both o.launch _ _ _ _ _ _ (c.threads.invariant.shares o first ready)
     (c.in-Over.ensures.shares o first (c.threads.invariant.ready o first ready))
 
 pub returns-then-lived-clause-shares : goal.returns-then-lived-clause-shares

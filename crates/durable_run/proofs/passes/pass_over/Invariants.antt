@@ -20,7 +20,7 @@ invariant-threads g l = record {
   shares : (o : Opening) (first : ℕ)
       → IsReady o first (g.C.Types.facts l.set) (g.H.Host.setting l.host) l.initial.run.heap
       l.initial.run.frames.items
-      → PrintsShares g.S.Sink.taken g.S.Sink.takes o.launch None l.initial.run.sink l.run.sink
+      → PrintsShares o.launch (g.S.Sink.takes l.initial.run.sink) (g.S.Sink.takes l.run.sink)
       l.initial.run.heap.history.acts l.run.heap.history.acts;
   cause : IsCaused None (g.S.Sink.faults l.initial.run.sink) (g.S.Sink.faults l.run.sink)
       (memory_of l.initial.run.heap.machine).faults (memory_of l.run.heap.machine).faults;

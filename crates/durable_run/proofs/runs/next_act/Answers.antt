@@ -10,7 +10,7 @@ pub passes-init : goal.passes-init
 passes-init g c = record {
   ready = λ o first ready. ready;
   told = told-nothing c.args.run.now.heap.history.acts _ _;
-  shares = λ o first ready. shares-nothing g.S.Sink.taken g.S.Sink.takes o.launch c.args.run.now.sink
+  shares = λ o first ready. shares-nothing o.launch (g.S.Sink.takes c.args.run.now.sink)
       c.args.run.now.heap.history.acts;
   cause = (omega arith, omega arith);
   none = refl;
@@ -26,9 +26,7 @@ returns-in_default g c =
     let isnt = c.in_default.not-Went in record {
       goes = λ o first ready. c.pass_over.ensures.goes o first (c.passes.invariant.ready o first ready);
       told = told-both _ _ _ _ _ _ _ _ _ c.passes.invariant.told c.pass_over.ensures.told;
-      shares = λ o first ready. shares-both g.S.Sink.taken g.S.Sink.takes o.launch (fault_of_pass c.pass_over.new.run.heap c.pass_over.result) c.args.run.now.sink
-          c.passes.run.sink c.pass_over.new.run.sink c.args.run.now.heap.history.acts c.passes.run.heap.history.acts
-          c.pass_over.new.run.heap.history.acts (c.passes.invariant.shares o first ready)
+      shares = λ o first ready. shares-both o.launch _ _ _ _ _ _ (c.passes.invariant.shares o first ready)
           (c.pass_over.ensures.shares o first (c.passes.invariant.ready o first ready));
       cause = caused-since (fault_of_pass c.pass_over.new.run.heap c.pass_over.result) _ _ _ _ _ _
           c.passes.invariant.cause c.pass_over.ensures.cause;
@@ -58,9 +56,7 @@ passes-preserved g c =
     record {
       ready = λ o first ready. c.in-Went.ensures.goes o first (c.passes.invariant.ready o first ready);
       told = told-both _ _ _ _ _ _ _ _ _ c.passes.invariant.told c.pass_over.ensures.told;
-      shares = λ o first ready. shares-both g.S.Sink.taken g.S.Sink.takes o.launch None c.args.run.now.sink
-          c.passes.run.sink c.pass_over.new.run.sink c.args.run.now.heap.history.acts c.passes.run.heap.history.acts
-          c.pass_over.new.run.heap.history.acts (c.passes.invariant.shares o first ready)
+      shares = λ o first ready. shares-both o.launch _ _ _ _ _ _ (c.passes.invariant.shares o first ready)
           (c.in-Went.ensures.shares o first (c.passes.invariant.ready o first ready));
       cause = caused-since None _ _ _ _ _ _ c.passes.invariant.cause c.in-Went.ensures.cause;
       none = none-more _ _ told.further told.acts few ∙ c.passes.invariant.none;
@@ -70,9 +66,7 @@ passes-preserved g c =
     }
 
 pub returns-then-len-before-clause-shares : goal.returns-then-len-before-clause-shares
-returns-then-len-before-clause-shares g c o first ready = shares-both g.S.Sink.taken g.S.Sink.takes o.launch None c.args.run.now.sink
-    c.passes.run.sink c.pass_over.new.run.sink c.args.run.now.heap.history.acts c.passes.run.heap.history.acts
-    c.pass_over.new.run.heap.history.acts (c.passes.invariant.shares o first ready)
+returns-then-len-before-clause-shares g c o first ready = shares-both o.launch _ _ _ _ _ _ (c.passes.invariant.shares o first ready)
     (c.in-Went.ensures.shares o first (c.passes.invariant.ready o first ready))
 
 pub returns-then-len-before-clause-goes : goal.returns-then-len-before-clause-goes

@@ -1,11 +1,10 @@
-use Rattle.std.proofs.Common.{◌+◌, ◌≤◌, ◌∙◌, ℕ, List, None, Some, ap, arith, length, map, refl, subst, sym}
+use Rattle.std.proofs.Common.{◌+◌, ◌≤◌, ◌∙◌, ℕ, List, None, ap, arith, length, map, refl, subst, sym}
 use Rattle.run_types.specs.declared.fault.RunFault.{RunFault}
 use Rattle.plain_model.specs.Ends.{Ending, first_uncaught}
 use Rattle.shared_objects.specs.declared.threads.ThreadState.{ThreadState}
 use Rattle.shared_objects.specs.Worlds.{plain_thread}
 use Rattle.machine.specs.Passed.{memory_of}
 use Rattle.machine.specs.Halts.{fault_of_halt}
-use Rattle.durable_run.specs.Shares.{PrintsShares}
 use Rattle.durable_run.specs.Turning.{EndsBy, HasEnded}
 use Rattle.durable_run.specs.declared.runs.RunEnd.TheVariants as ends
 use Rattle.durable_run.proofs.Ending.{size-same, waits-long}
@@ -19,7 +18,7 @@ pub acts-init : goal.acts-init
 acts-init g c = record {
   ready = λ o first ready. ready;
   told = told-nothing c.args.run.now.heap.history.acts _ _;
-  shares = λ o first ready. shares-nothing g.S.Sink.taken g.S.Sink.takes o.launch c.args.run.now.sink
+  shares = λ o first ready. shares-nothing o.launch (g.S.Sink.takes c.args.run.now.sink)
       c.args.run.now.heap.history.acts;
   cause = (omega arith, omega arith);
 }
@@ -47,9 +46,7 @@ pub acts-preserved : goal.acts-preserved
 acts-preserved g c = record {
   ready = λ o first ready. c.in-Went.ensures.goes o first (c.acts.invariant.ready o first ready);
   told = told-both _ _ _ _ _ _ _ _ _ c.acts.invariant.told c.next_act.ensures.told;
-  shares = λ o first ready. shares-both g.S.Sink.taken g.S.Sink.takes o.launch None c.args.run.now.sink
-      c.acts.run.sink c.next_act.new.run.sink c.args.run.now.heap.history.acts c.acts.run.heap.history.acts
-      c.next_act.new.run.heap.history.acts (c.acts.invariant.shares o first ready)
+  shares = λ o first ready. shares-both o.launch _ _ _ _ _ _ (c.acts.invariant.shares o first ready)
       (c.in-Went.ensures.shares o first (c.acts.invariant.ready o first ready));
   cause = caused-since None _ _ _ _ _ _ c.acts.invariant.cause c.in-Went.ensures.cause;
 }
@@ -103,16 +100,10 @@ returns-in-Over-clause-size g c =
     (c.in-Over.ensures.goes r.0 r.1 (c.acts.invariant.ready r.0 r.1 r.2)).0
 
 pub returns-in-Ended-clause-shares : goal.returns-in-Ended-clause-shares
-returns-in-Ended-clause-shares g c o first ready = shares-both g.S.Sink.taken g.S.Sink.takes o.launch None c.args.run.now.sink
-    c.acts.run.sink c.next_act.new.run.sink c.args.run.now.heap.history.acts c.acts.run.heap.history.acts
-    c.next_act.new.run.heap.history.acts (c.acts.invariant.shares o first ready)
+returns-in-Ended-clause-shares g c o first ready = shares-both o.launch _ _ _ _ _ _ (c.acts.invariant.shares o first ready)
     (c.in-Ended.ensures.shares o first (c.acts.invariant.ready o first ready))
 
 pub returns-in-Over-clause-shares : goal.returns-in-Over-clause-shares
 returns-in-Over-clause-shares g c o first ready =
-    subst (λ (f : RunFault). PrintsShares g.S.Sink.taken g.S.Sink.takes o.launch (Some f) c.args.run.now.sink
-    c.next_act.new.run.sink c.args.run.now.heap.history.acts c.next_act.new.run.heap.history.acts) (sym c.fault_of.ensures)
-    (shares-both g.S.Sink.taken g.S.Sink.takes o.launch _ c.args.run.now.sink
-    c.acts.run.sink c.next_act.new.run.sink c.args.run.now.heap.history.acts c.acts.run.heap.history.acts
-    c.next_act.new.run.heap.history.acts (c.acts.invariant.shares o first ready)
-    (c.in-Over.ensures.shares o first (c.acts.invariant.ready o first ready)))
+    shares-both o.launch _ _ _ _ _ _ (c.acts.invariant.shares o first ready)
+    (c.in-Over.ensures.shares o first (c.acts.invariant.ready o first ready))

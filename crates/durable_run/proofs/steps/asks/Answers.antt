@@ -60,7 +60,7 @@ returns-clause-share g c before now come there =
     let asked = c.asked-request.ensures.finishes before
     (subst (λ (fs : ThreadFrames). HasCome x c.args.stop before fs) (sym is) come) in
     subst (λ (q : Option (Request Ref Item)).
-    AddsShare q (g.S.Sink.takes c.args.run.now.sink) c.args.run.now.heap.history.acts c.goes_on.new.run.heap.history.acts)
+    AddsShare q (g.S.Sink.takes c.args.run.now.sink 0) c.args.run.now.heap.history.acts c.goes_on.new.run.heap.history.acts)
     asked.1 c.goes_on.ensures.share
 
 pub returns-clause-finds : goal.returns-clause-finds

@@ -3,12 +3,13 @@ use Rattle.ap_base.specs.declared.reference.Ref.{Ref}
 use Rattle.ap_base.specs.declared.reference.Item.{Item}
 use Rattle.natives.specs.declared.requests.Request.{Request}
 use Rattle.machine.specs.Passed.{Shared, asked_by, taken}
-use Rattle.durable_run.specs.Events.{FindsItsWait, HasAsked, LeavesAlone, RemembersAfter, StepsTo, fault_of}
+use Rattle.machine.specs.Events.{KeepsBound}
+use Rattle.durable_run.specs.Events.{FindsItsWait, HasAsked, LeavesAlone, RemembersAfter, StepsTo, event_of}
 use Rattle.durable_run.specs.Shares.{PrintsShares}
 use Rattle.durable_run.specs.Telling.{AddsShare}
 use Rattle.durable_run.proofs.Going.{goes-still}
 use Rattle.durable_run.proofs.Places.{index-of-get}
-use Rattle.durable_run.proofs.Stepping.{alone-taken, remembers-taken, steps-from}
+use Rattle.durable_run.proofs.Stepping.{alone-taken, bound-from, remembers-taken, steps-from}
 use Rattle.durable_run.proofs.steps.continues.Goals as goal
 
 pub goes_on-requires : goal.goes_on-requires
@@ -55,8 +56,8 @@ returns-clause-share g c =
     let s = c.args.run.now.heap in
     let asked = index-of-get s.notes.asks c.args.t (Some c.in-Some.request) c.in-Some.ensures.asked in
     subst (λ (q : Option (Request Ref Item)).
-    AddsShare q (g.S.Sink.takes c.args.run.now.sink) s.history.acts c.goes_on.new.run.heap.history.acts) (sym asked)
-    (subst (λ (y : Shared). AddsShare (Some c.in-Some.request) (g.S.Sink.takes c.args.run.now.sink) y.history.acts
+    AddsShare q (g.S.Sink.takes c.args.run.now.sink 0) s.history.acts c.goes_on.new.run.heap.history.acts) (sym asked)
+    (subst (λ (y : Shared). AddsShare (Some c.in-Some.request) (g.S.Sink.takes c.args.run.now.sink 0) y.history.acts
     c.goes_on.new.run.heap.history.acts) c.take_asked.ensures.taken c.goes_on.ensures.share)
 
 pub returns-clause-finds : goal.returns-clause-finds
@@ -87,10 +88,16 @@ returns-clause-shares g c o first ready =
     let x = g.H.Host.setting c.args.host.now in
     let s = c.args.run.now.heap in
     let asked = index-of-get s.notes.asks c.args.t (Some c.in-Some.request) c.in-Some.ensures.asked in
-    subst (λ (y : Shared). PrintsShares g.S.Sink.taken g.S.Sink.takes o.launch
-    (fault_of c.goes_on.new.run.heap c.goes_on.result) c.args.run.now.sink c.goes_on.new.run.sink y.history.acts
+    subst (λ (y : Shared). PrintsShares o.launch (g.S.Sink.takes c.args.run.now.sink)
+    (g.S.Sink.takes c.goes_on.new.run.sink) y.history.acts
     c.goes_on.new.run.heap.history.acts) c.take_asked.ensures.taken
     (c.goes_on.ensures.shares o first
     (subst (λ (y : Shared). HasAsked o first set x y c.args.run.now.frames.items c.args.t c.in-Some.request)
     (sym c.take_asked.ensures.taken)
     (goes-still o first set x s c.args.run.now.frames.items c.args.t ready c.in-Some.request asked)))
+
+pub returns-clause-work : goal.returns-clause-work
+returns-clause-work g c =
+    bound-from c.goes_on.result c.args.run.now.heap c.goes_on.new.run.heap (taken c.args.run.now.heap.notes c.args.t)
+    (subst (λ (y : Shared). KeepsBound (event_of c.goes_on.result) y c.goes_on.new.run.heap) c.take_asked.ensures.taken
+    c.goes_on.ensures.work)

@@ -1,4 +1,4 @@
-use Rattle.std.proofs.Common.{◌∙◌, ℕ, List, None, ap, get_or, inl, inr, length, subst, sym}
+use Rattle.std.proofs.Common.{◌∙◌, ℕ, List, ap, get_or, inl, inr, length, subst, sym}
 use Rattle.std.proofs.lemmas.Option.{get_or_from_slice_get}
 use Rattle.frames.specs.Turns.{answer}
 use Rattle.frame_steps.specs.Sized.{AreOf}
@@ -6,7 +6,7 @@ use Rattle.private_steps.specs.Waits.{Waits}
 use Rattle.shared_objects.specs.declared.threads.ThreadState.{ThreadState}
 use Rattle.run_forms.specs.Views.{ThreadFrames}
 use Rattle.durable_run.proofs.Going.{acts-on, asks-on, ends-so, waits-so}
-use Rattle.durable_run.proofs.Sharing.{act-shares, has-run, shares-over, shares-still}
+use Rattle.durable_run.proofs.Sharing.{act-shares, has-run, shares-still}
 use Rattle.durable_run.proofs.Stepping.{acted-remembers, micro-remembers, over-remembers, wait-remembers}
 use Rattle.durable_run.proofs.steps.goes_on.Goals as goal
 
@@ -145,10 +145,10 @@ returns-in-Did-clause-shares g c o first h =
     let new = c.told_event-went.new.heap in
     let tells = c.in-Did.ensures.tells in
     act-shares o first set c.args.run.now.heap h.table h.threads c.args.t h.before c.args.request.now h.next.due
-    c.machines_ask_as_plain_runs.ensures.ready g.S.Sink.taken g.S.Sink.takes c.args.run.now.sink c.told_event-went.new.sink
-    new.history.acts c.in-Did.ensures.acts
-    (has-run o first set x new c.begin_next.new.frames.items (returns-in-Did-clause-goes g c o first h)) _ _ tells.told
-    tells.share c.in-Did.ensures.silent
+    c.machines_ask_as_plain_runs.ensures.ready (g.S.Sink.takes c.args.run.now.sink)
+    (g.S.Sink.takes c.told_event-went.new.sink) new.history.acts c.in-Did.ensures.acts
+    (has-run o first set x new c.begin_next.new.frames.items (returns-in-Did-clause-goes g c o first h)) tells.share
+    tells.leaves
 
 pub returns-in-Micro-clause-shares : goal.returns-in-Micro-clause-shares
 returns-in-Micro-clause-shares g c o first h =
@@ -157,22 +157,20 @@ returns-in-Micro-clause-shares g c o first h =
     let new = c.told_event-went.new.heap in
     let tells = c.in-Micro.ensures.tells in
     elim c.in-Micro.ensures.acts [
-      | inl same ↦ shares-still g.S.Sink.taken g.S.Sink.takes o.launch None c.args.run.now.sink c.told_event-went.new.sink
-          c.args.run.now.heap.history.acts new.history.acts same (λ none. c.in-Micro.ensures.sink tt)
+      | inl same ↦ shares-still o.launch _ _ c.args.run.now.heap.history.acts new.history.acts same tells.leaves
       | inr one ↦ act-shares o first set c.args.run.now.heap h.table h.threads c.args.t h.before c.args.request.now
-          h.next.due c.machines_ask_as_plain_runs.ensures.ready g.S.Sink.taken g.S.Sink.takes c.args.run.now.sink
-          c.told_event-went.new.sink new.history.acts one
-          (has-run o first set x new c.args.run.now.frames.items (returns-in-Micro-clause-goes g c o first h)) _ _ tells.told
-          tells.share c.in-Micro.ensures.silent
+          h.next.due c.machines_ask_as_plain_runs.ensures.ready (g.S.Sink.takes c.args.run.now.sink)
+          (g.S.Sink.takes c.told_event-went.new.sink) new.history.acts one
+          (has-run o first set x new c.args.run.now.frames.items (returns-in-Micro-clause-goes g c o first h)) tells.share
+          tells.leaves
     ]
 
 pub returns-in-WouldWait-clause-shares : goal.returns-in-WouldWait-clause-shares
 returns-in-WouldWait-clause-shares g c o first h =
-    shares-still g.S.Sink.taken g.S.Sink.takes o.launch None c.args.run.now.sink c.told_event-went.new.sink
-    c.args.run.now.heap.history.acts c.told_event-went.new.heap.history.acts c.in-WouldWait.ensures.acts
-    (λ none. c.in-WouldWait.ensures.sink tt)
+    shares-still o.launch _ _ c.args.run.now.heap.history.acts c.told_event-went.new.heap.history.acts
+    c.in-WouldWait.ensures.acts c.in-WouldWait.ensures.tells.leaves
 
 pub returns-in-Over-clause-shares : goal.returns-in-Over-clause-shares
 returns-in-Over-clause-shares g c o first h =
-    shares-over g.S.Sink.taken g.S.Sink.takes o.launch _ c.args.run.now.sink c.told_event-went.new.sink
-    c.args.run.now.heap.history.acts c.told_event-went.new.heap.history.acts c.in-Over.ensures.acts
+    shares-still o.launch _ _ c.args.run.now.heap.history.acts c.told_event-went.new.heap.history.acts
+    c.in-Over.ensures.acts c.in-Over.ensures.tells.leaves

@@ -7,8 +7,9 @@ use Rattle.natives.specs.declared.requests.Request.{Request}
 use Rattle.frames.specs.Turns.{turn}
 use Rattle.run_forms.specs.Views.{ThreadFrames}
 use Rattle.machine.specs.Passed.{Shared, asked_by}
-use Rattle.durable_run.specs.Events.{FindsItsWait, HasBegun, LeavesAlone, RemembersAfter, StepsTo, fault_of}
-use Rattle.durable_run.specs.Shares.{PrintsShares, Puts}
+use Rattle.machine.specs.Events.{KeepsBound}
+use Rattle.durable_run.specs.Events.{FindsItsWait, HasBegun, LeavesAlone, RemembersAfter, StepsTo, event_of}
+use Rattle.durable_run.specs.Shares.{IsShareOfPiece, PrintsShares}
 use Rattle.durable_run.specs.Telling.{AddsShare}
 use Rattle.durable_run.specs.Turning.{IsReady, asks_next}
 use Rattle.durable_run.proofs.Places.{some-one}
@@ -101,10 +102,10 @@ returns-then-reads_at_once-clause-share g c fs there =
     c.index_mut-2.result.now unasked c.begun-stop.ensures.come c.begun-stop.ensures.of c.index_mut-2.ensures.value in
     let acted = c.reads_at_once.ensures.acted c.if-reads_at_once.true r.0 r.1 frames c.index_mut.result.now b in
     let is = some-one fs c.index_mut.result.now (sym there ∙ b.there) in
-    subst (λ (q : Option (Request Ref Item)). AddsShare (asks_next x q fs) (g.S.Sink.takes c.args.run.now.sink)
+    subst (λ (q : Option (Request Ref Item)). AddsShare (asks_next x q fs) (g.S.Sink.takes c.args.run.now.sink 0)
     s.history.acts c.reads_at_once.new.heap.history.acts) (sym unasked)
-    (subst (λ (gs : ThreadFrames). AddsShare (turn x gs).asks (g.S.Sink.takes c.args.run.now.sink) s.history.acts
-    c.reads_at_once.new.heap.history.acts) (sym is) (acted.share (g.S.Sink.takes c.args.run.now.sink)))
+    (subst (λ (gs : ThreadFrames). AddsShare (turn x gs).asks (g.S.Sink.takes c.args.run.now.sink 0) s.history.acts
+    c.reads_at_once.new.heap.history.acts) (sym is) (acted.share (g.S.Sink.takes c.args.run.now.sink 0)))
 
 pub returns-then-reads_at_once-clause-cause : goal.returns-then-reads_at_once-clause-cause
 returns-then-reads_at_once-clause-cause g c =
@@ -242,11 +243,11 @@ returns-clause-share g c fs there =
     ∙ elem-put frames c.args.t c.number-at.result c.begun-stop.new.frames c.index_mut-2.result.now
     c.number-at.ensures.same (slice_get_within frames c.args.t c.index_mut.result.now begun.there)
     c.index_mut-2.ensures.value) in
-    subst (λ (q : Option (Request Ref Item)). AddsShare (asks_next x q fs) (g.S.Sink.takes c.args.run.now.sink)
+    subst (λ (q : Option (Request Ref Item)). AddsShare (asks_next x q fs) (g.S.Sink.takes c.args.run.now.sink 0)
     s.history.acts c.asks.new.run.heap.history.acts) (sym unasked)
-    (subst (λ (gs : ThreadFrames). AddsShare (turn x gs).asks (g.S.Sink.takes c.args.run.now.sink) s.history.acts
+    (subst (λ (gs : ThreadFrames). AddsShare (turn x gs).asks (g.S.Sink.takes c.args.run.now.sink 0) s.history.acts
     c.asks.new.run.heap.history.acts) (sym is)
-    (subst (λ (y : Shared). AddsShare (turn x c.index_mut.result.now).asks (g.S.Sink.takes c.args.run.now.sink)
+    (subst (λ (y : Shared). AddsShare (turn x c.index_mut.result.now).asks (g.S.Sink.takes c.args.run.now.sink 0)
     y.history.acts c.asks.new.run.heap.history.acts) none.1
     (c.asks.ensures.share c.index_mut.result.now c.begun-stop.new.frames c.begun-stop.ensures.come
     (put-there frames _ c.args.t c.index_mut.result.now c.begun-stop.new.frames begun.there here))))
@@ -356,10 +357,10 @@ returns-then-reads_at_once-clause-shares g c o first ready =
     c.number-at.ensures.same c.index_mut.ensures.value c.begun-stop.result c.begun-stop.new.frames
     c.index_mut-2.result.now unasked c.begun-stop.ensures.come c.begun-stop.ensures.of c.index_mut-2.ensures.value in
     let acted = c.reads_at_once.ensures.acted c.if-reads_at_once.true o first frames c.index_mut.result.now b in
-    let sink = c.args.run.now.sink in
-    shares-one g.S.Sink.taken g.S.Sink.takes o.launch c.args.t sink sink s.history.acts c.reads_at_once.new.heap.history.acts
-    acted.acts (subst (λ (piece : Option (List ℕ)). Puts g.S.Sink.taken g.S.Sink.takes piece acted.acts.act.act.op sink sink)
-    (sym acted.unprinted) refl)
+    let takes = g.S.Sink.takes c.args.run.now.sink in
+    shares-one o.launch takes takes c.args.t s.history.acts c.reads_at_once.new.heap.history.acts acted.acts
+    (subst (λ (piece : Option (List ℕ)). IsShareOfPiece piece (takes 0) acted.acts.act.act.op) (sym acted.unprinted) tt)
+    (acted.leaves takes)
 
 pub returns-clause-shares : goal.returns-clause-shares
 returns-clause-shares g c o first ready =
@@ -372,8 +373,8 @@ returns-clause-shares g c o first ready =
     let begun = begun-so o first set x s frames c.args.t c.number-at.result c.index_mut.result.now ready c.requires.live
     c.number-at.ensures.same c.index_mut.ensures.value c.begun-stop.result c.begun-stop.new.frames unasked
     c.begun-stop.ensures.come c.begun-stop.ensures.of in
-    subst (λ (y : Shared). PrintsShares g.S.Sink.taken g.S.Sink.takes o.launch
-    (fault_of c.asks.new.run.heap c.asks.result) c.args.run.now.sink c.asks.new.run.sink y.history.acts
+    subst (λ (y : Shared). PrintsShares o.launch (g.S.Sink.takes c.args.run.now.sink)
+    (g.S.Sink.takes c.asks.new.run.sink) y.history.acts
     c.asks.new.run.heap.history.acts) none.1
     (c.asks.ensures.shares o first frames c.index_mut.result.now c.begun-stop.new.frames
     (subst (λ (y : Shared). HasBegun o first set x y frames c.args.t c.begun-stop.result c.index_mut.result.now
@@ -384,3 +385,21 @@ returns-clause-shares g c o first ready =
     ∙ elem-put frames c.args.t c.number-at.result c.begun-stop.new.frames c.index_mut-2.result.now
     c.number-at.ensures.same (slice_get_within frames c.args.t c.index_mut.result.now begun.there)
     c.index_mut-2.ensures.value)))
+
+pub returns-then-reads_at_once-clause-work : goal.returns-then-reads_at_once-clause-work
+returns-then-reads_at_once-clause-work g c =
+    let x = g.H.Host.setting c.args.host.now in
+    let set = g.C.Types.facts c.args.set.now in
+    let s = c.args.run.now.heap in
+    let frames = c.args.run.now.frames.items in
+    let unasked = none-asked c.has_asked.result (asked_by s.notes c.args.t) c.if-has_asked.false c.has_asked.ensures in
+    let r = c.requires.ready in
+    let b = begun-at r.0 r.1 set x s frames c.args.t c.number-at.result c.index_mut.result.now r.2 c.requires.live
+    c.number-at.ensures.same c.index_mut.ensures.value c.begun-stop.result c.begun-stop.new.frames
+    c.index_mut-2.result.now unasked c.begun-stop.ensures.come c.begun-stop.ensures.of c.index_mut-2.ensures.value in
+    (c.reads_at_once.ensures.acted c.if-reads_at_once.true r.0 r.1 frames c.index_mut.result.now b).work
+
+pub returns-clause-work : goal.returns-clause-work
+returns-clause-work g c =
+    subst (λ (y : Shared). KeepsBound (event_of c.asks.result) y c.asks.new.run.heap)
+    (c.reads_at_once.ensures.none c.if-reads_at_once.false).1 c.asks.ensures.work

@@ -1,4 +1,5 @@
-use Rattle.std.proofs.Common.{ℕ, ◌∙◌, subst}
+use Rattle.line_memory.proofs.Residence.{every_line_is_resident}
+use Rattle.std.proofs.Common.{ℕ, ◌∙◌, subst, ◌<◌, arith}
 use Rattle.std.proofs.lemmas.Result.{on_ok_weaker}
 use Rattle.line_memory.specs.Memory.{Memory, IsWritten}
 use Rattle.word_changes.specs.Changes.{IsGiven}
@@ -37,3 +38,24 @@ returns-clause-changes g c =
     let puts = changes_weaker (IsGiven c.head_spot-head.result.line c.head_spot-head.result.word 0) (IsClearedAt c.args.thread) b d
     (λ l w v given. (given.0 ∙ head.line, given.1 ∙ head.word, given.2)) c.put_word.ensures.changes in
     cleared_all c.args.thread c.args.memory.now b d c.write_line.new.memory c.fetch_line.ensures.changes puts c.write_line.ensures.changes
+
+pub returns-in_err-fetch_line-clause-calls : goal.returns-in_err-fetch_line-clause-calls
+returns-in_err-fetch_line-clause-calls g c =
+    let below : c.head_spot-head.result.line < c.args.memory.now.size =
+    omega (arith, c.requires.enough, c.requires.thread, c.head_spot-head.ensures.line) in
+    let same = (c.fetch_line.ensures.at_once (every_line_is_resident c.args.memory.now c.head_spot-head.result.line below)).1 in
+    omega (arith, same.calls)
+
+pub returns-then-load-eq0-clause-calls : goal.returns-then-load-eq0-clause-calls
+returns-then-load-eq0-clause-calls g c =
+    let below : c.head_spot-head.result.line < c.args.memory.now.size =
+    omega (arith, c.requires.enough, c.requires.thread, c.head_spot-head.ensures.line) in
+    let same = (c.fetch_line.ensures.at_once (every_line_is_resident c.args.memory.now c.head_spot-head.result.line below)).1 in
+    omega (arith, same.calls)
+
+pub returns-clause-calls : goal.returns-clause-calls
+returns-clause-calls g c =
+    let below : c.head_spot-head.result.line < c.args.memory.now.size =
+    omega (arith, c.requires.enough, c.requires.thread, c.head_spot-head.ensures.line) in
+    let same = (c.fetch_line.ensures.at_once (every_line_is_resident c.args.memory.now c.head_spot-head.result.line below)).1 in
+    omega (arith, same.calls, c.put_word.ensures.same.calls, c.write_line.ensures.count.calls)

@@ -30,6 +30,7 @@ loop-thread-preserved g c =
       written = λ tells all. c.in_ok-empty_log.ensures.written (so_far.changes.telling tells) (so_far.written tells all);
       changes = changes_more IsCleared first before after so_far.changes (cleared_of t before after there c.empty_log.ensures.changes);
       goes_on = goes_more first before after so_far.goes_on c.empty_log.ensures.goes_on;
+      calls = omega (arith, so_far.calls, c.empty_log.ensures.calls);
       later = omega (arith, so_far.later, c.empty_log.ensures.cause.later);
     }
 
@@ -62,3 +63,11 @@ pub returns-clause-stops : goal.returns-clause-stops
 returns-clause-stops g c first middle known durable back looks pass =
     stops_emptying first middle c.args.memory.now c.make_fence.new.memory (omega (arith, c.requires, looks.changes.size)) pass known durable back looks
     (returns-clause-changes g c)
+
+pub returns-in_err-empty_log-clause-calls : goal.returns-in_err-empty_log-clause-calls
+returns-in_err-empty_log-clause-calls g c =
+    omega (arith, c.loop-thread.invariant.calls, c.empty_log.ensures.calls)
+
+pub returns-clause-calls : goal.returns-clause-calls
+returns-clause-calls g c =
+    omega (arith, c.loop-thread.invariant.calls, c.make_fence.ensures.count.calls)

@@ -2,7 +2,7 @@
 use Rattle.std.proofs.Common.{◌≡◌, ◌<◌, ◌≤◌, ℕ}
 use Rattle.line_memory.specs.Memory.{shown}
 use Rattle.image_layout.specs.Places.{log_head_line}
-use Rattle.word_changes.specs.Changes.{Tells, AllKnown, ChangesTo, GoesOn}
+use Rattle.word_changes.specs.Changes.{Tells, AllKnown, ChangesTo, CallsAtMost, GoesOn}
 use Rattle.image_recovery.specs.Putting.{IsCleared, AllWritten}
 use Rattle.image_recovery.proofs.clearing.empty_logs.Given as goal
 
@@ -12,5 +12,6 @@ invariant-loop-thread g l = record {
   written : Tells l.fn.memory → AllWritten l.fn.memory → AllWritten l.memory;
   changes : ChangesTo IsCleared l.fn.memory l.memory;
   goes_on : GoesOn l.fn.memory l.memory;
+  calls : CallsAtMost l.fn.memory l.memory l.thread;
   later : l.fn.memory.faults ≤ l.memory.faults;
 }

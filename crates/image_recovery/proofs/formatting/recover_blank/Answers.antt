@@ -103,3 +103,11 @@ returns-clause-changes g c =
     c.format_image.ensures.changes
     (changes_nowhere (OfLayout c.args.memory.now.size) c.format_image.new.memory c.read_entries.new.memory
     c.read_entries.ensures.looks.changes)
+
+pub returns-in_err-directory-clause-calls : goal.returns-in_err-directory-clause-calls
+returns-in_err-directory-clause-calls g c =
+    omega (arith, c.format_image.ensures.calls, c.read_entries.ensures.looks.calls)
+
+pub returns-clause-calls : goal.returns-clause-calls
+returns-clause-calls g c =
+    omega (arith, c.format_image.ensures.calls, c.read_entries.ensures.looks.calls)

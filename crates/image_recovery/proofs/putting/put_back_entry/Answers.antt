@@ -1,3 +1,4 @@
+use Rattle.line_memory.proofs.Residence.{every_line_is_resident}
 use Rattle.std.proofs.Common.{◌≡◌, ◌<◌, ◌≤◌, ◌+◌, ◌/◌, ◌%◌, ◌∷◌, ℕ, false, None, OnOk, sym, ◌∙◌, ap, subst, arith}
 use Rattle.line_memory.specs.Memory.{Memory, shown}
 use Rattle.image_layout.specs.Places.{min_lines, log_entry_line}
@@ -61,3 +62,17 @@ returns-clause-changes g c words first done pass below so_far =
     subst (λ (p : ℕ). LogsSay words (p / 8) (p % 8) c.load-old.result) (sym place)
     (subst (λ (v : ℕ). LogsSay words (entry.place / 8) (entry.place % 8) v) (sym old) facts.2) in
     c.put_back_word.ensures.changes words first done low outside says so
+
+pub returns-in_err-fetch_line-clause-calls : goal.returns-in_err-fetch_line-clause-calls
+returns-in_err-fetch_line-clause-calls g c =
+    let below : c.entry_spot-spot.result.line < c.args.memory.now.size =
+    omega (arith, c.requires.enough, c.requires.thread, c.requires.entry, c.entry_spot-spot.ensures.line) in
+    let same = (c.fetch_line.ensures.at_once (every_line_is_resident c.args.memory.now c.entry_spot-spot.result.line below)).1 in
+    omega (arith, same.calls)
+
+pub returns-clause-calls : goal.returns-clause-calls
+returns-clause-calls g c =
+    let below : c.entry_spot-spot.result.line < c.args.memory.now.size =
+    omega (arith, c.requires.enough, c.requires.thread, c.requires.entry, c.entry_spot-spot.ensures.line) in
+    let same = (c.fetch_line.ensures.at_once (every_line_is_resident c.args.memory.now c.entry_spot-spot.result.line below)).1 in
+    omega (arith, same.calls, c.put_back_word.ensures.calls)

@@ -1,3 +1,4 @@
+use Rattle.line_memory.proofs.Residence.{every_line_is_resident}
 use Rattle.std.proofs.Common.{◌≡◌, ◌<◌, ◌≤◌, ◌-◌, ◌++◌, ◌∷◌, ℕ, suc, List, None, drop, sym, ◌∙◌, ap, subst, arith}
 use Rattle.line_memory.specs.Memory.{Memory, shown}
 use Rattle.image_layout.specs.Places.{log_head_line, log_entries}
@@ -17,6 +18,8 @@ loop-left-init g c =
     let a : Memory = c.fetch_line.new.memory in
     let t = c.args.thread in
     let head = c.head_spot-head.ensures in
+    let below : c.head_spot-head.result.line < c.args.memory.now.size = omega (arith, c.requires.enough, c.requires.thread, head.line) in
+    let same = (c.fetch_line.ensures.at_once (every_line_is_resident c.args.memory.now c.head_spot-head.result.line below)).1 in
     record {
       few = c.counted-left.ensures.few;
       puts = λ words first pass so_far.
@@ -32,6 +35,7 @@ loop-left-init g c =
                 (sym (log_end words t c.counted-left.result (omega (arith, left)))) so,
           );
       goes_on = goes_by_fetch Nothing c.args.memory.now a c.fetch_line.ensures.changes c.fetch_line.ensures.counts c.fetch_line.ensures.calls;
+      calls = omega (arith, same.calls);
       later = c.fetch_line.ensures.cause.later;
     }
 
@@ -58,6 +62,7 @@ loop-left-preserved g c =
                 (c.in_ok-put_back_entry.ensures.puts words first (drop left (log_of words t) ++ logs_below words t) here under had.1),
           );
       goes_on = goes_more c.args.memory.now before after inv.goes_on c.put_back_entry.ensures.goes_on;
+      calls = omega (arith, some, inv.few, inv.calls, c.put_back_entry.ensures.calls);
       later = omega (arith, inv.later, c.put_back_entry.ensures.cause.later);
     }
 
@@ -81,3 +86,20 @@ returns-clause-puts g c words first pass so_far =
 
 pub returns-clause-changes : goal.returns-clause-changes
 returns-clause-changes g c words first pass so_far = (c.loop-left.invariant.puts words first pass so_far).1.changes
+
+pub returns-in_err-fetch_line-clause-calls : goal.returns-in_err-fetch_line-clause-calls
+returns-in_err-fetch_line-clause-calls g c =
+    let below : c.head_spot-head.result.line < c.args.memory.now.size =
+    omega (arith, c.requires.enough, c.requires.thread, c.head_spot-head.ensures.line) in
+    let same = (c.fetch_line.ensures.at_once (every_line_is_resident c.args.memory.now c.head_spot-head.result.line below)).1 in
+    omega (arith, same.calls)
+
+pub returns-in_err-put_back_entry-clause-calls : goal.returns-in_err-put_back_entry-clause-calls
+returns-in_err-put_back_entry-clause-calls g c =
+    let inv = c.loop-left.invariant in
+    let some : 0 < c.loop-left.left = omega arith in
+    omega (arith, some, inv.few, inv.calls, c.put_back_entry.ensures.calls)
+
+pub returns-clause-calls : goal.returns-clause-calls
+returns-clause-calls g c =
+    omega (arith, c.loop-left.invariant.few, c.loop-left.invariant.calls)

@@ -18,6 +18,7 @@ loop-thread-init g c =
           subst (λ (l : List Logged). IsPutting (shown first) l first m) (sym (logs_none (shown first)))
           (nothing_put (shown first) [] first first m looks.changes (none_put first known));
       goes_on = goes_nowhere m;
+      calls = omega arith;
       later = omega arith;
     }
 
@@ -35,6 +36,7 @@ loop-thread-preserved g c =
           subst (λ (l : List Logged). IsPutting (shown first) l first after) (sym (logs_more (shown first) t))
           (c.in_ok-put_back_log.ensures.puts (shown first) first here (inv.puts first known looks pass));
       goes_on = goes_more entry before after inv.goes_on c.put_back_log.ensures.goes_on;
+      calls = omega (arith, inv.calls, c.put_back_log.ensures.calls);
       later = omega (arith, inv.later, c.put_back_log.ensures.cause.later);
     }
 
@@ -86,3 +88,11 @@ returns-clause-durable g c first tells all looks pass =
     on_ok_weaker c.make_fence.result
     (λ durable. all_durable before new c.make_fence.ensures.changes durable (so.written tells all))
     c.make_fence.ensures.durable
+
+pub returns-in_err-put_back_log-clause-calls : goal.returns-in_err-put_back_log-clause-calls
+returns-in_err-put_back_log-clause-calls g c =
+    omega (arith, c.loop-thread.invariant.calls, c.put_back_log.ensures.calls)
+
+pub returns-clause-calls : goal.returns-clause-calls
+returns-clause-calls g c =
+    omega (arith, c.loop-thread.invariant.calls, c.make_fence.ensures.count.calls)

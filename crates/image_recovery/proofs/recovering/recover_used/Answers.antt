@@ -282,3 +282,23 @@ pub returns-clause-refused : goal.returns-clause-refused
 returns-clause-refused g c first known looks is fails =
     absurd (never_first first.size (shown first) c.args.used (entries_in c.in_ok-front.front.directory) is
     (c.in_ok-front.ensures.entries first known looks is) (c.in_ok-front.ensures.passes first known looks) fails)
+
+pub returns-in_err-front-clause-calls : goal.returns-in_err-front-clause-calls
+returns-in_err-front-clause-calls g c =
+    omega (arith, c.read_front.ensures.looks.calls)
+
+pub returns-in_err-put_back_logs-clause-calls : goal.returns-in_err-put_back_logs-clause-calls
+returns-in_err-put_back_logs-clause-calls g c =
+    omega (arith, c.read_front.ensures.looks.calls, c.put_back_logs.ensures.calls)
+
+pub returns-in_err-found-clause-calls : goal.returns-in_err-found-clause-calls
+returns-in_err-found-clause-calls g c =
+    omega (arith, c.read_front.ensures.looks.calls, c.put_back_logs.ensures.calls, c.find_graph.ensures.looks.calls)
+
+pub returns-in_err-empty_logs-clause-calls : goal.returns-in_err-empty_logs-clause-calls
+returns-in_err-empty_logs-clause-calls g c =
+    omega (arith, c.read_front.ensures.looks.calls, c.put_back_logs.ensures.calls, c.find_graph.ensures.looks.calls, c.empty_logs.ensures.calls)
+
+pub returns-clause-calls : goal.returns-clause-calls
+returns-clause-calls g c =
+    omega (arith, c.read_front.ensures.looks.calls, c.put_back_logs.ensures.calls, c.find_graph.ensures.looks.calls, c.empty_logs.ensures.calls)

@@ -1,4 +1,4 @@
-use Rattle.std.proofs.Common.{◌≡◌, Ok, Err, ap, sym, ◌∙◌}
+use Rattle.std.proofs.Common.{◌≡◌, Ok, Err, ap, sym, ◌∙◌, arith}
 use Rattle.line_memory.specs.Memory.{Memory, shown}
 use Rattle.image_layout.specs.Places.{version}
 use Rattle.image_meaning.specs.Meaning.{meaning}
@@ -144,3 +144,15 @@ returns-in-Used-clause-fails g c =
     (λ known bad. err_at r (λ (fault : RecoverFault). IsBadFault fault → ChangesTo (IsPutBack (shown first)) first new) fault is
     (used.put_back first known looks) bad)
     (λ same. used.cause (is ∙ ap Err same)))
+
+pub returns-in_err-read_super-clause-calls : goal.returns-in_err-read_super-clause-calls
+returns-in_err-read_super-clause-calls g c =
+    omega (arith, c.read_super.ensures.looks.calls)
+
+pub returns-in-Blank-clause-calls : goal.returns-in-Blank-clause-calls
+returns-in-Blank-clause-calls g c =
+    omega (arith, c.read_super.ensures.looks.calls, c.recover_blank.ensures.calls)
+
+pub returns-in-Used-clause-calls : goal.returns-in-Used-clause-calls
+returns-in-Used-clause-calls g c =
+    omega (arith, c.read_super.ensures.looks.calls, c.recover_used.ensures.calls)

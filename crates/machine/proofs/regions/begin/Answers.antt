@@ -19,7 +19,7 @@ returns-clause-serves g c =
     let facts = g.C.Types.facts c.args.set.now in
     let regional = subst IsRegional (sym c.requires.is_begin.1) tt in
     serves-as facts c.args.heap.now c.open_region.new.self c.args.t c.args.request.now
-    (event_of c.args.request.now c.take-step.result) c.ended.result (g.S.Sink.takes c.args.sink.now) _ _ _ _
+    (event_of c.args.request.now c.take-step.result) c.ended.result (g.S.Sink.takes c.args.sink.now) _ _ _ _ _
     (begun-serves c.laws.ensures facts c.args.heap.now c.take-step.new.self c.open_region.new.self
     c.args.t c.args.request.now c.requires.room c.requires.counted c.requires.ready c.requires.idle
     c.requires.is_begin.0 c.requires.is_begin.1 c.take-step.result
@@ -27,6 +27,7 @@ returns-clause-serves g c =
     c.take-step.ensures.no_store
     c.open_region.ensures.deeper c.requires.due (g.S.Sink.takes c.args.sink.now) _ _)
     c.ended.ensures
+    (ap g.S.Sink.takes (c.take-step.ensures.silent (subst IsSilent (sym c.requires.is_begin.1) tt)))
     (regional-output c.args.request.now regional _ _ c.take-step.result c.take-step.ensures.output)
     (regional-faults c.args.request.now regional _ _ c.take-step.result c.take-step.ensures.cause)
 

@@ -29,7 +29,7 @@ returns-in-Ok-Ended-clause-serves g c =
     let facts = g.C.Types.facts c.args.set.now in
     let regional = subst IsRegional (sym c.requires.is_end.1) tt in
     serves-as facts c.args.heap.now c.take-step.new.self c.args.t c.args.request.now
-    (event_of c.args.request.now c.take-step.result) c.ended.result (g.S.Sink.takes c.args.sink.now) _ _ _ _
+    (event_of c.args.request.now c.take-step.result) c.ended.result (g.S.Sink.takes c.args.sink.now) _ _ _ _ _
     (ended-serves c.laws.ensures facts c.args.heap.now c.args.t c.args.request.now c.requires.room c.requires.ready
     c.requires.open c.requires.is_end.0 c.requires.is_end.1 c.end_next.new.self
     (subst (λ (step : EndStep). EndsTo step c.args.t c.args.heap.now c.end_next.new.self)
@@ -37,6 +37,7 @@ returns-in-Ok-Ended-clause-serves g c =
     c.take-step.ensures.steps
     c.take-step.ensures.no_store c.end_next.ensures.cause.later (g.S.Sink.takes c.args.sink.now) _ _)
     c.ended.ensures
+    (ap g.S.Sink.takes (c.take-step.ensures.silent (subst IsSilent (sym c.requires.is_end.1) tt)))
     (regional-output c.args.request.now regional _ _ c.take-step.result c.take-step.ensures.output)
     (regional-faults c.args.request.now regional _ _ c.take-step.result c.take-step.ensures.cause)
 

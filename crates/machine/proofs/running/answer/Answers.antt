@@ -2,7 +2,7 @@ use Rattle.std.proofs.Common.{inl, inr, length, refl, ap, subst, ◌∙◌}
 use Rattle.run_history.specs.Recorded.{History}
 use Rattle.step_forms.specs.Becomes.{given}
 use Rattle.machine.proofs.Answering.{agrees-at, may-at, some-of, some-planned, step-serves, store-serves}
-use Rattle.machine.proofs.Printing.{given-faults, given-output, given-shares}
+use Rattle.machine.proofs.Printing.{given-behind, given-faults, given-output, given-shares}
 use Rattle.machine.proofs.Starting.{given-notes, has-notes}
 use Rattle.shared_heap.specs.Shared.{Shared}
 use Rattle.shared_heap.specs.Requests.{StepsTo}
@@ -49,8 +49,8 @@ returns-in-NoStore-clause-serves g c =
     c.requires.room c.plan.new.self c.take-step.new.self c.take-step.result (c.in-NoStore.ensures.same refl) c.take-step.ensures.steps
     c.take-step.ensures.no_store c.requires.idle c.requires.outside c.ended.result c.ended.ensures
     (has-notes c.args.request.now c.take-step.new.self c.take-step.ensures.threads)
-    c.requires.due (g.S.Sink.takes c.args.sink.now) _ _ _ _ c.take-step.ensures.output
-    c.take-step.ensures.share c.take-step.ensures.cause
+    c.requires.due (g.S.Sink.takes c.args.sink.now) _ _ _ _ _ c.take-step.ensures.output
+    c.take-step.ensures.behind c.take-step.ensures.share c.take-step.ensures.cause
 
 pub returns-in-Ends-clause-serves : goal.returns-in-Ends-clause-serves
 returns-in-Ends-clause-serves g c =
@@ -60,9 +60,10 @@ returns-in-Ends-clause-serves g c =
     c.requires.room c.args.heap.now c.plan.new.self c.in-Ends.step refl
     c.in-Ends.ensures.ends.0 c.in-Ends.ensures.ends.1 c.requires.idle c.requires.outside
     c.ended-in-Ends.result c.ended-in-Ends.ensures
-    (given-notes c.args.request.now c.plan.new.self gives) c.requires.due (g.S.Sink.takes c.args.sink.now) _ _ _ _
+    (given-notes c.args.request.now c.plan.new.self gives) c.requires.due (g.S.Sink.takes c.args.sink.now) _ _ _ _ _
     (given-output c.args.request.now (g.S.Sink.taken c.args.sink.now) c.in-Ends.step gives)
-    (given-shares c.args.request.now (g.S.Sink.takes c.args.sink.now) c.in-Ends.step gives)
+    (given-behind c.args.request.now (g.S.Sink.takes c.args.sink.now) c.in-Ends.step gives)
+    (given-shares c.args.request.now (g.S.Sink.takes c.args.sink.now 0) c.in-Ends.step gives)
     (given-faults c.args.request.now (g.S.Sink.faults c.args.sink.now) c.in-Ends.step gives)
 
 pub returns-in-Stores-clause-serves : goal.returns-in-Stores-clause-serves

@@ -78,7 +78,8 @@ returns g c =
           (others-left o first s mid es threads t fs request came comes);
       acts = noted-acts set t request came result mid new notes s.history.acts comes.acts;
       told = subst (λ (h : History). TakesOutput s.history.acts h.acts (g.S.Sink.taken c.args.sink.now)
-          (g.S.Sink.taken c.attempt-came.new.sink)) (sym history) serves.told;
+          (g.S.Sink.taken c.attempt-came.new.sink) (g.S.Sink.takes c.args.sink.now)
+          (g.S.Sink.takes c.attempt-came.new.sink)) (sym history) serves.told;
       share = λ act is. serves.share act (sym acts ∙ is);
       sink = λ un. c.attempt-came.ensures.sink (came-unanswered set t request came result mid new notes un);
       silent = c.attempt-came.ensures.silent;

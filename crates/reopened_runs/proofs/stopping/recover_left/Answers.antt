@@ -26,6 +26,7 @@ returns-in-Ok c = record {
         (attached_stands (told_of image) tt (first_word (trace_of image)) (fresh_reads image c.requires.untouched) graph stands before
         opened.1.attached);
     refused = λ graph stands. tt;
+    bad = tt;
     cause = λ fails. absurd (never_failed c.give_back-graph.result.0 fails);
   };
 }
@@ -39,6 +40,7 @@ returns-in-Err c = record {
         let image = c.args.left in
         not_bad (told_of image) tt (first_word (trace_of image)) (fresh_reads image c.requires.untouched) graph stands c.in-Err.why
         c.in-Err.ensures.bad;
+    bad = c.in-Err.ensures.bad;
     cause = failed_cause c.in-Err.why _ _ c.in-Err.ensures.cause;
   };
 }

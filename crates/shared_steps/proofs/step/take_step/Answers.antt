@@ -7,7 +7,7 @@ use Rattle.shared_objects.specs.Worlds.{world_of}
 use Rattle.step_forms.proofs.Going.{asked, same_goes}
 use Rattle.step_forms.proofs.Becoming.{quiet_becomes}
 use Rattle.shared_steps.proofs.Asking.{asks_is, class_there, field_there, held_kind, broken_goes, step_raise, quiet_output}
-use Rattle.shared_steps.proofs.Asking.{quiet_faults, output_is, faults_are, share_is, given_none, given_some, may_is}
+use Rattle.shared_steps.proofs.Asking.{quiet_behind, quiet_faults, behind_is, output_is, faults_are, share_is, given_none, given_some, may_is}
 use Rattle.shared_steps.specs.Output.{IsSilent}
 use Rattle.shared_steps.proofs.step.take_step.Goals as goal
 
@@ -25,6 +25,9 @@ returns-in-Pause-clause-step g c =
 pub returns-in-Pause-clause-output : goal.returns-in-Pause-clause-output
 returns-in-Pause-clause-output g c = quiet_output _ _ _ _ c.in-Pause.is refl
 
+pub returns-in-Pause-clause-behind : goal.returns-in-Pause-clause-behind
+returns-in-Pause-clause-behind g c = quiet_behind _ _ _ _ c.in-Pause.is refl
+
 pub returns-in-Pause-clause-cause : goal.returns-in-Pause-clause-cause
 returns-in-Pause-clause-cause g c = quiet_faults _ _ _ _ c.in-Pause.is refl
 
@@ -37,6 +40,9 @@ returns-in-Broken-clause-step g c =
 
 pub returns-in-Broken-clause-output : goal.returns-in-Broken-clause-output
 returns-in-Broken-clause-output g c = quiet_output _ _ _ _ c.in-Broken.is refl
+
+pub returns-in-Broken-clause-behind : goal.returns-in-Broken-clause-behind
+returns-in-Broken-clause-behind g c = quiet_behind _ _ _ _ c.in-Broken.is refl
 
 pub returns-in-Broken-clause-cause : goal.returns-in-Broken-clause-cause
 returns-in-Broken-clause-cause g c = quiet_faults _ _ _ _ c.in-Broken.is refl
@@ -61,6 +67,9 @@ returns-in-New-clause-step g c =
 
 pub returns-in-New-clause-output : goal.returns-in-New-clause-output
 returns-in-New-clause-output g c = quiet_output _ _ _ _ c.in-New.is refl
+
+pub returns-in-New-clause-behind : goal.returns-in-New-clause-behind
+returns-in-New-clause-behind g c = quiet_behind _ _ _ _ c.in-New.is refl
 
 pub returns-in-New-clause-cause : goal.returns-in-New-clause-cause
 returns-in-New-clause-cause g c = quiet_faults _ _ _ _ c.in-New.is refl
@@ -87,6 +96,9 @@ returns-in-NewArray-clause-step g c =
 pub returns-in-NewArray-clause-output : goal.returns-in-NewArray-clause-output
 returns-in-NewArray-clause-output g c = quiet_output _ _ _ _ c.in-NewArray.is refl
 
+pub returns-in-NewArray-clause-behind : goal.returns-in-NewArray-clause-behind
+returns-in-NewArray-clause-behind g c = quiet_behind _ _ _ _ c.in-NewArray.is refl
+
 pub returns-in-NewArray-clause-cause : goal.returns-in-NewArray-clause-cause
 returns-in-NewArray-clause-cause g c = quiet_faults _ _ _ _ c.in-NewArray.is refl
 
@@ -99,6 +111,9 @@ returns-in-NewText-clause-step g c =
 
 pub returns-in-NewText-clause-output : goal.returns-in-NewText-clause-output
 returns-in-NewText-clause-output g c = quiet_output _ _ _ _ c.in-NewText.is refl
+
+pub returns-in-NewText-clause-behind : goal.returns-in-NewText-clause-behind
+returns-in-NewText-clause-behind g c = quiet_behind _ _ _ _ c.in-NewText.is refl
 
 pub returns-in-NewText-clause-cause : goal.returns-in-NewText-clause-cause
 returns-in-NewText-clause-cause g c = quiet_faults _ _ _ _ c.in-NewText.is refl
@@ -136,6 +151,9 @@ returns-in-GetStatic-clause-step g c =
 
 pub returns-in-GetStatic-clause-output : goal.returns-in-GetStatic-clause-output
 returns-in-GetStatic-clause-output g c = quiet_output _ _ _ _ c.in-GetStatic.is refl
+
+pub returns-in-GetStatic-clause-behind : goal.returns-in-GetStatic-clause-behind
+returns-in-GetStatic-clause-behind g c = quiet_behind _ _ _ _ c.in-GetStatic.is refl
 
 pub returns-in-GetStatic-clause-cause : goal.returns-in-GetStatic-clause-cause
 returns-in-GetStatic-clause-cause g c = quiet_faults _ _ _ _ c.in-GetStatic.is refl
@@ -193,6 +211,9 @@ returns-in-PutStatic-clause-step g c =
 pub returns-in-PutStatic-clause-output : goal.returns-in-PutStatic-clause-output
 returns-in-PutStatic-clause-output g c = quiet_output _ _ _ _ c.in-PutStatic.is refl
 
+pub returns-in-PutStatic-clause-behind : goal.returns-in-PutStatic-clause-behind
+returns-in-PutStatic-clause-behind g c = quiet_behind _ _ _ _ c.in-PutStatic.is refl
+
 pub returns-in-PutStatic-clause-cause : goal.returns-in-PutStatic-clause-cause
 returns-in-PutStatic-clause-cause g c = quiet_faults _ _ _ _ c.in-PutStatic.is refl
 
@@ -235,6 +256,9 @@ returns-in-GetField-clause-step g c =
 
 pub returns-in-GetField-clause-output : goal.returns-in-GetField-clause-output
 returns-in-GetField-clause-output g c = quiet_output _ _ _ _ c.in-GetField.is refl
+
+pub returns-in-GetField-clause-behind : goal.returns-in-GetField-clause-behind
+returns-in-GetField-clause-behind g c = quiet_behind _ _ _ _ c.in-GetField.is refl
 
 pub returns-in-GetField-clause-cause : goal.returns-in-GetField-clause-cause
 returns-in-GetField-clause-cause g c = quiet_faults _ _ _ _ c.in-GetField.is refl
@@ -292,6 +316,9 @@ returns-in-PutField-clause-step g c =
 pub returns-in-PutField-clause-output : goal.returns-in-PutField-clause-output
 returns-in-PutField-clause-output g c = quiet_output _ _ _ _ c.in-PutField.is refl
 
+pub returns-in-PutField-clause-behind : goal.returns-in-PutField-clause-behind
+returns-in-PutField-clause-behind g c = quiet_behind _ _ _ _ c.in-PutField.is refl
+
 pub returns-in-PutField-clause-cause : goal.returns-in-PutField-clause-cause
 returns-in-PutField-clause-cause g c = quiet_faults _ _ _ _ c.in-PutField.is refl
 
@@ -328,6 +355,9 @@ returns-in-GetElement-clause-step g c =
 
 pub returns-in-GetElement-clause-output : goal.returns-in-GetElement-clause-output
 returns-in-GetElement-clause-output g c = quiet_output _ _ _ _ c.in-GetElement.is refl
+
+pub returns-in-GetElement-clause-behind : goal.returns-in-GetElement-clause-behind
+returns-in-GetElement-clause-behind g c = quiet_behind _ _ _ _ c.in-GetElement.is refl
 
 pub returns-in-GetElement-clause-cause : goal.returns-in-GetElement-clause-cause
 returns-in-GetElement-clause-cause g c = quiet_faults _ _ _ _ c.in-GetElement.is refl
@@ -379,6 +409,9 @@ returns-in-PutElement-clause-step g c =
 pub returns-in-PutElement-clause-output : goal.returns-in-PutElement-clause-output
 returns-in-PutElement-clause-output g c = quiet_output _ _ _ _ c.in-PutElement.is refl
 
+pub returns-in-PutElement-clause-behind : goal.returns-in-PutElement-clause-behind
+returns-in-PutElement-clause-behind g c = quiet_behind _ _ _ _ c.in-PutElement.is refl
+
 pub returns-in-PutElement-clause-cause : goal.returns-in-PutElement-clause-cause
 returns-in-PutElement-clause-cause g c = quiet_faults _ _ _ _ c.in-PutElement.is refl
 
@@ -403,6 +436,9 @@ returns-in-Length-clause-step g c =
 
 pub returns-in-Length-clause-output : goal.returns-in-Length-clause-output
 returns-in-Length-clause-output g c = quiet_output _ _ _ _ c.in-Length.is refl
+
+pub returns-in-Length-clause-behind : goal.returns-in-Length-clause-behind
+returns-in-Length-clause-behind g c = quiet_behind _ _ _ _ c.in-Length.is refl
 
 pub returns-in-Length-clause-cause : goal.returns-in-Length-clause-cause
 returns-in-Length-clause-cause g c = quiet_faults _ _ _ _ c.in-Length.is refl
@@ -429,6 +465,9 @@ returns-in-ClassOf-clause-step g c =
 pub returns-in-ClassOf-clause-output : goal.returns-in-ClassOf-clause-output
 returns-in-ClassOf-clause-output g c = quiet_output _ _ _ _ c.in-ClassOf.is refl
 
+pub returns-in-ClassOf-clause-behind : goal.returns-in-ClassOf-clause-behind
+returns-in-ClassOf-clause-behind g c = quiet_behind _ _ _ _ c.in-ClassOf.is refl
+
 pub returns-in-ClassOf-clause-cause : goal.returns-in-ClassOf-clause-cause
 returns-in-ClassOf-clause-cause g c = quiet_faults _ _ _ _ c.in-ClassOf.is refl
 
@@ -454,6 +493,9 @@ returns-in-Cast-clause-step g c =
 pub returns-in-Cast-clause-output : goal.returns-in-Cast-clause-output
 returns-in-Cast-clause-output g c = quiet_output _ _ _ _ c.in-Cast.is refl
 
+pub returns-in-Cast-clause-behind : goal.returns-in-Cast-clause-behind
+returns-in-Cast-clause-behind g c = quiet_behind _ _ _ _ c.in-Cast.is refl
+
 pub returns-in-Cast-clause-cause : goal.returns-in-Cast-clause-cause
 returns-in-Cast-clause-cause g c = quiet_faults _ _ _ _ c.in-Cast.is refl
 
@@ -478,6 +520,9 @@ returns-in-IsA-clause-step g c =
 
 pub returns-in-IsA-clause-output : goal.returns-in-IsA-clause-output
 returns-in-IsA-clause-output g c = quiet_output _ _ _ _ c.in-IsA.is refl
+
+pub returns-in-IsA-clause-behind : goal.returns-in-IsA-clause-behind
+returns-in-IsA-clause-behind g c = quiet_behind _ _ _ _ c.in-IsA.is refl
 
 pub returns-in-IsA-clause-cause : goal.returns-in-IsA-clause-cause
 returns-in-IsA-clause-cause g c = quiet_faults _ _ _ _ c.in-IsA.is refl
@@ -516,6 +561,9 @@ returns-in-Same-clause-step g c =
 pub returns-in-Same-clause-output : goal.returns-in-Same-clause-output
 returns-in-Same-clause-output g c = quiet_output _ _ _ _ c.in-Same.is refl
 
+pub returns-in-Same-clause-behind : goal.returns-in-Same-clause-behind
+returns-in-Same-clause-behind g c = quiet_behind _ _ _ _ c.in-Same.is refl
+
 pub returns-in-Same-clause-cause : goal.returns-in-Same-clause-cause
 returns-in-Same-clause-cause g c = quiet_faults _ _ _ _ c.in-Same.is refl
 
@@ -539,6 +587,9 @@ returns-in-Start-clause-step g c =
 
 pub returns-in-Start-clause-output : goal.returns-in-Start-clause-output
 returns-in-Start-clause-output g c = quiet_output _ _ _ _ c.in-Start.is refl
+
+pub returns-in-Start-clause-behind : goal.returns-in-Start-clause-behind
+returns-in-Start-clause-behind g c = quiet_behind _ _ _ _ c.in-Start.is refl
 
 pub returns-in-Start-clause-cause : goal.returns-in-Start-clause-cause
 returns-in-Start-clause-cause g c = quiet_faults _ _ _ _ c.in-Start.is refl
@@ -564,6 +615,9 @@ returns-in-Join-clause-step g c =
 pub returns-in-Join-clause-output : goal.returns-in-Join-clause-output
 returns-in-Join-clause-output g c = quiet_output _ _ _ _ c.in-Join.is refl
 
+pub returns-in-Join-clause-behind : goal.returns-in-Join-clause-behind
+returns-in-Join-clause-behind g c = quiet_behind _ _ _ _ c.in-Join.is refl
+
 pub returns-in-Join-clause-cause : goal.returns-in-Join-clause-cause
 returns-in-Join-clause-cause g c = quiet_faults _ _ _ _ c.in-Join.is refl
 
@@ -581,6 +635,9 @@ returns-in-Init-clause-step g c =
 
 pub returns-in-Init-clause-output : goal.returns-in-Init-clause-output
 returns-in-Init-clause-output g c = quiet_output _ _ _ _ c.in-Init.is refl
+
+pub returns-in-Init-clause-behind : goal.returns-in-Init-clause-behind
+returns-in-Init-clause-behind g c = quiet_behind _ _ _ _ c.in-Init.is refl
 
 pub returns-in-Init-clause-cause : goal.returns-in-Init-clause-cause
 returns-in-Init-clause-cause g c = quiet_faults _ _ _ _ c.in-Init.is refl
@@ -601,6 +658,9 @@ returns-in-InitDone-clause-step g c =
 pub returns-in-InitDone-clause-output : goal.returns-in-InitDone-clause-output
 returns-in-InitDone-clause-output g c = quiet_output _ _ _ _ c.in-InitDone.is refl
 
+pub returns-in-InitDone-clause-behind : goal.returns-in-InitDone-clause-behind
+returns-in-InitDone-clause-behind g c = quiet_behind _ _ _ _ c.in-InitDone.is refl
+
 pub returns-in-InitDone-clause-cause : goal.returns-in-InitDone-clause-cause
 returns-in-InitDone-clause-cause g c = quiet_faults _ _ _ _ c.in-InitDone.is refl
 
@@ -613,6 +673,9 @@ returns-in-Print-clause-step g c =
 
 pub returns-in-Print-clause-output : goal.returns-in-Print-clause-output
 returns-in-Print-clause-output g c = output_is _ _ _ _ _ c.in-Print.is c.print.ensures.told
+
+pub returns-in-Print-clause-behind : goal.returns-in-Print-clause-behind
+returns-in-Print-clause-behind g c = behind_is _ _ _ _ _ c.in-Print.is c.print.ensures.behind
 
 pub returns-in-Print-clause-cause : goal.returns-in-Print-clause-cause
 returns-in-Print-clause-cause g c = faults_are _ _ _ _ _ c.in-Print.is c.print.ensures.cause
@@ -634,6 +697,9 @@ returns-in-Raise-clause-step g c =
 pub returns-in-Raise-clause-output : goal.returns-in-Raise-clause-output
 returns-in-Raise-clause-output g c = quiet_output _ _ _ _ c.in-Raise.is refl
 
+pub returns-in-Raise-clause-behind : goal.returns-in-Raise-clause-behind
+returns-in-Raise-clause-behind g c = quiet_behind _ _ _ _ c.in-Raise.is refl
+
 pub returns-in-Raise-clause-cause : goal.returns-in-Raise-clause-cause
 returns-in-Raise-clause-cause g c = quiet_faults _ _ _ _ c.in-Raise.is refl
 
@@ -653,6 +719,9 @@ returns-in-Begin-clause-step g c =
 pub returns-in-Begin-clause-output : goal.returns-in-Begin-clause-output
 returns-in-Begin-clause-output g c = quiet_output _ _ _ _ c.in-Begin.is refl
 
+pub returns-in-Begin-clause-behind : goal.returns-in-Begin-clause-behind
+returns-in-Begin-clause-behind g c = quiet_behind _ _ _ _ c.in-Begin.is refl
+
 pub returns-in-Begin-clause-cause : goal.returns-in-Begin-clause-cause
 returns-in-Begin-clause-cause g c = quiet_faults _ _ _ _ c.in-Begin.is refl
 
@@ -670,6 +739,9 @@ returns-in-End-clause-step g c =
 
 pub returns-in-End-clause-output : goal.returns-in-End-clause-output
 returns-in-End-clause-output g c = quiet_output _ _ _ _ c.in-End.is refl
+
+pub returns-in-End-clause-behind : goal.returns-in-End-clause-behind
+returns-in-End-clause-behind g c = quiet_behind _ _ _ _ c.in-End.is refl
 
 pub returns-in-End-clause-cause : goal.returns-in-End-clause-cause
 returns-in-End-clause-cause g c = quiet_faults _ _ _ _ c.in-End.is refl
@@ -692,6 +764,9 @@ returns-in-Leave-clause-step g c =
 
 pub returns-in-Leave-clause-output : goal.returns-in-Leave-clause-output
 returns-in-Leave-clause-output g c = quiet_output _ _ _ _ c.in-Leave.is refl
+
+pub returns-in-Leave-clause-behind : goal.returns-in-Leave-clause-behind
+returns-in-Leave-clause-behind g c = quiet_behind _ _ _ _ c.in-Leave.is refl
 
 pub returns-in-Leave-clause-cause : goal.returns-in-Leave-clause-cause
 returns-in-Leave-clause-cause g c = quiet_faults _ _ _ _ c.in-Leave.is refl

@@ -2,7 +2,7 @@ use Rattle.std.proofs.Common.{◌≡◌, ◌⊎◌, suc, ◌+◌, ◌-◌, List,
 use Rattle.std.proofs.Common.{arith, if◌then◌else◌}
 use Rattle.std.specs.Prelude.{All}
 use Rattle.std.specs.Result.{is_ok, is_err}
-use Rattle.class_file.specs.Classes.{CanBeRead}
+use Rattle.class_file.specs.Classes.{CanBeRead, HasAtMost}
 use Rattle.class_file.specs.declared.class.ClassFile.{ClassFile}
 use Rattle.std.proofs.lemmas.List.Elements.{All-push}
 use Rattle.std.proofs.lemmas.Result.{err_from_is_err_and}
@@ -67,6 +67,9 @@ loop-preserved g c =
       readable = subst (λ cs. All CanBeRead cs)
           (sym (pushed c.loop.classes.items c.push.new.self.items c.in_ok-class.class c.push.result c.push.ensures.items (sym c.is_err.ensures.value ∙ c.if-is_err.false)))
           (All-push CanBeRead c.loop.classes.items c.in_ok-class.class c.loop.invariant.readable c.in_ok-class.ensures.readable);
+      small = subst (λ cs. All (HasAtMost 1048576) cs)
+          (sym (pushed c.loop.classes.items c.push.new.self.items c.in_ok-class.class c.push.result c.push.ensures.items (sym c.is_err.ensures.value ∙ c.if-is_err.false)))
+          (All-push (HasAtMost 1048576) c.loop.classes.items c.in_ok-class.class c.loop.invariant.small c.in_ok-class.ensures.small);
       later = omega (arith, c.loop.invariant.later, c.next_file.ensures.later);
     }
 

@@ -10,22 +10,25 @@ step-stepped-requires-clause-ready g c =
     let was = c.self.inside in
     let none = none-of was.over (sym c.is_some.ensures ∙ c.if-is_some.false) in
     let knows = subst (λ (over : Option RunFault). Knows g.J.Naming.entry (held was.run.heap was.run.frames.items
-    (g.W.Watcher.seen was.run.watcher) (g.S.Sink.taken was.run.sink) (g.S.Sink.faults was.run.sink) over)) none c.self.invariant in
+    (g.W.Watcher.seen was.run.watcher) (g.S.Sink.taken was.run.sink) (g.S.Sink.faults was.run.sink) over)
+    (g.S.Sink.takes was.run.sink)) none c.self.invariant in
     ready-now (g.C.Types.facts c.args.set.now) (g.H.Host.setting c.args.host.now) g.J.Naming.entry was.run.heap was.run.frames.items
-    (g.W.Watcher.seen was.run.watcher) (g.S.Sink.taken was.run.sink) (g.S.Sink.faults was.run.sink) knows c.requires.of
+    (g.W.Watcher.seen was.run.watcher) (g.S.Sink.taken was.run.sink) (g.S.Sink.takes was.run.sink)
+    (g.S.Sink.faults was.run.sink) knows c.requires.of
 
 pub fault_of-fault-requires : goal.fault_of-fault-requires
 fault_of-fault-requires g c =
     let was = c.self.inside in
     let none = none-of was.over (sym c.is_some.ensures ∙ c.if-is_some.false) in
     let knows = subst (λ (over : Option RunFault). Knows g.J.Naming.entry (held was.run.heap was.run.frames.items
-    (g.W.Watcher.seen was.run.watcher) (g.S.Sink.taken was.run.sink) (g.S.Sink.faults was.run.sink) over)) none c.self.invariant in
+    (g.W.Watcher.seen was.run.watcher) (g.S.Sink.taken was.run.sink) (g.S.Sink.faults was.run.sink) over)
+    (g.S.Sink.takes was.run.sink)) none c.self.invariant in
     record {
       stuck = noted-waits (g.C.Types.facts c.args.set.now) (g.H.Host.setting c.args.host.now) c.args.t c.in-Over.halt
           c.step-stepped.result was.run.heap c.step-stepped.new.run.heap was.run.frames.items c.step-stepped.new.run.frames.items
           (ready-now (g.C.Types.facts c.args.set.now) (g.H.Host.setting c.args.host.now) g.J.Naming.entry was.run.heap
-          was.run.frames.items (g.W.Watcher.seen was.run.watcher) (g.S.Sink.taken was.run.sink) (g.S.Sink.faults was.run.sink)
-          knows c.requires.of) c.step-stepped.ensures.goes c.in-Over.is;
+          was.run.frames.items (g.W.Watcher.seen was.run.watcher) (g.S.Sink.taken was.run.sink)
+          (g.S.Sink.takes was.run.sink) (g.S.Sink.faults was.run.sink) knows c.requires.of) c.step-stepped.ensures.goes c.in-Over.is;
     }
 
 pub invariant_of-self : goal.invariant_of-self
@@ -34,11 +37,12 @@ invariant_of-self g c =
     let run = c.step-stepped.new.run in
     let none = none-of was.over (sym c.is_some.ensures ∙ c.if-is_some.false) in
     let knows = subst (λ (over : Option RunFault). Knows g.J.Naming.entry (held was.run.heap was.run.frames.items
-    (g.W.Watcher.seen was.run.watcher) (g.S.Sink.taken was.run.sink) (g.S.Sink.faults was.run.sink) over)) none c.self.invariant in
+    (g.W.Watcher.seen was.run.watcher) (g.S.Sink.taken was.run.sink) (g.S.Sink.faults was.run.sink) over)
+    (g.S.Sink.takes was.run.sink)) none c.self.invariant in
     steps-so (g.C.Types.facts c.args.set.now) (g.H.Host.setting c.args.host.now) g.J.Naming.entry c.args.t c.step-stepped.result
     was.run.heap run.heap was.run.frames.items run.frames.items (g.W.Watcher.seen was.run.watcher) (g.W.Watcher.seen run.watcher)
-    (g.S.Sink.taken was.run.sink) (g.S.Sink.taken run.sink) (g.S.Sink.faults was.run.sink) (g.S.Sink.faults run.sink) knows
-    c.requires.of c.step-stepped.ensures.goes c.step-stepped.ensures.told c.step-stepped.ensures.cause (Some c.fault_of-fault.result)
+    (g.S.Sink.taken was.run.sink) (g.S.Sink.taken run.sink) (g.S.Sink.takes was.run.sink) (g.S.Sink.takes run.sink) (g.S.Sink.faults was.run.sink) (g.S.Sink.faults run.sink) knows
+    c.requires.of c.step-stepped.ensures.goes c.step-stepped.ensures.told c.step-stepped.ensures.shares c.step-stepped.ensures.cause (Some c.fault_of-fault.result)
     (ap Some c.fault_of-fault.ensures ∙ sym (ap (fault_of run.heap) c.in-Over.is))
 
 pub invariant_of-self-in_default : goal.invariant_of-self-in_default
@@ -47,9 +51,10 @@ invariant_of-self-in_default g c =
     let run = c.step-stepped.new.run in
     let none = none-of was.over (sym c.is_some.ensures ∙ c.if-is_some.false) in
     let knows = subst (λ (over : Option RunFault). Knows g.J.Naming.entry (held was.run.heap was.run.frames.items
-    (g.W.Watcher.seen was.run.watcher) (g.S.Sink.taken was.run.sink) (g.S.Sink.faults was.run.sink) over)) none c.self.invariant in
+    (g.W.Watcher.seen was.run.watcher) (g.S.Sink.taken was.run.sink) (g.S.Sink.faults was.run.sink) over)
+    (g.S.Sink.takes was.run.sink)) none c.self.invariant in
     steps-so (g.C.Types.facts c.args.set.now) (g.H.Host.setting c.args.host.now) g.J.Naming.entry c.args.t c.step-stepped.result
     was.run.heap run.heap was.run.frames.items run.frames.items (g.W.Watcher.seen was.run.watcher) (g.W.Watcher.seen run.watcher)
-    (g.S.Sink.taken was.run.sink) (g.S.Sink.taken run.sink) (g.S.Sink.faults was.run.sink) (g.S.Sink.faults run.sink) knows
-    c.requires.of c.step-stepped.ensures.goes c.step-stepped.ensures.told c.step-stepped.ensures.cause was.over
+    (g.S.Sink.taken was.run.sink) (g.S.Sink.taken run.sink) (g.S.Sink.takes was.run.sink) (g.S.Sink.takes run.sink) (g.S.Sink.faults was.run.sink) (g.S.Sink.faults run.sink) knows
+    c.requires.of c.step-stepped.ensures.goes c.step-stepped.ensures.told c.step-stepped.ensures.shares c.step-stepped.ensures.cause was.over
     (none ∙ sym (no-fault run.heap c.step-stepped.result c.in_default.not-Over))

@@ -1,0 +1,9 @@
+pub mod Adds
+pub mod Closing
+pub mod Ends
+pub mod Entries
+pub mod Hands
+pub mod Held
+pub mod Known
+pub mod Moves
+pub mod Totals

@@ -1,0 +1,5 @@
+pub mod Entries
+pub mod Hands
+pub mod Passes
+pub mod Rules
+pub mod Views

@@ -1,0 +1,157 @@
+// The steps of a pass on the words and the slot, and how it waits.
+ghost use Rattle.std.specs.Prelude.{◌≡◌, ℕ, ◌%◌, ◌<◌, ◌==◌, [], ◌∷◌, length, true, Some, None, MatchBool};
+ghost use Rattle.turnstile.specs.declared.view.Phase.TheVariants.{Idle, Waiting};
+ghost use Rattle.turnstile.specs.Hands.{times, Agree};
+ghost use Rattle.turnstile.specs.Views.{is_holding, waiting, holding, leaving};
+ghost use Rattle.turnstile.specs.Rules.{Found, Adds};
+
+use crate::kept::Kept;
+use crate::rule::{Draw, Look, Raise};
+use crate::turnstile::Turnstile;
+use crate::view::View;
+use atomic_table::Seat;
+use std::sync::Wait;
+use std::thread;
+
+const TICKET: usize = 0;
+
+const SERVING: usize = 1;
+
+/// How often a pass looks before it sleeps: a hold is short, and to sleep and be woken takes longer than many.
+const LOOKS: u32 = 100;
+
+impl<T: Kept> Turnstile<T> {
+    // Draws a ticket.
+    fn draw(&self, seat: &mut Seat<Option<T>, View<T::Entry, T::Part>>) -> u64
+        requires of { seat.old.table_id ≡ self.now.table.shared.table_id }
+        requires idle { seat.old.me.0.phase ≡ Idle }
+        requires some { 0 < length seat.old.me.0.hands }
+        ensures of { seat.new.table_id ≡ seat.old.table_id }
+        ensures drawn { (t : ℕ) × (t % 18446744073709551616 ≡ result) × (seat.new.me ≡ (waiting seat.old.me.0 t, seat.old.me.1)) }
+    {
+        self.table.shared.fetch_add::<Draw>(seat, TICKET, 1)
+    }
+
+    // The ticket that is served. Where it is the pass's, the pass holds the value from now on.
+    fn look(&self, seat: &mut Seat<Option<T>, View<T::Entry, T::Part>>) -> u64
+        requires of { seat.old.table_id ≡ self.now.table.shared.table_id }
+        requires waits { seat.old.me.0.phase ≡ Waiting }
+        ensures of { seat.new.table_id ≡ seat.old.table_id }
+        ensures looked { MatchBool (result == seat.old.me.0.ticket % 18446744073709551616)
+            (Found T.worker T.entries T.parts seat.old.me seat.new.me) (seat.new.me ≡ seat.old.me) }
+    {
+        self.table.shared.load::<Look>(seat, SERVING)
+    }
+
+    // Whether the ticket is served within some looks.
+    fn looks(&self, seat: &mut Seat<Option<T>, View<T::Entry, T::Part>>, ticket: u64) -> bool
+        requires of { seat.old.table_id ≡ self.now.table.shared.table_id }
+        requires waits { seat.old.me.0.phase ≡ Waiting }
+        requires ticket { seat.old.me.0.ticket % 18446744073709551616 ≡ ticket }
+        ensures of { seat.new.table_id ≡ seat.old.table_id }
+        ensures found { MatchBool result
+            (Found T.worker T.entries T.parts seat.old.me seat.new.me) (seat.new.me ≡ seat.old.me) }
+    {
+        for _ in 0..LOOKS {
+            let serving = self.look(seat);
+            if serving == ticket {
+                return true;
+            }
+            thread::yield_now();
+        }
+        false
+    }
+
+    // Sleeps until the ticket is served.
+    fn sleeps<R: Wait>(
+        &self,
+        rt: &R,
+        seat: &mut Seat<Option<T>, View<T::Entry, T::Part>>,
+        ticket: u64,
+    )
+        requires of { seat.old.table_id ≡ self.now.table.shared.table_id }
+        requires waits { seat.old.me.0.phase ≡ Waiting }
+        requires ticket { seat.old.me.0.ticket % 18446744073709551616 ≡ ticket }
+        ensures of { seat.new.table_id ≡ seat.old.table_id }
+        ensures found { Found T.worker T.entries T.parts seat.old.me seat.new.me }
+    {
+        for _ in rt.forever() {
+            let serving = self.look(seat);
+            if serving == ticket {
+                return;
+            }
+            self.table
+                .shared
+                .park(rt, SERVING, (serving & 0xffff_ffff) as u32);
+        }
+        unreachable!()
+    }
+
+    // Waits until the ticket is served.
+    fn wait_turn<R: Wait>(
+        &self,
+        rt: &R,
+        seat: &mut Seat<Option<T>, View<T::Entry, T::Part>>,
+        ticket: u64,
+    )
+        requires of { seat.old.table_id ≡ self.now.table.shared.table_id }
+        requires waits { seat.old.me.0.phase ≡ Waiting }
+        requires ticket { seat.old.me.0.ticket % 18446744073709551616 ≡ ticket }
+        ensures of { seat.new.table_id ≡ seat.old.table_id }
+        ensures found { Found T.worker T.entries T.parts seat.old.me seat.new.me }
+    {
+        if !self.looks(seat, ticket) {
+            self.sleeps(rt, seat, ticket);
+        }
+    }
+
+    // Takes the value out of the slot.
+    fn take(&self, seat: &mut Seat<Option<T>, View<T::Entry, T::Part>>) -> T
+        requires of { seat.old.table_id ≡ self.now.table.shared.table_id }
+        requires has { (x : T) × (seat.old.me.1 ≡ (0, Some x) ∷ []) }
+        ensures of { seat.new.table_id ≡ seat.old.table_id }
+        ensures taken { (seat.old.me.1 ≡ (0, Some result) ∷ []) × (seat.new.me ≡ (seat.old.me.0, (0, None) ∷ [])) }
+    {
+        match self.table.shared.exchange(seat, 0, None) {
+            Some(value) => value,
+            None => unreachable!(),
+        }
+    }
+
+    // Waits for the pass's turn, and takes the value out.
+    pub(crate) fn take_turn<R: Wait>(
+        &self,
+        rt: &R,
+        seat: &mut Seat<Option<T>, View<T::Entry, T::Part>>,
+    ) -> T
+        requires of { seat.old.table_id ≡ self.now.table.shared.table_id }
+        requires idle { seat.old.me.0.phase ≡ Idle }
+        requires some { 0 < length seat.old.me.0.hands }
+        requires empty { seat.old.me.1 ≡ [] }
+        ensures of { seat.new.table_id ≡ seat.old.table_id }
+        ensures holds { (t : ℕ)
+            × (seat.new.me ≡ (holding (waiting seat.old.me.0 t) (T.entries result) (T.parts result), (0, None) ∷ [])) }
+        ensures agree { Agree T.worker seat.old.me.0.hands (T.entries result) (T.parts result) }
+    {
+        let ticket = self.draw(seat);
+        self.wait_turn(rt, seat, ticket);
+        self.take(seat)
+    }
+
+    // Puts the value back, and serves the next ticket.
+    pub(crate) fn end_turn(&self, seat: &mut Seat<Option<T>, View<T::Entry, T::Part>>, value: T)
+        requires of { seat.old.table_id ≡ self.now.table.shared.table_id }
+        requires holds { (is_holding seat.old.me.0.phase ≡ true) × (seat.old.me.1 ≡ (0, None) ∷ []) }
+        requires adds { Adds T.worker seat.old.me.0 (T.entries value) (T.parts value) }
+        ensures of { seat.new.table_id ≡ seat.old.table_id }
+        ensures left { seat.new.me ≡ (leaving T.worker seat.old.me.0 (T.entries value) (T.parts value), []) }
+        ensures agree { Agree T.worker seat.new.me.0.hands (T.entries value) (T.parts value) }
+    {
+        let _nothing = self.table.shared.exchange(seat, 0, Some(value));
+        let served = self.table.shared.fetch_add::<Raise>(seat, SERVING, 1);
+        // One that draws its ticket behind this look finds the next one served, and won't sleep.
+        if self.table.shared.peek(TICKET) != served.wrapping_add(1) {
+            self.table.shared.wake_all(SERVING);
+        }
+    }
+}
