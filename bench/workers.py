@@ -1,11 +1,11 @@
 #!/usr/bin/env python3
-"""What host threads cost: nanoseconds an act with 2, 4 and 64 workers, beside the rotation of one.
+"""What host threads cost and bring: nanoseconds an act with 2, 4 and 64 workers, beside the rotation of one; of Loners, a bytecode.
 
 usage: bench/workers.py [PROGRAM] [--runs N]
 
 PROGRAM is the built program, or the script `autopersist`. With `--workers 1` one host thread passes over all threads of a
-program, without a lock. Fields has one thread; of the others each has four, those of Racers share nothing, and those of
-Turnstile a monitor. The numbers of workers take turns in one run, and the least of each is told. What a run takes that does
+program, without a lock. Fields has one thread; of the others each has four: those of Loners make private instructions alone, those
+of Racers share nothing, and those of Turnstile a monitor. The numbers of workers take turns in one run, and the least of each is told. What a run takes that does
 nothing is left out. The image is a file, and no program of these stores to it.
 """
 import argparse
@@ -14,8 +14,10 @@ import sys
 sys.dont_write_bytecode = True
 from java_runs import TOP, Runtime  # noqa: E402
 
-# How many acts each program has, by its loops, but for a few.
+# How many acts each program has, by its loops, but for a few; Loners, bytecodes.
 PROGRAMS = {
+    # fifteen a turn
+    "Loners": 4 * 15 * 6_700_000,
     # two reads, a store, a read and a read of `next` a turn
     "Fields": 5 * 180_000,
     # two reads and two stores a turn
@@ -40,14 +42,14 @@ def main():
     runtime = Runtime(words.program)
     empty = min(once(runtime, "Nothing", 1) for _ in range(words.runs))
     print(f"a run that does nothing: {1e3 * empty:.0f} ms")
-    print(f"{'':10} {'acts':>8}" + "".join(f" {f'{w} ns':>9}" for w in WORKERS) + "".join(f" {f'{w}/1':>6}" for w in WORKERS[1:]))
+    print(f"{'':10} {'units':>11}" + "".join(f" {f'{w} ns':>9}" for w in WORKERS) + "".join(f" {f'{w}/1':>6}" for w in WORKERS[1:]))
     for name, acts in PROGRAMS.items():
         least = {workers: float("inf") for workers in WORKERS}
         for _ in range(words.runs):
             for workers in WORKERS:
                 least[workers] = min(least[workers], once(runtime, name, workers))
         costs = [1e9 * max(least[workers] - empty, 1e-9) / acts for workers in WORKERS]
-        line = f"{name:10} {acts:8,}" + "".join(f" {cost:9.0f}" for cost in costs)
+        line = f"{name:10} {acts:11,}" + "".join(f" {cost:9.2f}" for cost in costs)
         print(line + "".join(f" {cost / costs[0]:6.2f}" for cost in costs[1:]), flush=True)
     return 0
 

@@ -1,6 +1,6 @@
 // Printed bytes in memory.
-ghost use Rattle.std.specs.Prelude.{◌≡◌, ◌⊎◌, ◌<◌, ◌≤◌, ◌-◌, ◌↔◌, [], length, take, IfOk, IfSome, OnErr, IsErr, Contains, Ok};
-ghost use Rattle.ap_base.specs.Causes.{HasCause, next_count};
+ghost use Rattle.std.specs.Prelude.{◌≡◌, ◌⊎◌, ◌<◌, ◌≤◌, ◌-◌, ◌↔◌, [], length, take, IfOk, IfSome, OnErr, OnOk, IsErr, Contains, Ok};
+ghost use Rattle.ap_base.specs.Causes.{next_count};
 ghost use Rattle.ap_base.specs.Sinks.{TakesBehind, with_bytes, share_of};
 
 use crate::{Sink, SinkFailed};
@@ -77,7 +77,8 @@ impl Sink for MemorySink {
         ensures stays { OnErr result (TakesBehind (λ k m. Some (share_of self.old k m)) (λ k m. Some (share_of self.new k m)) 0) }
         ensures taken { IfOk result (λ n. Some self.new.taken ≡ with_bytes (Some self.old.taken) (take n piece.now)) }
         ensures none { OnErr result (Some self.new.taken ≡ Some self.old.taken) }
-        ensures cause { HasCause self.old.faults self.new.faults result }
+        ensures unfailed { OnOk result (self.new.faults ≡ self.old.faults) }
+        ensures failed { OnErr result (self.new.faults ≡ next_count self.old.faults) }
 
         ensures fails { IsErr result ↔ (Contains self.old.fails (next_count self.old.calls) ⊎ (self.old.room ≡ 0)) }
         ensures calls { self.new.calls ≡ next_count self.old.calls }

@@ -1,7 +1,7 @@
 // A class of a listing is assembled and put.
-ghost use Rattle.std.specs.Prelude.{◌≡◌, All, Some, IfErr};
+ghost use Rattle.std.specs.Prelude.{◌≡◌, ◌≢◌, All, Some, IfErr};
 ghost use Rattle.std.specs.Option.{option_map};
-ghost use Rattle.ap_base.specs.Causes.{Rose};
+ghost use Rattle.ap_base.specs.Causes.{Rose, next_count};
 ghost use Rattle.class_file.specs.Classes.{CanBeRead};
 ghost use Rattle.source_classes.specs.Names.{slashed};
 ghost use Rattle.parsing.specs.Results.{Gives};
@@ -112,7 +112,8 @@ pub fn put_class_of<C: ClassSource, S: Sink>(
         (S.taken sink.old) (S.taken sink.new) }
     ensures of { IsOfAssembly result }
     ensures source_fault { result ≡ Status.SourceFault → Rose (C.faults source.old) (C.faults source.new) }
-    ensures sink_fault { result ≡ Status.SinkFault → Rose (S.faults sink.old) (S.faults sink.new) }
+    ensures sink_fault { result ≡ Status.SinkFault → S.faults sink.new ≡ next_count (S.faults sink.old) }
+    ensures sink_spared { result ≢ Status.SinkFault → S.faults sink.new ≡ S.faults sink.old }
 {
     let file = match source.next(alloc) {
         Ok(file) => file,

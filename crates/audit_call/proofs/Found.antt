@@ -1,7 +1,7 @@
 -- An image that was found for a class set, and is given back: a run of the set can begin with its graph.
 use Rattle.std.proofs.Common.{◌≡◌, ℕ, true, List, ◌++◌, slice_index_or, refl, sym, ap, ◌∙◌, subst, arith}
 use Rattle.std.proofs.Common.{length, drop}
-use Rattle.std.specs.Prelude.{Contains}
+use Rattle.std.specs.Prelude.{All, Contains}
 use Rattle.std.proofs.lemmas.List.{length-map}
 use Rattle.graph_model.specs.declared.types.Graph.{Graph}
 use Rattle.graph_model.specs.declared.types.NamedValue.{NamedValue}
@@ -13,6 +13,8 @@ use Rattle.image_meaning.specs.Appending.{with_all_too}
 use Rattle.image_meaning.specs.Directories.{AreEntries, Directory, no_entries, with_all}
 use Rattle.image_meaning.specs.Entries.{DirectoryEntry, is_array_name}
 use Rattle.plain_model.specs.First.{IsOpening}
+use Rattle.class_file.specs.declared.class.ClassFile.{ClassFile}
+use Rattle.class_file.specs.Classes.{HasAtMost}
 use Rattle.class_set.specs.Facts.{facts_of}
 use Rattle.class_set.specs.Linked.{Linked, names_of}
 use Rattle.class_set.specs.Sets.{made_of}
@@ -106,6 +108,12 @@ module _ (start : Told) (old set : Linked) (m : Memory) (directory : Kept) (line
   still_opens opening opens =
       subst (λ (s : Linked). IsOpening (facts_of s) opening) (sym is.fitted.set_is)
       (opens_still old is.found.shapes opening opens)
+
+  -- the files are the same
+  pub still_small : All (HasAtMost 1048576) old.files → All (HasAtMost 1048576) set.files
+  still_small small =
+      subst (λ (files : List ClassFile). All (HasAtMost 1048576) files)
+      (sym (ap (λ (s : Linked). s.files) is.fitted.set_is ∙ arrays_files old is.found.shapes)) small
 
   -- it is given back as its recovery left it
   abbrev pub unbegun : (after : Told) → after.size ≡ m.size → after ≡ m.image → IsUnbegun start after old set

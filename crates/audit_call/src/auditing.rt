@@ -1,7 +1,8 @@
 // The audit of a saved run, from the files of its classes on.
-ghost use Rattle.std.specs.Prelude.{◌≡◌, ◌≢◌, ◌⊎◌, List, [], Some, Ok, Err, IfOk, IfErr, OnOk, IsOk, IsErrOf};
-ghost use Rattle.ap_base.specs.Causes.{Rose};
+ghost use Rattle.std.specs.Prelude.{◌≡◌, ◌≢◌, ◌⊎◌, All, List, [], Some, Ok, Err, IfOk, IfErr, OnOk, IsOk, IsErrOf};
+ghost use Rattle.ap_base.specs.Causes.{Rose, next_count};
 ghost use Rattle.ap_base.specs.declared.source.NamedBytes.{NamedBytes as File};
+ghost use Rattle.class_file.specs.Classes.{HasAtMost};
 ghost use Rattle.source_classes.specs.Files.{classes_among};
 ghost use Rattle.source_classes.specs.Names.{slashed};
 ghost use Rattle.source_classes.specs.Reading.{HasNoCause, IsLeft};
@@ -32,6 +33,7 @@ pub struct Audited<C, R, I, J, S> {
 /// The class set of the source's files.
 fn read_set<C: ClassSource>(alloc: Global, source: &mut C) -> Result<ClassSet, Status>
     ensures links { IfOk result (λ set. SourceLinksTo (C.left source.old) (Ok set)) }
+    ensures small { IfOk result (λ set. All (HasAtMost 1048576) set.files) }
     ensures refused { IfErr result (λ s. SourceLinksTo (C.left source.old) (Err s) ⊎ HasNoCause s) }
     ensures whole { OnOk result ((files : List File) → C.left source.old ≡ Some files
         → IsOk (classes_among files) × (C.left source.new ≡ Some [])) }
@@ -56,6 +58,7 @@ fn judge_set<R: ClassSource, I: Image, J: Image, S: Sink>(
     after: J,
     sink: &mut S,
 ) -> Judged<I, J>
+    requires small { All (HasAtMost 1048576) set.files }
     ensures ends { audits.SetEnds set (slashed class.now)
         (audits.images (I.told before) (J.told after)) (audits.images (I.told result.before) (J.told result.after))
         (audits.outside (R.left records.old) (R.faults records.old) (S.taken sink.old))
@@ -66,7 +69,8 @@ fn judge_set<R: ClassSource, I: Image, J: Image, S: Sink>(
     ensures image_fault { result.status ≡ Status.ImageFault
         → Rose (I.faults before) (I.faults result.before) ⊎ Rose (J.faults after) (J.faults result.after) }
     ensures source_fault { result.status ≡ Status.SourceFault → Rose (R.faults records.old) (R.faults records.new) }
-    ensures sink_fault { result.status ≡ Status.SinkFault → Rose (S.faults sink.old) (S.faults sink.new) }
+    ensures sink_fault { result.status ≡ Status.SinkFault → S.faults sink.new ≡ next_count (S.faults sink.old) }
+    ensures sink_spared { result.status ≢ Status.SinkFault → S.faults sink.new ≡ S.faults sink.old }
 {
     match read_records(alloc, records) {
         Ok(read) => judge_images(alloc, set, class, &read, before, after, sink),
@@ -90,7 +94,7 @@ fn judge_set<R: ClassSource, I: Image, J: Image, S: Sink>(
 /// `read_files` and `link` answer; `SourceFault` of the records, and `Full` exactly where their source gave a front of one alone;
 /// `ImageFault` only where an image's count of faults rose, `BadImage`, `ShapeChanged` and `Full` of the directory exactly as `find_for`
 /// answers, for `before` first; `LinkFault` exactly where the class or its `main` is missing; `BadHistory` exactly where the history is
-/// bad; `Refuted` exactly where the verdict isn't Yes; `SinkFault` only where the sink's count of faults rose, once a front of the verdict
+/// bad; `Refuted` exactly where the verdict isn't Yes; `SinkFault` exactly where the sink failed, once, behind a front of the verdict
 /// was put. `OutOfMemory` may stand in place of any answer. Nothing is put but a verdict.
 pub fn audit_files<C: ClassSource, R: ClassSource, I: Image, J: Image, S: Sink>(
     alloc: Global,
@@ -124,7 +128,8 @@ pub fn audit_files<C: ClassSource, R: ClassSource, I: Image, J: Image, S: Sink>(
         → Rose (C.faults source) (C.faults result.source) ⊎ Rose (R.faults records) (R.faults result.records) }
     ensures image_fault { result.status ≡ Status.ImageFault
         → Rose (I.faults before) (I.faults result.before) ⊎ Rose (J.faults after) (J.faults result.after) }
-    ensures sink_fault { result.status ≡ Status.SinkFault → Rose (S.faults sink) (S.faults result.sink) }
+    ensures sink_fault { result.status ≡ Status.SinkFault → S.faults result.sink ≡ next_count (S.faults sink) }
+    ensures sink_spared { result.status ≢ Status.SinkFault → S.faults result.sink ≡ S.faults sink }
 {
     match read_set(alloc, &mut source) {
         Ok(set) => {

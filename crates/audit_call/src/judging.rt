@@ -1,7 +1,8 @@
 // The two images of a run are opened for its class set, one after the other, and its records are judged between their graphs.
-ghost use Rattle.std.specs.Prelude.{◌≡◌, ◌≢◌, ◌⊎◌, IfOk, Ok};
-ghost use Rattle.ap_base.specs.Causes.{Rose};
+ghost use Rattle.std.specs.Prelude.{◌≡◌, ◌≢◌, ◌⊎◌, All, IfOk, Ok};
+ghost use Rattle.ap_base.specs.Causes.{Rose, next_count};
 ghost use Rattle.line_image.specs.Told.{Told};
+ghost use Rattle.class_file.specs.Classes.{HasAtMost};
 ghost use Rattle.class_set.specs.Facts.{facts_of};
 ghost use Rattle.class_set.specs.Linked.{Linked};
 ghost use Rattle.plain_model.specs.First.{IsOpening};
@@ -18,7 +19,9 @@ ghost use Rattle.audit_call.specs.Late.{IsLate};
 
 use crate::records::{Records, put_verdict};
 use ap_base::Sink;
-use audit_runs::{Main, NoMain, Verdict, audit_run, find_main};
+use audit_runs::{
+    DecodeRefusal, Main, NoMain, Verdict, accepted_sets_have_room, audit_run, find_main,
+};
 use class_set::ClassSet;
 use history_file::{HistoryFault, read_history};
 use line_image::Image;
@@ -39,7 +42,7 @@ fn kind_of(none: NoMain) -> LinkKind
     }
 }
 
-/// The verdict of a history and an output between two graphs.
+/// The verdict of a history and an output between two graphs. A set whose files have so few bytes isn't too large to be decoded.
 fn verdict_of(
     alloc: Global,
     set: &ClassSet,
@@ -50,6 +53,7 @@ fn verdict_of(
     keep: u64,
     output: &[u8],
 ) -> Result<Verdict, AllocError>
+    requires small { All (HasAtMost 1048576) set.now.files }
     requires opening { IsOpening (facts_of set.now) opening }
     requires main { IsMainOf set.now main.now.class main.now }
     ensures right { IfOk result (IsRight set.now main.now opening acts.now.acts keep output.now after) }
@@ -57,7 +61,13 @@ fn verdict_of(
 {
     let opening = opening.into_graph(alloc)?;
     let after = after.into_graph(alloc)?;
-    audit_run(alloc, set, main.class, &opening, acts, keep, output, &after)
+    accepted_sets_have_room();
+    let _count = set.file_count();
+    match audit_run(alloc, set, main.class, &opening, acts, keep, output, &after) {
+        Ok(verdict) => Ok(verdict),
+        Err(DecodeRefusal::TooLarge) => unreachable!(),
+        Err(DecodeRefusal::OutOfMemory) => Err(AllocError),
+    }
 }
 
 /// Judges a history and an output between two graphs, and puts the verdict.
@@ -70,6 +80,7 @@ fn judge_history<S: Sink>(
     records: &Records,
     sink: &mut S,
 ) -> Status
+    requires small { All (HasAtMost 1048576) set.now.files }
     requires opening { IsOpening (facts_of set.now) opening }
     requires main { IsMainOf set.now main.now.class main.now }
     ensures ends { judged.IsUnjudged records.now.history result (S.taken sink.old) (S.taken sink.new)
@@ -78,7 +89,8 @@ fn judge_history<S: Sink>(
     ensures late { IsLate result }
     ensures no_image { result ≢ Status.ImageFault }
     ensures no_source { result ≢ Status.SourceFault }
-    ensures sink_fault { result ≡ Status.SinkFault → Rose (S.faults sink.old) (S.faults sink.new) }
+    ensures sink_fault { result ≡ Status.SinkFault → S.faults sink.new ≡ next_count (S.faults sink.old) }
+    ensures sink_spared { result ≢ Status.SinkFault → S.faults sink.new ≡ S.faults sink.old }
 {
     let (acts, keep) = match read_history(alloc, records.history.as_slice()) {
         Ok(told) => told,
@@ -117,12 +129,14 @@ fn judge_graphs<S: Sink>(
     records: &Records,
     sink: &mut S,
 ) -> Status
+    requires small { All (HasAtMost 1048576) set.now.files }
     requires opening { IsOpening (facts_of set.now) opening }
     ensures ends { judged.GraphsEnd set.now (slashed class.now) opening after records.now result (S.taken sink.old) (S.taken sink.new) }
     ensures late { IsLate result }
     ensures no_image { result ≢ Status.ImageFault }
     ensures no_source { result ≢ Status.SourceFault }
-    ensures sink_fault { result ≡ Status.SinkFault → Rose (S.faults sink.old) (S.faults sink.new) }
+    ensures sink_fault { result ≡ Status.SinkFault → S.faults sink.new ≡ next_count (S.faults sink.old) }
+    ensures sink_spared { result ≢ Status.SinkFault → S.faults sink.new ≡ S.faults sink.old }
 {
     let Ok(name) = internal_name(alloc, class) else {
         return Status::OutOfMemory;
@@ -195,6 +209,7 @@ fn judge_after<J: Image, S: Sink>(
     after: J,
     sink: &mut S,
 ) -> AfterJudged<J>
+    requires small { All (HasAtMost 1048576) set.old.files }
     requires opening { IsOpening (facts_of set.old) opening }
     ensures ends { audits.AfterEnds set.old (slashed class.now) opening records.now (J.told after) (J.told result.image)
         result.status (S.taken sink.old) (S.taken sink.new) }
@@ -202,7 +217,8 @@ fn judge_after<J: Image, S: Sink>(
     ensures late { IsLate result.status }
     ensures image_fault { result.status ≡ Status.ImageFault → Rose (J.faults after) (J.faults result.image) }
     ensures no_source { result.status ≢ Status.SourceFault }
-    ensures sink_fault { result.status ≡ Status.SinkFault → Rose (S.faults sink.old) (S.faults sink.new) }
+    ensures sink_fault { result.status ≡ Status.SinkFault → S.faults sink.new ≡ next_count (S.faults sink.old) }
+    ensures sink_spared { result.status ≢ Status.SinkFault → S.faults sink.new ≡ S.faults sink.old }
 {
     match find_for(alloc, set, after) {
         Ok(found) => {
@@ -227,6 +243,7 @@ pub(crate) fn judge_images<I: Image, J: Image, S: Sink>(
     after: J,
     sink: &mut S,
 ) -> Judged<I, J>
+    requires small { All (HasAtMost 1048576) set.files }
     ensures ends { audits.ImagesEnd set (slashed class.now) records.now
         (audits.images (I.told before) (J.told after)) (audits.images (I.told result.before) (J.told result.after))
         result.status (S.taken sink.old) (S.taken sink.new) }
@@ -236,7 +253,8 @@ pub(crate) fn judge_images<I: Image, J: Image, S: Sink>(
     ensures image_fault { result.status ≡ Status.ImageFault
         → Rose (I.faults before) (I.faults result.before) ⊎ Rose (J.faults after) (J.faults result.after) }
     ensures no_source { result.status ≢ Status.SourceFault }
-    ensures sink_fault { result.status ≡ Status.SinkFault → Rose (S.faults sink.old) (S.faults sink.new) }
+    ensures sink_fault { result.status ≡ Status.SinkFault → S.faults sink.new ≡ next_count (S.faults sink.old) }
+    ensures sink_spared { result.status ≢ Status.SinkFault → S.faults sink.new ≡ S.faults sink.old }
 {
     match find_for(alloc, &mut set, before) {
         Ok(found) => {

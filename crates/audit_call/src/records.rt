@@ -1,6 +1,6 @@
 // The records of a run, and the line of the verdict about it.
 ghost use Rattle.std.specs.Prelude.{◌≡◌, ◌≢◌, ◌⊎◌, ◌≤◌, ◌++◌, decimal, codes, IfOk, IfErr, OnOk, IsErrOf, Ok, Err};
-ghost use Rattle.ap_base.specs.Causes.{Rose};
+ghost use Rattle.ap_base.specs.Causes.{Rose, next_count};
 ghost use Rattle.audit_call.specs.Late.{IsLate};
 ghost use Rattle.audit_call.specs.Printing as printed;
 ghost use Rattle.audit_call.specs.Records as recorded;
@@ -125,14 +125,15 @@ fn verdict_line(alloc: Global, verdict: Verdict) -> Result<Vec<u8>, AllocError>
 ///
 /// # Errors
 ///
-/// `SinkFault` only where the sink's count of faults rose; a front of the line was put then. `OutOfMemory` with nothing put.
+/// `SinkFault` exactly where the sink failed, once; a front of the line was put then. `OutOfMemory` with nothing put.
 pub(crate) fn put_verdict<S: Sink>(alloc: Global, verdict: Verdict, sink: &mut S) -> Status
     ensures put { printed.IsPut verdict result (S.taken sink.old) (S.taken sink.new)
         ⊎ ((result ≡ Status.OutOfMemory) × (S.taken sink.new ≡ S.taken sink.old)) }
     ensures late { IsLate result }
     ensures no_image { result ≢ Status.ImageFault }
     ensures no_source { result ≢ Status.SourceFault }
-    ensures sink_fault { result ≡ Status.SinkFault → Rose (S.faults sink.old) (S.faults sink.new) }
+    ensures sink_fault { result ≡ Status.SinkFault → S.faults sink.new ≡ next_count (S.faults sink.old) }
+    ensures sink_spared { result ≢ Status.SinkFault → S.faults sink.new ≡ S.faults sink.old }
 {
     let Ok(line) = verdict_line(alloc, verdict) else {
         return Status::OutOfMemory;

@@ -1,6 +1,6 @@
 -- Verdicts by what was followed and what is left.
 use Rattle.std.proofs.Common.{◌≡◌, ◌≢◌, ℕ, List, length, refl, ap, sym, ◌∙◌, subst}
-use Rattle.std.specs.Prelude.{Result, Ok, Err, IfOk, Option, Some, None, IfSome}
+use Rattle.std.specs.Prelude.{Result, Ok, IfOk, Option, Some, None, IfSome}
 use Rattle.run_types.specs.declared.limits.Limits.{Limits}
 use Rattle.graph_model.specs.declared.types.Graph.{Graph}
 use Rattle.run_history.specs.Recorded.{Recorded}
@@ -37,12 +37,6 @@ module _ (set : Linked) (main : Main) (opening : Graph) (limits : Limits) (acts 
   right-end (Act n) run left = absurd left
   right-end Output run left = (run, left)
   right-end Image run left = (run, left.0, left.1)
-
-  pub right-ends : {E : Type 0} (result : Result Verdict E) → IsRun (launch_of set main opening limits) acts
-      → IfOk result (IsLeft (first_known (facts_of set) opening) acts keep output after)
-      → IfOk result (IsRight set main opening acts keep output after)
-  right-ends (Ok v) run left = right-end v run left
-  right-ends (Err e) run left = tt
 
   pub right-stop : {E : Type 0} (result : Result (Option ℕ) E) (n : ℕ) → result ≡ Ok (Some n)
       → IfOk result (λ stop. IfSome stop (StopsAt (launch_of set main opening limits) acts))

@@ -1,6 +1,7 @@
 // The audit of a history.
-ghost use Rattle.std.specs.Prelude.{◌≡◌, ◌<◌, ◌^◌, All, IfOk, IsTrue, Ok, length};
+ghost use Rattle.std.specs.Prelude.{◌≡◌, ◌<◌, ◌^◌, All, IfOk, IsErrOf, IsTrue, Ok, length};
 ghost use Rattle.graph_model.specs.declared.types.Node.{Node as NodeOf};
+ghost use Rattle.class_code.specs.Sizes.{IsTooLarge};
 ghost use Rattle.class_set.specs.Facts.{facts_of};
 ghost use Rattle.plain_model.specs.First.{IsOpening};
 ghost use Rattle.plain_model.specs.Runs.{IsAllowed};
@@ -12,11 +13,12 @@ use crate::beginning::begin;
 use crate::endings::judge_end;
 use crate::mains::main_from;
 use audit_verdicts::Verdict;
+use class_code::DecodeRefusal;
 use class_set::ClassSet;
 use graph_model::{Graph, Node};
 use run_history::Acts;
 use set_types::SetTypes;
-use std::alloc::{AllocError, Global};
+use std::alloc::Global;
 
 /// Whether no node has 2^31 slots or more.
 fn are_short(nodes: &[Node]) -> bool
@@ -34,8 +36,9 @@ fn are_short(nodes: &[Node]) -> bool
 ///
 /// # Errors
 ///
-/// Want of memory, and of numbers: an object of the opening graph has 2^31 slots or more, there are 2^32 - 2 durable roots, or
-/// a monitor would be held beside 4,096 others.
+/// `TooLarge` only where the set's methods have 2^32 instructions or more, with an end for each; want of memory, and of numbers:
+/// an object of the opening graph has 2^31 slots or more, there are 2^32 - 2 durable roots, or a monitor would be held beside
+/// 4,096 others.
 pub fn audit_run(
     alloc: Global,
     set: &ClassSet,
@@ -45,16 +48,17 @@ pub fn audit_run(
     keep: u64,
     output: &[u8],
     after: &Graph,
-) -> Result<Verdict, AllocError>
+) -> Result<Verdict, DecodeRefusal>
     requires opening { IsOpening (facts_of set.now) opening.now }
     requires main { (main : Main) × IsMainOf set.now main_class main }
     ensures right { (main : Main) → IsMainOf set.now main_class main → IfOk result (IsRight set.now main opening.now
         acts.now.acts keep output.now after.now) }
     ensures allowed { result ≡ Ok Yes → IsAllowed (facts_of set.now) opening.now acts.now.acts after.now }
+    ensures too_large { IsErrOf result DecodeRefusal.TooLarge → IsTooLarge set.now }
 {
     let main = main_from(set, main_class);
     if !are_short(opening.nodes.as_slice()) {
-        return Err(AllocError);
+        return Err(DecodeRefusal::OutOfMemory);
     }
     let mut begun = begin(alloc, set, &main, opening)?;
     let types = SetTypes::of(set);
@@ -62,5 +66,5 @@ pub fn audit_run(
         return Ok(Verdict::Act(n));
     }
     let doubts = begun.into_doubts();
-    judge_end(alloc, set, opening, acts, &doubts, keep, output, after)
+    Ok(judge_end(alloc, set, opening, acts, &doubts, keep, output, after)?)
 }

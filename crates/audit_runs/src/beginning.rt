@@ -1,7 +1,8 @@
 // Where an audit begins.
-ghost use Rattle.std.specs.Prelude.{◌≡◌, ◌<◌, ◌^◌, [], All, IfOk, length};
+ghost use Rattle.std.specs.Prelude.{◌≡◌, ◌<◌, ◌^◌, [], All, IfOk, IsErrOf, length};
 ghost use Rattle.graph_model.specs.declared.types.Node.{Node as NodeOf};
 ghost use Rattle.run_types.specs.declared.limits.Limits.{Limits};
+ghost use Rattle.class_code.specs.Sizes.{IsTooLarge};
 ghost use Rattle.class_set.specs.Facts.{facts_of};
 ghost use Rattle.plain_model.specs.Duties.{IsClass};
 ghost use Rattle.plain_model.specs.First.{IsOpening, first_known};
@@ -12,6 +13,7 @@ ghost use Rattle.audit_acts.specs.Keeps.{HasKept};
 
 use audit_keeping::{Keeping, keeping_begins};
 use audit_steps::{Audit, Kept};
+use class_code::DecodeRefusal;
 use class_set::ClassSet;
 use first_heap::first_heap;
 use graph_model::Graph;
@@ -56,18 +58,20 @@ fn first_kept(alloc: Global, set: &ClassSet, opening: &Graph) -> Result<Kept, Al
     })
 }
 
-/// The audit of the runs of a class set from this `main` and opening graph, before the first act.
+/// The audit of the runs of a class set from this `main` and opening graph, before the first act. `TooLarge` only where
+/// the set is too large to be decoded.
 pub(crate) fn begin(
     alloc: Global,
     set: &ClassSet,
     main: &Main,
     opening: &Graph,
-) -> Result<Begun, AllocError>
+) -> Result<Begun, DecodeRefusal>
     requires opening { IsOpening (facts_of set.now) opening.now }
     requires main { IsClass (facts_of set.now) main.now.class }
     requires short { All (λ (n : NodeOf). length n.values < 2 ^ 31) opening.now.nodes }
     ensures at { (limits : Limits) → IfOk result (λ begun.
         IsAt (launch_of set.now main.now opening.now limits) [] (facts_of set.now) (setting_in begun.host) begun.audit) }
+    ensures too_large { IsErrOf result DecodeRefusal.TooLarge → IsTooLarge set.now }
 {
     let kept = first_kept(alloc, set, opening)?;
     let run = begin_plain(alloc, set, main, opening)?;

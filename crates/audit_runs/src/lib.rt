@@ -10,5 +10,6 @@ mod picks;
 
 pub use audit_verdicts::Verdict;
 pub use audits::audit_run;
+pub use class_code::{DecodeRefusal, accepted_sets_have_room};
 pub use picks::words_pick_by_threads;
 pub use program_launch::{Main, NoMain, find_main};

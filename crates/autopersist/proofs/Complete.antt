@@ -1,5 +1,5 @@
 -- Each command does its work, where its inputs are as it asks and nothing outside fails.
-use Rattle.std.proofs.Common.{◌≡◌, ◌⊎◌, inl, inr, ⊎_elim, ℕ, List, [], Option, Some, None, Result, Ok, Err, refl, sym, ap, ◌∙◌, subst}
+use Rattle.std.proofs.Common.{◌≡◌, ◌⊎◌, inl, inr, ⊎_elim, ℕ, List, [], Option, Some, None, Result, Ok, Err, refl, sym, ap, arith, ◌∙◌, subst}
 use Rattle.std.specs.Prelude.{codes}
 use Rattle.ap_base.specs.Sinks.{with_bytes}
 use Rattle.ap_base.specs.Sources.{Gives, first_file}
@@ -246,7 +246,7 @@ pub complete : (words : List (List ℕ)) (before after : Outside) (SameSource Sa
 complete words before after SameSource SameImage how opening acts meets none =
     let source : how ≡ status.SourceFault → ⊥ = λ is. none.source (meets.source_fault is) in
     let image : how ≡ status.ImageFault → ⊥ = λ is. none.image (meets.image_fault is) in
-    let sink : how ≡ status.SinkFault → ⊥ = λ is. none.sink (meets.sink_fault is) in
+    let sink : how ≡ status.SinkFault → ⊥ = λ is. none.sink (let failed = meets.sink_fault is in omega (arith, failed)) in
     ⊎_elim
     (λ (did : Does (of_top (command_of words)) before after SameSource SameImage how opening acts).
     does_all before after how opening acts source image sink meets.no_memory SameSource SameImage (command_of words) did)

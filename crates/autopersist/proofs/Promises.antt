@@ -2,7 +2,7 @@
 use Rattle.std.proofs.Common.{◌≡◌, ◌⊎◌, inl, inr, ℕ, List, [], Option, Some, None, Result, Ok, Err, refl, sym, ap, subst, ◌∙◌}
 use Rattle.std.specs.Prelude.{◌≢◌, OnOk, IfErr}
 use Rattle.std.proofs.lemmas.List.{append-nil}
-use Rattle.ap_base.specs.Causes.{Rose}
+use Rattle.ap_base.specs.Causes.{Rose, next_count}
 use Rattle.ap_base.specs.Sinks.{with_bytes}
 use Rattle.ap_base.specs.declared.source.NamedBytes.{NamedBytes}
 use Rattle.graph_model.specs.declared.types.Graph.{Graph}
@@ -42,10 +42,10 @@ none_taken None = refl
 none_taken (Some taken) = ap (λ (bytes : List ℕ). Some bytes) (sym (append-nil taken))
 
 -- a run without acts puts nothing
-pub nothing_put : (acts : List Recorded) (sees sees' : Option (List Recorded)) (takes takes' : Option (List ℕ))
-    → Tells acts sees sees' takes takes' → acts ≡ [] → takes' ≡ takes
-nothing_put acts sees sees' takes takes' told none =
-    (subst (λ (ran : List Recorded). Tells ran sees sees' takes takes') none told).printed ∙ sym (none_taken takes)
+pub nothing_put : (acts : List Recorded) (sees sees' : Option (List Recorded)) (taken taken' : Option (List ℕ))
+    (takes takes' : ℕ → ℕ → Option ℕ) → Tells acts sees sees' taken taken' takes takes' → acts ≡ [] → taken' ≡ taken
+nothing_put acts sees sees' taken taken' takes takes' told none =
+    (subst (λ (ran : List Recorded). Tells ran sees sees' taken taken' takes takes') none told).printed ∙ sym (none_taken taken)
 
 -- ---- what commands about an image print
 
@@ -118,13 +118,18 @@ report_image (Err SinkFailed) before after cause is = absurd cc
 report_image (Err OutOfMemory) before after cause is = absurd cc
 
 pub report_sink : (how : Result (Unit {0}) NotReported) (before after : ℕ)
-    → IfErr how (λ why. why ≡ SinkFailed → Rose before after) → status_of_report how ≡ status.SinkFault → Rose before after
+    → IfErr how (λ why. why ≡ SinkFailed → after ≡ next_count before) → status_of_report how ≡ status.SinkFault → after ≡ next_count before
 report_sink (Ok done) before after cause is = absurd cc
 report_sink (Err (Unopened (unopened.BadImage line reason))) before after cause is = absurd cc
 report_sink (Err (Unopened unopened.ImageFailed)) before after cause is = absurd cc
 report_sink (Err (Unopened unopened.OutOfMemory)) before after cause is = absurd cc
 report_sink (Err SinkFailed) before after cause is = cause refl
 report_sink (Err OutOfMemory) before after cause is = absurd cc
+
+-- the sink doesn't fail in a report that ends otherwise
+report_spared : (how : Result (Unit {0}) NotReported) (before after : ℕ) → (how ≢ Err SinkFailed → after ≡ before)
+    → status_of_report how ≢ status.SinkFault → after ≡ before
+report_spared how before after spared isnt = spared (λ is. isnt (ap status_of_report is))
 
 -- ---- the whole
 
@@ -146,7 +151,7 @@ module _ (words : List (List ℕ)) (before after : Outside) (SameSource SameImag
       (theorem : (SameImage × (acts ≡ []))
       ⊎ OfChoice (ComesTo text before.left) (RunsAs run.limits (over before.image before.takes opening acts after.image) how))
       (early : IsOfRun how ⊎ (SameImage × (acts ≡ [])))
-      (told : Tells acts before.seen after.seen before.taken after.taken)
+      (told : Tells acts before.seen after.seen before.taken after.taken before.takes after.takes)
     where
       named : RunsClass run before after SameImage how opening acts
       named = record {
@@ -157,6 +162,7 @@ module _ (words : List (List ℕ)) (before after : Outside) (SameSource SameImag
               ⊎ OfChoice (ComesTo name before.left) (RunsAs run.limits (over before.image before.takes opening acts after.image) how)) same theorem;
           early = early;
           printed = told.printed;
+          leaves = told.leaves;
         };
         answers = subst (λ (name : List ℕ). AnswersFor name before.left how) same answers;
         whole = whole;
@@ -169,16 +175,18 @@ module _ (words : List (List ℕ)) (before after : Outside) (SameSource SameImag
 
       pub run_meets : (how ≡ status.SourceFault → Rose before.source_faults after.source_faults)
           → (how ≡ status.ImageFault → Rose before.image_faults after.image_faults)
-          → (how ≡ status.SinkFault → Rose before.sink_faults after.sink_faults)
+          → (how ≡ status.SinkFault → after.sink_faults ≡ next_count before.sink_faults)
+          → (how ≢ status.SinkFault → after.sink_faults ≡ before.sink_faults)
           → (how ≡ status.OutOfMemory → acts ≡ []) → (acts ≡ [] → opening ≡ empty_graph) → after.image.size ≡ before.image.size
           → Meets words before after SameSource SameImage how opening acts
-      run_meets source image sink memory none size = record {
+      run_meets source image sink spared memory none size = record {
         usage = λ is. absurd (not_usage is);
         does = inl (does_so how opening acts (Run run) asked named);
         source_fault = source;
         image_fault = image;
         sink_fault = sink;
-        no_memory = λ is. (memory is, nothing_put acts before.seen after.seen before.taken after.taken told (memory is));
+        sink_spared = spared;
+        no_memory = λ is. (memory is, nothing_put acts before.seen after.seen before.taken after.taken before.takes after.takes told (memory is));
         unbegun = none;
         watched = told.watched;
         size = size;
@@ -194,10 +202,11 @@ module _ (words : List (List ℕ)) (before after : Outside) (SameSource SameImag
       → (WasOpened how → IsLeftOpen before.image after.image)
       → (IsSettled before.image → KeepsItsGraph before.image after.image)
       → IfErr how (λ why. why ≡ Unopened unopened.ImageFailed → Rose before.image_faults after.image_faults)
-      → IfErr how (λ why. why ≡ SinkFailed → Rose before.sink_faults after.sink_faults)
+      → IfErr how (λ why. why ≡ SinkFailed → after.sink_faults ≡ next_count before.sink_faults)
+      → (how ≢ Err SinkFailed → after.sink_faults ≡ before.sink_faults)
       → after.seen ≡ before.seen → after.image.size ≡ before.image.size
       → Meets words before after SameSource SameImage (status_of_report how) empty_graph []
-  reports_meet Says how command asked so source printed unreported left stops image sink seen size =
+  reports_meet Says how command asked so source printed unreported left stops image sink spared seen size =
       let report = report_so Says before.image after.image before.taken after.taken how printed unreported left in
       record {
         usage = λ is. absurd (report_usage how is);
@@ -206,6 +215,7 @@ module _ (words : List (List ℕ)) (before after : Outside) (SameSource SameImag
         source_fault = λ is. absurd (report_source how is);
         image_fault = report_image how before.image_faults after.image_faults image;
         sink_fault = report_sink how before.sink_faults after.sink_faults sink;
+        sink_spared = report_spared how before.sink_faults after.sink_faults spared;
         no_memory = λ is. (
           refl,
           report_none Says before.image after.image before.taken after.taken (status_of_report how) report is,

@@ -1,6 +1,6 @@
 -- What the top call promises, in one record: a field a promise. Whatever calls it, or is called in its place, cites this.
-use Rattle.std.specs.Prelude.{◌≡◌, ◌⊎◌, ℕ, List, [], Option, Some, None}
-use Rattle.ap_base.specs.Causes.{Rose}
+use Rattle.std.specs.Prelude.{◌≡◌, ◌≢◌, ◌⊎◌, ℕ, List, [], Option, Some, None}
+use Rattle.ap_base.specs.Causes.{Rose, next_count}
 use Rattle.graph_model.specs.declared.types.Graph.{Graph}
 use Rattle.image_meaning.specs.Meaning.{empty_graph}
 use Rattle.run_history.specs.Recorded.{Recorded}
@@ -17,12 +17,13 @@ use Rattle.autopersist.specs.Outside.{Outside}
 use Rattle.autopersist.specs.Reports.{Reports}
 use Rattle.autopersist.specs.Runs.{RunsClass, RunsWorkload}
 
--- Nothing was asked, opened, run or put.
+-- Nothing was asked, opened, run or put, and the sink takes what it would have taken.
 pub record IsIdle (before after : Outside) (SameSource SameImage : Type 0) (acts : List Recorded) : Type 0 where
   pub unasked : SameSource
   pub unopened : SameImage
   pub unrun : acts ≡ []
   pub nothing : after.taken ≡ before.taken
+  pub takes : after.takes ≡ before.takes
 
 -- The listing that the source gave was assembled, and its class put. The image wasn't opened.
 pub record AssemblesOne (class : List ℕ) (before after : Outside) (SameImage : Type 0) (how : Status) (acts : List Recorded) : Type 0 where
@@ -55,7 +56,9 @@ pub record Meets (words : List (List ℕ)) (before after : Outside) (SameSource 
   -- A fault of the outside comes only where it failed.
   pub source_fault : how ≡ status.SourceFault → Rose before.source_faults after.source_faults
   pub image_fault : how ≡ status.ImageFault → Rose before.image_faults after.image_faults
-  pub sink_fault : how ≡ status.SinkFault → Rose before.sink_faults after.sink_faults
+  -- The sink fails once where the call ends by it, and else never.
+  pub sink_fault : how ≡ status.SinkFault → after.sink_faults ≡ next_count before.sink_faults
+  pub sink_spared : how ≢ status.SinkFault → after.sink_faults ≡ before.sink_faults
   -- Memory runs out only before the first act, and before the first byte is put.
   pub no_memory : how ≡ status.OutOfMemory → (acts ≡ []) × (after.taken ≡ before.taken)
   -- Where there are no acts, the opening graph has no roots and nodes.

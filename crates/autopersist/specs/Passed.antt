@@ -1,5 +1,5 @@
 -- What crates above name of the crates below this one.
-pub use Rattle.class_runs.specs.Again.{HadOtherShape, IsLeftBy, IsRefusedStill, StoppedRunsOpenAgain}
+pub use Rattle.class_runs.specs.Again.{HadOtherShape, IsLeftBy, IsRefusedStill, LackedRoom, StoppedRunsOpenAgain}
 pub use Rattle.class_runs.specs.Chosen.{Choice, FilesGive}
 pub use Rattle.class_runs.specs.Complete.{Admits, EndsComplete, IsNumberedFor, IsOfPlainRun, MeetsLimit}
 pub use Rattle.class_runs.specs.Passed.{IsShareOfPiece, piece_of}
@@ -12,4 +12,4 @@ pub use Rattle.run_types.specs.declared.fault.Full.{Full}
 pub use Rattle.run_types.specs.declared.limits.Limits.{Limits}
 pub use Rattle.statuses.specs.Stages.{OfMemory, OfOpening, Stage, stage_of}
 pub use Rattle.statuses.specs.declared.status.Status.{Status}
-pub use Rattle.statuses.specs.declared.status.Status.TheVariants.{BadImage, Full as FullOf, ImageFault, OutOfMemory, ShapeChanged}
+pub use Rattle.statuses.specs.declared.status.Status.TheVariants.{BadImage, Full as FullOf, ImageFault, OutOfMemory, ShapeChanged, SinkFault}

@@ -1,6 +1,6 @@
 -- What the commands say that run a class on the image: `run` and `make`.
-use Rattle.std.specs.Prelude.{◌≡◌, ◌≢◌, ◌⊎◌, List, [], codes, Some, Result, Ok}
-use Rattle.ap_base.specs.Sinks.{with_bytes}
+use Rattle.std.specs.Prelude.{◌≡◌, ◌≢◌, ◌⊎◌, List, [], codes, length, Some, Result, Ok}
+use Rattle.ap_base.specs.Sinks.{TakesBehind, with_bytes}
 use Rattle.ap_base.specs.declared.source.NamedBytes.{NamedBytes}
 use Rattle.graph_model.specs.declared.types.Graph.{Graph}
 use Rattle.run_types.specs.declared.limits.Limits.{Limits}
@@ -35,6 +35,8 @@ pub record RunsOn (gives : Result Choice Status → Type 0) (limits : Limits) (b
   pub early : IsOfRun how ⊎ (SameImage × (acts ≡ []))
   -- the sink took the output of the acts, and nothing else, whatever the status
   pub printed : after.taken ≡ with_bytes before.taken (output_of acts)
+  -- and takes behind it what it would have taken before
+  pub leaves : TakesBehind before.takes after.takes (length (output_of acts))
 
 -- The class of the words was run, of the classes of the source's files.
 pub record RunsClass (run : Run) (before after : Outside) (SameImage : Type 0) (how : Status) (opening : Graph) (acts : List Recorded)

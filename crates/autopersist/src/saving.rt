@@ -1,6 +1,6 @@
 // A run whose acts are saved.
 ghost use Rattle.std.specs.Prelude.{◌≡◌, ◌<◌, ◌≤◌, ℕ, length, take, OnOk, IsErrOf};
-ghost use Rattle.ap_base.specs.Causes.{Rose};
+ghost use Rattle.ap_base.specs.Causes.{next_count};
 ghost use Rattle.ap_base.specs.Sinks.{with_bytes};
 ghost use Rattle.history_file.specs.Spelling.{history_bytes};
 ghost use Rattle.command_words.specs.Commands.{command_of, texts};
@@ -42,7 +42,8 @@ fn save<H: Sink>(alloc: Global, acts: &Acts, history: &mut H) -> Result<(), Save
     ensures front { IsErrOf result SaveFault.SinkFault → (k : ℕ) × (k < length (history_bytes acts.now.acts 0))
         × (H.taken history.new ≡ with_bytes (H.taken history.old) (take k (history_bytes acts.now.acts 0))) }
     ensures nothing { IsErrOf result SaveFault.OutOfMemory → history.new ≡ history.old }
-    ensures cause { IsErrOf result SaveFault.SinkFault → Rose (H.faults history.old) (H.faults history.new) }
+    ensures cause { IsErrOf result SaveFault.SinkFault → H.faults history.new ≡ next_count (H.faults history.old) }
+    ensures unfailed { OnOk result (H.faults history.new ≡ H.faults history.old) }
 {
     let Ok(bytes) = write_history(alloc, acts, 0) else {
         return Err(SaveFault::OutOfMemory);
@@ -91,7 +92,8 @@ where
     ensures front { IsErrOf result.saved SaveFault.SinkFault → (k : ℕ) × (k < length (history_bytes result.ended.acts.acts 0))
         × (H.taken result.history ≡ with_bytes (H.taken history) (take k (history_bytes result.ended.acts.acts 0))) }
     ensures nothing { IsErrOf result.saved SaveFault.OutOfMemory → result.history ≡ history }
-    ensures cause { IsErrOf result.saved SaveFault.SinkFault → Rose (H.faults history) (H.faults result.history) }
+    ensures cause { IsErrOf result.saved SaveFault.SinkFault → H.faults result.history ≡ next_count (H.faults history) }
+    ensures unfailed { OnOk result.saved (H.faults result.history ≡ H.faults history) }
 {
     let ended = autopersist(rt, alloc, words, source, image, sink, gate, watcher);
     let saved = save(alloc, &ended.acts, &mut history);

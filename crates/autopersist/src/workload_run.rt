@@ -1,6 +1,6 @@
 // The workload is run on the image.
-ghost use Rattle.std.specs.Prelude.{◌≡◌, ◌≤◌, ◌⊎◌, []};
-ghost use Rattle.ap_base.specs.Causes.{Rose};
+ghost use Rattle.std.specs.Prelude.{◌≡◌, ◌≢◌, ◌≤◌, ◌⊎◌, []};
+ghost use Rattle.ap_base.specs.Causes.{Rose, next_count};
 ghost use Rattle.image_meaning.specs.Meaning.{empty_graph};
 ghost use Rattle.class_runs.specs.Passed.{IsOfClasses};
 ghost use Rattle.class_runs.specs.Runs.{IsOfRun, Tells};
@@ -54,13 +54,14 @@ where
         × (result.acts.acts ≡ []) × (result.sink ≡ sink)) }
     ensures unasked { result.source ≡ source }
     ensures of { IsOfClasses result.status ⊎ IsOfRun result.status }
-    ensures sink_fault { result.status ≡ Status.SinkFault → Rose (S.faults sink) (S.faults result.sink) }
+    ensures sink_fault { result.status ≡ Status.SinkFault → S.faults result.sink ≡ next_count (S.faults sink) }
+    ensures sink_spared { result.status ≢ Status.SinkFault → S.faults result.sink ≡ S.faults sink }
     ensures image_fault { result.status ≡ Status.ImageFault → Rose (I.faults image) (I.faults result.image) }
     ensures no_memory { result.status ≡ Status.OutOfMemory → result.acts.acts ≡ [] }
     ensures opening { result.acts.acts ≡ [] → result.opening ≡ empty_graph }
     ensures size { (I.told result.image).size ≡ (I.told image).size }
     ensures told { Tells result.acts.acts (W.seen watcher) (W.seen result.watcher)
-        (S.taken sink) (S.taken result.sink) }
+        (S.taken sink) (S.taken result.sink) (S.takes sink) (S.takes result.sink) }
 {
     let Ok(classes) = make_classes(alloc, make.count) else {
         return idle(alloc, Status::OutOfMemory, source, image, sink, watcher);

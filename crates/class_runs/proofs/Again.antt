@@ -7,7 +7,7 @@ use Rattle.graph_model.specs.declared.types.Graph.{Graph}
 use Rattle.graph_model.specs.declared.types.Shape.{Shape}
 use Rattle.line_image.specs.Told.{Told}
 use Rattle.line_image.specs.Trace.{Outcome}
-use Rattle.line_memory.specs.Memory.{Memory, shown}
+use Rattle.line_memory.specs.Memory.{IsTelling, Memory, shown}
 use Rattle.image_layout.specs.Places.{max_lines, min_lines}
 use Rattle.image_layout.specs.declared.superblock.BadReason.{BadReason}
 use Rattle.image_meaning.specs.Appending.{with_all_too}
@@ -19,6 +19,7 @@ use Rattle.directories.specs.ClassSets.{Agrees}
 use Rattle.directories.specs.Planning.{lacking}
 use Rattle.image_recovery.specs.Recovered.{entries_in}
 use Rattle.run_history.specs.Recorded.{Recorded}
+use Rattle.run_types.specs.declared.fault.Full.{Full}
 use Rattle.run_types.specs.declared.fault.RunFault.{RunFault}
 use Rattle.run_types.specs.declared.fault.RunFault.TheVariants as fault
 use Rattle.run_types.specs.declared.limits.Limits.{Limits}
@@ -27,14 +28,14 @@ use Rattle.class_set.specs.Facts.{facts_of}
 use Rattle.class_set.specs.Linked.{Linked}
 use Rattle.durable_launch.specs.Passed.{HasDirectory, HoldsGraph, IsAttachFault, IsAttached, IsNoRefusal, IsOtherShape, IsRecoveryFault}
 use Rattle.durable_launch.specs.Passed.{IsUnfit, IsUnopened, OpenedImagesOpenAgain, StandsWithNew, Unopened}
-use Rattle.durable_launch.proofs.Passed.{shapes_first}
+use Rattle.durable_launch.proofs.Passed.{first_lacks, shapes_first}
 use Rattle.durable_launch.specs.Unopenings as unopened
 use Rattle.statuses.specs.Names.{fault_status}
 use Rattle.statuses.specs.Stages.{OfImage, OfMemory, OfNames, OfOpening, OfRoom, stage_of}
 use Rattle.statuses.specs.declared.status.Status.{Status}
 use Rattle.statuses.specs.declared.status.Status.TheVariants as status
-use Rattle.class_runs.specs.Again.{HadOtherShape, IsLeftBy, IsRefusedStill}
-use Rattle.class_runs.specs.Sets.{CannotBegin, CannotOpen, HasEndedSo, IsOpenedSo, SetEnds, StandsAllowed, StandsAsBefore, StandsRightly}
+use Rattle.class_runs.specs.Again.{HadOtherShape, IsLeftBy, IsRefusedStill, LackedRoom}
+use Rattle.class_runs.specs.Sets.{CannotBegin, CannotOpen, HasEndedSo, HasItsDirectory, IsOfSet, IsOpenedSo, SetEnds, StandsAllowed, StandsAsBefore, StandsRightly}
 use Rattle.class_runs.specs.Sets.{StandsStill, status_of_ending, status_of_unopened}
 use Rattle.class_runs.proofs.Reading.{not_both, one_read, sized}
 
@@ -196,12 +197,31 @@ module _ (law : OpenedImagesOpenAgain) (set : Linked) (start : Told) (before : W
         (early_holds (with_all new.found first) (with_all_too stood first) new.first.stands new.first.has) now name cannot)))
         (as_before stood stands)
 
+    lacked : (full : Full) → IsUnopened again after set now (unopened.Full full) → LackedRoom set before full.which
+    lacked full cannot = ⊎_elim
+        (λ (still : StandsStill start.size before stood left). record {
+          found = still.found;
+          found_is = still.found_is;
+          lacks = law.full set again after start.size still.found stood
+              (early_holds still.found stood still.stands still.has) now full cannot;
+        })
+        (λ (new : StandsWithNew set start.size before stood left).
+        let first = take new.first.count (lacking new.found new.entries) in
+        record {
+          found = new.found;
+          found_is = new.found_is;
+          lacks = first_lacks set new.found new.entries new.are_its new.first.count full.which
+              (law.full set again after start.size (with_all new.found first) (with_all_too stood first)
+              (early_holds (with_all new.found first) (with_all_too stood first) new.first.stands new.first.has) now full cannot);
+        })
+        (as_before stood stands)
+
     early : (why : Unopened) → IsUnopened again after set now why → EndsOpening set before (status_of_unopened why)
     early (unopened.BadImage line reason) cannot =
         let some = stands_before set start.size before stood left stands as_before in
         absurd (not_bad_so start left again is some.0 some.1 line reason set now after cannot)
     early (unopened.ShapeChanged name) cannot = inr (inr (changed name cannot))
-    early (unopened.Full full) cannot = inr (inr tt)
+    early (unopened.Full full) cannot = inr (inr (lacked full cannot))
     early unopened.ImageFailed cannot = inl refl
     early unopened.OutOfMemory cannot = inr (inl refl)
 
@@ -266,3 +286,15 @@ module _ (set : Linked) (name : List ℕ) (limits : Limits) (start : Told) (take
   refused (inl (none, inr (inr (inr lacks)))) =
       absurd (let other : OfMemory ≡ OfOpening = other_stage how status.OutOfMemory lacks.is is in cc)
   refused (inr ran) = absurd (ended_not ran)
+
+-- where a shape was refused nothing was appended: the image has the directory that it had
+of_shape : (name : List ℕ) (why : Unopened) → status.ShapeChanged name ≡ status_of_unopened why → IsOfSet why
+of_shape name (unopened.BadImage line reason) is = absurd (cc)
+of_shape name (unopened.ShapeChanged other) is = tt
+of_shape name (unopened.Full full) is = tt
+of_shape name unopened.ImageFailed is = absurd (cc)
+of_shape name unopened.OutOfMemory is = absurd (cc)
+
+pub shape_keeps : (set : Linked) (start after : Told) (name : List ℕ) → CannotOpen set start after (status.ShapeChanged name)
+    → IsTelling start.trace → HasItsDirectory start after
+shape_keeps set start after name cannot telling = cannot.unappended (of_shape name cannot.why cannot.is) telling

@@ -1,12 +1,13 @@
 -- What the outside is told of a call, and the faults by which it ends.
-use Rattle.std.proofs.Common.{◌≡◌, ◌≤◌, ℕ, List, [], ◌++◌, Option, Some, None, refl, ap, sym, ◌∙◌, subst, arith}
+use Rattle.std.proofs.Common.{◌≡◌, ◌≤◌, ℕ, ◌+◌, length, List, [], ◌++◌, Option, Some, None, refl, ap, sym, ◌∙◌, subst, arith}
 use Rattle.std.proofs.lemmas.List.{append-nil}
-use Rattle.ap_base.specs.Causes.{Rose}
-use Rattle.ap_base.specs.Sinks.{with_bytes}
+use Rattle.ap_base.specs.Causes.{Rose, next_count}
+use Rattle.ap_base.specs.Sinks.{TakesBehind, with_bytes}
 use Rattle.run_types.specs.declared.fault.RunFault.TheVariants as fault
 use Rattle.run_history.specs.Recorded.{Recorded}
 use Rattle.class_set.specs.Linked.{Linked}
-use Rattle.durable_launch.specs.Passed.{HasTold, IsCaused, with_all}
+use Rattle.durable_launch.specs.Passed.{HasTold, IsCaused, LeavesShares, with_all}
+use Rattle.plain_model.specs.Runs.{output_of}
 use Rattle.durable_launch.specs.Passed.{fault_in}
 use Rattle.durable_launch.specs.Passed.{RunEnd}
 use Rattle.durable_launch.specs.Passed.{Ended, Over}
@@ -29,22 +30,33 @@ none_taken : (takes : Option (List ℕ)) → takes ≡ with_bytes takes []
 none_taken None = refl
 none_taken (Some taken) = ap (λ (bytes : List ℕ). Some bytes) (sym (append-nil taken))
 
-pub tells_nothing : (sees : Option (List Recorded)) (takes : Option (List ℕ)) → Tells [] sees sees takes takes
-tells_nothing sees takes = record { watched = none_seen sees; printed = none_taken takes }
+pub tells_nothing : (sees : Option (List Recorded)) (taken : Option (List ℕ)) (takes : ℕ → ℕ → Option ℕ)
+    → Tells [] sees sees taken taken takes takes
+tells_nothing sees taken takes = record {
+  watched = none_seen sees;
+  printed = none_taken taken;
+  leaves = λ more size. let same : more ≡ 0 + more = omega arith in ap (λ (n : ℕ). takes n size) same;
+}
 
 -- from no act on, all acts were told
-pub tells_all : (old new : List Recorded) (sees sees' : Option (List Recorded)) (takes takes' : Option (List ℕ))
-    → old ≡ [] → HasTold old new sees sees' takes takes' → Tells new sees sees' takes takes'
-tells_all old new sees sees' takes takes' empty told =
+pub tells_all : (old new : List Recorded) (sees sees' : Option (List Recorded)) (taken taken' : Option (List ℕ))
+    (takes takes' : ℕ → ℕ → Option ℕ) → old ≡ [] → HasTold old new sees sees' taken taken' → LeavesShares takes takes' old new
+    → Tells new sees sees' taken taken' takes takes'
+tells_all old new sees sees' taken taken' takes takes' empty told left =
     let all : new ≡ told.further = told.acts ∙ ap (λ (first : List Recorded). first ++ told.further) empty in
-    subst (λ (acts : List Recorded). Tells acts sees sees' takes takes') (sym all)
-    (record { watched = told.watched; printed = told.printed })
+    let also : left.further ≡ told.further = sym (left.acts ∙ ap (λ (first : List Recorded). first ++ left.further) empty) ∙ all in
+    subst (λ (acts : List Recorded). Tells acts sees sees' taken taken' takes takes') (sym all)
+    (record {
+      watched = told.watched;
+      printed = told.printed;
+      leaves = subst (λ (acts : List Recorded). TakesBehind takes takes' (length (output_of acts))) also left.behind;
+    })
 
 -- ---- faults
 
 module _ (set : Linked) (sink sink' image image' : ℕ) where
   pub sink_caused : (end : RunEnd) → IsCaused (fault_in end) sink sink' image image'
-      → status_of_end set end ≡ status.SinkFault → Rose sink sink'
+      → status_of_end set end ≡ status.SinkFault → sink' ≡ next_count sink
   sink_caused (Ended None) caused is = absurd (cc)
   sink_caused (Ended (Some thrown)) caused is = absurd (cc)
   sink_caused (Over fault.SinkFault) caused is = caused.0
@@ -54,6 +66,19 @@ module _ (set : Linked) (sink sink' image image' : ℕ) where
   sink_caused (Over (fault.Full full)) caused is = absurd (cc)
   sink_caused (Over (fault.Stuck waits)) caused is = absurd (cc)
   sink_caused (Over (fault.LinkFault kind class index)) caused is = absurd (cc)
+
+  -- it doesn't fail in a run that ends otherwise
+  pub sink_spared : (end : RunEnd) → IsCaused (fault_in end) sink sink' image image'
+      → (status_of_end set end ≡ status.SinkFault → ⊥) → sink' ≡ sink
+  sink_spared (Ended None) caused isnt = caused.0
+  sink_spared (Ended (Some thrown)) caused isnt = caused.0
+  sink_spared (Over fault.SinkFault) caused isnt = absurd (isnt refl)
+  sink_spared (Over fault.ImageFault) caused isnt = caused.0
+  sink_spared (Over (fault.BadCode at)) caused isnt = caused.0
+  sink_spared (Over (fault.RegionRace thread other place)) caused isnt = caused.0
+  sink_spared (Over (fault.Full full)) caused isnt = caused.0
+  sink_spared (Over (fault.Stuck waits)) caused isnt = caused.0
+  sink_spared (Over (fault.LinkFault kind class index)) caused isnt = caused.0
 
   pub image_caused : (end : RunEnd) → IsCaused (fault_in end) sink sink' image image'
       → status_of_end set end ≡ status.ImageFault → Rose image image'

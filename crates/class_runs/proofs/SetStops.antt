@@ -301,6 +301,6 @@ stops_unattached set start opening after same goes =
       words = words_read start.trace;
       read = are_read start;
       within = λ n some le lt fenced c left.
-          inr (refl, quiet (fenced (inr refl)) c (goes.during (start.calls + n) (omega (arith, some)) le lt c left));
-      now = λ fenced c left. inr (refl, quiet (fenced refl) c (subst (λ (o : Option Trace). LeavesNow o c) same left));
+          inr (refl, quiet (fenced (inr (refl, same))) c (goes.during (start.calls + n) (omega (arith, some)) le lt c left));
+      now = λ fenced c left. inr (refl, quiet (fenced (refl, same)) c (subst (λ (o : Option Trace). LeavesNow o c) same left));
     }

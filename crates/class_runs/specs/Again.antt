@@ -11,7 +11,8 @@ use Rattle.image_meaning.specs.Meaning.{StandsFor}
 use Rattle.run_history.specs.Recorded.{Recorded}
 use Rattle.class_set.specs.Facts.{facts_of}
 use Rattle.class_set.specs.Linked.{Linked}
-use Rattle.durable_launch.specs.Passed.{AreRead, IsDirectoryIn, IsOtherShape}
+use Rattle.durable_launch.specs.Passed.{AreRead, IsDirectoryIn, IsOtherShape, LacksRoom}
+use Rattle.run_types.specs.declared.fault.Which.{Which}
 use Rattle.run_types.specs.declared.limits.Limits.{Limits}
 use Rattle.statuses.specs.Stages.{OfOpening, stage_of}
 use Rattle.statuses.specs.declared.status.Status.{Status}
@@ -30,10 +31,16 @@ pub record HadOtherShape (set : Linked) (before : Words) (name : List ℕ) : Typ
   pub found_is : IsDirectoryIn before found
   pub other : IsOtherShape (facts_of set) found.shapes name
 
--- The image was refused for the set as it may have been before: one of its own shapes isn't the set's, or room for the set's entries lacks.
+-- The directory that these words spelled had too few words, or too few slots for roots, for the entries that it lacked of the set's.
+pub record LackedRoom (set : Linked) (before : Words) (which : Which) : Type 0 where
+  pub found : Directory
+  pub found_is : IsDirectoryIn before found
+  pub lacks : LacksRoom set found which
+
+-- The image was refused for the set as it was before: one of its own shapes isn't the set's, or its directory lacked room for the set's entries.
 abbrev pub IsRefusedStill : Linked → (before : Words) → Status → Type 0
 IsRefusedStill set before (status.ShapeChanged name) = HadOtherShape set before name
-IsRefusedStill set before (status.Full full) = Unit {0}
+IsRefusedStill set before (status.Full full) = LackedRoom set before full.which
 IsRefusedStill set before other = ⊥
 
 -- What stops of a run of a set over an image left opens again.
@@ -47,7 +54,7 @@ pub record StoppedRunsOpenAgain : Type 0 where
       → (again after : Told) → IsLeftBy start left again → (line : ℕ) (reason : BadReason)
       → CannotOpen other again after (status.BadImage line reason) → ⊥
   -- What a stop leaves isn't refused for the set: opening ends by a fault of the image, or for want of memory, alone. Only where there are no
-  -- acts, it may be refused as it was before the run; no entry that the run appended is why but by the room that it takes.
+  -- acts, it may be refused as it was before the run; no entry that the run appended is why.
   pub unrefused : (set : Linked) (start : Told) (opening : Graph) (all acts : List Recorded) (before : Words) (stood : Graph)
       (left : Outcome) → StandsFor start.size before stood → StandsRightly set start opening all acts before left
       → (again after : Told) → IsLeftBy start left again → (how : Status) → CannotOpen set again after how

@@ -1,6 +1,6 @@
 -- What a run of a class says: what is asked for, why it ended so, and what the run comes to.
-use Rattle.std.specs.Prelude.{◌≡◌, ◌⊎◌, List, Option, Some, Result, Ok, Err, ℕ}
-use Rattle.ap_base.specs.Sinks.{with_bytes}
+use Rattle.std.specs.Prelude.{◌≡◌, ◌⊎◌, List, length, Option, Some, Result, Ok, Err, ℕ}
+use Rattle.ap_base.specs.Sinks.{TakesBehind, with_bytes}
 use Rattle.ap_base.specs.declared.source.NamedBytes.{NamedBytes}
 use Rattle.graph_model.specs.declared.types.Graph.{Graph}
 use Rattle.line_image.specs.Told.{Told}
@@ -90,8 +90,10 @@ AnswersFor name files_told how =
 
 -- ---- the outside
 
--- The watcher saw these acts, each once and in order, and the sink took their output, and nothing else.
-pub record Tells (acts : List Recorded) (sees sees' : Option (List Recorded)) (takes takes' : Option (List ℕ))
+-- The watcher saw these acts, each once and in order, and the sink took their output, and nothing else; behind it the sink takes what it
+-- would have taken before.
+pub record Tells (acts : List Recorded) (sees sees' : Option (List Recorded)) (taken taken' : Option (List ℕ)) (takes takes' : ℕ → ℕ → Option ℕ)
     : Type 0 where
   pub watched : sees' ≡ with_all sees acts
-  pub printed : takes' ≡ with_bytes takes (output_of acts)
+  pub printed : taken' ≡ with_bytes taken (output_of acts)
+  pub leaves : TakesBehind takes takes' (length (output_of acts))

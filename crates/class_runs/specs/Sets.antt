@@ -208,10 +208,14 @@ abbrev pub StandsRightly : Linked → Told → Graph → (all acts : List Record
 StandsRightly set start opening all acts before words = StandsAllowed set start opening all acts words
     ⊎ ((acts ≡ []) × StandsAsBefore set start.size before words)
 
+-- There are no acts, and nothing was written or fenced.
+abbrev pub IsUnchanged : (start after : Told) → List Recorded → Type 0
+IsUnchanged start after acts = (acts ≡ []) × (after.trace ≡ start.trace)
+
 -- Nothing was unfenced at the start, where a stop within call n may leave it still: up to the fence behind the opening's reads; and where
--- there are no acts, as that fence may not have been made then.
-abbrev pub IsFencedFor : Told → List Recorded → ℕ → Type 0
-IsFencedFor start acts n = (n ≤ start.size + 1) ⊎ (acts ≡ []) → IsAllFenced start.trace
+-- that fence wasn't made.
+abbrev pub IsFencedFor : (start after : Told) → List Recorded → ℕ → Type 0
+IsFencedFor start after acts n = (n ≤ start.size + 1) ⊎ IsUnchanged start after acts → IsAllFenced start.trace
 
 -- A stop within call n of the top call leaves only images that stand rightly for the acts before that call,
 -- and a stop after the last call those that do for all acts.
@@ -220,9 +224,9 @@ pub record StandsAtStops (set : Linked) (start : Told) (opening : Graph) (acts :
   pub words : Words
   pub read : AreRead start words
   pub within : (n : ℕ) → 0 < n → start.calls + n ≤ after.calls → start.calls + n < 2 ^ 64 - 1
-      → IsFencedFor start acts n → (c : Outcome) → LeftWithin after.trace (start.calls + n) c
+      → IsFencedFor start after acts n → (c : Outcome) → LeftWithin after.trace (start.calls + n) c
       → StandsRightly set start opening acts (acts_before n acts) words c
-  pub now : (acts ≡ [] → IsAllFenced start.trace) → (c : Outcome) → LeavesNow after.trace c
+  pub now : (IsUnchanged start after acts → IsAllFenced start.trace) → (c : Outcome) → LeavesNow after.trace c
       → StandsRightly set start opening acts acts words c
 
 -- ---- the whole

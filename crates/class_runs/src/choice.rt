@@ -1,6 +1,6 @@
 // What is to run of the classes of a source.
 ghost use Rattle.std.specs.Prelude.{◌≡◌, length, ◌⊎◌, ◌≤◌, All, Ok, Err, IfOk, IfErr};
-ghost use Rattle.class_file.specs.Classes.{CanBeRead};
+ghost use Rattle.class_file.specs.Classes.{CanBeRead, HasAtMost};
 ghost use Rattle.class_links.specs.Kept.{kept_files};
 ghost use Rattle.class_runs.specs.Chosen.{ClassesGive};
 ghost use Rattle.source_classes.specs.Reading.{IsOfClasses};
@@ -23,8 +23,10 @@ pub(crate) struct Found {
 pub(crate) fn choose(alloc: Global, class: &[u8], classes: Vec<ClassFile>) -> Result<Found, Status>
     requires few { length classes.items ≤ 4096 }
     requires readable { All CanBeRead classes.items }
+    requires small { All (HasAtMost 1048576) classes.items }
     ensures found { IfOk result (λ found. ClassesGive class.now (kept_files classes.items)
         (Ok (record { set = found.set; main = found.main.items }))) }
+    ensures small { IfOk result (λ found. All (HasAtMost 1048576) found.set.files) }
     ensures refused { IfErr result (λ s. (s ≡ Status.OutOfMemory)
         ⊎ ClassesGive class.now (kept_files classes.items) (Err s)) }
     ensures of_classes { IfErr result IsOfClasses }

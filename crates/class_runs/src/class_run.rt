@@ -1,8 +1,8 @@
 // A class of some classes, or of a source's files, is run on an image.
 ghost use Rattle.std.specs.Prelude.{◌≡◌, ◌≢◌, ◌⊎◌, ◌≤◌, All, Some, [], List, length};
-ghost use Rattle.ap_base.specs.Causes.{Rose};
+ghost use Rattle.ap_base.specs.Causes.{Rose, next_count};
 ghost use Rattle.ap_base.specs.declared.source.NamedBytes.{NamedBytes as File};
-ghost use Rattle.class_file.specs.Classes.{CanBeRead};
+ghost use Rattle.class_file.specs.Classes.{CanBeRead, HasAtMost};
 ghost use Rattle.class_links.specs.Kept.{kept_files};
 ghost use Rattle.image_meaning.specs.Meaning.{empty_graph};
 ghost use Rattle.class_runs.specs.Chosen.{ClassesGive};
@@ -61,13 +61,15 @@ where
     W: Watcher + Send,
     requires few { length classes.items ≤ 4096 }
     requires readable { All CanBeRead classes.items }
+    requires small { All (HasAtMost 1048576) classes.items }
     // How it ends: each status but want of memory with its cause.
     ensures cause { IsCauseOf (ClassesGive class.now (kept_files classes.items)) limits.now
         (over (I.told image) (S.takes sink) result.opening result.acts.acts (I.told result.image)) result.status }
     ensures answers { Answers (ClassesGive class.now (kept_files classes.items)) result.status }
     ensures of { IsOfClasses result.status ⊎ IsOfRun result.status }
     ensures sink_fault { result.status ≡ Status.SinkFault
-        → Rose (S.faults sink) (S.faults result.sink) }
+        → S.faults result.sink ≡ next_count (S.faults sink) }
+    ensures sink_spared { result.status ≢ Status.SinkFault → S.faults result.sink ≡ S.faults sink }
     ensures image_fault { result.status ≡ Status.ImageFault
         → Rose (I.faults image) (I.faults result.image) }
     ensures no_memory { result.status ≡ Status.OutOfMemory → result.acts.acts ≡ [] }
@@ -85,7 +87,7 @@ where
 
     // What the outside was told, whatever the status.
     ensures told { Tells result.acts.acts (W.seen watcher) (W.seen result.watcher)
-        (S.taken sink) (S.taken result.sink) }
+        (S.taken sink) (S.taken result.sink) (S.takes sink) (S.takes result.sink) }
 {
     match choose(alloc, class, classes) {
         Ok(Found { set, main, room }) => run_set(
@@ -136,7 +138,8 @@ where
     ensures source_fault { result.status ≡ Status.SourceFault
         → Rose (C.faults source) (C.faults result.source) }
     ensures sink_fault { result.status ≡ Status.SinkFault
-        → Rose (S.faults sink) (S.faults result.sink) }
+        → S.faults result.sink ≡ next_count (S.faults sink) }
+    ensures sink_spared { result.status ≢ Status.SinkFault → S.faults result.sink ≡ S.faults sink }
     ensures image_fault { result.status ≡ Status.ImageFault
         → Rose (I.faults image) (I.faults result.image) }
     ensures no_memory { result.status ≡ Status.OutOfMemory → result.acts.acts ≡ [] }
@@ -160,7 +163,7 @@ where
 
     // What the outside was told, whatever the status.
     ensures told { Tells result.acts.acts (W.seen watcher) (W.seen result.watcher)
-        (S.taken sink) (S.taken result.sink) }
+        (S.taken sink) (S.taken result.sink) (S.takes sink) (S.takes result.sink) }
 {
     match read_files(alloc, &mut source) {
         Ok(classes) => {

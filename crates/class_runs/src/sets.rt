@@ -1,13 +1,14 @@
 // The run of a class set over an image, from its opening on.
-ghost use Rattle.std.specs.Prelude.{◌≡◌, ℕ, [], Ok};
-ghost use Rattle.ap_base.specs.Causes.{Rose};
+ghost use Rattle.std.specs.Prelude.{◌≡◌, ◌≢◌, ℕ, [], All, Ok};
+ghost use Rattle.ap_base.specs.Causes.{Rose, next_count};
 ghost use Rattle.line_image.specs.Told.{Told};
 ghost use Rattle.image_meaning.specs.Meaning.{empty_graph};
+ghost use Rattle.class_file.specs.Classes.{HasAtMost};
 ghost use Rattle.class_set.specs.Linked.{Linked};
 ghost use Rattle.class_set.specs.Facts.{facts_of};
 ghost use Rattle.plain_model.specs.Duties.{IsClass};
 ghost use Rattle.durable_launch.specs.Launching.{CanLaunch};
-ghost use Rattle.durable_launch.specs.Passed.{IsFoundFor, IsOpenedFor, IsReady, Opening, main_of, memory_of};
+ghost use Rattle.durable_launch.specs.Passed.{IsFoundFor, IsOpenedFor, IsReady, IsTooLarge, Opening, main_of, memory_of};
 ghost use Rattle.program_host.specs.Hosts.{setting_in};
 ghost use Rattle.class_runs.specs.Sets.{SetRunsOver, kind_of, status_of_unopened};
 ghost use Rattle.class_runs.specs.Began.{FindsRoom, RanBy, status_of_end, status_of_unlaunched};
@@ -17,8 +18,9 @@ use crate::ran::{Ran, no_graph, unbegun};
 use ap_base::{Gate, Sink};
 use class_set::ClassSet;
 use durable_launch::{
-    FoundImage, Launched, Main, NoLaunch, NoMain, OpenedHeap, OpenedImage, Run, RunEnd, Unopened,
-    complete, each_stop_is_allowed, find_for, find_main, find_room, launch, open_heap, run_all,
+    DecodeRefusal, FoundImage, Launched, Main, NoLaunch, NoMain, OpenedHeap, OpenedImage, Run,
+    RunEnd, Unopened, accepted_sets_have_room, complete, each_stop_is_allowed, find_for, find_main,
+    find_room, launch, open_heap, run_all,
 };
 use line_image::Image;
 use run_history::{Acts, Watcher};
@@ -57,6 +59,20 @@ fn of_unlaunched(why: NoLaunch) -> Status
     match why {
         NoLaunch::Full(full) => Status::Full(full),
         NoLaunch::OutOfMemory => Status::OutOfMemory,
+    }
+}
+
+// The status of a set that isn't decoded. What has files of so few bytes isn't too large, so memory is lacking.
+fn of_undecoded(set: &ClassSet, why: DecodeRefusal) -> Status
+    requires small { All (HasAtMost 1048576) set.now.files }
+    requires large { why ≡ DecodeRefusal.TooLarge → IsTooLarge set.now }
+    ensures { result ≡ Status.OutOfMemory }
+{
+    accepted_sets_have_room();
+    let _count = set.file_count();
+    match why {
+        DecodeRefusal::TooLarge => unreachable!(),
+        DecodeRefusal::OutOfMemory => Status::OutOfMemory,
     }
 }
 
@@ -103,12 +119,14 @@ where
     S: Sink + Send,
     G: Gate + Sync,
     W: Watcher + Send,
+    requires small { All (HasAtMost 1048576) set.files }
     ensures ran { SetRunsOver set class.now limits.now (I.told image) (S.takes sink) result.opening result.acts.acts
         (I.told result.image) result.status }
     ensures told { Tells result.acts.acts (W.seen watcher) (W.seen result.watcher)
-        (S.taken sink) (S.taken result.sink) }
+        (S.taken sink) (S.taken result.sink) (S.takes sink) (S.takes result.sink) }
     ensures sink_fault { result.status ≡ Status.SinkFault
-        → Rose (S.faults sink) (S.faults result.sink) }
+        → S.faults result.sink ≡ next_count (S.faults sink) }
+    ensures sink_spared { result.status ≢ Status.SinkFault → S.faults result.sink ≡ S.faults sink }
     ensures image_fault { result.status ≡ Status.ImageFault
         → Rose (I.faults image) (I.faults result.image) }
 {
@@ -140,6 +158,7 @@ where
     S: Sink + Send,
     G: Gate + Sync,
     W: Watcher + Send,
+    requires small { All (HasAtMost 1048576) set.now.files }
     requires found { (start : Told) × (old : Linked) × IsFoundFor start old set.now
         found.memory found.directory found.lines found.graph found.free }
     ensures ran { (start : Told) (old : Linked) → IsFoundFor start old set.now
@@ -147,9 +166,10 @@ where
         → SetRunsOver old class.now limits.now start (S.takes sink) result.opening result.acts.acts
         (I.told result.image) result.status }
     ensures told { Tells result.acts.acts (W.seen watcher) (W.seen result.watcher)
-        (S.taken sink) (S.taken result.sink) }
+        (S.taken sink) (S.taken result.sink) (S.takes sink) (S.takes result.sink) }
     ensures sink_fault { result.status ≡ Status.SinkFault
-        → Rose (S.faults sink) (S.faults result.sink) }
+        → S.faults result.sink ≡ next_count (S.faults sink) }
+    ensures sink_spared { result.status ≢ Status.SinkFault → S.faults result.sink ≡ S.faults sink }
     ensures image_fault { result.status ≡ Status.ImageFault
         → Rose found.memory.faults (I.faults result.image) }
 {
@@ -184,6 +204,7 @@ where
     S: Sink + Send,
     G: Gate + Sync,
     W: Watcher + Send,
+    requires small { All (HasAtMost 1048576) set.now.files }
     requires found { (start : Told) × (old : Linked) × IsFoundFor start old set.now
         found.memory found.directory found.lines found.graph found.free }
     requires fits { FindsRoom set.now limits.now }
@@ -192,9 +213,10 @@ where
         → SetRunsOver old class.now limits.now start (S.takes sink) result.opening result.acts.acts
         (I.told result.image) result.status }
     ensures told { Tells result.acts.acts (W.seen watcher) (W.seen result.watcher)
-        (S.taken sink) (S.taken result.sink) }
+        (S.taken sink) (S.taken result.sink) (S.takes sink) (S.takes result.sink) }
     ensures sink_fault { result.status ≡ Status.SinkFault
-        → Rose (S.faults sink) (S.faults result.sink) }
+        → S.faults result.sink ≡ next_count (S.faults sink) }
+    ensures sink_spared { result.status ≢ Status.SinkFault → S.faults result.sink ≡ S.faults sink }
     ensures image_fault { result.status ≡ Status.ImageFault
         → Rose found.memory.faults (I.faults result.image) }
 {
@@ -231,6 +253,7 @@ where
     S: Sink + Send,
     G: Gate + Sync,
     W: Watcher + Send,
+    requires small { All (HasAtMost 1048576) set.now.files }
     requires found { (start : Told) × (old : Linked) × IsFoundFor start old set.now
         found.memory found.directory found.lines found.graph found.free }
     requires fits { FindsRoom set.now limits.now }
@@ -241,9 +264,10 @@ where
         → SetRunsOver old class.now limits.now start (S.takes sink) result.opening result.acts.acts
         (I.told result.image) result.status }
     ensures told { Tells result.acts.acts (W.seen watcher) (W.seen result.watcher)
-        (S.taken sink) (S.taken result.sink) }
+        (S.taken sink) (S.taken result.sink) (S.takes sink) (S.takes result.sink) }
     ensures sink_fault { result.status ≡ Status.SinkFault
-        → Rose (S.faults sink) (S.faults result.sink) }
+        → S.faults result.sink ≡ next_count (S.faults sink) }
+    ensures sink_spared { result.status ≢ Status.SinkFault → S.faults result.sink ≡ S.faults sink }
     ensures image_fault { result.status ≡ Status.ImageFault
         → Rose found.memory.faults (I.faults result.image) }
 {
@@ -276,6 +300,7 @@ where
     S: Sink + Send,
     G: Gate + Sync,
     W: Watcher + Send,
+    requires small { All (HasAtMost 1048576) set.now.files }
     requires opened { (start : Told) × (old : Linked) × IsOpenedFor start old set.now
         opened.memory opened.directory opened.lines opened.graph opened.free }
     requires fits { FindsRoom set.now limits.now }
@@ -286,9 +311,10 @@ where
         → SetRunsOver old class.now limits.now start (S.takes sink) result.opening result.acts.acts
         (I.told result.image) result.status }
     ensures told { Tells result.acts.acts (W.seen watcher) (W.seen result.watcher)
-        (S.taken sink) (S.taken result.sink) }
+        (S.taken sink) (S.taken result.sink) (S.takes sink) (S.takes result.sink) }
     ensures sink_fault { result.status ≡ Status.SinkFault
-        → Rose (S.faults sink) (S.faults result.sink) }
+        → S.faults result.sink ≡ next_count (S.faults sink) }
+    ensures sink_spared { result.status ≢ Status.SinkFault → S.faults result.sink ≡ S.faults sink }
     ensures image_fault { result.status ≡ Status.ImageFault
         → Rose opened.memory.faults (I.faults result.image) }
 {
@@ -329,6 +355,7 @@ where
     S: Sink + Send,
     G: Gate + Sync,
     W: Watcher + Send,
+    requires small { All (HasAtMost 1048576) set.now.files }
     requires can { (start : Told) × (old : Linked)
         × CanLaunch start old set.now limits.now.heap_words heap }
     requires main { main_of set.now class.now ≡ Ok main.now }
@@ -338,22 +365,20 @@ where
         → SetRunsOver old class.now limits.now start (S.takes sink) result.opening result.acts.acts
         (I.told result.image) result.status }
     ensures told { Tells result.acts.acts (W.seen watcher) (W.seen result.watcher)
-        (S.taken sink) (S.taken result.sink) }
+        (S.taken sink) (S.taken result.sink) (S.takes sink) (S.takes result.sink) }
     ensures sink_fault { result.status ≡ Status.SinkFault
-        → Rose (S.faults sink) (S.faults result.sink) }
+        → S.faults result.sink ≡ next_count (S.faults sink) }
+    ensures sink_spared { result.status ≢ Status.SinkFault → S.faults result.sink ≡ S.faults sink }
     ensures image_fault { result.status ≡ Status.ImageFault
         → Rose heap.spaces.heap.memory.faults (I.faults result.image) }
 {
     each_stop_is_allowed();
     match launch(alloc, set, main, heap, limits) {
         Ok(launched) => run_launched(rt, workers, alloc, set, room, launched, sink, gate, watcher),
-        Err(memory) => unbegun(
-            alloc,
-            Status::OutOfMemory,
-            memory.into_image(),
-            sink,
-            watcher,
-        ),
+        Err((why, memory)) => {
+            let status = of_undecoded(set, why);
+            unbegun(alloc, status, memory.into_image(), sink, watcher)
+        }
     }
 }
 
@@ -383,9 +408,10 @@ where
         → RanBy o first set.now launched.graph (S.takes sink) result.opening result.acts.acts
         (I.told result.image) result.status }
     ensures told { Tells result.acts.acts (W.seen watcher) (W.seen result.watcher)
-        (S.taken sink) (S.taken result.sink) }
+        (S.taken sink) (S.taken result.sink) (S.takes sink) (S.takes result.sink) }
     ensures sink_fault { result.status ≡ Status.SinkFault
-        → Rose (S.faults sink) (S.faults result.sink) }
+        → S.faults result.sink ≡ next_count (S.faults sink) }
+    ensures sink_spared { result.status ≢ Status.SinkFault → S.faults result.sink ≡ S.faults sink }
     ensures image_fault { result.status ≡ Status.ImageFault
         → Rose (memory_of launched.heap.machine).faults (I.faults result.image) }
 {

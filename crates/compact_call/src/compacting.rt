@@ -1,6 +1,6 @@
 // An image is written anew, densely, to another one.
-ghost use Rattle.std.specs.Prelude.{◌≡◌, ◌⊎◌, Err, IfErr};
-ghost use Rattle.ap_base.specs.Causes.{Rose};
+ghost use Rattle.std.specs.Prelude.{◌≡◌, ◌≢◌, ◌⊎◌, Err, IfErr};
+ghost use Rattle.ap_base.specs.Causes.{Rose, next_count};
 ghost use Rattle.image_opening.specs.Attached.{IsSettled};
 ghost use Rattle.image_opening.specs.Stops.{KeepsItsGraph};
 ghost use Rattle.graph_model.specs.declared.types.Graph.{Graph as WrittenGraph};
@@ -46,7 +46,8 @@ pub fn compact_images<I: Image, J: Image, S: Sink>(
     ensures new_size { (J.told result.fresh).size ≡ (J.told fresh).size }
     ensures image_cause { result.outcome ≡ Err CompactFault.ImageFailed
         → Rose (I.faults old) (I.faults result.old) ⊎ Rose (J.faults fresh) (J.faults result.fresh) }
-    ensures sink_cause { result.outcome ≡ Err CompactFault.SinkFailed → Rose (S.faults sink) (S.faults result.sink) }
+    ensures sink_fault { result.outcome ≡ Err CompactFault.SinkFailed → S.faults result.sink ≡ next_count (S.faults sink) }
+    ensures sink_spared { result.outcome ≢ Err CompactFault.SinkFailed → S.faults result.sink ≡ S.faults sink }
 {
     let (graph, old) = match read_graph(alloc, old) {
         Ok(read) => read,
@@ -85,7 +86,8 @@ fn put_line<S: Sink>(sink: &mut S, line: &[u8]) -> Result<(), CompactFault>
     ensures puts { (graph : WrittenGraph) → line.now ≡ written_line graph
         → Puts graph (S.taken sink.old) (S.taken sink.new) result }
     ensures fault { IfErr result (λ fault. fault ≡ CompactFault.SinkFailed) }
-    ensures cause { result ≡ Err CompactFault.SinkFailed → Rose (S.faults sink.old) (S.faults sink.new) }
+    ensures sink_fault { result ≡ Err CompactFault.SinkFailed → S.faults sink.new ≡ next_count (S.faults sink.old) }
+    ensures sink_spared { result ≢ Err CompactFault.SinkFailed → S.faults sink.new ≡ S.faults sink.old }
 {
     match put_all(sink, line) {
         Ok(()) => Ok(()),

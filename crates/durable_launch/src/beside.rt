@@ -1,5 +1,6 @@
 // What a run has beside its heap.
-ghost use Rattle.std.specs.Prelude.{◌≡◌, length, slice_get, IfOk, Some};
+ghost use Rattle.std.specs.Prelude.{◌≡◌, length, slice_get, IfOk, IsErrOf, Some};
+ghost use Rattle.class_code.specs.Sizes.{IsTooLarge};
 ghost use Rattle.class_set.specs.Facts.{facts_of};
 ghost use Rattle.workers.specs.Passed.{begun_main};
 ghost use Rattle.one_space.specs.Beside.{IsFirstRest};
@@ -9,6 +10,7 @@ ghost use Rattle.program_host.specs.Settings.{setting_of};
 ghost use Rattle.program_launch.specs.Launches.{set_program};
 
 use ap_base::{ListOf, Ref};
+use class_code::DecodeRefusal;
 use class_set::ClassSet;
 use natives::NativeState;
 use private_steps::Frames;
@@ -47,20 +49,21 @@ fn make_frames(
 }
 
 /// What the run of a set has beside its heap, where these references stand for the array of arguments
-/// and for the literals.
+/// and for the literals. `TooLarge` only where the set is too large to be decoded.
 pub(crate) fn make_beside(
     alloc: Global,
     set: &ClassSet,
     main: &Main,
     arguments: Ref,
     literals: Vec<Ref>,
-) -> Result<Beside, AllocError>
+) -> Result<Beside, DecodeRefusal>
     ensures host { IfOk result (λ beside. setting_in beside.host ≡ setting_of (set_program set.now)
         main.now.method (known_classes (facts_of set.now)) literals.items) }
     ensures many { IfOk result (λ beside. length beside.frames.items ≡ 64) }
     ensures main { IfOk result (λ beside. slice_get beside.frames.items 0
         ≡ Some (begun_main main.now.class main.now.method arguments)) }
     ensures rest { IfOk result (λ beside. IsFirstRest (facts_of set.now) beside.rest) }
+    ensures too_large { IsErrOf result DecodeRefusal.TooLarge → IsTooLarge set.now }
 {
     let program = program_of(alloc, set)?;
     let host = ProgramHost::new(

@@ -1,6 +1,7 @@
 // What a run over an opened image begins with.
 ghost use Rattle.std.specs.Prelude.{◌≡◌, IfErr, IfOk};
 ghost use Rattle.line_image.specs.Told.{Told};
+ghost use Rattle.class_code.specs.Sizes.{IsTooLarge};
 ghost use Rattle.class_set.specs.Linked.{Linked};
 ghost use Rattle.class_set.specs.Facts.{facts_of};
 ghost use Rattle.plain_model.specs.Duties.{IsClass};
@@ -10,7 +11,7 @@ ghost use Rattle.durable_launch.specs.Launching.{CanLaunch, IsLaunched};
 use crate::beside::{Beside, make_beside};
 use crate::heaps::OpenedHeap;
 use ap_base::Ref;
-use class_code::programs_name_what_is_there;
+use class_code::{DecodeRefusal, programs_name_what_is_there};
 use class_set::{ClassSet, linked_sets_are_consistent};
 use launch_laws::{
     asked_arrays_are_written, first_heaps_have_their_directory, first_machines_keep_their_run,
@@ -44,15 +45,15 @@ pub struct Launched<I: Image> {
 ///
 /// # Errors
 ///
-/// Want of memory, or decoded code with 2^32 rows in a table, which would take more than 32 GB. The
-/// memory over the image is given back.
+/// `TooLarge` only where the set's methods have 2^32 instructions or more, with an end for each; want
+/// of memory. The memory over the image is given back.
 pub fn launch<I: Image>(
     alloc: Global,
     set: &ClassSet,
     main: &Main,
     opened: OpenedHeap<I>,
     limits: &Limits,
-) -> Result<Launched<I>, LineMemory<I>>
+) -> Result<Launched<I>, (DecodeRefusal, LineMemory<I>)>
     requires can { (start : Told) × (old : Linked)
         × CanLaunch start old set.now limits.now.heap_words opened }
     requires main { IsClass (facts_of set.now) main.now.class }
@@ -60,7 +61,8 @@ pub fn launch<I: Image>(
         → (can : CanLaunch start old set.now limits.now.heap_words opened)
         → IsLaunched start (entries_in can.directory) set.now main.now limits.now opened launched) }
     ensures graph { IfOk result (λ launched. launched.graph ≡ opened.graph) }
-    ensures given_back { IfErr result (λ back. back ≡ opened.spaces.heap.memory) }
+    ensures too_large { IfErr result (λ e. e.0 ≡ DecodeRefusal.TooLarge → IsTooLarge set.now) }
+    ensures given_back { IfErr result (λ e. e.1 ≡ opened.spaces.heap.memory) }
 {
     first_machines_keep_their_run();
     first_machines_run_as_plain_runs();
@@ -80,9 +82,9 @@ pub fn launch<I: Image>(
         graph,
         free,
     } = opened;
-    let Ok(Beside { host, frames, rest }) = make_beside(alloc, set, main, arguments, literals)
-    else {
-        return Err(spaces.heap.memory);
+    let Beside { host, frames, rest } = match make_beside(alloc, set, main, arguments, literals) {
+        Ok(beside) => beside,
+        Err(why) => return Err((why, spaces.heap.memory)),
     };
     match SharedHeap::new(alloc, spaces, free, rest, limits.acts) {
         Ok(heap) => Ok(Launched {
@@ -91,6 +93,6 @@ pub fn launch<I: Image>(
             frames,
             graph,
         }),
-        Err(spaces) => Err(spaces.heap.memory),
+        Err(spaces) => Err((DecodeRefusal::OutOfMemory, spaces.heap.memory)),
     }
 }

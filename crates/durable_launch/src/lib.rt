@@ -6,6 +6,7 @@ mod beside;
 mod heaps;
 mod launches;
 
+pub use class_code::{DecodeRefusal, accepted_sets_have_room};
 pub use heaps::{OpenedHeap, open_heap};
 pub use launches::{Launched, launch};
 pub use program_launch::{Main, NoLaunch, NoMain, find_main, find_room};

@@ -1,6 +1,5 @@
 -- How a run ends: where it is stuck, the fault tells a wait or none of each of the 64 threads.
-use Rattle.std.proofs.Common.{◌≡◌, ℕ, List, length, Option, Some, None, inl, inr, ap, sym, subst, ◌∙◌}
-use Rattle.run_types.specs.declared.fault.RunFault.{RunFault}
+use Rattle.std.proofs.Common.{◌≡◌, ℕ, List, length, Option, inl, inr, ap, sym, subst, ◌∙◌}
 use Rattle.run_types.specs.declared.fault.RunFault.TheVariants as fault
 use Rattle.run_types.specs.declared.fault.StepFault.{StepFault}
 use Rattle.run_types.specs.declared.fault.StepFault.TheVariants as met

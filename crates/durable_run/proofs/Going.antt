@@ -1,6 +1,6 @@
 -- What an event does to a run: a turn begins and asks, and the event leaves the run ready, or ended.
-use Rattle.std.proofs.Common.{◌≡◌, ◌≢◌, ◌⊎◌, ℕ, zero, suc, ◌+◌, ◌<◌, ◌≤◌, ltb, Bool, true, false, not, List, [], ◌∷◌, ◌++◌, length}
-use Rattle.std.proofs.Common.{Option, Some, None, refl, ap, sym, subst, ◌∙◌, arith, inl, inr, if◌then◌else◌}
+use Rattle.std.proofs.Common.{◌≡◌, ◌≢◌, ◌⊎◌, ℕ, ◌+◌, ◌<◌, ◌≤◌, Bool, true, false, not, List, [], ◌∷◌, length}
+use Rattle.std.proofs.Common.{Option, Some, None, refl, ap, sym, subst, ◌∙◌, arith, inl, inr}
 use Rattle.std.specs.Prelude.{IsSome, slice_get, slice_index, slice_set}
 use Rattle.std.proofs.lemmas.Bool.{cases_lt}
 use Rattle.std.proofs.lemmas.Bool.Decides.{eqb_tells}
@@ -16,7 +16,7 @@ use Rattle.natives.specs.declared.requests.Reply.{Reply}
 use Rattle.natives.specs.declared.states.NativeState.{NativeState}
 use Rattle.run_history.specs.declared.act.Op.{Op}
 use Rattle.run_history.specs.declared.act.Op.TheVariants as op
-use Rattle.run_history.specs.Recorded.{History, Recorded}
+use Rattle.run_history.specs.Recorded.{History}
 use Rattle.plain_model.specs.Facts.{SetFacts}
 use Rattle.frames.specs.Settings.{Setting}
 use Rattle.frames.specs.Turns.{answer, begun_thread, turn}
@@ -25,27 +25,27 @@ use Rattle.private_steps.specs.Waits.{Waits, WaitsAfter}
 use Rattle.shared_objects.specs.declared.threads.ThreadState.{ThreadState}
 use Rattle.run_forms.specs.Laws.{answered_threads}
 use Rattle.run_forms.specs.Views.{ThreadFrames}
-use Rattle.run_forms.specs.Standing.{IsAsking, setting_of}
+use Rattle.run_forms.specs.Standing.{setting_of}
 use Rattle.twin_forms.specs.Table.{Entry}
 use Rattle.machine.specs.Passed.{Doing}
 use Rattle.machine.specs.Passed.{Nothing, Converting, Writing, Fencing}
-use Rattle.machine.specs.Passed.{Opening, Machine, doing_of, memory_of, shown_in}
+use Rattle.machine.specs.Passed.{Opening, Machine, doing_of, shown_in}
 use Rattle.machine.specs.Passed.{IsListed}
 use Rattle.machine.specs.Passed.{Asks, Begins, IsReady as OwesNoFence, LagsByItsStore, Shared, all_acted, asked_by, given}
 use Rattle.machine.specs.Passed.{started_as, taken}
 use Rattle.machine.specs.declared.events.Event.{Event}
-use Rattle.machine.specs.declared.events.Event.TheVariants.{Did, Micro, WouldWait, Over}
+use Rattle.machine.specs.declared.events.Event.TheVariants.{Did, Over}
 use Rattle.machine.specs.declared.events.Halt.{Halt}
 use Rattle.machine.specs.declared.events.Halt.TheVariants.{Met, Stuck}
 use Rattle.machine.specs.Halts.{fault_of_halt}
 use Rattle.machine.specs.Running.{HadNoFault, IsDue, IsRunning, asked_class}
-use Rattle.machine.specs.Events.{AddsOne, IsAnswerTo, IsOver}
+use Rattle.machine.specs.Events.{IsAnswerTo, IsOver}
 use Rattle.machine.specs.Remembering.{Answers, GoesOnAsking, LeadsTo, Remembers}
 use Rattle.machine.proofs.Passed.{frames-at, ready-own}
 use Rattle.durable_run.specs.Events.{HasAsked, with_begun}
 use Rattle.durable_run.specs.Turning.{AsksListed, EndsAt, HasFrames, HasRun, HaveTurned, IsReady, is_live, lives}
 use Rattle.durable_run.proofs.Noting.{forgets, forgets-taken, runs-noted}
-use Rattle.durable_run.proofs.Places.{get-before, get-behind, get-other, get-same, get-some, no-some, some-one}
+use Rattle.durable_run.proofs.Places.{get-before, get-behind, get-other, get-same, get-some, some-one}
 use Rattle.durable_run.proofs.Throwing.{thrown-is_plain}
 
 -- ---- threads that live
@@ -471,17 +471,6 @@ module _ (o : Opening) (first : ℕ) (set : SetFacts) (x : Setting Native Ref (N
         | inl one ↦ one-case one.0 one.1 one.2
         | inr isnt ↦ none-case isnt
       ]
-
-    -- the same, as the code counts the threads and finds the frames
-    pub acts-on : (later : List ThreadFrames) (k i : ℕ) → k ≡ before_count → i ≡ t
-        → (k < length new.machine.rest.threads → later ≡ with_begun (slice_set frames i now) k (started_as new.notes k))
-        → (length new.machine.rest.threads ≤ k → later ≡ slice_set frames i now) → IsReady o first set x new later
-    acts-on later k i count at begun none = acts-again later
-        (subst (λ n. n < length new.machine.rest.threads → later ≡ with_begun after n (started_as new.notes n)) count
-        (subst (λ j. k < length new.machine.rest.threads
-        → later ≡ with_begun (slice_set frames j now) k (started_as new.notes k)) at begun))
-        (subst (λ n. length new.machine.rest.threads ≤ n → later ≡ after) count
-        (subst (λ j. length new.machine.rest.threads ≤ k → later ≡ slice_set frames j now) at none))
 
 -- ---- the run is over
 

@@ -1,7 +1,6 @@
 -- What is noted of threads, without what is noted of one of them.
-use Rattle.std.proofs.Common.{◌≡◌, ◌≢◌, inl, inr, ℕ, Bool, true, false, List, Option, Some, None, refl, sym, ◌∙◌, ap, subst}
+use Rattle.std.proofs.Common.{◌≡◌, ◌≢◌, ℕ, Bool, true, false, List, Option, Some, None, refl, sym, ◌∙◌, ap, subst}
 use Rattle.std.specs.Prelude.{IsSome, slice_index_or, slice_set}
-use Rattle.std.proofs.lemmas.Bool.Decides.{eqb_tells}
 use Rattle.std.proofs.lemmas.List.{get_or-set_other, set-set}
 use Rattle.ap_base.specs.declared.reference.Ref.{Ref}
 use Rattle.ap_base.specs.declared.reference.Item.{Item}
@@ -10,8 +9,8 @@ use Rattle.run_types.specs.declared.wait.On.TheVariants as on
 use Rattle.natives.specs.declared.requests.Request.{Request}
 use Rattle.run_forms.specs.Views.{ThreadFrames}
 use Rattle.twin_forms.specs.Table.{Entry}
-use Rattle.machine.specs.Passed.{Opening, doing_of}
-use Rattle.machine.specs.Passed.{AreNoted, Asks, IsReady, Shared, ThreadNotes, answered, asked_by, taken, waits_on}
+use Rattle.machine.specs.Passed.{Opening}
+use Rattle.machine.specs.Passed.{IsReady, Shared, ThreadNotes, answered, asked_by, taken, waits_on}
 use Rattle.machine.specs.Events.{SparesOthers}
 use Rattle.machine.specs.Remembering.{without_notes}
 use Rattle.machine.specs.Running.{RemembersAsked, Runs}

@@ -1,7 +1,7 @@
 -- What is so within a pass over the threads, and why a pass leaves less to do.
-use Rattle.std.proofs.Common.{◌≡◌, ◌≢◌, ◌⊎◌, ℕ, zero, suc, ◌+◌, ◌<◌, ◌≤◌, Bool, true, false, not, nat_eq, is_some, List, [], ◌∷◌, length}
+use Rattle.std.proofs.Common.{◌≡◌, ◌⊎◌, ℕ, suc, ◌+◌, ◌<◌, ◌≤◌, Bool, true, false, not, List, [], ◌∷◌, length}
 use Rattle.std.proofs.Common.{Option, Some, None, refl, ap, sym, subst, ◌∙◌, arith, inl, inr, if◌then◌else◌}
-use Rattle.std.specs.Prelude.{All, IsSome, slice_get}
+use Rattle.std.specs.Prelude.{All, slice_get}
 use Rattle.std.proofs.lemmas.Bool.{cases_lt}
 use Rattle.std.proofs.lemmas.Bool.Decides.{eqb_tells}
 use Rattle.std.proofs.lemmas.List.Elements.{All-nil, All-cons}
@@ -25,8 +25,8 @@ use Rattle.run_forms.specs.Views.{ThreadFrames}
 use Rattle.twin_forms.specs.Table.{Entry, IsClaimed}
 use Rattle.machine.specs.Passed.{Opening, Machine, known_in, layout_in, scene_of}
 use Rattle.machine.specs.Passed.{IsDoing}
-use Rattle.machine.specs.Passed.{AgreesAt, AllAskStores, ClaimersLive, FullRowsWaitPlainly, HaveWaited, HoldsWait, InRow, Is, IsFull}
-use Rattle.machine.specs.Passed.{IsLive, IsPlain, LiveThreadsAsk, MachinesBeginRows, PassesBegin, PassesFill, PassesGoOn, PassesSkip}
+use Rattle.machine.specs.Passed.{AllAskStores, ClaimersLive, FullRowsWaitPlainly, HaveWaited, HoldsWait, InRow, IsFull}
+use Rattle.machine.specs.Passed.{IsLive, LiveThreadsAsk, MachinesBeginRows, PassesBegin, PassesFill, PassesGoOn, PassesSkip}
 use Rattle.machine.specs.Passed.{Plain, PlainWaitsAreNoConversions, Shared, Why, asks_some, measure, none_waited, on_of, plain_waits}
 use Rattle.machine.specs.Passed.{requests_in, waits_on, with_wait}
 use Rattle.machine.specs.declared.events.Halt.{Halt}
@@ -37,7 +37,6 @@ use Rattle.durable_run.specs.Telling.{IsCaused}
 use Rattle.durable_run.specs.Turning.{IsReady, is_live, lives}
 use Rattle.durable_run.specs.declared.steps.Stepped.{Stepped}
 use Rattle.durable_run.specs.declared.steps.Stepped.TheVariants.{Acted, Micro, WouldWait, Over}
-use Rattle.durable_run.proofs.Going.{live-state}
 use Rattle.durable_run.proofs.Places.{get-some, no-some, some-one}
 use Rattle.durable_run.proofs.Telling.{more-acts}
 

@@ -26,6 +26,12 @@ get-other (y ∷ xs) zero (suc u) x other = refl
 get-other (y ∷ xs) (suc t) zero x other = refl
 get-other (y ∷ xs) (suc t) (suc u) x other = get-other xs t u x (λ same. other (ap suc same))
 
+-- to put what stands there changes nothing
+pub set-there : {X : Type 0} (xs : List X) (t : ℕ) (x : X) → slice_get xs t ≡ Some x → slice_set xs t x ≡ xs
+set-there [] t x there = refl
+set-there (y ∷ xs) zero x there = ap (λ z. z ∷ xs) (sym (some-one y x there))
+set-there (y ∷ xs) (suc t) x there = ap (λ zs. y ∷ zs) (set-there xs t x there)
+
 -- behind a list stands what is appended
 pub get-behind : {X : Type 0} (xs : List X) (x : X) (u : ℕ) (y : X) → slice_get (xs ++ x ∷ []) u ≡ Some y
     → length xs ≤ u → (u ≡ length xs) × (y ≡ x)

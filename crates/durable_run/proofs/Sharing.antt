@@ -41,7 +41,7 @@ use Rattle.durable_run.proofs.Telling.{drop-further}
 
 -- ---- lists
 
-cancel : (old a b new : List Recorded) → new ≡ old ++ a → new ≡ old ++ b → a ≡ b
+pub cancel : (old a b new : List Recorded) → new ≡ old ++ a → new ≡ old ++ b → a ≡ b
 cancel old a b new one other = sym (drop-further old a new one) ∙ drop-further old b new other
 
 no-act : (before : List Recorded) (a : Recorded) (behind : List Recorded) → [] ≡ before ++ a ∷ behind → ⊥
@@ -209,11 +209,11 @@ module _ (takes : ℕ → Option ℕ) where
 
 -- ---- what is owed
 
-abbrev is_there : Option Place → Bool
+abbrev pub is_there : Option Place → Bool
 is_there None = false
 is_there (Some p) = true
 
-owes-is : (us : List Unfenced) (t : ℕ) → owes_fence us t ≡ is_there (unfenced_at us t)
+pub owes-is : (us : List Unfenced) (t : ℕ) → owes_fence us t ≡ is_there (unfenced_at us t)
 owes-is [] t = refl
 owes-is (x ∷ us) t = elim (nat_eq x.thread t) as (λ b. (b || owes_fence us t)
     ≡ is_there (if b then Some x.place else unfenced_at us t)) [ true ↦ refl | false ↦ owes-is us t ]
@@ -239,7 +239,7 @@ module _ (o : Opening) (first : ℕ) (set : SetFacts) (s : Shared) (es : List En
     asks-piece ready = ap (λ (acts : List Recorded). piece_after o.launch acts t) due.running.acts
         ∙ ap piece_of (alike o s.machine es threads due.running.keeps due.running.plain t fs request ready due.asks).plain
 
-    rule : (new : List Recorded) (one : AddsOne t s.history.acts new) → IsRun o.launch new
+    pub rule : (new : List Recorded) (one : AddsOne t s.history.acts new) → IsRun o.launch new
         → is_fenced one.act.act.op ≡ owes_fence (known_in o s.machine).unfenced t
     rule new one run =
         let its = subst (IsRun o.launch) (one.acts ∙ ap (λ (acts : List Recorded). acts ++ one.act ∷ []) due.running.acts) run in
@@ -248,7 +248,7 @@ module _ (o : Opening) (first : ℕ) (set : SetFacts) (s : Shared) (es : List En
         (first_frames o.launch.set o.launch.main o.launch.opening (plain_code o.launch)) NoWish s.machine.acts one.act its).1 in
         may.fence ∙ ap (owes_fence (known_in o s.machine).unfenced) one.thread
 
-    is-doing : (d : Doing) → doing_of s.machine t ≡ d → IsDoing (known_in o s.machine) (layout_in o es) t d
+    pub is-doing : (d : Doing) → doing_of s.machine t ≡ d → IsDoing (known_in o s.machine) (layout_in o es) t d
     is-doing d is = subst (IsDoing (known_in o s.machine) (layout_in o es) t) is (due.running.keeps.asked.doing t)
 
     module _ (takes takes' : ℕ → ℕ → Option ℕ) (new : List Recorded) (one : AddsOne t s.history.acts new) (run : IsRun o.launch new)

@@ -1,5 +1,5 @@
 -- What an event comes to for its run, as the thread's request was noted before.
-use Rattle.std.proofs.Common.{◌≡◌, ◌≢◌, ◌↔◌, ℕ, ◌<◌, Bool, true, false, List, length, Option, Some, None, refl, sym, ◌∙◌, ap, subst, get_or}
+use Rattle.std.proofs.Common.{◌≡◌, ◌↔◌, ℕ, ◌<◌, Bool, true, false, List, length, Option, Some, None, refl, sym, ◌∙◌, ap, subst, get_or}
 use Rattle.std.specs.Prelude.{IsSome, IsTrue, slice_get, slice_index_or, slice_set}
 use Rattle.std.proofs.lemmas.List.{get_or-set_other, set-set}
 use Rattle.std.proofs.lemmas.Option.{get_or_from_slice_get, slice_get_within}
@@ -12,11 +12,9 @@ use Rattle.natives.specs.declared.requests.Reply.{Reply}
 use Rattle.natives.specs.declared.states.NativeState.{NativeState}
 use Rattle.plain_model.specs.Facts.{SetFacts}
 use Rattle.frames.specs.Settings.{Setting}
-use Rattle.frames.specs.Turns.{turn}
 use Rattle.frame_steps.specs.Sized.{AreOf}
 use Rattle.frame_thread.specs.declared.private.Stop.{Stop}
 use Rattle.private_steps.specs.Ahead.{HasCome}
-use Rattle.private_steps.specs.Waits.{WaitsAfter}
 use Rattle.run_forms.specs.Views.{ThreadFrames}
 use Rattle.machine.specs.Passed.{Opening}
 use Rattle.twin_forms.specs.Table.{Entry}
@@ -27,13 +25,13 @@ use Rattle.machine.specs.declared.events.Halt.TheVariants.{Met, Stuck}
 use Rattle.machine.specs.Events.{KeepsBound}
 use Rattle.machine.specs.Remembering.{GoesOnWaiting, Remembers, RemembersOwn as EventRemembersOwn}
 use Rattle.machine.specs.Running.{RemembersAsked}
-use Rattle.durable_run.specs.Events.{HasAsked, HasBegun, LeavesAlone, RemembersAfter, RemembersOwn, StepsTo, event_of}
+use Rattle.durable_run.specs.Events.{HasBegun, LeavesAlone, RemembersAfter, RemembersOwn, StepsTo, event_of}
 use Rattle.durable_run.specs.Turning.{IsReady, asks_next, is_live}
 use Rattle.durable_run.specs.declared.steps.Stepped.{Stepped}
 use Rattle.durable_run.specs.declared.steps.Stepped.TheVariants.{Acted, Micro, WouldWait, Over}
-use Rattle.durable_run.proofs.Going.{asks-next, live-frames}
+use Rattle.durable_run.proofs.Going.{live-frames}
 use Rattle.durable_run.proofs.Noting.{none-waits}
-use Rattle.durable_run.proofs.Places.{get-same}
+use Rattle.durable_run.proofs.Places.{get-same, get-some}
 
 -- what is noted before doesn't count
 waits-from : (o : Opening) (first : ℕ) (on : On) (s new : Shared) (notes : ThreadNotes) (t : ℕ) (threads : List ThreadFrames)
@@ -145,6 +143,13 @@ pub elem-is : (frames : List ThreadFrames) (t i : ℕ) (elem now : ThreadFrames)
 elem-is frames t i elem now at value there = value ∙ ap (λ (n : ℕ). get_or frames n elem) at
     ∙ get_or_from_slice_get frames t now elem there
 
+-- what the code finds at a thread's place stands there
+pub elem-at : (frames : List ThreadFrames) (t i : ℕ) (elem : ThreadFrames) → i ≡ t → elem ≡ get_or frames i elem
+    → t < length frames → slice_get frames t ≡ Some elem
+elem-at frames t i elem at value below =
+    let there = get-some frames t below in
+    there.1 ∙ ap (λ (fs : ThreadFrames). Some fs) (sym (elem-is frames t i elem there.0 at value there.1))
+
 pub set-twice : (frames : List ThreadFrames) (t i : ℕ) (one other : ThreadFrames) → i ≡ t
     → slice_set (slice_set frames i one) i other ≡ slice_set frames t other
 set-twice frames t i one other at = set-set frames i one other ∙ ap (λ (n : ℕ). slice_set frames n other) at
@@ -193,20 +198,6 @@ module _ (o : Opening) (first : ℕ) (set : SetFacts) (x : Setting Native Ref (N
       subst (λ (gs : ThreadFrames). HasBegun o first set x s frames t stop elem gs)
       (sym (elem-put frames t i one now at (slice_get_within frames t elem elem-there) put))
       (begun-so stop one unasked come of)
-
--- ---- a turn asks
-
-pub asks-at : (o : Opening) (first : ℕ) (set : SetFacts) (x : Setting Native Ref (NativeState Ref) Item) (s : Shared)
-    (all : List ThreadFrames) (t : ℕ) (stop : Option Stop) (before now : ThreadFrames) (frames : List ThreadFrames) (i : ℕ)
-    (after : ThreadFrames) (request : Request Ref Item) → HasBegun o first set x s all t stop before now
-    → frames ≡ slice_set all t now → i ≡ t → after ≡ (turn x before).frames → Some request ≡ (turn x before).asks
-    → WaitsAfter request after → AreOf x.program after.frames
-    → HasAsked o first set x s (slice_set frames i after) t request
-asks-at o first set x s all t stop before now frames i after request b is at turned asks waits of =
-    subst (λ (gs : List ThreadFrames). HasAsked o first set x s gs t request)
-    (sym (ap (λ (gs : List ThreadFrames). slice_set gs i after) is
-    ∙ ap (λ (n : ℕ). slice_set (slice_set all t now) n after) at ∙ set-set all t now after))
-    (asks-next o first set x s all t before b.ready b.there b.unasked b.live after request turned asks waits of)
 
 pub put-there : (all frames : List ThreadFrames) (t : ℕ) (before now : ThreadFrames) → slice_get all t ≡ Some before
     → frames ≡ slice_set all t now → slice_get frames t ≡ Some now

@@ -1,7 +1,9 @@
+pub mod Apart
 pub mod Events
 pub mod Passes
 pub mod Quick
 pub mod Shares
+pub mod Sparing
 pub mod Telling
 pub mod Turning
 pub mod Passed

@@ -2,6 +2,7 @@
 //! the events by which what they ask is done.
 #![tactic(auto)]
 
+mod apart;
 mod events;
 mod parts;
 mod passes;
@@ -10,11 +11,12 @@ mod run;
 mod runs;
 mod steps;
 
+pub use apart::{Begun, begin_started, begin_turn, step_asked, step_begun};
 pub use machine::{
     Halt, SharedHeap, each_stop_is_allowed, events_keep_lines, lines_stay_unwritten,
     others_keep_theirs, quiet_steps_are_few,
 };
 pub use parts::is_live;
 pub use run::Run;
-pub use runs::{RunEnd, run_threads};
+pub use runs::{RunEnd, ended, run_threads};
 pub use steps::{Stepped, step};

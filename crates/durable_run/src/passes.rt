@@ -3,6 +3,7 @@ ghost use Rattle.std.specs.Prelude.{◌≡◌, ◌≢◌, ◌≤◌, ◌<◌, �
 ghost use Rattle.machine.specs.Passed.{Opening, memory_of};
 ghost use Rattle.durable_run.specs.Passes.{IsLess, PassesTo, fault_of_pass};
 ghost use Rattle.durable_run.specs.Shares.{PrintsShares};
+ghost use Rattle.durable_run.specs.Sparing.{SparesSink};
 ghost use Rattle.durable_run.specs.Telling.{HasTold, IsCaused};
 ghost use Rattle.durable_run.specs.Turning.{IsReady};
 
@@ -49,6 +50,10 @@ pub(crate) fn pass_over<
     ensures shares { (o : Opening) (first : ℕ)
         → IsReady o first (C.facts set.now) (H.setting host.now) run.old.heap run.old.frames.items
         → PrintsShares o.launch (S.takes run.old.sink) (S.takes run.new.sink)
+        run.old.heap.history.acts run.new.heap.history.acts }
+    ensures spares { (o : Opening) (first : ℕ)
+        → IsReady o first (C.facts set.now) (H.setting host.now) run.old.heap run.old.frames.items
+        → SparesSink S.taken o.launch (fault_of_pass run.new.heap result) run.old.sink run.new.sink
         run.old.heap.history.acts run.new.heap.history.acts }
     ensures cause { IsCaused (fault_of_pass run.new.heap result) (S.faults run.old.sink) (S.faults run.new.sink)
         (memory_of run.old.heap.machine).faults (memory_of run.new.heap.machine).faults }

@@ -1,10 +1,20 @@
 // Whole runs.
-ghost use Rattle.std.specs.Prelude.{◌≡◌, ◌≢◌, ◌≤◌, ◌<◌, ℕ, None, length, slice_index_or, slice_set};
+ghost use Rattle.std.specs.Prelude.{◌≡◌, ◌≢◌, ◌≤◌, ◌<◌, ℕ, All, List, None, length, true};
+ghost use Rattle.std.specs.Prelude.{slice_index_or, slice_set};
+ghost use Rattle.ap_base.specs.declared.reference.Ref.{Ref as Reference};
+ghost use Rattle.ap_base.specs.declared.reference.Item.{Item as Given};
+ghost use Rattle.natives.specs.declared.methods.Native.{Native as Method};
+ghost use Rattle.natives.specs.declared.states.NativeState.{NativeState as State};
+ghost use Rattle.plain_model.specs.Facts.{SetFacts};
+ghost use Rattle.frames.specs.Settings.{Setting};
+ghost use Rattle.shared_objects.specs.declared.threads.ThreadState.{ThreadState};
+ghost use Rattle.run_forms.specs.Views.{ThreadFrames};
 ghost use Rattle.machine.specs.Passed.{Opening, memory_of};
 ghost use Rattle.machine.specs.declared.events.Halt.TheVariants.{Stuck};
 ghost use Rattle.machine.specs.Halts.{fault_of_halt};
 ghost use Rattle.durable_run.specs.Passes.{PassesTo, fault_of_pass};
 ghost use Rattle.durable_run.specs.Shares.{PrintsShares};
+ghost use Rattle.durable_run.specs.Sparing.{SparesSink};
 ghost use Rattle.durable_run.specs.Telling.{HasTold, IsCaused};
 ghost use Rattle.durable_run.specs.Turning.{EndsBy, IsReady, fault_in};
 
@@ -63,6 +73,17 @@ fn fault_of<I: Image>(heap: &SharedHeap<I>, halt: Halt) -> RunFault
     }
 }
 
+/// The end of a run of which all threads have ended.
+pub fn ended<I: Image>(heap: &SharedHeap<I>) -> RunEnd
+    requires { All (λ (state : ThreadState). state.ended ≡ true) heap.now.machine.rest.threads }
+    ensures ends { (o : Opening) (first : ℕ) (set : SetFacts) (x : Setting Method Reference (State Reference) Given)
+        (all : List ThreadFrames) → IsReady o first set x heap.now all → EndsBy o first result heap.now }
+    ensures unfaulted { fault_in result ≡ None }
+{
+    machine::machines_finish_with_their_threads();
+    RunEnd::Ended(first_uncaught(heap.threads()))
+}
+
 // Passes up to one in which an act was made, or the last one.
 fn next_act<
     C: Types,
@@ -83,6 +104,10 @@ fn next_act<
     ensures shares { (o : Opening) (first : ℕ)
         → IsReady o first (C.facts set.now) (H.setting host.now) run.old.heap run.old.frames.items
         → PrintsShares o.launch (S.takes run.old.sink) (S.takes run.new.sink)
+        run.old.heap.history.acts run.new.heap.history.acts }
+    ensures spares { (o : Opening) (first : ℕ)
+        → IsReady o first (C.facts set.now) (H.setting host.now) run.old.heap run.old.frames.items
+        → SparesSink S.taken o.launch (fault_of_pass run.new.heap result) run.old.sink run.new.sink
         run.old.heap.history.acts run.new.heap.history.acts }
     ensures cause { IsCaused (fault_of_pass run.new.heap result) (S.faults run.old.sink) (S.faults run.new.sink)
         (memory_of run.old.heap.machine).faults (memory_of run.new.heap.machine).faults }
@@ -124,15 +149,18 @@ pub fn run_threads<
         → IsReady o first (C.facts set.now) (H.setting host.now) run.old.heap run.old.frames.items
         → PrintsShares o.launch (S.takes run.old.sink) (S.takes run.new.sink)
         run.old.heap.history.acts run.new.heap.history.acts }
+    ensures spares { (o : Opening) (first : ℕ)
+        → IsReady o first (C.facts set.now) (H.setting host.now) run.old.heap run.old.frames.items
+        → SparesSink S.taken o.launch (fault_in result) run.old.sink run.new.sink
+        run.old.heap.history.acts run.new.heap.history.acts }
     ensures cause { IsCaused (fault_in result) (S.faults run.old.sink) (S.faults run.new.sink)
         (memory_of run.old.heap.machine).faults (memory_of run.new.heap.machine).faults }
     ensures size { (memory_of run.new.heap.machine).size ≡ (memory_of run.old.heap.machine).size }
 {
-    machine::machines_finish_with_their_threads();
     'acts: loop {
         match next_act(run, set, host, gate) {
             Pass::Went => {}
-            Pass::Ended => return RunEnd::Ended(first_uncaught(run.heap.threads())),
+            Pass::Ended => return ended(&run.heap),
             Pass::Over(halt) => return RunEnd::Over(fault_of(&run.heap, halt)),
         }
     }

@@ -1,29 +1,28 @@
 // Events of threads.
-ghost use Rattle.std.specs.Prelude.{◌≡◌, ◌<◌, ◌≤◌, ℕ, List, length, slice_get, slice_set, Some, true, IsSome};
+ghost use Rattle.std.specs.Prelude.{◌≡◌, ◌<◌, ◌≤◌, ℕ, List, length, slice_get, Some, true, IsSome};
 ghost use Rattle.run_types.specs.declared.fault.Which.TheVariants as which;
-ghost use Rattle.frames.specs.Turns.{turn};
-ghost use Rattle.private_steps.specs.Ahead.{HasCome};
 ghost use Rattle.run_forms.specs.Views.{ThreadFrames};
 ghost use Rattle.machine.specs.Passed.{Opening, memory_of};
 ghost use Rattle.machine.specs.declared.events.Halt.TheVariants.{Met};
 ghost use Rattle.machine.specs.Events.{KeepsBound};
 ghost use Rattle.machine.specs.Halts.{lacks};
-ghost use Rattle.machine.specs.Passed.{asked_by, started_as};
-ghost use Rattle.durable_run.specs.Events.{AddsBy, FindsItsWait, HasAsked, HasBegun, LeavesAlone, LeavesLess, RemembersAfter, StepsTo, event_of, fault_of};
-ghost use Rattle.durable_run.specs.Events.{with_begun};
+ghost use Rattle.machine.specs.Passed.{Shared, asked_by, started_as};
+ghost use Rattle.durable_run.specs.Apart.{after_event};
+ghost use Rattle.durable_run.specs.Events.{AddsBy, FindsItsWait, LeavesAlone, LeavesLess, RemembersAfter, StepsTo};
+ghost use Rattle.durable_run.specs.Events.{event_of, fault_of, with_begun};
 ghost use Rattle.durable_run.specs.Shares.{PrintsShares};
+ghost use Rattle.durable_run.specs.Sparing.{SparesSink};
 ghost use Rattle.durable_run.specs.Telling.{AddsShare, HasTold, IsCaused};
 ghost use Rattle.durable_run.specs.Turning.{IsReady, asks_next, is_live, turns_after};
 
-use crate::events::told_event;
-use crate::parts::{asked, begun};
-use crate::quick::reads_at_once;
+use crate::apart::{begin_started, step_asked, step_come};
+use crate::parts::begun;
 use crate::run::Run;
 use ap_base::{Gate, Item, Ref, Sink, ThreadNo};
-use frame_thread::{Host, Stop};
+use frame_thread::Host;
 use line_image::Image;
-use machine::{Event, Halt, SharedHeap};
-use natives::{Native, NativeState, Request};
+use machine::{Halt, SharedHeap};
+use natives::{Native, NativeState};
 use private_steps::Frames;
 use run_history::Watcher;
 use run_types::On;
@@ -42,20 +41,6 @@ pub enum Stepped {
     Over(Halt),
 }
 
-// The frames of a thread that was started begin, if it is: by the reference to its Thread object.
-fn begin<I: Image>(
-    frames: &mut Vec<Frames<Ref, NativeState>>,
-    heap: &SharedHeap<I>,
-    child: ThreadNo,
-)
-    requires many { length frames.old.items ≡ 64 }
-    ensures begun { frames.new.items ≡ with_begun frames.old.items child (started_as heap.now.notes child) }
-{
-    if let Some(thread) = heap.begins(child) {
-        frames[child.number() as usize].begin_thread(thread);
-    }
-}
-
 // The frames begin of the thread that is behind so many, if it was started.
 fn begin_next<I: Image>(
     frames: &mut Vec<Frames<Ref, NativeState>>,
@@ -71,66 +56,23 @@ fn begin_next<I: Image>(
         return;
     }
     if let Some(child) = ThreadNo::new(before as u8) {
-        begin(frames, heap, child);
+        begin_started(&mut frames[child.number() as usize], heap, child);
     }
 }
 
-// The event of a thread whose turn has asked this: what it asks is done, or goes on, or waits.
-#[inline(always)]
-fn goes_on<C: Types, I: Image, H: Host<Native, Ref, NativeState, Item>, S: Sink, W: Watcher>(
-    run: &mut Run<I, S, W>,
-    set: &C,
-    host: &H,
-    t: ThreadNo,
-    request: &mut Request,
-) -> Stepped
-    requires asked { (o : Opening) × (first : ℕ) × HasAsked o first (C.facts set.now) (H.setting host.now)
-        run.old.heap run.old.frames.items t request.old }
-    ensures goes { (o : Opening) (first : ℕ) → HasAsked o first (C.facts set.now) (H.setting host.now)
-        run.old.heap run.old.frames.items t request.old
-        → StepsTo o first (C.facts set.now) (H.setting host.now) t result run.old.heap run.new.heap
-        run.new.frames.items }
-    ensures acts { AddsBy result t run.old.heap.history.acts run.new.heap.history.acts }
-    ensures told { HasTold run.old.heap.history.acts run.new.heap.history.acts
-        (W.seen run.old.watcher) (W.seen run.new.watcher)
-        (S.taken run.old.sink) (S.taken run.new.sink) }
-    ensures share { AddsShare (Some request.old)
-        (S.takes run.old.sink 0) run.old.heap.history.acts run.new.heap.history.acts }
-    ensures shares { (o : Opening) (first : ℕ) → HasAsked o first (C.facts set.now) (H.setting host.now)
-        run.old.heap run.old.frames.items t request.old
-        → PrintsShares o.launch (S.takes run.old.sink) (S.takes run.new.sink)
-        run.old.heap.history.acts run.new.heap.history.acts }
-    ensures cause { IsCaused (fault_of run.new.heap result) (S.faults run.old.sink) (S.faults run.new.sink)
-        (memory_of run.old.heap.machine).faults (memory_of run.new.heap.machine).faults }
-    ensures full { run.old.heap.history.limit ≤ length run.old.heap.history.acts
-        → result ≡ Stepped.Over (Met (lacks which.Acts 1 0)) }
-    ensures less { LeavesLess result run.old.heap run.new.heap }
-    ensures remembers { RemembersAfter t (Some request.old) result run.old.heap run.new.heap }
-    ensures finds { (o : Opening) (first : ℕ) → HasAsked o first (C.facts set.now) (H.setting host.now)
-        run.old.heap run.old.frames.items t request.old → FindsItsWait o t result run.old.heap.machine }
-    ensures alone { LeavesAlone t (Some request.old) result run.old.heap run.new.heap (run.new.sink ≡ run.old.sink) }
-    ensures work { KeepsBound (event_of result) run.old.heap run.new.heap }
-    ensures turns { run.new.turns ≡ run.old.turns }
+// After an event of a run that had so many threads, the thread begins that it started, if it did.
+fn begin_after<I: Image>(
+    frames: &mut Vec<Frames<Ref, NativeState>>,
+    heap: &SharedHeap<I>,
+    before: usize,
+    went: &Stepped,
+)
+    requires many { length frames.old.items ≡ 64 }
+    ensures begun { (old : Shared) → before ≡ length old.machine.rest.threads
+        → frames.new.items ≡ after_event went.now old heap.now frames.old.items }
 {
-    machine::machines_ask_as_plain_runs();
-    let before = run.heap.threads().count();
-    let went = told_event(
-        &mut run.heap,
-        &mut run.sink,
-        &mut run.watcher,
-        set,
-        t,
-        request,
-    );
-    match went {
-        Event::Did(reply) => {
-            run.frames[t.number() as usize].answer(host, &reply);
-            begin_next(&mut run.frames, &run.heap, before);
-            Stepped::Acted
-        }
-        Event::Micro => Stepped::Micro,
-        Event::WouldWait(on) => Stepped::WouldWait(on),
-        Event::Over(halt) => Stepped::Over(halt),
+    if let Stepped::Acted = went {
+        begin_next(frames, heap, before);
     }
 }
 
@@ -159,6 +101,10 @@ fn continues<C: Types, I: Image, H: Host<Native, Ref, NativeState, Item>, S: Sin
         → IsReady o first (C.facts set.now) (H.setting host.now) run.old.heap run.old.frames.items
         → PrintsShares o.launch (S.takes run.old.sink) (S.takes run.new.sink)
         run.old.heap.history.acts run.new.heap.history.acts }
+    ensures spares { (o : Opening) (first : ℕ)
+        → IsReady o first (C.facts set.now) (H.setting host.now) run.old.heap run.old.frames.items
+        → SparesSink S.taken o.launch (fault_of run.new.heap result) run.old.sink run.new.sink
+        run.old.heap.history.acts run.new.heap.history.acts }
     ensures cause { IsCaused (fault_of run.new.heap result) (S.faults run.old.sink) (S.faults run.new.sink)
         (memory_of run.old.heap.machine).faults (memory_of run.new.heap.machine).faults }
     ensures full { run.old.heap.history.limit ≤ length run.old.heap.history.acts
@@ -173,61 +119,18 @@ fn continues<C: Types, I: Image, H: Host<Native, Ref, NativeState, Item>, S: Sin
     ensures work { KeepsBound (event_of result) run.old.heap run.new.heap }
     ensures turns { run.new.turns ≡ run.old.turns }
 {
-    let Some(mut request) = run.heap.take_asked(t) else {
-        unreachable!()
-    };
-    goes_on(run, set, host, t, &mut request)
-}
-
-// The turn that has begun so asks its request.
-fn asks<C: Types, I: Image, H: Host<Native, Ref, NativeState, Item>, S: Sink, W: Watcher>(
-    run: &mut Run<I, S, W>,
-    set: &C,
-    host: &H,
-    t: ThreadNo,
-    stop: Option<Stop>,
-) -> Stepped
-    requires begun { (o : Opening) × (first : ℕ) × (all : List ThreadFrames) × (before : ThreadFrames) × (now : ThreadFrames)
-        × HasBegun o first (C.facts set.now) (H.setting host.now) run.old.heap all t stop before now
-        × (run.old.frames.items ≡ slice_set all t now) }
-    ensures goes { (o : Opening) (first : ℕ) (all : List ThreadFrames) (before now : ThreadFrames)
-        → HasBegun o first (C.facts set.now) (H.setting host.now) run.old.heap all t stop before now
-        → run.old.frames.items ≡ slice_set all t now
-        → StepsTo o first (C.facts set.now) (H.setting host.now) t result run.old.heap run.new.heap
-        run.new.frames.items }
-    ensures acts { AddsBy result t run.old.heap.history.acts run.new.heap.history.acts }
-    ensures told { HasTold run.old.heap.history.acts run.new.heap.history.acts
-        (W.seen run.old.watcher) (W.seen run.new.watcher)
-        (S.taken run.old.sink) (S.taken run.new.sink) }
-    ensures share { (before now : ThreadFrames) → HasCome (H.setting host.now) stop before now
-        → slice_get run.old.frames.items t ≡ Some now → AddsShare (turn (H.setting host.now) before).asks
-        (S.takes run.old.sink 0) run.old.heap.history.acts run.new.heap.history.acts }
-    ensures shares { (o : Opening) (first : ℕ) (all : List ThreadFrames) (before now : ThreadFrames)
-        → HasBegun o first (C.facts set.now) (H.setting host.now) run.old.heap all t stop before now
-        → run.old.frames.items ≡ slice_set all t now
-        → PrintsShares o.launch (S.takes run.old.sink) (S.takes run.new.sink)
-        run.old.heap.history.acts run.new.heap.history.acts }
-    ensures cause { IsCaused (fault_of run.new.heap result) (S.faults run.old.sink) (S.faults run.new.sink)
-        (memory_of run.old.heap.machine).faults (memory_of run.new.heap.machine).faults }
-    ensures full { run.old.heap.history.limit ≤ length run.old.heap.history.acts
-        → result ≡ Stepped.Over (Met (lacks which.Acts 1 0)) }
-    ensures less { LeavesLess result run.old.heap run.new.heap }
-    ensures remembers { (before now : ThreadFrames) → HasCome (H.setting host.now) stop before now
-        → slice_get run.old.frames.items t ≡ Some now
-        → RemembersAfter t (turn (H.setting host.now) before).asks result run.old.heap run.new.heap }
-    ensures finds { (o : Opening) (first : ℕ) (all : List ThreadFrames) (before now : ThreadFrames)
-        → HasBegun o first (C.facts set.now) (H.setting host.now) run.old.heap all t stop before now
-        → run.old.frames.items ≡ slice_set all t now → FindsItsWait o t result run.old.heap.machine }
-    ensures alone { (before now : ThreadFrames) → HasCome (H.setting host.now) stop before now
-        → slice_get run.old.frames.items t ≡ Some now
-        → LeavesAlone t (turn (H.setting host.now) before).asks result run.old.heap run.new.heap
-        (run.new.sink ≡ run.old.sink) }
-    ensures work { KeepsBound (event_of result) run.old.heap run.new.heap }
-    ensures turns { run.new.turns ≡ run.old.turns }
-{
-    machine::machines_ask_as_plain_runs();
-    let mut request = asked(&mut run.frames[t.number() as usize], host, stop);
-    goes_on(run, set, host, t, &mut request)
+    let before = run.heap.threads().count();
+    let went = step_asked(
+        &mut run.heap,
+        &mut run.sink,
+        &mut run.watcher,
+        set,
+        host,
+        t,
+        &mut run.frames[t.number() as usize],
+    );
+    begin_after(&mut run.frames, &run.heap, before, &went);
+    went
 }
 
 /// One event of a live thread. Where no request of its turn waits for an answer, its next turn begins: the gate is
@@ -260,6 +163,10 @@ pub fn step<
         → IsReady o first (C.facts set.now) (H.setting host.now) run.old.heap run.old.frames.items
         → PrintsShares o.launch (S.takes run.old.sink) (S.takes run.new.sink)
         run.old.heap.history.acts run.new.heap.history.acts }
+    ensures spares { (o : Opening) (first : ℕ)
+        → IsReady o first (C.facts set.now) (H.setting host.now) run.old.heap run.old.frames.items
+        → SparesSink S.taken o.launch (fault_of run.new.heap result) run.old.sink run.new.sink
+        run.old.heap.history.acts run.new.heap.history.acts }
     ensures cause { IsCaused (fault_of run.new.heap result) (S.faults run.old.sink) (S.faults run.new.sink)
         (memory_of run.old.heap.machine).faults (memory_of run.new.heap.machine).faults }
     // A history without room for an act has none.
@@ -288,16 +195,17 @@ pub fn step<
     }
     let at = t.number() as usize;
     let stop = begun(&mut run.frames[at], &mut run.turns[at], host, gate, t);
-    if reads_at_once(
-        &mut run.frames[at],
+    let before = run.heap.threads().count();
+    let went = step_come(
         &mut run.heap,
+        &mut run.sink,
         &mut run.watcher,
         set,
         host,
         t,
+        &mut run.frames[at],
         stop,
-    ) {
-        return Stepped::Acted;
-    }
-    asks(run, set, host, t, stop)
+    );
+    begin_after(&mut run.frames, &run.heap, before, &went);
+    went
 }

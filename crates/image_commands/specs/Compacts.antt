@@ -1,6 +1,6 @@
 -- What the call of `compact` promises, in one record: a field a promise.
-use Rattle.std.specs.Prelude.{◌≡◌, ◌⊎◌, ℕ, List, Option, Some, None, Result, Ok, Err}
-use Rattle.ap_base.specs.Causes.{Rose}
+use Rattle.std.specs.Prelude.{◌≡◌, ◌≢◌, ◌⊎◌, ℕ, List, Option, Some, None, Result, Ok, Err}
+use Rattle.ap_base.specs.Causes.{Rose, next_count}
 use Rattle.line_image.specs.Told.{Told}
 use Rattle.command_words.specs.Commands.{command_of}
 use Rattle.command_words.specs.declared.command.Compact.{Compact}
@@ -69,7 +69,8 @@ pub record MeetsCompact (words : List (List ℕ)) (before after : Images) (SameI
       ⊎ ((how ≡ status.OutOfMemory) × IsUntouched before after SameImages)
   -- A fault of the outside comes only where it failed.
   pub image_fault : how ≡ status.ImageFault → Rose before.old_faults after.old_faults ⊎ Rose before.fresh_faults after.fresh_faults
-  pub sink_fault : how ≡ status.SinkFault → Rose before.sink_faults after.sink_faults
+  pub sink_fault : how ≡ status.SinkFault → after.sink_faults ≡ next_count before.sink_faults
+  pub sink_spared : how ≢ status.SinkFault → after.sink_faults ≡ before.sink_faults
   -- Both images keep their numbers of lines.
   pub old_size : after.old.size ≡ before.old.size
   pub new_size : after.fresh.size ≡ before.fresh.size

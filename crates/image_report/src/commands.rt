@@ -1,6 +1,6 @@
 // An image is opened, and what it holds is printed.
-ghost use Rattle.std.specs.Prelude.{◌≡◌, OnOk, IfErr};
-ghost use Rattle.ap_base.specs.Causes.{Rose};
+ghost use Rattle.std.specs.Prelude.{◌≡◌, ◌≢◌, Err, OnOk, IfErr};
+ghost use Rattle.ap_base.specs.Causes.{Rose, next_count};
 ghost use Rattle.image_opening.specs.Attached.{IsSettled};
 ghost use Rattle.image_opening.specs.Stops.{KeepsItsGraph};
 ghost use Rattle.image_report.specs.Reports.{HasPrinted, IsChecked, IsDumped, IsLeftOpen, IsUnreported, WasOpened};
@@ -28,8 +28,8 @@ pub struct Reported<I: Image, S: Sink> {
 ///
 /// # Errors
 ///
-/// Those of `open_image`, with nothing printed. `SinkFailed` only where the sink's count of faults rose; a front of the text was
-/// printed then. Want of memory, with nothing printed.
+/// Those of `open_image`, with nothing printed. `SinkFailed` exactly where the sink failed, once; a front of the text was printed
+/// then. Want of memory, with nothing printed.
 pub fn check_image<I: Image, S: Sink>(alloc: Global, image: I, mut sink: S) -> Reported<I, S>
     ensures printed { OnOk result.how (HasPrinted IsChecked (I.told image) (S.taken sink) (S.taken result.sink)) }
     ensures unreported { IfErr result.how (IsUnreported IsChecked (I.told image) (I.told result.image)
@@ -39,8 +39,9 @@ pub fn check_image<I: Image, S: Sink>(alloc: Global, image: I, mut sink: S) -> R
     ensures size { (I.told result.image).size ≡ (I.told image).size }
     ensures image_cause { IfErr result.how (λ why. why ≡ NotReported.Unopened NotOpened.ImageFailed
         → Rose (I.faults image) (I.faults result.image)) }
-    ensures sink_cause { IfErr result.how (λ why. why ≡ NotReported.SinkFailed
-        → Rose (S.faults sink) (S.faults result.sink)) }
+    ensures sink_fault { IfErr result.how (λ why. why ≡ NotReported.SinkFailed
+        → S.faults result.sink ≡ next_count (S.faults sink)) }
+    ensures sink_spared { result.how ≢ Err NotReported.SinkFailed → S.faults result.sink ≡ S.faults sink }
 {
     let found = match open_image(alloc, image) {
         Ok(found) => found,
@@ -86,8 +87,9 @@ pub fn dump_image<I: Image, S: Sink>(alloc: Global, image: I, mut sink: S) -> Re
     ensures size { (I.told result.image).size ≡ (I.told image).size }
     ensures image_cause { IfErr result.how (λ why. why ≡ NotReported.Unopened NotOpened.ImageFailed
         → Rose (I.faults image) (I.faults result.image)) }
-    ensures sink_cause { IfErr result.how (λ why. why ≡ NotReported.SinkFailed
-        → Rose (S.faults sink) (S.faults result.sink)) }
+    ensures sink_fault { IfErr result.how (λ why. why ≡ NotReported.SinkFailed
+        → S.faults result.sink ≡ next_count (S.faults sink)) }
+    ensures sink_spared { result.how ≢ Err NotReported.SinkFailed → S.faults result.sink ≡ S.faults sink }
 {
     let found = match open_image(alloc, image) {
         Ok(found) => found,

@@ -3,7 +3,7 @@ use Rattle.std.proofs.Common.{◌≡◌, inl, inr, ℕ, ◌+◌, ◌≤◌, Bool
 use Rattle.std.proofs.Common.{ap, length, subst, arith, if◌then◌else◌}
 use Rattle.std.specs.Prelude.{IsSome}
 use Rattle.std.proofs.lemmas.List.{append-nil}
-use Rattle.ap_base.specs.Causes.{Rose}
+use Rattle.ap_base.specs.Causes.{next_count}
 use Rattle.ap_base.specs.Sinks.{TakesBehind, with_bytes}
 use Rattle.ap_base.specs.declared.reference.Ref.{Ref}
 use Rattle.ap_base.specs.declared.reference.Item.{Item}
@@ -95,11 +95,11 @@ spares-share result old new q takes spares act is = elim spares.acts [
 ]
 
 pub spares-cause : (result : Event) (before : ℕ) → IsNoSinkFault result → HasSinkCause result before before
-spares-cause (Did r) before none = omega arith
-spares-cause Micro before none = omega arith
-spares-cause (WouldWait on) before none = omega arith
+spares-cause (Did r) before none = refl
+spares-cause Micro before none = refl
+spares-cause (WouldWait on) before none = refl
 spares-cause (Over (Met fault.SinkFault)) before none = absurd none
-spares-cause (Over halt) before none = omega arith
+spares-cause (Over halt) before none = refl
 
 -- ---- a step
 
@@ -208,12 +208,12 @@ print-step set t from piece before rest f now rest_now is = elim (is.follows [])
   | inr over ↦ absurd (no-over _ _ _ f (over 1))
 ]
 
--- the sink failed where a print says so
-sink-rose : (number : Ref → Option ℕ) (q : Request Ref Item) (before now : ℕ)
+-- the sink failed once where a print says so
+sink-failed : (number : Ref → Option ℕ) (q : Request Ref Item) (before now : ℕ)
     → prints (plain_request number q) ≡ true → FaultsGo q before (stepped.Over fault.SinkFault) now
-    → Rose before now
-sink-rose number (ask.Print from piece) before now e h = h
-sink-rose number q before now e h = absurd (let no : false ≡ true = e in cc)
+    → now ≡ next_count before
+sink-failed number (ask.Print from piece) before now e h = h
+sink-failed number q before now e h = absurd (let no : false ≡ true = e in cc)
 
 prints-it : (q : PlainRequest) → Prints (Some q) → prints q ≡ true
 prints-it q (from, piece, e) = let same : q ≡ ask.Print from piece = cc in ap prints same
@@ -221,24 +221,24 @@ prints-it q (from, piece, e) = let same : q ≡ ask.Print from piece = cc in ap 
 unmoved : (set : SetFacts) (t : ℕ) (q : Request Ref Item) (shown : Shown) (rest : Rest) (f : StepFault)
     (now : Shown) (rest_now : Rest) → IsStep set t q shown rest (stepped.Over f) now rest_now
     → (f ≡ fault.SinkFault → ⊥) → (before after : ℕ) → FaultsGo q before (stepped.Over f) after
-    → before ≤ after
+    → after ≡ before
 unmoved set t (ask.Print from piece) shown rest f now rest_now is other before after go =
     absurd (other (print-step set t from piece shown rest f now rest_now is))
-unmoved set t q shown rest f now rest_now is other before after go = omega (arith, go)
+unmoved set t q shown rest f now rest_now is other before after go = go
 
--- A step that is over by the sink was a print's, and the sink's count rose.
+-- A step that is over by the sink was a print's, and the sink failed once.
 pub over-cause : (set : SetFacts) (t : ℕ) (q : Request Ref Item) (shown : Shown) (rest : Rest) (f : StepFault)
     (now : Shown) (rest_now : Rest) → IsStep set t q shown rest (stepped.Over f) now rest_now
     → (f ≡ fault.SinkFault → Prints (Some (plain_request shown.number q))) → (before after : ℕ)
     → FaultsGo q before (stepped.Over f) after → HasSinkCause (Over (Met f)) before after
 over-cause set t q shown rest fault.SinkFault now rest_now is prints before after go =
-    sink-rose shown.number q before after (prints-it (plain_request shown.number q) (prints refl)) go
+    sink-failed shown.number q before after (prints-it (plain_request shown.number q) (prints refl)) go
 over-cause set t q shown rest f now rest_now is prints before after go =
     unmoved set t q shown rest f now rest_now is (λ e. let no = e in cc) before after go
 
--- otherwise the count didn't fall
+-- otherwise it didn't fail
 pub other-cause : (q : Request Ref Item) (result : Stepped) (before after : ℕ) → IsNoOver result
-    → FaultsGo q before result after → before ≤ after
+    → FaultsGo q before result after → after ≡ before
 other-cause (ask.Print from piece) (stepped.Over f) before after none go = absurd none
 other-cause (ask.Print from piece) result before after none go = go
-other-cause q result before after none go = omega (arith, go)
+other-cause q result before after none go = go

@@ -1,6 +1,6 @@
 -- What an event of a thread over a shared heap comes to.
 use Rattle.std.specs.Prelude.{◌≡◌, ◌≢◌, ◌⊎◌, ℕ, ◌+◌, ◌-◌, ◌*◌, ◌<◌, ◌≤◌, Bool, false, List, [], ◌∷◌, ◌++◌, length, Option, Some, None, IfSome}
-use Rattle.ap_base.specs.Causes.{Rose}
+use Rattle.ap_base.specs.Causes.{Rose, next_count}
 use Rattle.ap_base.specs.Sinks.{TakesBehind, with_bytes}
 use Rattle.ap_base.specs.declared.reference.Ref.{Ref}
 use Rattle.ap_base.specs.declared.reference.Item.{Item}
@@ -226,12 +226,12 @@ IsUnanswered result = ⊥
 
 -- ---- what is beside
 
--- The sink's count of faults never falls, and where the run is over by the sink it rose.
+-- The sink fails only where the run is over by it, and then once.
 abbrev pub HasSinkCause : Event → ℕ → ℕ → Type 0
-HasSinkCause (Over (Met met.SinkFault)) before now = Rose before now
-HasSinkCause result before now = before ≤ now
+HasSinkCause (Over (Met met.SinkFault)) before now = now ≡ next_count before
+HasSinkCause result before now = now ≡ before
 
--- the same of the image
+-- The image's count of faults never falls, and where the run is over by the image it rose.
 abbrev pub HasImageCause : Event → ℕ → ℕ → Type 0
 HasImageCause (Over (Met met.ImageFault)) before now = Rose before now
 HasImageCause result before now = before ≤ now

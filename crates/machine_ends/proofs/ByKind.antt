@@ -1,9 +1,9 @@
 -- Each event, by its kind.
 use Rattle.std.proofs.Common.{ap, sym, ◌∙◌, ◌+◌}
 use Rattle.convert_words.specs.declared.step.ConvertStep.TheVariants as answer
-use Rattle.machine_forms.specs.Happening.{called, written, fenced, converted, failed, begun, sealed, asked, acted, stored}
-use Rattle.machine_forms.specs.Happening.{region}
-use Rattle.machine_forms.proofs.Happening.{table-is}
+use Rattle.machine_laws.specs.Happening.{called, written, fenced, converted, failed, begun, sealed, asked, acted, stored}
+use Rattle.machine_laws.specs.Happening.{region}
+use Rattle.machine_laws.proofs.Passed.{table-is}
 use Rattle.machine_ends.specs.LineLaws.{EventsKeepLines}
 use Rattle.machine_ends.specs.Unwritten.{EventsLeaveUnwritten}
 use Rattle.machine_ends.proofs.Events.{begun-by, conversions-keep-lines}

@@ -25,10 +25,10 @@ use Rattle.run_forms.proofs.Visible.{is_outside}
 use Rattle.twin_forms.specs.Table.{Entry}
 use Rattle.machine_laws.proofs.Acts.{owes_some}
 use Rattle.machine_laws.proofs.Asking.{stores-anyhow}
-use Rattle.machine_forms.specs.declared.doing.Doing.{Doing}
-use Rattle.machine_forms.specs.Machines.{Opening, Machine, known_in, roots_in, shown_in, doing_of, layout_in}
-use Rattle.machine_forms.specs.Keeping.{IsDoing, KeepsRun}
-use Rattle.machine_forms.specs.Events.{IsStoreOf, value_in}
+use Rattle.machine_laws.specs.Passed.{Doing}
+use Rattle.machine_laws.specs.Passed.{Opening, Machine, known_in, roots_in, shown_in, doing_of, layout_in}
+use Rattle.machine_laws.specs.Passed.{IsDoing, KeepsRun}
+use Rattle.machine_laws.specs.Passed.{IsStoreOf, value_in}
 use Rattle.machine_laws.specs.Frames.{Asks, IsReady, ReadyThreadsAskAlike, RunsAsPlain}
 use Rattle.machine_ends.specs.Laws.{OwesFence, FullHistoriesEnd, StepsEnd, ImageFaultsEnd, FullLogsEnd, RacesEnd}
 use Rattle.machine_ends.specs.Laws.{StepsMeetNoFault, FencesMeetNoFault, StoresMeetNoFault, EndsMeetNoFault}

@@ -16,13 +16,13 @@ use Rattle.convert_words.specs.Converting.{Says}
 use Rattle.converter.specs.declared.begin.Begun.{Begun}
 use Rattle.converter.specs.declared.begin.Begun.TheVariants as begun
 use Rattle.converter.specs.Beginning.{BeginsAs}
-use Rattle.machine_forms.specs.Machines.{Opening, Machine, known_in, scene_of}
-use Rattle.machine_forms.specs.Keeping.{KeepsRun}
+use Rattle.machine_laws.specs.Passed.{Opening, Machine, known_in, scene_of}
+use Rattle.machine_laws.specs.Passed.{KeepsRun}
 use Rattle.machine_laws.proofs.Converted.{heap-is}
 use Rattle.machine_ends.specs.Lines.{has_lines, nodes_of, lines_taken, TakesLines}
 use Rattle.machine_ends.specs.LineLaws.{LinesAreThoseOfObjects, StartsTakeNoLines}
 use Rattle.machine_ends.proofs.Taken.{young-later, taken-same, has-becomes, taken-more, has-sealed, taken-none}
-use Rattle.machine_forms.specs.Events.{ConvertsOn}
+use Rattle.machine_laws.specs.Passed.{ConvertsOn}
 
 -- ---- lines and the plain heap
 

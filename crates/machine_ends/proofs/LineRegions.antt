@@ -18,11 +18,11 @@ use Rattle.region_log.specs.Kept.{KeepsLog}
 use Rattle.region_log.specs.Log.{Log}
 use Rattle.region_log.proofs.Fencing.{ending-sees, logging-sees}
 use Rattle.region_events.specs.Laws.{one_deeper, with_entry}
-use Rattle.machine_forms.specs.declared.doing.Doing.TheVariants.{Nothing}
-use Rattle.machine_forms.specs.Machines.{Opening, Machine, memory_of, log_of}
-use Rattle.machine_forms.specs.Keeping.{KeepsRun}
-use Rattle.machine_forms.specs.Events.{OnlyImage, with_logged, LeavesLog, emptied, at_once, begun, guarded, logged, stored}
-use Rattle.machine_forms.specs.Events.{ending, closing, ended, RegionStep, told_of_log}
+use Rattle.machine_laws.specs.Passed.{Nothing}
+use Rattle.machine_laws.specs.Passed.{Opening, Machine, memory_of, log_of}
+use Rattle.machine_laws.specs.Passed.{KeepsRun}
+use Rattle.machine_laws.specs.Passed.{OnlyImage, with_logged, LeavesLog, emptied, at_once, begun, guarded, logged, stored}
+use Rattle.machine_laws.specs.Passed.{ending, closing, ended, RegionStep, told_of_log}
 use Rattle.machine_ends.specs.Regions.{LoggingLowersTheMeasure, EndingLowersTheMeasure, GuardsAddEightToTheMeasure}
 use Rattle.machine_ends.specs.Unwritten.{HasUnwritten}
 use Rattle.machine_ends.specs.Work.{log_work, work_left, measure}

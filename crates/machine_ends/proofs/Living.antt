@@ -12,7 +12,7 @@ use Rattle.plain_model.specs.Codes.{asks_live}
 use Rattle.shared_objects.specs.Worlds.{plain_thread}
 use Rattle.run_forms.specs.Views.{ThreadFrames, PlainFrames, plain_frames}
 use Rattle.run_forms.specs.Standing.{plain_code, known_at, frames_at}
-use Rattle.machine_forms.specs.Machines.{Opening, Machine, doing_of, shown_in}
+use Rattle.machine_laws.specs.Passed.{Opening, Machine, doing_of, shown_in}
 use Rattle.machine_laws.specs.Frames.{RunsAsPlain, Asks, acted_frames, all_acted}
 use Rattle.machine_laws.proofs.Lagging.{frames-at}
 use Rattle.machine_ends.specs.Laws.{Lives}

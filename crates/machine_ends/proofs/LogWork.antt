@@ -27,7 +27,7 @@ use Rattle.region_log.specs.Steps.{TouchesFor, AddsOn, AddsEntry, FailsToAdd, To
 use Rattle.region_log.specs.Steps.{FailsToEnd}
 use Rattle.region_events.specs.Laws.{LogsOn, CallsToEnd, with_entry}
 use Rattle.region_events.proofs.Places.{head_inside, entry_inside}
-use Rattle.machine_forms.specs.Machines.{empty_log}
+use Rattle.machine_laws.specs.Passed.{empty_log}
 use Rattle.machine_ends.specs.Work.{adding_work, ending_work, logged_work, underway_work, log_work}
 
 -- ---- all logs

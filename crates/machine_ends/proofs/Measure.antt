@@ -11,8 +11,8 @@ use Rattle.converter.specs.declared.begin.Begun.{Begun}
 use Rattle.converter.specs.declared.begin.Begun.TheVariants as begun
 use Rattle.converter.specs.Beginning.{BeginsAs}
 use Rattle.converter.specs.Laws.{quiet, quiet_begun}
-use Rattle.machine_forms.specs.Machines.{Opening, Machine, memory_of, scene_of}
-use Rattle.machine_forms.specs.Keeping.{KeepsRun}
+use Rattle.machine_laws.specs.Passed.{Opening, Machine, memory_of, scene_of}
+use Rattle.machine_laws.specs.Passed.{KeepsRun}
 use Rattle.machine_ends.specs.Work.{QuietEventsLowerTheMeasure, ActsAddTwoToTheMeasure}
 use Rattle.machine_ends.proofs.Working.{calls-leave, writes-take, fences-take, conversions-take, beginnings-add, seals-add}
 use Rattle.machine_ends.proofs.Working.{asked-adds, acts-add, stores-add}

@@ -17,9 +17,9 @@ use Rattle.machine_laws.proofs.Passed.{copied_or_not}
 use Rattle.convert_queue.specs.Queues.{Queues}
 use Rattle.convert_words.specs.Converting.{IsLineOf}
 use Rattle.convert_words.specs.Steps.{told}
-use Rattle.machine_forms.specs.Machines.{Opening, Machine}
-use Rattle.machine_forms.specs.Keeping.{KeepsRun}
-use Rattle.machine_forms.specs.Events.{ActsBeside, TableAfter, IsWithFresh}
+use Rattle.machine_laws.specs.Passed.{Opening, Machine}
+use Rattle.machine_laws.specs.Passed.{KeepsRun}
+use Rattle.machine_laws.specs.Passed.{ActsBeside, TableAfter, IsWithFresh}
 use Rattle.machine_laws.proofs.Beside.{OnlyAdds}
 use Rattle.machine_laws.proofs.AskKeeping.{in-durable}
 use Rattle.machine_laws.proofs.HeapStoring.{object_there, slot_there}

@@ -14,6 +14,6 @@ pub use Rattle.machine_laws.proofs.Logging.{LogGoesOn}
 pub use Rattle.machine_laws.proofs.Places.{place-inside}
 pub use Rattle.machine_laws.proofs.Requested.{copied-there}
 pub use Rattle.machine_laws.proofs.StopTables.{lies, objects_many}
-pub use Rattle.machine_forms.proofs.Happening.{table-is}
+pub use Rattle.machine_laws.proofs.Passed.{table-is}
 pub use Rattle.machine_laws.proofs.Passed.{shows}
 pub use Rattle.machine_laws.proofs.Passed.{number_named}

@@ -11,9 +11,9 @@ use Rattle.plain_model.specs.Limits.{object_lines, lines_left, joined_of}
 use Rattle.plain_model.specs.Ends.{IsTaken}
 use Rattle.twin_forms.specs.Table.{Entry, entry, Names, refers, word_of, lines_of}
 use Rattle.twin_forms.specs.Sights.{Twin, view_of}
-use Rattle.machine_forms.specs.declared.doing.Doing.TheVariants.{Converting}
-use Rattle.machine_forms.specs.Machines.{Opening, Machine, first_of, known_in, wants_in, memory_of, doing_of, layout_in}
-use Rattle.machine_forms.specs.Keeping.{IsDoing, KeepsRun}
+use Rattle.machine_laws.specs.Passed.{Converting}
+use Rattle.machine_laws.specs.Passed.{Opening, Machine, first_of, known_in, wants_in, memory_of, doing_of, layout_in}
+use Rattle.machine_laws.specs.Passed.{IsDoing, KeepsRun}
 use Rattle.machine_laws.proofs.Lists.{all-numbers}
 use Rattle.machine_laws.proofs.AskKeeping.{durable-in, in-durable}
 use Rattle.machine_laws.proofs.Wishes.{wants-asked}

@@ -29,9 +29,9 @@ use Rattle.region_events.proofs.Lists.{guards_none, no_place}
 use Rattle.twin_forms.specs.Table.{Entry}
 use Rattle.shared_objects.specs.Plain.{plain_request}
 use Rattle.shared_objects.specs.Worlds.{world_of}
-use Rattle.machine_forms.specs.Machines.{Opening, Machine, known_in, log_of, empty_log, layout_in, shown_in}
-use Rattle.machine_forms.specs.Events.{AsksEnd}
-use Rattle.machine_forms.specs.Keeping.{KeepsRun}
+use Rattle.machine_laws.specs.Passed.{Opening, Machine, known_in, log_of, empty_log, layout_in, shown_in}
+use Rattle.machine_laws.specs.Passed.{AsksEnd}
+use Rattle.machine_laws.specs.Passed.{KeepsRun}
 use Rattle.machine_ends.specs.Stores.{StoresFreely, beside, own, outside, volatile, room, FillsLogOf}
 
 -- ---- what logs tell

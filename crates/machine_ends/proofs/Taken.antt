@@ -13,9 +13,9 @@ use Rattle.twin_forms.specs.Sights.{view_of}
 use Rattle.machine_laws.proofs.Passed.{objects_long}
 use Rattle.convert_words.specs.Steps.{OneBecomes, claimed_at}
 use Rattle.convert_words.specs.Sealing.{AreSealed}
-use Rattle.machine_forms.specs.Machines.{Opening, Machine, first_of}
-use Rattle.machine_forms.specs.Keeping.{KeepsRun}
-use Rattle.machine_forms.specs.Events.{TableAfter, IsWithFresh}
+use Rattle.machine_laws.specs.Passed.{Opening, Machine, first_of}
+use Rattle.machine_laws.specs.Passed.{KeepsRun}
+use Rattle.machine_laws.specs.Passed.{TableAfter, IsWithFresh}
 use Rattle.machine_laws.proofs.AskKeeping.{durable-in}
 use Rattle.machine_ends.specs.Lines.{has_lines, nodes_of, lines_taken}
 use Rattle.machine_ends.proofs.Lists.{passing, sum-same, sum-more, sum-next, sum-none}

@@ -10,15 +10,15 @@ use Rattle.converter.specs.Laws.{AreUnwritten}
 use Rattle.converter.proofs.Unwritten.{stores_stay_unwritten, going_unwritten, events_stay_unwritten, beginnings_stay_unwritten}
 use Rattle.region_log.specs.Fencing.{makes_fence}
 use Rattle.region_log.specs.Log.{Log}
-use Rattle.machine_forms.specs.Machines.{scene_of, Opening, Machine}
+use Rattle.machine_laws.specs.Passed.{scene_of, Opening, Machine}
 use Rattle.machine_laws.proofs.Beside.{OnlyAdds, claimed-was}
 use Rattle.machine_ends.specs.Unwritten.{StartsHaveUnwritten, HasUnwritten}
 use Rattle.machine_ends.proofs.Noted.{table-adds, notes}
-use Rattle.machine_forms.specs.Keeping.{KeepsRun}
+use Rattle.machine_laws.specs.Passed.{KeepsRun}
 use Rattle.twin_forms.specs.Sights.{Twin}
 use Rattle.convert_words.specs.declared.step.ConvertStep.{ConvertStep}
-use Rattle.machine_forms.specs.Events as event
-use Rattle.machine_forms.specs.Events.{FailsOn, MakesFence, ConvertsOn, BeginsOn, ActsBeside, TableAfter, told_of_log}
+use Rattle.machine_laws.specs.Passed as event
+use Rattle.machine_laws.specs.Passed.{FailsOn, MakesFence, ConvertsOn, BeginsOn, ActsBeside, TableAfter, told_of_log}
 use Rattle.converter.specs.declared.begin.Begun.{Begun}
 use Rattle.natives.specs.declared.requests.Request.{Request}
 use Rattle.ap_base.specs.declared.reference.Ref.{Ref}

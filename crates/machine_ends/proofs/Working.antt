@@ -20,11 +20,11 @@ use Rattle.convert_words.specs.Steps.{told_fenced}
 use Rattle.convert_words.proofs.Basics.{room_of}
 use Rattle.converter.specs.Laws.{Tells, done_at, work_of}
 use Rattle.converter.proofs.Left.{events_take_work, beginnings_add_work}
-use Rattle.machine_forms.specs.declared.doing.Doing.{Doing}
-use Rattle.machine_forms.specs.declared.doing.Doing.TheVariants.{Nothing, Converting, Writing, Fencing}
-use Rattle.machine_forms.specs.Machines.{Opening, Machine, scene_of, doing_of}
-use Rattle.machine_forms.specs.Keeping.{KeepsRun}
-use Rattle.machine_forms.specs.Events.{ConvertsOn, left_by}
+use Rattle.machine_laws.specs.Passed.{Doing}
+use Rattle.machine_laws.specs.Passed.{Nothing, Converting, Writing, Fencing}
+use Rattle.machine_laws.specs.Passed.{Opening, Machine, scene_of, doing_of}
+use Rattle.machine_laws.specs.Passed.{KeepsRun}
+use Rattle.machine_laws.specs.Passed.{ConvertsOn, left_by}
 use Rattle.machine_laws.proofs.Lists.{set-within}
 use Rattle.machine_laws.proofs.Beside.{OnlyAdds}
 use Rattle.machine_ends.specs.Work.{lines_at, store_work, CallsLeaveWork, WritesTakeOne, FencesTakeOne, ConversionsTakeWork}

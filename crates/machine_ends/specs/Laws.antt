@@ -21,10 +21,10 @@ use Rattle.step_forms.specs.Follows.{IsStep}
 use Rattle.run_forms.specs.Views.{ThreadFrames}
 use Rattle.run_forms.specs.Standing.{plain_code}
 use Rattle.run_forms.specs.Ends.{IsEndedBy, Ends, MeetsNoFault}
-use Rattle.machine_forms.specs.declared.doing.Doing.{Doing}
-use Rattle.machine_forms.specs.declared.doing.Doing.TheVariants.{Writing, Fencing}
-use Rattle.machine_forms.specs.Machines.{Machine, doing_of, known_in, shown_in}
-use Rattle.machine_forms.specs.Events.{IsStoreOf, AsksEnd, value_in}
+use Rattle.machine_laws.specs.Passed.{Doing}
+use Rattle.machine_laws.specs.Passed.{Writing, Fencing}
+use Rattle.machine_laws.specs.Passed.{Machine, doing_of, known_in, shown_in}
+use Rattle.machine_laws.specs.Passed.{IsStoreOf, AsksEnd, value_in}
 use Rattle.machine_laws.specs.Frames.{OfPlain, Asks, IsReady}
 use Rattle.machine_ends.specs.Stores.{StoresFreely, IsFreeOp, FillsLogOf}
 

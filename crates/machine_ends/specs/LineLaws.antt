@@ -6,10 +6,10 @@ use Rattle.run_forms.specs.Standing.{plain_code}
 use Rattle.twin_forms.specs.Table.{Entry, entry, lines_of, IsClaimed, InP}
 use Rattle.convert_words.specs.declared.step.ConvertStep.TheVariants as step
 use Rattle.converter.specs.declared.begin.Begun.TheVariants as begun
-use Rattle.machine_forms.specs.Machines.{Opening, Machine, known_in}
-use Rattle.machine_forms.specs.Keeping.{KeepsRun}
-use Rattle.machine_forms.specs.Events.{ConvertsOn, BeginsOn}
-use Rattle.machine_forms.specs.Happening.{OfEvents}
+use Rattle.machine_laws.specs.Passed.{Opening, Machine, known_in}
+use Rattle.machine_laws.specs.Passed.{KeepsRun}
+use Rattle.machine_laws.specs.Passed.{ConvertsOn, BeginsOn}
+use Rattle.machine_laws.specs.Happening.{OfEvents}
 use Rattle.machine_laws.specs.AskLaws.{OfRuns}
 use Rattle.machine_ends.specs.Lines.{nodes_of, TakesLines, lines_from, lines_fault, IsRefused}
 

@@ -5,7 +5,7 @@ use Rattle.run_types.specs.declared.fault.RunFault.{RunFault}
 use Rattle.run_types.specs.declared.fault.Which.TheVariants as which
 use Rattle.plain_model.specs.Ends.{FillsImage, full}
 use Rattle.twin_forms.specs.Table.{Entry, entry, lines_of}
-use Rattle.machine_forms.specs.Machines.{Opening, Machine, known_in, wants_in, memory_of}
+use Rattle.machine_laws.specs.Passed.{Opening, Machine, known_in, wants_in, memory_of}
 
 -- it lies in lines of the image, or its copy is begun there
 abbrev pub has_lines : Entry → Bool

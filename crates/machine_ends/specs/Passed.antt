@@ -4,12 +4,12 @@ pub use Rattle.machine_laws.specs.Frames.{IsReady, OfPlain, ReadyThreadsAskAlike
 pub use Rattle.machine_laws.specs.Frames.{region_frames, stored_frames}
 pub use Rattle.machine_laws.specs.HeapLaws.{KeepsShared}
 pub use Rattle.machine_laws.specs.Keeping.{EachStopIsAllowed, EventsKeepRuns}
-pub use Rattle.machine_forms.specs.Events.{AsksFor, CallsImage, DoesRequest, RegionStep, act_in, value_in}
-pub use Rattle.machine_forms.specs.Events.{with_logged, with_twin}
-pub use Rattle.machine_forms.specs.Happening.{Happens, act_of, acted, asked, begun, called, converted, failed}
-pub use Rattle.machine_forms.specs.Happening.{fenced, region, region_act, sealed, stored, written}
-pub use Rattle.machine_forms.specs.Keeping.{IsDoing, KeepsRun}
-pub use Rattle.machine_forms.specs.Machines.{Machine, Opening, doing_of, empty_log, known_in, layout_in, log_of}
-pub use Rattle.machine_forms.specs.Machines.{roots_in, scene_of, shown_in}
-pub use Rattle.machine_forms.specs.declared.doing.Doing.{Doing}
-pub use Rattle.machine_forms.specs.declared.doing.Doing.TheVariants.{Converting, Fencing, Nothing, Writing}
+pub use Rattle.machine_laws.specs.Passed.{AsksFor, CallsImage, DoesRequest, RegionStep, act_in, value_in}
+pub use Rattle.machine_laws.specs.Passed.{with_logged, with_twin}
+pub use Rattle.machine_laws.specs.Happening.{Happens, act_of, acted, asked, begun, called, converted, failed}
+pub use Rattle.machine_laws.specs.Happening.{fenced, region, region_act, sealed, stored, written}
+pub use Rattle.machine_laws.specs.Passed.{IsDoing, KeepsRun}
+pub use Rattle.machine_laws.specs.Passed.{Machine, Opening, doing_of, empty_log, known_in, layout_in, log_of}
+pub use Rattle.machine_laws.specs.Passed.{roots_in, scene_of, shown_in}
+pub use Rattle.machine_laws.specs.Passed.{Doing}
+pub use Rattle.machine_laws.specs.Passed.{Converting, Fencing, Nothing, Writing}

@@ -9,10 +9,10 @@ use Rattle.twin_forms.specs.Sights.{Twin}
 use Rattle.region_log.specs.declared.entry.Entry.{Entry as LogEntry}
 use Rattle.region_log.specs.Log.{Log}
 use Rattle.region_log.specs.Steps.{TouchesFor, AddsOn, AddsEntry, FailsToAdd, TouchesToEnd, EndsOn, FailsToEnd}
-use Rattle.machine_forms.specs.Machines.{Machine, memory_of, log_of}
-use Rattle.machine_forms.specs.Keeping.{KeepsRun}
-use Rattle.machine_forms.specs.Events.{BeginsRegion, GuardsPlace, with_guarded, LogsWord, with_logged, StoresLogged, EndsPart}
-use Rattle.machine_forms.specs.Events.{ClosesRegion, with_closing, EndsByAct}
+use Rattle.machine_laws.specs.Passed.{Machine, memory_of, log_of}
+use Rattle.machine_laws.specs.Passed.{KeepsRun}
+use Rattle.machine_laws.specs.Passed.{BeginsRegion, GuardsPlace, with_guarded, LogsWord, with_logged, StoresLogged, EndsPart}
+use Rattle.machine_laws.specs.Passed.{ClosesRegion, with_closing, EndsByAct}
 use Rattle.machine_ends.specs.Unwritten.{OfUnwritten}
 use Rattle.machine_ends.specs.Work.{measure}
 

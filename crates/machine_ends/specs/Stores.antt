@@ -8,7 +8,7 @@ use Rattle.run_history.specs.declared.act.Op.TheVariants as op
 use Rattle.run_history.specs.Knowing.{durable_at, guard_of}
 use Rattle.plain_model.specs.Runs.{is_volatile}
 use Rattle.region_events.specs.Guards.{named_count}
-use Rattle.machine_forms.specs.Machines.{Opening, Machine, known_in, log_of}
+use Rattle.machine_laws.specs.Passed.{Opening, Machine, known_in, log_of}
 
 -- A store of thread t to a place that isn't durable, or that its own region has guarded; or that nobody has,
 -- where no region of it is open, the value isn't durable yet, or its log has room.

@@ -2,9 +2,9 @@
 use Rattle.std.specs.Prelude.{ℕ, List}
 use Rattle.twin_forms.specs.Table.{Entry, IsClaimed}
 use Rattle.converter.specs.Laws.{AreUnwritten}
-use Rattle.machine_forms.specs.Machines.{Opening, Machine}
-use Rattle.machine_forms.specs.Keeping.{KeepsRun}
-use Rattle.machine_forms.specs.Happening.{OfEvents}
+use Rattle.machine_laws.specs.Passed.{Opening, Machine}
+use Rattle.machine_laws.specs.Passed.{KeepsRun}
+use Rattle.machine_laws.specs.Happening.{OfEvents}
 
 -- To each copied line of its objects a thread before its flush has stored since it was last written.
 abbrev pub HasUnwritten : Machine → List Entry → Type 0

@@ -12,8 +12,8 @@ use Rattle.twin_forms.specs.Sights.{Twin}
 use Rattle.convert_words.specs.declared.step.ConvertStep.{ConvertStep}
 use Rattle.converter.specs.declared.begin.Begun.{Begun}
 use Rattle.converter.specs.Laws.{work_of, quiet, quiet_begun}
-use Rattle.machine_forms.specs.declared.doing.Doing.{Doing}
-use Rattle.machine_forms.specs.declared.doing.Doing.TheVariants.{Nothing, Converting, Writing, Fencing}
+use Rattle.machine_laws.specs.Passed.{Doing}
+use Rattle.machine_laws.specs.Passed.{Nothing, Converting, Writing, Fencing}
 use Rattle.region_log.specs.declared.entry.Entry.{Entry as LogEntry}
 use Rattle.region_log.specs.declared.entry.EntryStage.{EntryStage}
 use Rattle.region_log.specs.declared.entry.EntryStage.TheVariants.{Begun as EntryBegun, Written, Fenced, Counting, Counted}
@@ -22,11 +22,11 @@ use Rattle.region_log.specs.declared.entry.EndStage.TheVariants.{Writing as Writ
 use Rattle.region_log.specs.declared.entry.Underway.{Underway}
 use Rattle.region_log.specs.declared.entry.Underway.TheVariants.{Nothing as Idle, Adding, Ending}
 use Rattle.region_log.specs.Log.{Log}
-use Rattle.machine_forms.specs.Machines.{Machine, memory_of, scene_of}
-use Rattle.machine_forms.specs.Keeping.{KeepsRun}
-use Rattle.machine_forms.specs.Events.{CallsImage, with_twin, WritesBack, with_write, MakesFence, with_fence, ConvertsOn}
-use Rattle.machine_forms.specs.Events.{BeginsOn, Seals, with_joined, AsksFor, with_asked, value_in, ActsBeside, TableAfter}
-use Rattle.machine_forms.specs.Events.{StoresDurably}
+use Rattle.machine_laws.specs.Passed.{Machine, memory_of, scene_of}
+use Rattle.machine_laws.specs.Passed.{KeepsRun}
+use Rattle.machine_laws.specs.Passed.{CallsImage, with_twin, WritesBack, with_write, MakesFence, with_fence, ConvertsOn}
+use Rattle.machine_laws.specs.Passed.{BeginsOn, Seals, with_joined, AsksFor, with_asked, value_in, ActsBeside, TableAfter}
+use Rattle.machine_laws.specs.Passed.{StoresDurably}
 use Rattle.machine_ends.specs.Unwritten.{OfUnwritten}
 
 -- ---- the work

@@ -8,3 +8,4 @@ mod laws;
 pub use doing::Doing;
 pub use laws::{durable_objects_lie_in_the_layout, groups_name_theirs};
 pub use shared_steps::take_step;
+pub use two_spaces::{Static, TwoSpaces};

@@ -3,3 +3,4 @@ pub use Rattle.two_spaces.proofs.Keeping.{copied_or_not}
 pub use Rattle.two_spaces.proofs.Moved.{shows}
 pub use Rattle.two_spaces.proofs.Numbering.{number_named}
 pub use Rattle.two_spaces.proofs.Shifting.{object_is, objects_long, values_long}
+pub use Rattle.machine_forms.proofs.Happening.{table-is}

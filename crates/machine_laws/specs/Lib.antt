@@ -5,3 +5,4 @@ pub mod Keeping
 pub mod Opened
 pub mod StopLaws
 pub mod Passed
+pub mod Happening

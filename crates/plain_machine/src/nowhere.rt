@@ -1,6 +1,6 @@
 // A sink that keeps nothing.
-ghost use Rattle.std.specs.Prelude.{◌≡◌, ◌<◌, ◌≤◌, length, take, IfOk, IfSome, OnErr};
-ghost use Rattle.ap_base.specs.Causes.{HasCause};
+ghost use Rattle.std.specs.Prelude.{◌≡◌, ◌<◌, ◌≤◌, length, take, IfOk, IfSome, OnErr, OnOk};
+ghost use Rattle.ap_base.specs.Causes.{next_count};
 ghost use Rattle.ap_base.specs.Sinks.{with_bytes};
 
 use ap_base::{Sink, SinkFailed};

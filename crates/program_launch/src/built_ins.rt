@@ -1,13 +1,14 @@
 // The decoded code of a class set, with the built-in methods.
-ghost use Rattle.std.specs.Prelude.{◌≡◌, IfOk};
+ghost use Rattle.std.specs.Prelude.{◌≡◌, IfOk, IsErrOf};
+ghost use Rattle.class_code.specs.Sizes.{IsTooLarge};
 ghost use Rattle.natives.specs.Methods.{native_at};
 ghost use Rattle.program_launch.specs.Launches.{set_program};
 
-use class_code::{NativeMethods, decode};
+use class_code::{DecodeRefusal, NativeMethods, decode};
 use class_set::ClassSet;
 use frames::Program;
 use natives::{Native, native_of};
-use std::alloc::{AllocError, Global};
+use std::alloc::Global;
 
 /// The built-in methods that ask something of the heap.
 struct BuiltIns;
@@ -24,13 +25,10 @@ impl NativeMethods<Native> for BuiltIns {
 ///
 /// # Errors
 ///
-/// Want of memory. So are 2^32 instructions or more, which no set has of class files as the program accepts them
-/// (`accepted_sets_have_room` of `class_code`).
-pub fn program_of(alloc: Global, set: &ClassSet) -> Result<Program<Native>, AllocError>
-    ensures { IfOk result (λ program. program ≡ set_program set.now) }
+/// `TooLarge` only where the set's methods have 2^32 instructions or more, with an end for each; want of memory.
+pub fn program_of(alloc: Global, set: &ClassSet) -> Result<Program<Native>, DecodeRefusal>
+    ensures program { IfOk result (λ program. program ≡ set_program set.now) }
+    ensures too_large { IsErrOf result DecodeRefusal.TooLarge → IsTooLarge set.now }
 {
-    match decode(alloc, set, &BuiltIns) {
-        Ok(program) => Ok(program),
-        Err(_) => Err(AllocError),
-    }
+    decode(alloc, set, &BuiltIns)
 }

@@ -18,8 +18,7 @@ use Rattle.autopersist.specs.Outside.{Outside}
 use Rattle.autopersist.specs.Passed.{Admits, Choice, EndsComplete, HasNoMain, IsNumberedFor, Limits, Linked}
 use Rattle.autopersist.specs.Passed.{MeetsLimit, Status, with_arrays_of}
 use Rattle.autopersist.proofs.Passed.{admits_so, read_directory}
-use Rattle.reopened_runs.specs.Left.{IsUntouched}
-use Rattle.reopened_runs.specs.Printed.{takes_of}
+use Rattle.reopened_runs.specs.Left.{IsUntouched, takes_of}
 use Rattle.reopened_runs.specs.Whole.{EndsShort, EndsSo, EndsWhole, StaysFaultless, SuitsSet}
 use Rattle.reopened_runs.proofs.Left.{fresh_reads, same_bytes}
 

@@ -1,10 +1,10 @@
 -- What is recovered of what a stop of a run left.
 use Rattle.std.proofs.Common.{◌≡◌, ◌⊎◌, inl, inr, ⊎_elim, ℕ, ◌+◌, ◌-◌, ◌^◌, ◌<◌, ◌≤◌, List, [], ◌∷◌, ◌++◌, Option, Some, Result, Ok, Err}
-use Rattle.std.proofs.Common.{refl, sym, ap, ◌∙◌, subst, arith, take, slice_index, get_or}
+use Rattle.std.proofs.Common.{refl, sym, ap, ◌∙◌, subst, arith, length, take, slice_index, get_or}
 use Rattle.std.specs.Prelude.{◌≢◌, IfOk, IfErr}
 use Rattle.std.proofs.lemmas.List.{append-nil}
 use Rattle.ap_base.specs.Causes.{Rose}
-use Rattle.ap_base.specs.Sinks.{with_bytes}
+use Rattle.ap_base.specs.Sinks.{TakesBehind, with_bytes}
 use Rattle.ap_base.specs.declared.source.NamedBytes.{NamedBytes}
 use Rattle.graph_model.specs.declared.types.Graph.{Graph}
 use Rattle.line_image.specs.Crash.{first_word}
@@ -32,10 +32,10 @@ use Rattle.autopersist.specs.Meets.{Does, IsIdle, Meets}
 use Rattle.autopersist.specs.Outside.{Outside}
 use Rattle.autopersist.specs.Passed as top
 use Rattle.autopersist.specs.Passed.{AreRead, Choice, ComesTo, IsFencedFor, OfChoice, RunsAs, StandsAllowed, StandsAsBefore, StandsRightly, StandsStill}
-use Rattle.autopersist.specs.Passed.{StandsWithNew, Status, facts_of, lacking, over}
+use Rattle.autopersist.specs.Passed.{EndsOver, IsCauseOf, StandsWithNew, Status, StoppedRunsOpenAgain, facts_of, lacking, over}
 use Rattle.autopersist.specs.Runs.{RunsClass}
-use Rattle.autopersist.proofs.Passed.{come_so, fenced_as_read, not_both, one_read, same_graph, stands_alike}
-use Rattle.reopened_runs.specs.Left.{AreAsked, AsksRun, IsNoBadImage, IsSomeLeft, RecoversAllowed, RecoversAsBefore, Recovers}
+use Rattle.autopersist.proofs.Passed.{come_so, fenced_as_read, not_both, one_read, same_graph, shape_keeps, stands_alike}
+use Rattle.reopened_runs.specs.Left.{AreAsked, AsksRun, IsNoBadImage, IsSomeLeft, KeepsRefused, RecoversAllowed, RecoversAsBefore, Recovers}
 
 -- ---- words that reads give
 
@@ -158,6 +158,16 @@ module _ (words : List (List ℕ)) (before after : Outside) (SameSource SameImag
         same_bytes taken' taken (sym is ∙ idle.1.nothing ∙ was)
         ∙ sym (append-nil taken)
         ∙ ap (λ (made : List Recorded). taken ++ output_of made) (sym idle.1.unrun))
+        done
+
+    -- the sink takes behind the output what it would have taken before
+    pub leaves_so : TakesBehind before.takes after.takes (length (output_of all))
+    leaves_so = ⊎_elim
+        (λ runs. runs.runs.leaves)
+        (λ idle.
+        subst (λ (acts : List Recorded). TakesBehind before.takes after.takes (length (output_of acts))) (sym idle.1.unrun)
+        (λ more size. let same : more ≡ 0 + more = omega arith in
+        ap (λ (takes : ℕ → ℕ → Option ℕ). takes more size) idle.1.takes ∙ ap (λ (n : ℕ). before.takes n size) same))
         done
 
     pub given : (files : List NamedBytes) → before.left ≡ Some files → (choice : Choice) → ComesTo run.main before.left (Ok choice)
@@ -304,21 +314,22 @@ module _ (words : List (List ℕ)) (before after : Outside) (SameSource SameImag
       (same : SameImage → after.image ≡ before.image) (c : Outcome) (found : Result Graph NotOpened)
       (gives : (graph : Graph) → StandsFor before.image.size c graph → IfOk found (λ it. it ≡ graph))
       (refused : (graph : Graph) → StandsFor before.image.size c graph → IfErr found IsNoBadImage) where
-    pub recovers_now : LeavesNow after.image.trace c → (all ≡ [] → IsAllFenced before.image.trace)
+    pub recovers_now : LeavesNow after.image.trace c
+        → ((all ≡ []) × (after.image.trace ≡ before.image.trace) → IsAllFenced before.image.trace)
         → Recovers words files before.image opening all all found
     recovers_now left fenced =
         recovers files told all (λ empty. empty) c telling found gives refused
         (λ run asked of.
         let stops = of.holds.stops telling in (stops.words, stops.read, stops.now fenced c left))
         (λ it made prior stood.
-        fenced_stands before.image telling (fenced made) prior stood c
+        fenced_stands before.image telling (fenced (made, ap (λ (t : Told). t.trace) (same it))) prior stood c
         (subst (λ (t : Told). LeavesNow t.trace c) (same it) left))
 
     none_of : (n : ℕ) → all ≡ [] → acts_before n all ≡ []
     none_of n empty = subst (λ (made : List Recorded). acts_before n made ≡ []) (sym empty) refl
 
     pub recovers_within : (n : ℕ) → 0 < n → before.image.calls + n ≤ after.image.calls → before.image.calls + n < 2 ^ 64 - 1
-        → LeftWithin after.image.trace (before.image.calls + n) c → IsFencedFor before.image all n
+        → LeftWithin after.image.trace (before.image.calls + n) c → IsFencedFor before.image after.image all n
         → Recovers words files before.image opening all (acts_before n all) found
     recovers_within n some made counted left fenced =
         recovers files told (acts_before n all) (none_of n) c telling found gives refused
@@ -327,3 +338,20 @@ module _ (words : List (List ℕ)) (before after : Outside) (SameSource SameImag
         (stops.words, stops.read, stops.within n some made counted fenced c left))
         (λ it none prior stood.
         absurd (let calls = ap (λ (t : Told). t.calls) (same it) in omega (arith, calls, some, made)))
+
+    -- a shape was refused
+    pub keeps_refused : StoppedRunsOpenAgain → LeavesNow after.image.trace c → KeepsRefused words before.image how found
+    keeps_refused law left run asked shape is prior stood = ⊎_elim
+        (λ (ran_so : RunsClass run before after SameImage how opening all).
+        let at : OfChoice (ComesTo run.main before.left) (EndsOver run.limits (over before.image before.takes opening all after.image)
+        (top.ShapeChanged shape)) =
+        subst (λ (s : Status). IsCauseOf (ComesTo run.main before.left) run.limits
+        (over before.image before.takes opening all after.image) s) is ran_so.runs.cause in
+        let its = shape_keeps at.choice.set before.image after.image shape
+        (law.refusals at.choice.set at.choice.main run.limits before.image before.takes opening all after.image (top.ShapeChanged shape)
+        at.holds refl) telling in
+        let same_as : its.graph ≡ prior = same_graph (meaning before.image.size its.words) its.graph prior its.stood
+        (read_stands before.image telling prior stood its.words its.read) in
+        subst (λ (graph : Graph). IfOk found (λ (it : Graph). it ≡ graph)) same_as (gives its.graph (its.now c left)))
+        (λ (idle : Idle). let no : top.OutOfMemory ≡ top.ShapeChanged shape = sym idle.0 ∙ is in absurd cc)
+        (done run asked)

@@ -1,7 +1,8 @@
 -- What a run printed, and of what.
-use Rattle.std.proofs.Common.{◌≡◌, ⊎_elim, ℕ, List, [], length, Option, Some, refl, ap, sym, subst}
+use Rattle.std.proofs.Common.{◌≡◌, ⊎_elim, ℕ, List, [], length, Option, Some, refl, ap, sym, subst, ◌∙◌}
 use Rattle.std.specs.Prelude.{◌≢◌}
-use Rattle.ap_base.specs.Sinks.{SinkState}
+use Rattle.ap_base.specs.Causes.{next_count}
+use Rattle.ap_base.specs.Sinks.{SinkState, TakesBehind}
 use Rattle.ap_base.specs.declared.source.NamedBytes.{NamedBytes}
 use Rattle.graph_model.specs.declared.types.Graph.{Graph}
 use Rattle.line_image.specs.Told.{Told}
@@ -12,9 +13,9 @@ use Rattle.command_words.specs.declared.command.Run.{Run as RunWords}
 use Rattle.autopersist.specs.Meets.{Meets}
 use Rattle.autopersist.specs.Outside.{Outside}
 use Rattle.autopersist.specs.Passed.{EachPrintsItsShare, HasEndedSo, IsShareOfPiece, Launch, Limits, Linked, OfChoice, Status, launch_over, piece_of}
-use Rattle.reopened_runs.specs.Left.{AreAsked, AsksRun}
-use Rattle.reopened_runs.specs.Printed.{Prints, PrintsWhatFits, RunsPlainly, takes_of}
-use Rattle.reopened_runs.proofs.Left.{given, printed_so, ran}
+use Rattle.reopened_runs.specs.Left.{AreAsked, AsksRun, takes_of}
+use Rattle.reopened_runs.specs.Printed.{Prints, PrintsWhatFits, RunsPlainly}
+use Rattle.reopened_runs.proofs.Left.{given, leaves_so, printed_so, ran}
 
 -- what a sink in memory takes
 fits : (launch : Launch) (sink : SinkState) (acts : List Recorded) → EachPrintsItsShare launch (takes_of sink) [] acts
@@ -47,7 +48,8 @@ plainly set name start sink opening acts limits how some ended =
 module _ (words : List (List ℕ)) (before after : Outside) (SameSource SameImage : Type 0) (how : Status) (opening : Graph)
     (acts : List Recorded) (meets : Meets words before after SameSource SameImage how opening acts) (files : List NamedBytes)
     (told : before.left ≡ Some files) (sink sink' : SinkState) (was : before.taken ≡ Some sink.taken) (is : after.taken ≡ Some sink'.taken)
-    (takes : before.takes ≡ takes_of sink) where
+    (takes : before.takes ≡ takes_of sink) (left : after.takes ≡ takes_of sink') (counted : before.sink_faults ≡ sink.faults)
+    (counts : after.sink_faults ≡ sink'.faults) where
   plain : (run : RunWords) → AsksRun words run → acts ≢ []
       → OfChoice (AreAsked run files) (λ choice. RunsPlainly choice.set choice.main before.image sink opening acts run.limits how)
   plain run asked some =
@@ -67,4 +69,10 @@ module _ (words : List (List ℕ)) (before after : Outside) (SameSource SameImag
   prints = record {
     printed = λ run asked. printed_so words before after SameSource SameImage how opening acts meets run asked sink.taken sink'.taken was is;
     ran = plain;
+    leaves = λ run asked.
+        subst (λ (f : ℕ → ℕ → Option ℕ). TakesBehind f (takes_of sink') (length (output_of acts))) takes
+        (subst (λ (f : ℕ → ℕ → Option ℕ). TakesBehind before.takes f (length (output_of acts))) left
+        (leaves_so words before after SameSource SameImage how opening acts meets run asked));
+    failed = λ ends. sym counts ∙ meets.sink_fault ends ∙ ap next_count counted;
+    unfailed = λ isnt. sym counts ∙ meets.sink_spared isnt ∙ counted;
   }

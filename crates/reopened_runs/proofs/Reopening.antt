@@ -13,10 +13,11 @@ use Rattle.command_words.specs.declared.command.Run.{Run as RunWords}
 use Rattle.autopersist.specs.Meets.{Meets}
 use Rattle.autopersist.specs.Outside.{Outside}
 use Rattle.autopersist.specs.Passed.{AreRead, CannotOpen, Choice, ComesTo, EndsOver, HasEndedSo, ImageFault, IsCauseAt, IsCauseOf, IsLeftBy}
-use Rattle.autopersist.specs.Passed.{IsOpenedSo, IsRefusedStill, Linked, OfChoice, OfMemory, OfOpening, OutOfMemory, ShapeChanged, Stage, StandsAllowed}
+use Rattle.autopersist.specs.Passed.{Full, FullOf, IsOpenedSo, IsRefusedStill, Linked, OfChoice, OfMemory, OfOpening, OutOfMemory, ShapeChanged, Stage}
+use Rattle.autopersist.specs.Passed.{StandsAllowed}
 use Rattle.autopersist.specs.Passed.{StandsRightly, Status, StoppedRunsOpenAgain, over, stage_of}
 use Rattle.autopersist.proofs.Passed.{fenced_as_read, one_of_files, still_stands}
-use Rattle.reopened_runs.specs.Again.{HadOther, IsBadImage, RunsAgain, StoodFenced}
+use Rattle.reopened_runs.specs.Again.{HadLittleRoom, HadOther, IsBadImage, RunsAgain, StoodFenced}
 use Rattle.reopened_runs.specs.Left.{AreAsked, AsksRun, IsSomeLeft, RecoversAllowed}
 use Rattle.reopened_runs.proofs.Left.{Ran, allowed_graph, done, given, none_or_some, ran, ran_or_same, read_stands}
 
@@ -89,7 +90,7 @@ module _ (law : StoppedRunsOpenAgain) (words : List (List ℕ))
       allowed = ⊎_elim
           (λ (so : StandsAllowed of.choice.set before.image opening acts acts c). so)
           (λ early. absurd (some early.0))
-          ((of.holds.stops telling).now (λ none. absurd (some none)) c left)
+          ((of.holds.stops telling).now (λ none. absurd (some none.0)) c left)
 
       opens_behind : IsBadImage how' → ⊥
       opens_behind bad = bad_so of.choice.set c allowed.allowed.graph allowed.allowed.stands (inl allowed) bad
@@ -107,6 +108,16 @@ module _ (law : StoppedRunsOpenAgain) (words : List (List ℕ))
             (λ (fault : how' ≡ ImageFault). let no : ShapeChanged shape ≡ ImageFault = sym changed ∙ fault in cc)
             (λ (memory : how' ≡ OutOfMemory). let no : ShapeChanged shape ≡ OutOfMemory = sym changed ∙ memory in cc)
             (law.unrefused_behind of.choice.set before.image opening acts acts c allowed again.image end.image is how' cannot)
+
+        roomy_behind : (full : Full) → OfChoice (AreAsked run files') (λ choice. CannotOpen choice.set again.image end.image (FullOf full)) → ⊥
+        roomy_behind full at =
+            let cannot : CannotOpen of.choice.set again.image end.image (FullOf full) =
+            subst (λ (choice : Choice). CannotOpen choice.set again.image end.image (FullOf full))
+            (one_choice files_are at.choice of.choice at.given (mine of.choice of.given)) at.holds in
+            ⊎_elim
+            (λ (fault : FullOf full ≡ ImageFault). absurd (cc))
+            (λ (memory : FullOf full ≡ OutOfMemory). absurd (cc))
+            (law.unrefused_behind of.choice.set before.image opening acts acts c allowed again.image end.image is (FullOf full) cannot)
 
         -- the second run begins with what the first one left
         goes_on : acts' ≢ [] → RecoversAllowed (AreAsked run files) before.image opening acts acts opening'
@@ -207,6 +218,33 @@ module _ (law : StoppedRunsOpenAgain) (words : List (List ℕ))
               },
             )
 
+      module _ (files_are : files' ≡ files) (full : Full)
+          (at : OfChoice (AreAsked run files') (λ choice. CannotOpen choice.set again.image end.image (FullOf full))) where
+        little_so : Early at.choice.set → (acts ≡ []) × HadLittleRoom at.choice.set before.image full.which
+        little_so so = elim (law.unrefused at.choice.set before.image opening acts acts so.0 prior c so.2 so.3 again.image end.image
+            is (FullOf full) at.holds) [
+              | inl fault ↦ let no : FullOf full ≡ ImageFault = fault in cc
+              | inr rest ↦ elim rest [
+                | inl memory ↦ let no : FullOf full ≡ OutOfMemory = memory in cc
+                | inr still ↦ (still.0, (so.0, so.1, still.1))
+              ]
+            ]
+
+        roomy_still : (acts ≡ []) × OfChoice (AreAsked run files) (λ choice. HadLittleRoom choice.set before.image full.which)
+        roomy_still =
+            let had : (acts ≡ []) × HadLittleRoom at.choice.set before.image full.which = ⊎_elim
+            (λ of. little_so (subst (λ (choice : Choice). Early choice.set)
+            (sym (one_choice files_are at.choice of.choice at.given (mine of.choice of.given))) of.holds))
+            (λ any. little_so (any at.choice.set))
+            early in (
+              had.0,
+              record {
+                choice = at.choice;
+                given = subst (λ (fs : List NamedBytes). AreAsked run fs (Ok at.choice)) files_are at.given;
+                holds = had.1;
+              },
+            )
+
     -- ---- whether there are or not
 
     opens : (acts ≡ [] → StoodFenced before.image) → IsBadImage how' → ⊥
@@ -222,9 +260,18 @@ module _ (law : StoppedRunsOpenAgain) (words : List (List ℕ))
         (λ (some : acts ≢ []). absurd (agrees_behind some files_are shape changed))
         (none_or_some acts)
 
-  pub runs_again : RunsAgain words files files' before.image opening acts opening' acts' how'
+    roomy : (acts ≡ [] → StoodFenced before.image) → files' ≡ files → (full : Full)
+        → OfChoice (AreAsked run files') (λ choice. CannotOpen choice.set again.image end.image (FullOf full))
+        → (acts ≡ []) × OfChoice (AreAsked run files) (λ choice. HadLittleRoom choice.set before.image full.which)
+    roomy premise files_are full at = ⊎_elim
+        (λ (none : acts ≡ []). let so = premise none in roomy_still so.0 so.1 so.2 files_are full at)
+        (λ (some : acts ≢ []). absurd (roomy_behind some files_are full at))
+        (none_or_some acts)
+
+  pub runs_again : RunsAgain words files files' before.image opening acts again.image end.image opening' acts' how'
   runs_again = record {
     opens = opens;
     agrees = agrees;
+    roomy = roomy;
     goes_on = goes_on;
   }

@@ -2,12 +2,14 @@
 use Rattle.std.specs.Prelude.{◌≡◌, ◌≢◌, ◌⊎◌, ◌<◌, ◌≤◌, ◌+◌, ◌-◌, ◌^◌, ℕ, List, [], length, take, Option, Some, None, Result, IfOk}
 use Rattle.std.specs.Prelude.{IfErr, IsErrOf}
 use Rattle.ap_base.specs.Causes.{Rose}
+use Rattle.ap_base.specs.Sinks.{SinkState, share_of}
+use Rattle.ap_base.specs.Sources.{SourceState}
 use Rattle.ap_base.specs.declared.source.NamedBytes.{NamedBytes}
 use Rattle.graph_model.specs.declared.types.Graph.{Graph}
 use Rattle.line_image.specs.Crash.{first_word}
 use Rattle.line_image.specs.Memory.{faults_of, size_of, told_of, trace_of}
 use Rattle.line_image.specs.Told.{Told}
-use Rattle.line_image.specs.Trace.{LeavesNow, LeftWithin}
+use Rattle.line_image.specs.Trace.{IsAllFenced, LeavesNow, LeftWithin}
 use Rattle.line_image.specs.declared.memory.MemoryImage.{MemoryImage}
 use Rattle.image_meaning.specs.Appending.{with_all_too}
 use Rattle.image_meaning.specs.Checks.{Words}
@@ -23,12 +25,29 @@ use Rattle.plain_model.specs.First.{first_known}
 use Rattle.command_words.specs.Commands.{command_of}
 use Rattle.command_words.specs.declared.command.Command.TheVariants.{Run}
 use Rattle.command_words.specs.declared.command.Run.{Run as RunWords}
-use Rattle.autopersist.specs.Passed.{AreEntriesOf, AreRead, Choice, FilesGive, IsDirectoryIn, IsFencedFor, IsOpenedSo, Linked, OfChoice}
-use Rattle.autopersist.specs.Passed.{Status, facts_of, lacking, made_of, with_arrays_of}
+use Rattle.autopersist.specs.Meets.{Meets}
+use Rattle.autopersist.specs.Outside.{Outside, outside}
+use Rattle.autopersist.specs.Passed.{AreEntriesOf, AreRead, Choice, FilesGive, IsDirectoryIn, IsOpenedSo, Linked, OfChoice}
+use Rattle.autopersist.specs.Passed.{ShapeChanged, Status, facts_of, lacking, made_of, with_arrays_of}
+
+-- how many bytes of a piece a sink in memory takes, once it took so many more
+abbrev pub takes_of : SinkState → (ℕ → ℕ → Option ℕ)
+takes_of sink further length = Some (share_of sink further length)
 
 -- the words ask for this run
 abbrev pub AsksRun : List (List ℕ) → RunWords → Type 0
 AsksRun words run = command_of words ≡ Some (Run run)
+
+-- what forms in memory tell, beside a watcher that tells nothing
+abbrev pub in_memory : SourceState → MemoryImage → SinkState → Outside
+in_memory source image sink = outside (Some source.left) source.faults (told_of image) (faults_of image) (Some sink.taken)
+    (takes_of sink) sink.faults None
+
+-- A run over forms in memory is one of the top call.
+abbrev pub MeetsOver : (words : List (List ℕ)) → (source source' : SourceState) → (image image' : MemoryImage)
+    → (sink sink' : SinkState) → Status → Graph → List Recorded → Type 0
+MeetsOver words source source' image image' sink sink' how opening acts =
+    Meets words (in_memory source image sink) (in_memory source' image' sink') (source' ≡ source) (image' ≡ image) how opening acts
 
 -- what these files give, where the words name the main class
 abbrev pub AreAsked : RunWords → List NamedBytes → Result Choice Status → Type 0
@@ -126,9 +145,16 @@ pub record IsStopWithin (start after : Told) (n : ℕ) (left : MemoryImage) : Ty
   pub size : size_of left ≡ start.size
   pub words : LeftWithin after.trace (start.calls + n) (first_word (trace_of left))
 
--- Whatever call a stop that left the image was within, where nothing was unfenced at the start if a stop within that call may leave it still.
+-- Whatever call a stop that left the image was within; where nothing was unfenced at the start, if that call is one of the opening's reads or
+-- the fence behind them, or there are no acts and nothing was written or fenced.
 abbrev pub RecoversWithin : (words : List (List ℕ)) (files : List NamedBytes) (start after : Told) (opening : Graph) (all : List Recorded)
     (left : MemoryImage) (found : Result Graph NotOpened) → Type 0
 RecoversWithin words files start after opening all left found =
-    (n : ℕ) → IsStopWithin start after n left → IsFencedFor start all n
+    (n : ℕ) → IsStopWithin start after n left
+    → ((n ≤ start.size + 1) ⊎ ((all ≡ []) × (after.trace ≡ start.trace)) → IsAllFenced start.trace)
     → Recovers words files start opening all (acts_before n all) found
+
+-- Where a shape of the image isn't the set's nothing is appended: what is recovered is the very graph for which the image stood.
+abbrev pub KeepsRefused : (words : List (List ℕ)) → Told → Status → (found : Result Graph NotOpened) → Type 0
+KeepsRefused words start how found = (run : RunWords) → AsksRun words run → (shape : List ℕ) → how ≡ ShapeChanged shape
+    → (before : Graph) → IsSomeLeft start before → IfOk found (λ graph. graph ≡ before)

@@ -1,6 +1,7 @@
 -- What a run printed, and of what.
 use Rattle.std.specs.Prelude.{◌≡◌, ◌≢◌, ◌∷◌, ◌++◌, ◌-◌, ℕ, List, [], length, Some, Ok, Option}
-use Rattle.ap_base.specs.Sinks.{SinkState, share_of}
+use Rattle.ap_base.specs.Causes.{next_count}
+use Rattle.ap_base.specs.Sinks.{SinkState, TakesBehind, share_of}
 use Rattle.ap_base.specs.declared.reference.Ref.{Ref}
 use Rattle.ap_base.specs.declared.source.NamedBytes.{NamedBytes}
 use Rattle.graph_model.specs.declared.types.Graph.{Graph}
@@ -12,13 +13,9 @@ use Rattle.run_types.specs.declared.resolved.At.{At}
 use Rattle.run_history.specs.declared.act.Op.TheVariants as op
 use Rattle.run_history.specs.Recorded.{Recorded}
 use Rattle.command_words.specs.declared.command.Run.{Run as RunWords}
-use Rattle.autopersist.specs.Passed.{HadNoFault, IsOpenedSo, IsRun, Launch, Limits, Linked, Main, OfChoice, Status}
+use Rattle.autopersist.specs.Passed.{HadNoFault, IsOpenedSo, IsRun, Launch, Limits, Linked, Main, OfChoice, SinkFault, Status}
 use Rattle.autopersist.specs.Passed.{launch_over, main_of, plain_code, status_of_ending}
-use Rattle.reopened_runs.specs.Left.{AreAsked, AsksRun}
-
--- how many bytes of a piece a sink in memory takes, once it took so many more
-abbrev pub takes_of : SinkState → (ℕ → ℕ → Option ℕ)
-takes_of sink further length = Some (share_of sink further length)
+use Rattle.reopened_runs.specs.Left.{AreAsked, AsksRun, takes_of}
 
 -- Wherever the plain run asks to print a piece, the act that prints takes as many of its bytes as the sink has room for behind what was
 -- printed before, and takes at most.
@@ -53,3 +50,8 @@ pub record Prints (words : List (List ℕ)) (files : List NamedBytes) (start : T
   -- These are a plain run of what the files give, where there are any.
   pub ran : (run : RunWords) → AsksRun words run → acts ≢ []
       → OfChoice (AreAsked run files) (λ choice. RunsPlainly choice.set choice.main start sink opening acts run.limits how)
+  -- Behind the output the sink takes what it would have taken before.
+  pub leaves : (run : RunWords) → AsksRun words run → TakesBehind (takes_of sink) (takes_of sink') (length (output_of acts))
+  -- It failed once where the run ended by it, and else never.
+  pub failed : how ≡ SinkFault → sink'.faults ≡ next_count sink.faults
+  pub unfailed : how ≢ SinkFault → sink'.faults ≡ sink.faults

@@ -12,8 +12,7 @@ use Rattle.run_history.specs.Recorded.{Recorded}
 use Rattle.command_words.specs.declared.command.Run.{Run as RunWords}
 use Rattle.autopersist.specs.Passed.{AllAgree, Choice, Full, FullOf, HasEndedSo, HasNoMain, IsDirectoryIn, IsOfPlainRun, Limits, Linked}
 use Rattle.autopersist.specs.Passed.{MeetsLimit, OutOfMemory, Status, facts_of, with_arrays_of}
-use Rattle.reopened_runs.specs.Left.{AreAsked, AsksRun}
-use Rattle.reopened_runs.specs.Printed.{takes_of}
+use Rattle.reopened_runs.specs.Left.{AreAsked, AsksRun, takes_of}
 
 -- it had counted no fault, and has counted none
 abbrev pub StaysFaultless : (before after : ℕ) → Type 0

@@ -2,7 +2,9 @@
 ghost use Rattle.std.specs.Prelude.{IfSome};
 ghost use Rattle.line_image.specs.Memory.{told_of};
 ghost use Rattle.command_words.specs.Commands.{texts};
+ghost use Rattle.line_image.specs.declared.memory.MemoryImage.{MemoryImage as LeftImage};
 ghost use Rattle.reopened_runs.specs.Again.{RunsAgain};
+ghost use Rattle.reopened_runs.specs.Left.{IsStopBehind, MeetsOver};
 
 use crate::stopping::Stop;
 use ap_base::{MemorySink, MemorySource, NoGate};
@@ -43,9 +45,15 @@ pub fn run_twice<R>(
 ) -> Twice
 where
     R: Threads + Wait + Clone + Send + Sync + Drop,
-    // What the stop left opens again, and the second run goes on with it.
-    ensures again { IfSome result.second (λ second. RunsAgain (texts words.now.items) given.source.left again.source.left (told_of image)
-        result.first.opening result.first.acts.acts second.opening second.acts.acts second.status) }
+    // The first run is one of the top call, and so is the second one, over what a stop behind the last call of the first left: that opens again,
+    // and the second run goes on with it.
+    ensures first { MeetsOver (texts words.now.items) given.source result.first.source image result.first.image given.sink
+        result.first.sink result.first.status result.first.opening result.first.acts.acts }
+    ensures second { IfSome result.second (λ second. (left : LeftImage) × IsStopBehind (told_of result.first.image) left
+        × MeetsOver (texts words.now.items) again.source second.source left second.image again.sink second.sink second.status
+        second.opening second.acts.acts
+        × RunsAgain (texts words.now.items) given.source.left again.source.left (told_of image) result.first.opening
+        result.first.acts.acts (told_of left) (told_of second.image) second.opening second.acts.acts second.status) }
 {
     stopped_runs_open_again();
     let Given { source, sink } = given;

@@ -3,10 +3,10 @@ ghost use Rattle.std.specs.Prelude.{◌≡◌, []};
 ghost use Rattle.line_image.specs.Memory.{told_of};
 ghost use Rattle.line_image.specs.Trace.{IsAllFenced};
 ghost use Rattle.command_words.specs.Commands.{texts};
-ghost use Rattle.reopened_runs.specs.Left.{FindsBehind, FindsIn, IsFoundIn, IsUntouched, Recovers, RecoversWithin};
+ghost use Rattle.reopened_runs.specs.Left.{FindsBehind, FindsIn, IsFoundIn, IsUntouched, KeepsRefused, MeetsOver, Recovers, RecoversWithin};
 
 use ap_base::{MemorySink, MemorySource, NoGate};
-use autopersist::{Ended, autopersist};
+use autopersist::{Ended, autopersist, stopped_runs_open_again};
 use image_opening::{NotOpened, give_back, open_image};
 use line_image::{Fails, MemoryImage};
 use run_history::NoWatch;
@@ -60,13 +60,20 @@ pub fn run_and_recover<R>(
 ) -> Stopped
 where
     R: Threads + Wait + Clone + Send + Sync + Drop,
-    // The graph is one that all acts allow. Where there are none, nothing was unfenced at the start.
-    ensures recovers { (result.ended.acts.acts ≡ [] → IsAllFenced (told_of image).trace)
+    // The run is one of the top call.
+    ensures meets { MeetsOver (texts words.now.items) source result.ended.source image result.ended.image sink result.ended.sink
+        result.ended.status result.ended.opening result.ended.acts.acts }
+    // The graph is one that all acts allow. Where there are none, and nothing was written or fenced, nothing was unfenced at the start.
+    ensures recovers { ((result.ended.acts.acts ≡ []) × ((told_of result.ended.image).trace ≡ (told_of image).trace)
+        → IsAllFenced (told_of image).trace)
         → Recovers (texts words.now.items) source.left (told_of image) result.ended.opening
         result.ended.acts.acts result.ended.acts.acts result.recovered }
+    // Where a shape of the image was refused, it is the very graph for which the image stood.
+    ensures keeps { KeepsRefused (texts words.now.items) (told_of image) result.ended.status result.recovered }
     // It is the graph for which the image stands that the stop left.
     ensures found { FindsBehind (told_of result.ended.image) result.image result.recovered }
 {
+    stopped_runs_open_again();
     let ended = autopersist(rt, alloc, words, source, image, sink, &NoGate, NoWatch);
     match ended.image.crash(alloc, stop.pick, stop.fails) {
         Ok(left) => {
@@ -98,6 +105,9 @@ pub fn run_and_recover_other<R>(
 where
     R: Threads + Wait + Clone + Send + Sync + Drop,
     requires untouched { IsUntouched left }
+    // The run is one of the top call.
+    ensures meets { MeetsOver (texts words.now.items) source result.ended.source image result.ended.image sink result.ended.sink
+        result.ended.status result.ended.opening result.ended.acts.acts }
     // If one within call n has left it, the graph is one that the acts before that call allow.
     ensures recovers { RecoversWithin (texts words.now.items) source.left (told_of image) (told_of result.ended.image)
         result.ended.opening result.ended.acts.acts left result.recovered }

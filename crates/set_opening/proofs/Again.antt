@@ -85,24 +85,24 @@ one_stays set shape known =
       | false ↦ refl
     ]
 
-all_stay : (set : Linked) (shapes : List Shape) → All (IsKnownIn (facts_of set)) shapes → with_arrays_of set shapes ≡ set
+pub all_stay : (set : Linked) (shapes : List Shape) → All (IsKnownIn (facts_of set)) shapes → with_arrays_of set shapes ≡ set
 all_stay set [] known = refl
 all_stay set (shape ∷ shapes) known =
     ap (λ (s : Linked). with_arrays_of s shapes) (one_stays set shape (All-head (IsKnownIn (facts_of set)) shape shapes known))
     ∙ all_stay set shapes (All-tail (IsKnownIn (facts_of set)) shape shapes known)
 
-arrays_both : (set : Linked) (shapes more : List Shape)
+pub arrays_both : (set : Linked) (shapes more : List Shape)
     → with_arrays_of set (shapes ++ more) ≡ with_arrays_of (with_arrays_of set shapes) more
 arrays_both set [] more = refl
 arrays_both set (shape ∷ shapes) more = arrays_both (with_array_of set shape) shapes more
 
 -- the shapes among entries
-shapes_in : List DirectoryEntry → List Shape
+unfoldable pub shapes_in : List DirectoryEntry → List Shape
 shapes_in [] = []
 shapes_in (ShapeEntry shape ∷ entries) = shape ∷ shapes_in entries
 shapes_in (RootEntry root ∷ entries) = shapes_in entries
 
-shapes_behind : (directory : Directory) (entries : List DirectoryEntry)
+pub shapes_behind : (directory : Directory) (entries : List DirectoryEntry)
     → (with_all directory entries).shapes ≡ directory.shapes ++ shapes_in entries
 unfolding shapes_in
 shapes_behind directory [] = sym (append-nil directory.shapes)
@@ -148,7 +148,7 @@ there_any (n ∷ names) t there =
           (Contains-cons_cases n names t there))
     ] refl
 
-has_by : (directory : Directory) (entry : DirectoryEntry) → HasEntry directory entry → has_entry directory entry ≡ true
+pub has_by : (directory : Directory) (entry : DirectoryEntry) → HasEntry directory entry → has_entry directory entry ≡ true
 has_by directory (ShapeEntry shape) there = there_any (map (λ (s : Shape). s.name) directory.shapes) shape.name there
 has_by directory (RootEntry root) there = there_any directory.roots root there
 
@@ -205,7 +205,7 @@ module _ (size : ℕ) (directory : Directory) (again : Told) (stood : Graph) (ho
         (stands-within size holds.words (shown before) stood enough most holds.stands same)
 
     -- what is found is the directory
-    same_directory : (found : Directory) → IsDirectoryIn (shown before) found → found ≡ directory
+    pub same_directory : (found : Directory) → IsDirectoryIn (shown before) found → found ≡ directory
     same_directory found is = one_directory (shown before) found directory is (has_spells size (shown before) directory has)
 
   -- it is refused for no shape but one of its own

@@ -10,5 +10,6 @@ pub mod Openings
 pub mod Pools
 pub mod Ready
 pub mod Recovered
+pub mod Room
 pub mod Steps
 pub mod Suits

@@ -85,7 +85,7 @@ any_there (n ∷ names) name is =
       | false ↦ λ other one. Contains-tail n names name (any_there names name one)
     ] refl is
 
-there_by : (directory : Directory) (entry : DirectoryEntry) → has_entry directory entry ≡ true
+pub there_by : (directory : Directory) (entry : DirectoryEntry) → has_entry directory entry ≡ true
     → HasEntry directory entry
 there_by directory (ShapeEntry shape) is = any_there (shape_names directory) shape.name is
 there_by directory (RootEntry name) is = any_there directory.roots name is
@@ -102,7 +102,7 @@ still_there directory (RootEntry name) (ShapeEntry other) there = there
 still_there directory (RootEntry name) (RootEntry other) there =
     Contains-append_left directory.roots (name ∷ []) other there
 
-own_there : (directory : Directory) (entry : DirectoryEntry) → HasEntry (with_entry directory entry) entry
+pub own_there : (directory : Directory) (entry : DirectoryEntry) → HasEntry (with_entry directory entry) entry
 own_there directory (ShapeEntry shape) =
     subst (λ names. Contains names shape.name)
     (sym (map-append (λ (s : Shape). s.name) directory.shapes (shape ∷ [])))

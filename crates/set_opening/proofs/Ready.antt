@@ -51,7 +51,7 @@ pub are_later : (directory : Directory) (entries later : List DirectoryEntry)
 are_later directory [] later are = are
 are_later directory (e ∷ entries) later are = are_later (with_entry directory e) entries later are.2
 
-with_both : (directory : Directory) (xs ys : List DirectoryEntry)
+pub with_both : (directory : Directory) (xs ys : List DirectoryEntry)
     → with_all directory (xs ++ ys) ≡ with_all (with_all directory xs) ys
 with_both directory [] ys = refl
 with_both directory (x ∷ xs) ys = with_both (with_entry directory x) xs ys

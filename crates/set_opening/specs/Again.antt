@@ -1,17 +1,26 @@
 -- Images over which a run of a class set could begin, opened for the same set again.
-use Rattle.std.specs.Prelude.{◌≡◌, ℕ, List}
+use Rattle.std.specs.Prelude.{◌≡◌, ◌<◌, ◌++◌, ℕ, List, length, map}
 use Rattle.graph_model.specs.declared.types.Graph.{Graph}
 use Rattle.line_image.specs.Told.{Told}
 use Rattle.line_memory.specs.Memory.{IsTelling, Memory}
+use Rattle.run_types.specs.declared.fault.Full.{Full}
+use Rattle.run_types.specs.declared.fault.Which.{Which}
+use Rattle.run_types.specs.declared.fault.Which.TheVariants.{DirectoryWords, Roots}
+use Rattle.image_layout.specs.Places.{directory_words, root_slots}
 use Rattle.image_meaning.specs.Checks.{Words}
-use Rattle.image_meaning.specs.Directories.{Directory}
+use Rattle.image_meaning.specs.Directories.{Directory, spelled_all, with_all}
+use Rattle.image_meaning.specs.Entries.{DirectoryEntry, RootEntry, ShapeEntry}
 use Rattle.image_meaning.specs.Meaning.{StandsFor}
 use Rattle.class_set.specs.Facts.{facts_of}
 use Rattle.class_set.specs.Linked.{Linked}
+use Rattle.class_set.specs.Sets.{made_of}
+use Rattle.directories.specs.ClassSets.{AreEntriesOf}
 use Rattle.directories.specs.Kept.{Kept}
+use Rattle.directories.specs.Planning.{lacking}
 use Rattle.image_recovery.specs.Recovered.{entries_in}
 use Rattle.set_opening.specs.declared.unopened.Unopened.{Unopened}
-use Rattle.set_opening.specs.declared.unopened.Unopened.TheVariants.{BadImage, ShapeChanged, Full, ImageFailed, OutOfMemory}
+use Rattle.set_opening.specs.declared.unopened.Unopened.TheVariants.{BadImage, ShapeChanged, Full as FullOf, ImageFailed, OutOfMemory}
+use Rattle.set_opening.specs.Arrays.{with_arrays_of}
 use Rattle.set_opening.specs.Attached.{AreRead}
 use Rattle.set_opening.specs.Fitted.{IsOtherShape}
 use Rattle.set_opening.specs.Found.{HasDirectory}
@@ -22,7 +31,7 @@ use Rattle.set_opening.specs.Unopened.{IsUnopened}
 abbrev pub IsNoRefusal : Unopened → Type 0
 IsNoRefusal (BadImage line reason) = ⊥
 IsNoRefusal (ShapeChanged name) = ⊥
-IsNoRefusal (Full full) = ⊥
+IsNoRefusal (FullOf full) = ⊥
 IsNoRefusal ImageFailed = Unit {0}
 IsNoRefusal OutOfMemory = Unit {0}
 
@@ -34,6 +43,19 @@ pub record HoldsGraph (image : Told) (size : ℕ) (directory : Directory) (graph
   pub read : AreRead image words
   pub has : HasDirectory size words directory
   pub stands : StandsFor size words graph
+
+-- The directory's entries take more words than an image has for them, or its roots more slots.
+abbrev pub IsTooLarge : Directory → Which → Type 0
+IsTooLarge directory DirectoryWords =
+    directory_words < length (spelled_all (map ShapeEntry directory.shapes ++ map RootEntry directory.roots))
+IsTooLarge directory Roots = root_slots < length directory.roots
+IsTooLarge directory other = ⊥
+
+-- It is too large with the entries of the set that it lacks, once its array types have numbers in the set.
+pub record LacksRoom (set : Linked) (directory : Directory) (which : Which) : Type 0 where
+  pub entries : List DirectoryEntry
+  pub are_its : AreEntriesOf (facts_of (with_arrays_of set directory.shapes)) (made_of (with_arrays_of set directory.shapes)) entries
+  pub too_large : IsTooLarge (with_all directory (lacking directory entries)) which
 
 -- An image was opened for a set. One of as many lines that has the directory of then, and any graph, isn't refused for the set. Where
 -- it is opened for it, it has that very directory and that very graph, and each class of the set has the number of then.
@@ -52,3 +74,7 @@ pub record OpenedImagesOpenAgain : Type 0 where
   pub refused : (set : Linked) (again after : Told) (size : ℕ) (directory : Directory) (stood : Graph)
       → HoldsGraph again size directory stood → (now : Linked) (name : List ℕ) → IsUnopened again after set now (ShapeChanged name)
       → IsOtherShape (facts_of set) directory.shapes name
+  -- Any that is refused for want of room has a directory that lacks it, of the same.
+  pub full : (set : Linked) (again after : Told) (size : ℕ) (directory : Directory) (stood : Graph)
+      → HoldsGraph again size directory stood → (now : Linked) (full : Full) → IsUnopened again after set now (FullOf full)
+      → LacksRoom set directory full.which

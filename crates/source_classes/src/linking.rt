@@ -1,6 +1,6 @@
 // Class files are linked.
 ghost use Rattle.std.specs.Prelude.{◌≡◌, length, ◌≤◌, All, OnOk, IfOk, IfErr};
-ghost use Rattle.class_file.specs.Classes.{CanBeRead};
+ghost use Rattle.class_file.specs.Classes.{CanBeRead, HasAtMost};
 ghost use Rattle.class_links.specs.Kept.{kept_files};
 ghost use Rattle.class_links.specs.Links.{Links};
 ghost use Rattle.class_set.specs.ArrayTypes.{linked_from};
@@ -22,6 +22,8 @@ pub fn link(alloc: Global, classes: Vec<ClassFile>) -> Result<ClassSet, Status>
     requires readable { All CanBeRead classes.items }
     ensures set { IfOk result (λ set. set ≡ linked_from (kept_files classes.items)) }
     ensures links { OnOk result (Links (kept_files classes.items)) }
+    ensures small { All (HasAtMost 1048576) classes.items
+        → IfOk result (λ set. All (HasAtMost 1048576) set.files) }
     ensures refused { IfErr result (IsOfLinking (kept_files classes.items)) }
 {
     match class_set::link(alloc, classes) {

@@ -18,9 +18,9 @@ use Rattle.stop_theorem.proofs.KeptPlaces.{IsKeptSlot, slot_parts, root_parts}
 use Rattle.twin_forms.specs.Table.{Entry, entry, InP}
 use Rattle.twin_forms.specs.Sights.{view_of}
 use Rattle.twin_forms.proofs.Led.{same_or_not}
-use Rattle.two_spaces.specs.declared.spaces.Static.TheVariants.{Root}
-use Rattle.two_spaces.specs.Whole.{IsStatic, no_static}
-use Rattle.two_spaces.proofs.Shifting.{object_is, values_long}
+use Rattle.machine_forms.specs.Passed.{Root}
+use Rattle.machine_forms.specs.Passed.{IsStatic, no_static}
+use Rattle.machine_forms.proofs.Passed.{object_is, values_long}
 use Rattle.machine_forms.specs.Machines.{Opening, Machine, known_in, layout_in}
 use Rattle.machine_forms.specs.Keeping.{KeepsRun}
 use Rattle.store_barrier.proofs.Machines.{line_of_durable}

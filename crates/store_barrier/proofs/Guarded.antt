@@ -29,8 +29,8 @@ use Rattle.region_events.specs.Laws.{MayBeGuarded}
 use Rattle.region_events.proofs.Lists.{no_place}
 use Rattle.twin_forms.specs.Table.{Entry}
 use Rattle.twin_forms.proofs.Led.{same_or_not, below_or_not}
-use Rattle.two_spaces.specs.declared.spaces.Static.TheVariants.{Beside, Root}
-use Rattle.two_spaces.specs.Seen.{Spaces}
+use Rattle.machine_forms.specs.Passed.{Beside, Root}
+use Rattle.machine_forms.specs.Passed.{Spaces}
 use Rattle.machine_forms.specs.Machines.{Opening, Machine, empty_log, known_in, layout_in, log_of, memory_of, shown_in}
 use Rattle.machine_forms.specs.Keeping.{KeepsLogOf, KeepsRun}
 use Rattle.store_barrier.specs.Barriers.{IsDurablePlace, IsSpotAt, line_of_place, static_at, word_of_place, word_of_static}

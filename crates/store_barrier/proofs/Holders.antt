@@ -18,9 +18,9 @@ use Rattle.object_steps.specs.Stores.{CanStore, CanTake, place_of}
 use Rattle.twin_forms.specs.Table.{Entry, entry, HasCopied, HasSlot, InP, Leads, Names, line_of}
 use Rattle.twin_forms.specs.Sights.{view_of}
 use Rattle.twin_forms.proofs.Led.{same_or_not, below_or_not}
-use Rattle.two_spaces.specs.Seen.{Spaces, shown_of}
-use Rattle.two_spaces.specs.Whole.{HasLine, IsTo, MayStoreIn, NeedsLine, Stands}
-use Rattle.two_spaces.proofs.Finding.{At, at_number, slot_there}
+use Rattle.machine_forms.specs.Passed.{Spaces, shown_of}
+use Rattle.machine_forms.specs.Passed.{HasLine, IsTo, MayStoreIn, NeedsLine, Stands}
+use Rattle.machine_forms.proofs.Passed.{At, at_number, slot_there}
 use Rattle.store_barrier.specs.Barriers.{HoldsDurable, IsVolatile, MayFollow}
 
 -- ---- the holder of a slot

@@ -14,7 +14,7 @@ use Rattle.convert_queue.specs.Queues.{Queues}
 use Rattle.convert_words.specs.Agreeing.{IsTied, Keeps}
 use Rattle.twin_forms.specs.Sights.{held_of, view_of, written_of}
 use Rattle.convert_words.specs.Steps.{told}
-use Rattle.two_spaces.specs.Seen.{Spaces}
+use Rattle.machine_forms.specs.Passed.{Spaces}
 use Rattle.store_barrier.specs.Barriers.{AgreesWith, IsDurablePlace}
 use Rattle.store_barrier.proofs.Holders.{Held}
 

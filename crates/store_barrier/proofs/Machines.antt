@@ -23,9 +23,9 @@ use Rattle.object_steps.specs.Stores.{place_of}
 use Rattle.twin_forms.specs.Sights.{view_of}
 use Rattle.twin_forms.specs.Table.{Entry, entry, HasCopied, InP, no_entry}
 use Rattle.twin_forms.proofs.Led.{same_or_not, below_or_not}
-use Rattle.two_spaces.specs.declared.spaces.Static.TheVariants.{Root}
-use Rattle.two_spaces.specs.Seen.{number_in}
-use Rattle.two_spaces.proofs.Numbering.{named_number, number_named}
+use Rattle.machine_forms.specs.Passed.{Root}
+use Rattle.machine_forms.specs.Passed.{number_in}
+use Rattle.machine_forms.proofs.Passed.{named_number, number_named}
 use Rattle.machine_forms.specs.Machines.{Machine, Opening, known_in, layout_in}
 use Rattle.machine_forms.specs.Keeping.{KeepsRun}
 use Rattle.machine_forms.specs.Events.{IsSlotOfClaimed, value_in}

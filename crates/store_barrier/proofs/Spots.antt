@@ -18,7 +18,7 @@ use Rattle.region_log.specs.Guarding.{IsAdded, IsGuarded, is_adding}
 use Rattle.region_log.specs.Log.{Log, IsLogged, SameWord}
 use Rattle.region_log.specs.Readers.{added_entry}
 use Rattle.twin_forms.specs.Table.{Entry as Row, entry, HasCopied, InP, line_of}
-use Rattle.two_spaces.specs.Seen.{Spaces}
+use Rattle.machine_forms.specs.Passed.{Spaces}
 use Rattle.store_barrier.specs.declared.barrier.Barrier.{Barrier}
 use Rattle.store_barrier.specs.declared.barrier.Barrier.TheVariants as barrier
 use Rattle.store_barrier.specs.Barriers.{IfConverts, IfFollows, IfLogs, IfNoRace, IfRaces, IfStores, IsSpotAt, IsSpotOf}

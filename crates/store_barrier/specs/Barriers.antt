@@ -12,11 +12,11 @@ use Rattle.image_layout.specs.Places.{slot_line, slot_word, object_word}
 use Rattle.graph_model.specs.declared.types.Value.{Value}
 use Rattle.shared_objects.specs.Shown.{item_value}
 use Rattle.twin_forms.specs.Table.{Entry, entry, HasCopied, InP, line_of}
-use Rattle.two_spaces.specs.declared.spaces.Static.{Static}
-use Rattle.two_spaces.specs.declared.spaces.Static.TheVariants.{Beside, Root}
-use Rattle.two_spaces.specs.declared.spaces.TwoSpaces.{TwoSpaces}
-use Rattle.two_spaces.specs.Seen.{Spaces, shown_of}
-use Rattle.two_spaces.specs.Whole.{Stands, IsHereIn, IsStaticHereIn, no_static}
+use Rattle.machine_forms.specs.Passed.{Static}
+use Rattle.machine_forms.specs.Passed.{Beside, Root}
+use Rattle.machine_forms.specs.Passed.{TwoSpaces}
+use Rattle.machine_forms.specs.Passed.{Spaces, shown_of}
+use Rattle.machine_forms.specs.Passed.{Stands, IsHereIn, IsStaticHereIn, no_static}
 use Rattle.convert_queue.specs.Queues.{Queues}
 use Rattle.convert_words.specs.Scenes.{AgreesAt, scene}
 use Rattle.converter.specs.Beginning.{IsAsked}

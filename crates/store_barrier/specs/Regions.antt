@@ -8,8 +8,8 @@ use Rattle.region_log.specs.Guarding.{IsGuarded, is_adding}
 use Rattle.region_log.specs.Log.{Log}
 use Rattle.region_logs.specs.Logs.{empty_log}
 use Rattle.twin_forms.specs.Table.{Entry}
-use Rattle.two_spaces.specs.Seen.{Spaces}
-use Rattle.two_spaces.specs.Whole.{Stands}
+use Rattle.machine_forms.specs.Passed.{Spaces}
+use Rattle.machine_forms.specs.Passed.{Stands}
 use Rattle.store_barrier.specs.declared.barrier.Barrier.{Barrier}
 use Rattle.store_barrier.specs.declared.barrier.Barrier.TheVariants as barrier
 use Rattle.store_barrier.specs.Barriers.{IsLineOf, IsSpotAt}

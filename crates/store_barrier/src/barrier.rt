@@ -5,8 +5,8 @@ ghost use Rattle.object_steps.specs.Stores.{CanStore, place_of};
 ghost use Rattle.image_layout.specs.Places.{object_word};
 ghost use Rattle.twin_forms.specs.Sights.{sight};
 ghost use Rattle.twin_forms.specs.Table.{Entry, Lies};
-ghost use Rattle.two_spaces.specs.Seen.{shown_of};
-ghost use Rattle.two_spaces.specs.Whole.{IsItem, IsWhole, Stands};
+ghost use Rattle.machine_forms.specs.Passed.{shown_of};
+ghost use Rattle.machine_forms.specs.Passed.{IsItem, IsWhole, Stands};
 ghost use Rattle.store_barrier.specs.Barriers.{ConvertsFirst, HoldsDurable, IfConverts, IfFollows, IfLogs, IfNoRace, IfRaces};
 ghost use Rattle.store_barrier.specs.Barriers.{IfStores, IsSpotOf, IsVolatile, MayFollow, spaces_of};
 ghost use Rattle.store_barrier.specs.Regions.{GoesFor, HasLogged, HasWord, IsApart, IsLineLeft, IsOtherGuard, LacksWord};
@@ -15,10 +15,10 @@ ghost use Rattle.store_barrier.specs.Regions.{LogsFirst, Races};
 use ap_base::{Item, Ref, Spot, ThreadNo};
 use image_layout::slot_spot;
 use line_image::Image;
+use machine_forms::{Static, TwoSpaces};
 use object_steps::{Store, Target};
 use region_logs::Logs;
 use twin_heap::TwinHeap;
-use two_spaces::{Static, TwoSpaces};
 
 /// By which rule a store goes on.
 #[derive(Clone, Copy)]

@@ -6,15 +6,15 @@ ghost use Rattle.object_steps.specs.Stores.{CanStore, place_of, stored_by};
 ghost use Rattle.run_history.specs.declared.act.Op.TheVariants.{Stored};
 ghost use Rattle.step_forms.specs.Follows.{HeapGoes, stored_as};
 ghost use Rattle.twin_forms.specs.Table.{Entry};
-ghost use Rattle.two_spaces.specs.Seen.{shown_of};
-ghost use Rattle.two_spaces.specs.Whole.{Stands, StoresIn};
+ghost use Rattle.machine_forms.specs.Passed.{shown_of};
+ghost use Rattle.machine_forms.specs.Passed.{Stands, StoresIn};
 ghost use Rattle.store_barrier.specs.Barriers.{AgreesWith, IsDurablePlace, IsReady, MayFollow, kept_value, spaces_of};
 
 use convert_queue::Conversions;
 use line_image::Image;
+use machine_forms::TwoSpaces;
 use object_steps::{Store, Target, commit};
 use step_forms::Stepped;
-use two_spaces::TwoSpaces;
 
 // The queue is told of a store to a copied line of an object that is being converted.
 fn note_store<I: Image>(spaces: &TwoSpaces<I>, queue: &mut Conversions, store: &Store)

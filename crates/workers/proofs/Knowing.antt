@@ -44,7 +44,7 @@ module _ (set : SetFacts) (x : Setting Native Ref (NativeState Ref) Item) where
       goes = λ o first now. now;
       told = told-nothing s.history.acts seen taken;
       shares = λ o first now. shares-nothing o.launch takes s.history.acts;
-      cause = (omega arith, omega arith);
+      cause = (refl, omega arith);
     },
   )
 

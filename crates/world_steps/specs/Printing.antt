@@ -1,7 +1,7 @@
 -- What a print puts into the sink.
-use Rattle.std.specs.Prelude.{◌≡◌, ◌≤◌, ℕ, List, [], length, Option, IfSome}
+use Rattle.std.specs.Prelude.{◌≡◌, ℕ, List, [], length, Option, IfSome}
 use Rattle.ap_base.specs.Sinks.{with_bytes}
-use Rattle.ap_base.specs.Causes.{Rose}
+use Rattle.ap_base.specs.Causes.{next_count}
 use Rattle.run_history.specs.declared.act.Op.TheVariants as op
 use Rattle.plain_model.specs.Runs.{printed_by}
 use Rattle.step_forms.specs.declared.stepped.Stepped.{Stepped}
@@ -17,10 +17,10 @@ abbrev pub printed_in : Stepped → List ℕ
 printed_in (stepped.Did o r) = printed_by o
 printed_in other = []
 
--- the run is over only where the sink failed
+-- the run is over exactly where the sink failed, once
 abbrev pub HasSinkCause : ℕ → ℕ → Stepped → Type 0
-HasSinkCause before now (stepped.Over f) = Rose before now
-HasSinkCause before now other = before ≤ now
+HasSinkCause before now (stepped.Over f) = now ≡ next_count before
+HasSinkCause before now other = now ≡ before
 
 -- The operation prints as many bytes of the piece as the sink takes of the whole, where the sink tells that.
 abbrev pub TakesShare : (ℕ → Option ℕ) → List ℕ → Stepped → Type 0

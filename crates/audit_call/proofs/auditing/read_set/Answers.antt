@@ -6,6 +6,9 @@ returns-clause-links g c =
     links_then (g.C.ClassSource.left c.args.source.now) c.in_ok-classes.classes.items c.in_ok-classes.ensures.classes
     (g.C.ClassSource.left c.read_files.new.source) c.in_ok-classes.ensures.whole c.link.result c.link.ensures.set c.link.ensures.links
 
+pub returns-clause-small : goal.returns-clause-small
+returns-clause-small g c = c.link.ensures.small c.in_ok-classes.ensures.small
+
 pub returns-clause-refused : goal.returns-clause-refused
 returns-clause-refused g c =
     refused_then (g.C.ClassSource.left c.args.source.now) c.in_ok-classes.classes.items c.in_ok-classes.ensures.classes

@@ -2,7 +2,7 @@ use Rattle.std.proofs.Common.{inl, inr, refl, subst, sym}
 use Rattle.graph_model.specs.declared.types.Graph.{Graph}
 use Rattle.source_classes.specs.Names.{slashed}
 use Rattle.audit_call.specs.Judged.{GraphsEnd}
-use Rattle.audit_call.proofs.Found.{still_opens}
+use Rattle.audit_call.proofs.Found.{still_opens, still_small}
 use Rattle.audit_call.proofs.Keeping.{unbegun_kept, unopened_kept}
 use Rattle.audit_call.proofs.judging.judge_after.Goals as goal
 
@@ -12,6 +12,8 @@ judge_graphs-status-requires g c =
     record {
       opening = still_opens (g.J.Image.told c.args.after) c.args.set.now c.find_for.new.set f.memory f.directory f.lines f.graph f.free
           c.in-Ok.ensures.found c.args.opening c.requires.opening;
+      small = still_small (g.J.Image.told c.args.after) c.args.set.now c.find_for.new.set f.memory f.directory f.lines f.graph f.free
+          c.in-Ok.ensures.found c.requires.small;
     }
 
 pub returns-in-Ok-clause-ends : goal.returns-in-Ok-clause-ends

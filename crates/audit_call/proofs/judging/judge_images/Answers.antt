@@ -2,12 +2,18 @@ use Rattle.std.proofs.Common.{inl, inr, refl, subst, sym}
 use Rattle.graph_model.specs.declared.types.Graph.{Graph}
 use Rattle.source_classes.specs.Names.{slashed}
 use Rattle.audit_call.specs.Audits.{AfterEnds}
+use Rattle.audit_call.proofs.Found.{still_small}
 use Rattle.audit_call.proofs.Keeping.{same_kept, unbegun_kept, unopened_kept}
 use Rattle.audit_call.proofs.judging.judge_images.Goals as goal
 
 pub judge_after-judged-requires : goal.judge_after-judged-requires
 judge_after-judged-requires g c =
-    record { opening = c.give_back-opening.ensures.opening (g.I.Image.told c.args.before) c.args.set c.find_for.new.set c.in-Ok.ensures.found }
+    let f = c.in-Ok.found in
+    record {
+      opening = c.give_back-opening.ensures.opening (g.I.Image.told c.args.before) c.args.set c.find_for.new.set c.in-Ok.ensures.found;
+      small = still_small (g.I.Image.told c.args.before) c.args.set c.find_for.new.set f.memory f.directory f.lines f.graph f.free
+          c.in-Ok.ensures.found c.requires.small;
+    }
 
 pub returns-in-Ok-clause-ends : goal.returns-in-Ok-clause-ends
 returns-in-Ok-clause-ends g c =

@@ -1,9 +1,9 @@
-use Rattle.std.proofs.Common.{sym, subst}
-use Rattle.std.specs.Prelude.{IfOk}
+use Rattle.std.proofs.Common.{◌≡◌, Ok, ap, sym, subst}
 use Rattle.graph_model.specs.declared.types.Graph.{Graph}
 use Rattle.class_set.specs.Facts.{facts_of}
 use Rattle.plain_model.specs.First.{IsOpening}
 use Rattle.plain_model.specs.Runs.{IsAllowed}
+use Rattle.audit_verdicts.specs.declared.verdict.Verdict.TheVariants.{Yes}
 use Rattle.audit_runs.specs.Audits.{IsRight}
 use Rattle.audit_call.proofs.judging.verdict_of.Goals as goal
 
@@ -13,16 +13,17 @@ audit_run-requires c = record {
   main = (c.args.main.now, c.requires.main);
 }
 
-pub returns-clause-right : goal.returns-clause-right
-returns-clause-right c =
-    subst (λ (x : Graph). IfOk c.audit_run.result (IsRight c.args.set.now c.args.main.now x c.args.acts.now.acts c.args.keep
-    c.args.output.now c.args.after)) c.in_ok-opening.ensures.same
-    (subst (λ (x : Graph). IfOk c.audit_run.result (IsRight c.args.set.now c.args.main.now c.in_ok-opening.opening c.args.acts.now.acts
-    c.args.keep c.args.output.now x)) c.in_ok-after.ensures.same
-    (c.audit_run.ensures.right c.args.main.now c.requires.main))
+pub returns-in-Ok-clause-right : goal.returns-in-Ok-clause-right
+returns-in-Ok-clause-right c =
+    subst (λ (x : Graph). IsRight c.args.set.now c.args.main.now x c.args.acts.now.acts c.args.keep
+    c.args.output.now c.args.after c.in-Ok.verdict) c.in_ok-opening.ensures.same
+    (subst (λ (x : Graph). IsRight c.args.set.now c.args.main.now c.in_ok-opening.opening c.args.acts.now.acts
+    c.args.keep c.args.output.now x c.in-Ok.verdict) c.in_ok-after.ensures.same
+    (c.in-Ok.ensures.right c.args.main.now c.requires.main))
 
-pub returns-clause-allowed : goal.returns-clause-allowed
-returns-clause-allowed c is =
+pub returns-in-Ok-clause-allowed : goal.returns-in-Ok-clause-allowed
+returns-in-Ok-clause-allowed c is =
+    let yes : c.in-Ok.verdict ≡ Yes = cc in
     subst (λ (x : Graph). IsAllowed (facts_of c.args.set.now) x c.args.acts.now.acts c.args.after) c.in_ok-opening.ensures.same
     (subst (λ (x : Graph). IsAllowed (facts_of c.args.set.now) c.in_ok-opening.opening c.args.acts.now.acts x)
-    c.in_ok-after.ensures.same (c.audit_run.ensures.allowed is))
+    c.in_ok-after.ensures.same (c.in-Ok.ensures.allowed (ap Ok yes)))

@@ -1,6 +1,7 @@
 use Rattle.std.proofs.Common.{◌≡◌, ◌∙◌, [], ap, sym, subst}
-use Rattle.std.specs.Prelude.{IfOk, Ok, Some, None}
+use Rattle.std.specs.Prelude.{Ok, Some}
 use Rattle.run_types.specs.declared.limits.Limits.{Limits}
+use Rattle.class_code.specs.declared.refusal.DecodeRefusal.{DecodeRefusal}
 use Rattle.class_set.specs.Facts.{facts_of}
 use Rattle.plain_model.specs.Duties.{IsClass}
 use Rattle.plain_model.specs.First.{first_known}
@@ -11,7 +12,7 @@ use Rattle.audit_steps.specs.Audits.{IsAt}
 use Rattle.audit_verdicts.specs.declared.verdict.Verdict.TheVariants.{Act}
 use Rattle.audit_runs.specs.Audits.{HasDoubts, IsRight}
 use Rattle.audit_runs.proofs.FoundMain.{found-main, main-class}
-use Rattle.audit_runs.proofs.Judging.{allowed, one-main, right-ends, right-stop}
+use Rattle.audit_runs.proofs.Judging.{allowed, one-main, right-end, right-stop}
 use Rattle.audit_runs.proofs.audits.audit_run.Goals as goal
 
 -- no limit is looked at
@@ -74,9 +75,10 @@ returns-clause-right c other is =
     (sym c.of-types.ensures.types) (c.in_ok-begun.ensures.at limits) in
     let now = c.follow.ensures.whole launch at (c.in_ok-n.was ∙ ap Ok c.in_default.is) in
     let one = one-main set c.args.main_class main other c.main_from-main.ensures is in
-    subst (λ m. IfOk c.judge_end.result (IsRight set m opening acts c.args.keep c.args.output.now c.args.after.now)) one
-    (right-ends set main opening limits acts c.args.keep c.args.output.now c.args.after.now c.judge_end.result now.stands.stands.run
-    c.judge_end.ensures)
+    let verdict = c.in_ok-judge_end.field-0 in
+    subst (λ m. IsRight set m opening acts c.args.keep c.args.output.now c.args.after.now verdict) one
+    (right-end set main opening limits acts c.args.keep c.args.output.now c.args.after.now verdict now.stands.stands.run
+    c.in_ok-judge_end.ensures)
 
 pub returns-clause-allowed : goal.returns-clause-allowed
 returns-clause-allowed c said_so =
@@ -88,6 +90,7 @@ returns-clause-allowed c said_so =
     let at = subst (λ s. IsAt launch [] (facts_of s) (setting_in c.in_ok-begun.begun.host) c.in_ok-begun.begun.audit)
     (sym c.of-types.ensures.types) (c.in_ok-begun.ensures.at limits) in
     let now = c.follow.ensures.whole launch at (c.in_ok-n.was ∙ ap Ok c.in_default.is) in
-    allowed set main opening acts c.args.keep c.args.output.now c.args.after.now c.judge_end.result
-    (right-ends set main opening limits acts c.args.keep c.args.output.now c.args.after.now c.judge_end.result now.stands.stands.run
-    c.judge_end.ensures) said_so
+    let verdict = c.in_ok-judge_end.field-0 in
+    allowed {E = DecodeRefusal} set main opening acts c.args.keep c.args.output.now c.args.after.now (Ok verdict)
+    (right-end set main opening limits acts c.args.keep c.args.output.now c.args.after.now verdict now.stands.stands.run
+    c.in_ok-judge_end.ensures) said_so

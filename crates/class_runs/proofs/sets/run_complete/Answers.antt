@@ -1,3 +1,4 @@
+use Rattle.std.proofs.Common.{refl}
 use Rattle.class_runs.proofs.Outside.{rose_since, tells_nothing}
 use Rattle.class_runs.proofs.SetRan.{unappended_ran}
 use Rattle.class_runs.proofs.sets.run_complete.Goals as goal
@@ -24,7 +25,10 @@ returns-in-Err-clause-ran g c = λ start old is.
 pub returns-in-Err-clause-told : goal.returns-in-Err-clause-told
 returns-in-Err-clause-told g c =
     rw (c.unbegun.ensures.acts, c.unbegun.ensures.watcher, c.unbegun.ensures.sink)
-    (tells_nothing (g.W.Watcher.seen c.args.watcher) (g.S.Sink.taken c.args.sink))
+    (tells_nothing (g.W.Watcher.seen c.args.watcher) (g.S.Sink.taken c.args.sink) (g.S.Sink.takes c.args.sink))
 
 pub returns-in-Err-clause-image_fault : goal.returns-in-Err-clause-image_fault
 returns-in-Err-clause-image_fault g c = λ is. rw c.unbegun.ensures.image c.in-Err.ensures.cause
+
+pub returns-in-Err-clause-sink_spared : goal.returns-in-Err-clause-sink_spared
+returns-in-Err-clause-sink_spared g c = λ isnt. rw c.unbegun.ensures.sink refl

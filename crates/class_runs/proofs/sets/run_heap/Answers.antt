@@ -1,10 +1,11 @@
-use Rattle.std.proofs.Common.{ap, subst, ◌∙◌}
+use Rattle.std.proofs.Common.{ap, refl, subst, ◌∙◌}
 use Rattle.ap_base.specs.Causes.{Rose}
 use Rattle.graph_model.specs.declared.types.Graph.{Graph}
 use Rattle.line_memory.specs.Memory.{Memory}
 use Rattle.image_recovery.specs.Recovered.{entries_in}
 use Rattle.durable_launch.specs.Launching.{launch_over, opening_over}
 use Rattle.class_runs.specs.Began.{RanBy}
+use Rattle.class_runs.proofs.Outside.{tells_nothing}
 use Rattle.class_runs.proofs.SetRan.{has_run_over, unstarted_ran}
 use Rattle.class_runs.proofs.sets.run_heap.Goals as goal
 
@@ -49,8 +50,22 @@ pub returns-in-Err-clause-ran : goal.returns-in-Err-clause-ran
 returns-in-Err-clause-ran g c = λ start old can.
     let set = c.args.set.now in
     let heap = c.args.heap in
-    rw (c.unbegun.ensures.opening, c.unbegun.ensures.acts, c.unbegun.ensures.image, c.unbegun.ensures.status)
+    rw (
+      c.unbegun.ensures.opening,
+      c.unbegun.ensures.acts,
+      c.unbegun.ensures.image,
+      c.unbegun.ensures.status,
+      c.of_undecoded-status.ensures,
+    )
     (unstarted_ran old set start heap.spaces.heap.memory can.directory can.lines heap.graph heap.free can.opened
     c.args.class.now c.args.limits.now (g.I.Image.told c.into_image.result)
     (c.into_image.ensures.told ∙ ap (λ (m : Memory). m.image) c.in-Err.ensures.given_back)
     (c.into_image.ensures.size ∙ ap (λ (m : Memory). m.size) c.in-Err.ensures.given_back))
+
+pub returns-in-Err-clause-told : goal.returns-in-Err-clause-told
+returns-in-Err-clause-told g c =
+    rw (c.unbegun.ensures.acts, c.unbegun.ensures.watcher, c.unbegun.ensures.sink)
+    (tells_nothing (g.W.Watcher.seen c.args.watcher) (g.S.Sink.taken c.args.sink) (g.S.Sink.takes c.args.sink))
+
+pub returns-in-Err-clause-sink_spared : goal.returns-in-Err-clause-sink_spared
+returns-in-Err-clause-sink_spared g c = λ isnt. rw c.unbegun.ensures.sink refl

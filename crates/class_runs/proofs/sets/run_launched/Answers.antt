@@ -5,6 +5,8 @@ use Rattle.class_set.specs.Linked.{Linked}
 use Rattle.class_set.specs.Facts.{facts_of}
 use Rattle.program_host.specs.Hosts.{setting_in}
 use Rattle.durable_launch.specs.Passed.{EachPrintsItsShare, IsReady}
+use Rattle.class_runs.specs.Runs.{Tells}
+use Rattle.class_runs.proofs.Outside.{sink_caused, sink_spared, tells_all}
 use Rattle.class_runs.proofs.sets.run_launched.Goals as goal
 
 pub returns-clause-ran : goal.returns-clause-ran
@@ -27,3 +29,24 @@ returns-clause-ran g c = λ o first ready.
       none = c.opening_of.ensures.none;
       some = c.opening_of.ensures.some;
     }
+
+pub returns-clause-told : goal.returns-clause-told
+returns-clause-told g c =
+    let ready = c.requires.ready in
+    let mine = subst (λ (s : Linked). IsReady ready.0 ready.1 (facts_of s) (setting_in c.args.launched.host) c.args.launched.heap
+    c.args.launched.frames.items) (sym c.of.ensures.types) ready.2 in
+    let left = c.run_all-end.result.1 in
+    let acts_are = ap (λ (h : History). h.acts) c.finish-acts.ensures.history in
+    subst (λ (acts : List Recorded). Tells acts (g.W.Watcher.seen c.args.watcher) (g.W.Watcher.seen left.watcher)
+    (g.S.Sink.taken c.args.sink) (g.S.Sink.taken left.sink) (g.S.Sink.takes c.args.sink) (g.S.Sink.takes left.sink)) (sym acts_are)
+    (tells_all c.args.launched.heap.history.acts left.heap.history.acts (g.W.Watcher.seen c.args.watcher) (g.W.Watcher.seen left.watcher)
+    (g.S.Sink.taken c.args.sink) (g.S.Sink.taken left.sink) (g.S.Sink.takes c.args.sink) (g.S.Sink.takes left.sink) c.requires.empty
+    c.run_all-end.ensures.told (c.run_all-end.ensures.shares ready.0 ready.1 mine).leaves)
+
+pub returns-clause-sink_fault : goal.returns-clause-sink_fault
+returns-clause-sink_fault g c = λ is.
+    sink_caused c.args.set.now _ _ _ _ c.run_all-end.result.0 c.run_all-end.ensures.cause (sym c.of_end.ensures ∙ is)
+
+pub returns-clause-sink_spared : goal.returns-clause-sink_spared
+returns-clause-sink_spared g c = λ isnt.
+    sink_spared c.args.set.now _ _ _ _ c.run_all-end.result.0 c.run_all-end.ensures.cause (λ is. isnt (c.of_end.ensures ∙ is))

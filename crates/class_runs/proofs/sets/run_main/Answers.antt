@@ -1,7 +1,8 @@
-use Rattle.std.proofs.Common.{inl, inr, ap, sym, ◌∙◌}
+use Rattle.std.proofs.Common.{inl, inr, ap, refl, sym, ◌∙◌}
 use Rattle.run_types.specs.declared.fault.LinkKind.{LinkKind}
 use Rattle.statuses.specs.Names.{main_text, shortened}
 use Rattle.statuses.specs.declared.status.Status.TheVariants as status
+use Rattle.class_runs.proofs.Outside.{tells_nothing}
 use Rattle.class_runs.proofs.SetRan.{unbegun_ran}
 use Rattle.class_runs.proofs.sets.run_main.Goals as goal
 
@@ -23,3 +24,11 @@ returns-in-Err-clause-ran g c = λ start old is.
       is = c.main_status-status.ensures.status
           ∙ ap (λ (kind : LinkKind). status.LinkFault kind (shortened (main_text kind name))) c.kind_of.ensures;
     }))))
+
+pub returns-in-Err-clause-told : goal.returns-in-Err-clause-told
+returns-in-Err-clause-told g c =
+    rw (c.unbegun.ensures.acts, c.unbegun.ensures.watcher, c.unbegun.ensures.sink)
+    (tells_nothing (g.W.Watcher.seen c.args.watcher) (g.S.Sink.taken c.args.sink) (g.S.Sink.takes c.args.sink))
+
+pub returns-in-Err-clause-sink_spared : goal.returns-in-Err-clause-sink_spared
+returns-in-Err-clause-sink_spared g c = λ isnt. rw c.unbegun.ensures.sink refl

@@ -1,4 +1,4 @@
-use Rattle.std.proofs.Common.{ap, sym, ◌∙◌}
+use Rattle.std.proofs.Common.{ap, sym, ◌∙◌, refl}
 use Rattle.line_memory.specs.Memory.{Memory}
 use Rattle.class_runs.proofs.Outside.{tells_nothing, unlaunched_by_image, unlaunched_by_sink}
 use Rattle.class_runs.proofs.SetRan.{unlaunched_ran}
@@ -25,7 +25,7 @@ returns-in-Err-clause-ran g c = λ start old opened.
 pub returns-in-Err-clause-told : goal.returns-in-Err-clause-told
 returns-in-Err-clause-told g c =
     rw (c.unbegun.ensures.acts, c.unbegun.ensures.watcher, c.unbegun.ensures.sink)
-    (tells_nothing (g.W.Watcher.seen c.args.watcher) (g.S.Sink.taken c.args.sink))
+    (tells_nothing (g.W.Watcher.seen c.args.watcher) (g.S.Sink.taken c.args.sink) (g.S.Sink.takes c.args.sink))
 
 pub returns-in-Err-clause-sink_fault : goal.returns-in-Err-clause-sink_fault
 returns-in-Err-clause-sink_fault g c = λ is.
@@ -34,3 +34,6 @@ returns-in-Err-clause-sink_fault g c = λ is.
 pub returns-in-Err-clause-image_fault : goal.returns-in-Err-clause-image_fault
 returns-in-Err-clause-image_fault g c = λ is.
     absurd (unlaunched_by_image c.in-Err.why (sym (c.unbegun.ensures.status ∙ c.of_unlaunched.ensures) ∙ is))
+
+pub returns-in-Err-clause-sink_spared : goal.returns-in-Err-clause-sink_spared
+returns-in-Err-clause-sink_spared g c = λ isnt. rw c.unbegun.ensures.sink refl

@@ -1,4 +1,9 @@
-use Rattle.std.proofs.Common.{sym, ◌∙◌}
+use Rattle.std.proofs.Common.{List, ap, refl, subst, sym, ◌∙◌}
+use Rattle.std.specs.Prelude.{All}
+use Rattle.class_file.specs.declared.class.ClassFile.{ClassFile}
+use Rattle.class_file.specs.Classes.{HasAtMost}
+use Rattle.class_set.specs.Linked.{Linked}
+use Rattle.durable_launch.proofs.Passed.{arrays_files}
 use Rattle.class_runs.proofs.Outside.{failed_opening, never_by_sink, rose_since, tells_nothing}
 use Rattle.class_runs.proofs.SetRan.{unopened_ran}
 use Rattle.class_runs.proofs.sets.run_set.Goals as goal
@@ -6,6 +11,12 @@ use Rattle.class_runs.proofs.sets.run_set.Goals as goal
 pub run_found-requires-clause-found : goal.run_found-requires-clause-found
 run_found-requires-clause-found g c = λ κs below.
     (g.I.Image.told c.args.image, c.args.set, c.in-Ok.ensures.found)
+
+pub run_found-requires-clause-small : goal.run_found-requires-clause-small
+run_found-requires-clause-small g c = λ κs below.
+    let found = c.in-Ok.ensures.found in
+    let same = ap (λ (s : Linked). s.files) found.fitted.set_is ∙ arrays_files c.args.set found.found.shapes in
+    subst (λ (files : List ClassFile). All (HasAtMost 1048576) files) (sym same) c.requires.small
 
 pub returns-in-Ok-clause-ran : goal.returns-in-Ok-clause-ran
 returns-in-Ok-clause-ran g c =
@@ -25,7 +36,7 @@ returns-clause-ran g c =
 pub returns-clause-told : goal.returns-clause-told
 returns-clause-told g c =
     rw (c.unbegun.ensures.acts, c.unbegun.ensures.watcher, c.unbegun.ensures.sink)
-    (tells_nothing (g.W.Watcher.seen c.args.watcher) (g.S.Sink.taken c.args.sink))
+    (tells_nothing (g.W.Watcher.seen c.args.watcher) (g.S.Sink.taken c.args.sink) (g.S.Sink.takes c.args.sink))
 
 pub returns-clause-sink_fault : goal.returns-clause-sink_fault
 returns-clause-sink_fault g c = λ is.
@@ -35,3 +46,6 @@ pub returns-clause-image_fault : goal.returns-clause-image_fault
 returns-clause-image_fault g c = λ is.
     rw c.unbegun.ensures.image
     (c.in-Err.ensures.cause (failed_opening c.in-Err.why (sym (c.unbegun.ensures.status ∙ c.of_unopened.ensures) ∙ is)))
+
+pub returns-clause-sink_spared : goal.returns-clause-sink_spared
+returns-clause-sink_spared g c = λ isnt. rw c.unbegun.ensures.sink refl

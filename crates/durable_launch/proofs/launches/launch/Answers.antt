@@ -14,7 +14,7 @@ returns-in-Ok-new-clause-ready g c start old can =
     let limits = c.args.limits.now in
     let heap = c.args.opened in
     let linked = c.shapes-linked.ensures.linked in
-    let ready = ready_as start old set main limits heap c.in-Ok.field-0.rest
+    let ready = ready_as start old set main limits heap c.in-Ok.beside.rest
     (record {
       keep = c.first_machines_keep_their_run.ensures;
       plain = c.first_machines_run_as_plain_runs.ensures;
@@ -32,12 +32,12 @@ returns-in-Ok-new-clause-ready g c start old can =
       class = c.requires.main;
       beside = c.in-Ok.ensures.rest;
     })
-    (setting_in c.in-Ok.field-0.host) c.in-Ok-new.heap c.in-Ok.field-0.frames.items c.in-Ok.ensures.host
+    (setting_in c.in-Ok.beside.host) c.in-Ok-new.heap c.in-Ok.beside.frames.items c.in-Ok.ensures.host
     c.in-Ok-new.ensures.made c.in-Ok.ensures.many c.in-Ok.ensures.main in record {
       literals = heap.literals.items;
       ready = ready;
       empty = ap (λ (s : Shared). s.history.acts) c.in-Ok-new.ensures.made;
       work = ap (λ (s : Shared). work_left s.machine) c.in-Ok-new.ensures.made
-          ∙ c.quiet_steps_are_few.ensures.first (spaces_of heap.spaces) heap.free c.in-Ok.field-0.rest limits.acts;
+          ∙ c.quiet_steps_are_few.ensures.first (spaces_of heap.spaces) heap.free c.in-Ok.beside.rest limits.acts;
       memory = ap (λ (s : Shared). memory_of s.machine) c.in-Ok-new.ensures.made;
     }

@@ -1,8 +1,7 @@
-use Rattle.std.proofs.Common.{◌≡◌, ℕ, zero, suc, ◌+◌, drop, List, [], ◌∷◌, map, Option, Some, None, refl, sym, ◌∙◌, ap, add-one}
+use Rattle.std.proofs.Common.{◌≡◌, ℕ, zero, suc, drop, List, [], ◌∷◌, map, Option, Some, None, refl, sym, ◌∙◌, ap, add-one}
 use Rattle.std.specs.Prelude.{slice_get}
 use Rattle.plain_model.specs.Ends.{Ending, first_uncaught}
 use Rattle.plain_model.specs.Ends.Ending.{Uncaught, Finished}
-use Rattle.run_history.specs.Worlds.{Thread}
 use Rattle.shared_objects.specs.declared.threads.ThreadState.{ThreadState}
 use Rattle.shared_objects.specs.Worlds.{plain_thread}
 use Rattle.durable_run.specs.Turning.{ending_of}

@@ -1,4 +1,4 @@
-use Rattle.std.proofs.Common.{◌≡◌, ◌≤◌, ℕ, drop, length, map}
+use Rattle.std.proofs.Common.{◌≡◌, drop, map}
 use Rattle.plain_model.specs.Ends.{first_uncaught}
 use Rattle.shared_objects.specs.Worlds.{plain_thread}
 use Rattle.durable_run.proofs.parts.first_uncaught.Given as goal

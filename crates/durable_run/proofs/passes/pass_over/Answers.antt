@@ -1,15 +1,12 @@
-use Rattle.std.proofs.Common.{◌≡◌, ◌<◌, ◌≤◌, ◌+◌, ℕ, Bool, true, false, List, None, length, inr, refl, sym, ◌∙◌, ap, subst, arith}
+use Rattle.std.proofs.Common.{◌≡◌, ◌+◌, ℕ, true, false, List, None, length, inr, refl, sym, ◌∙◌, ap, subst, arith}
 use Rattle.shared_objects.specs.declared.threads.ThreadState.{ThreadState}
-use Rattle.machine.specs.Passed.{Opening}
-use Rattle.machine.specs.declared.events.Halt.{Halt}
-use Rattle.durable_run.specs.Events.{StepsTo}
 use Rattle.machine.specs.Passed.{asked_by}
 use Rattle.durable_run.specs.Turning.{IsReady, asks_next, is_live}
-use Rattle.durable_run.specs.declared.steps.Stepped.{Stepped}
 use Rattle.durable_run.proofs.Passing.{IsGoing, all-ended, cause-on, dead-on, goes-less, goes-on, goes-past, has-frames, not-over, ready-on, room-so}
 use Rattle.durable_run.proofs.Passing.{waits-begin}
 use Rattle.durable_run.proofs.Places.{next-is}
 use Rattle.durable_run.proofs.Sharing.{shares-both, shares-nothing}
+use Rattle.durable_run.proofs.Sparing.{spares-both, spares-nothing, spares-on}
 use Rattle.durable_run.proofs.Telling.{caused-since, told-both, told-nothing}
 use Rattle.durable_run.proofs.passes.pass_over.Goals as goal
 
@@ -24,7 +21,8 @@ threads-init g c =
       told = told-nothing c.args.run.now.heap.history.acts _ _;
       shares = λ o first ready. shares-nothing o.launch (g.S.Sink.takes c.args.run.now.sink)
           c.args.run.now.heap.history.acts;
-      cause = (omega arith, omega arith);
+      spares = λ o first ready. spares-nothing g.S.Sink.taken o.launch c.args.run.now.sink c.args.run.now.heap.history.acts;
+      cause = (refl, omega arith);
       going = inr (λ o first ready. waits-begin o first set x c.args.run.now.heap c.args.run.now.frames.items ready
           c.machines_end_stuck.ensures.begin c.passes_fill_rows.ensures.begin);
       dead = λ e u below. absurd (omega (arith, below));
@@ -46,6 +44,7 @@ threads-preserved-then-not-is_live g c =
       ready = c.threads.invariant.ready;
       told = c.threads.invariant.told;
       shares = c.threads.invariant.shares;
+      spares = c.threads.invariant.spares;
       cause = c.threads.invariant.cause;
       going = goes-past set x
           (λ o first. IsReady o first set x c.args.run.now.heap c.args.run.now.frames.items)
@@ -92,6 +91,12 @@ threads-preserved g c =
       told = told-both _ _ _ _ _ _ _ _ _ c.threads.invariant.told c.step-went.ensures.told;
       shares = λ o first ready. shares-both o.launch _ _ _ _ _ _ (c.threads.invariant.shares o first ready)
           (c.step-went.ensures.shares o first (c.threads.invariant.ready o first ready));
+      spares = λ o first ready. spares-both g.S.Sink.taken o.launch None c.args.run.now.sink
+          c.threads.run.sink c.step-went.new.run.sink old.history.acts s.history.acts new.history.acts
+          (c.threads.invariant.spares o first ready)
+          (spares-on g.S.Sink.taken o.launch new went c.threads.run.sink c.step-went.new.run.sink
+          s.history.acts new.history.acts isnt
+          (c.step-went.ensures.spares o first (c.threads.invariant.ready o first ready)));
       cause = caused-since None _ _ _ _ _ _ c.threads.invariant.cause
           (cause-on new went _ _ _ _ isnt c.step-went.ensures.cause);
       going = subst (λ (n : ℕ). IsGoing
@@ -142,3 +147,16 @@ returns-then-lived-clause-shares g c = c.threads.invariant.shares
 
 pub returns-clause-shares : goal.returns-clause-shares
 returns-clause-shares g c = c.threads.invariant.shares
+
+pub returns-in-Over-clause-spares : goal.returns-in-Over-clause-spares
+returns-in-Over-clause-spares g c o first ready =
+    spares-both g.S.Sink.taken o.launch _ c.args.run.now.sink c.threads.run.sink c.step-went.new.run.sink
+    c.args.run.now.heap.history.acts c.threads.run.heap.history.acts c.step-went.new.run.heap.history.acts
+    (c.threads.invariant.spares o first ready)
+    (c.in-Over.ensures.spares o first (c.threads.invariant.ready o first ready))
+
+pub returns-then-lived-clause-spares : goal.returns-then-lived-clause-spares
+returns-then-lived-clause-spares g c = c.threads.invariant.spares
+
+pub returns-clause-spares : goal.returns-clause-spares
+returns-clause-spares g c = c.threads.invariant.spares

@@ -1,13 +1,14 @@
 use Rattle.std.proofs.Common.{◌≡◌, ◌-◌, ◌<◌, ◌≤◌, ℕ, true, false, length, None}
 use Rattle.machine.specs.Passed.{Opening, memory_of}
 use Rattle.durable_run.specs.Shares.{PrintsShares}
+use Rattle.durable_run.specs.Sparing.{SparesSink}
 use Rattle.durable_run.specs.Telling.{HasTold, IsCaused}
 use Rattle.durable_run.specs.Turning.{IsReady, is_live}
 use Rattle.durable_run.proofs.Passing.{IsGoing}
 use Rattle.durable_run.proofs.passes.pass_over.Given as goal
 
--- An event may come still, the outside was told, and each print took its share. Less is left to do, or each live thread below n has waited; where none has
--- lived, none below n does, and nothing was changed.
+-- An event may come still, the outside was told, each print took its share, and no other act called the sink. Less is left to do, or
+-- each live thread below n has waited; where none has lived, none below n does, and nothing was changed.
 abbrev pub invariant-threads : goal.invariant-threads
 invariant-threads g l = record {
   ready : (o : Opening) (first : ℕ)
@@ -21,6 +22,11 @@ invariant-threads g l = record {
       → IsReady o first (g.C.Types.facts l.set) (g.H.Host.setting l.host) l.initial.run.heap
       l.initial.run.frames.items
       → PrintsShares o.launch (g.S.Sink.takes l.initial.run.sink) (g.S.Sink.takes l.run.sink)
+      l.initial.run.heap.history.acts l.run.heap.history.acts;
+  spares : (o : Opening) (first : ℕ)
+      → IsReady o first (g.C.Types.facts l.set) (g.H.Host.setting l.host) l.initial.run.heap
+      l.initial.run.frames.items
+      → SparesSink g.S.Sink.taken o.launch None l.initial.run.sink l.run.sink
       l.initial.run.heap.history.acts l.run.heap.history.acts;
   cause : IsCaused None (g.S.Sink.faults l.initial.run.sink) (g.S.Sink.faults l.run.sink)
       (memory_of l.initial.run.heap.machine).faults (memory_of l.run.heap.machine).faults;

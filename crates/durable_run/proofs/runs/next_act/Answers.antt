@@ -1,8 +1,9 @@
-use Rattle.std.proofs.Common.{◌≡◌, ◌≤◌, ◌∙◌, ℕ, List, None, ap, arith, length, refl, sym, subst}
+use Rattle.std.proofs.Common.{◌≤◌, ◌∙◌, List, None, ap, arith, length, refl}
 use Rattle.run_history.specs.Recorded.{History, Recorded}
 use Rattle.durable_run.specs.Passes.{fault_of_pass}
 use Rattle.durable_run.proofs.Passing.{limit-same}
 use Rattle.durable_run.proofs.Sharing.{shares-both, shares-nothing}
+use Rattle.durable_run.proofs.Sparing.{spares-both, spares-nothing}
 use Rattle.durable_run.proofs.Telling.{caused-since, none-more, told-both, told-nothing}
 use Rattle.durable_run.proofs.runs.next_act.Goals as goal
 
@@ -12,7 +13,8 @@ passes-init g c = record {
   told = told-nothing c.args.run.now.heap.history.acts _ _;
   shares = λ o first ready. shares-nothing o.launch (g.S.Sink.takes c.args.run.now.sink)
       c.args.run.now.heap.history.acts;
-  cause = (omega arith, omega arith);
+  spares = λ o first ready. spares-nothing g.S.Sink.taken o.launch c.args.run.now.sink c.args.run.now.heap.history.acts;
+  cause = (refl, omega arith);
   none = refl;
   limit = refl;
 }
@@ -28,6 +30,10 @@ returns-in_default g c =
       told = told-both _ _ _ _ _ _ _ _ _ c.passes.invariant.told c.pass_over.ensures.told;
       shares = λ o first ready. shares-both o.launch _ _ _ _ _ _ (c.passes.invariant.shares o first ready)
           (c.pass_over.ensures.shares o first (c.passes.invariant.ready o first ready));
+      spares = λ o first ready. spares-both g.S.Sink.taken o.launch (fault_of_pass c.pass_over.new.run.heap c.pass_over.result) c.args.run.now.sink
+          c.passes.run.sink c.pass_over.new.run.sink c.args.run.now.heap.history.acts c.passes.run.heap.history.acts
+          c.pass_over.new.run.heap.history.acts (c.passes.invariant.spares o first ready)
+          (c.pass_over.ensures.spares o first (c.passes.invariant.ready o first ready));
       cause = caused-since (fault_of_pass c.pass_over.new.run.heap c.pass_over.result) _ _ _ _ _ _
           c.passes.invariant.cause c.pass_over.ensures.cause;
       full = λ full went. isnt went;
@@ -58,6 +64,10 @@ passes-preserved g c =
       told = told-both _ _ _ _ _ _ _ _ _ c.passes.invariant.told c.pass_over.ensures.told;
       shares = λ o first ready. shares-both o.launch _ _ _ _ _ _ (c.passes.invariant.shares o first ready)
           (c.in-Went.ensures.shares o first (c.passes.invariant.ready o first ready));
+      spares = λ o first ready. spares-both g.S.Sink.taken o.launch None c.args.run.now.sink
+          c.passes.run.sink c.pass_over.new.run.sink c.args.run.now.heap.history.acts c.passes.run.heap.history.acts
+          c.pass_over.new.run.heap.history.acts (c.passes.invariant.spares o first ready)
+          (c.in-Went.ensures.spares o first (c.passes.invariant.ready o first ready));
       cause = caused-since None _ _ _ _ _ _ c.passes.invariant.cause c.in-Went.ensures.cause;
       none = none-more _ _ told.further told.acts few ∙ c.passes.invariant.none;
       limit = limit-same r.0 r.1 (g.C.Types.facts c.args.set.now) (g.H.Host.setting c.args.host.now)
@@ -72,3 +82,10 @@ returns-then-len-before-clause-shares g c o first ready = shares-both o.launch _
 pub returns-then-len-before-clause-goes : goal.returns-then-len-before-clause-goes
 returns-then-len-before-clause-goes g c o first ready =
     c.in-Went.ensures.goes o first (c.passes.invariant.ready o first ready)
+
+pub returns-then-len-before-clause-spares : goal.returns-then-len-before-clause-spares
+returns-then-len-before-clause-spares g c o first ready =
+    spares-both g.S.Sink.taken o.launch None c.args.run.now.sink
+    c.passes.run.sink c.pass_over.new.run.sink c.args.run.now.heap.history.acts c.passes.run.heap.history.acts
+    c.pass_over.new.run.heap.history.acts (c.passes.invariant.spares o first ready)
+    (c.in-Went.ensures.spares o first (c.passes.invariant.ready o first ready))

@@ -1,16 +1,15 @@
-use Rattle.std.proofs.Common.{◌+◌, ◌≤◌, ◌∙◌, ℕ, List, None, ap, arith, length, map, refl, subst, sym}
+use Rattle.std.proofs.Common.{◌+◌, ◌≤◌, ℕ, Option, None, Some, arith, length, refl, subst, sym}
 use Rattle.run_types.specs.declared.fault.RunFault.{RunFault}
-use Rattle.plain_model.specs.Ends.{Ending, first_uncaught}
-use Rattle.shared_objects.specs.declared.threads.ThreadState.{ThreadState}
-use Rattle.shared_objects.specs.Worlds.{plain_thread}
 use Rattle.machine.specs.Passed.{memory_of}
-use Rattle.machine.specs.Halts.{fault_of_halt}
-use Rattle.durable_run.specs.Turning.{EndsBy, HasEnded}
+use Rattle.durable_run.specs.Sparing.{SparesSink}
+use Rattle.durable_run.specs.Telling.{IsCaused}
+use Rattle.durable_run.specs.Turning.{EndsBy}
 use Rattle.durable_run.specs.declared.runs.RunEnd.TheVariants as ends
 use Rattle.durable_run.proofs.Ending.{size-same, waits-long}
 use Rattle.durable_run.proofs.Going.{has-run}
 use Rattle.durable_run.proofs.Passing.{limit-same}
 use Rattle.durable_run.proofs.Sharing.{shares-both, shares-nothing}
+use Rattle.durable_run.proofs.Sparing.{spares-both, spares-nothing}
 use Rattle.durable_run.proofs.Telling.{caused-since, told-both, told-nothing}
 use Rattle.durable_run.proofs.runs.run_threads.Goals as goal
 
@@ -20,7 +19,8 @@ acts-init g c = record {
   told = told-nothing c.args.run.now.heap.history.acts _ _;
   shares = λ o first ready. shares-nothing o.launch (g.S.Sink.takes c.args.run.now.sink)
       c.args.run.now.heap.history.acts;
-  cause = (omega arith, omega arith);
+  spares = λ o first ready. spares-nothing g.S.Sink.taken o.launch c.args.run.now.sink c.args.run.now.heap.history.acts;
+  cause = (refl, omega arith);
 }
 
 pub next_act-requires : goal.next_act-requires
@@ -48,20 +48,28 @@ acts-preserved g c = record {
   told = told-both _ _ _ _ _ _ _ _ _ c.acts.invariant.told c.next_act.ensures.told;
   shares = λ o first ready. shares-both o.launch _ _ _ _ _ _ (c.acts.invariant.shares o first ready)
       (c.in-Went.ensures.shares o first (c.acts.invariant.ready o first ready));
+  spares = λ o first ready. spares-both g.S.Sink.taken o.launch None c.args.run.now.sink
+      c.acts.run.sink c.next_act.new.run.sink c.args.run.now.heap.history.acts c.acts.run.heap.history.acts
+      c.next_act.new.run.heap.history.acts (c.acts.invariant.spares o first ready)
+      (c.in-Went.ensures.spares o first (c.acts.invariant.ready o first ready));
   cause = caused-since None _ _ _ _ _ _ c.acts.invariant.cause c.in-Went.ensures.cause;
 }
 
+pub ended-requires : goal.ended-requires
+ended-requires g c =
+    let r = c.requires.ready in (c.in-Ended.ensures.goes r.0 r.1 (c.acts.invariant.ready r.0 r.1 r.2)).1
+
 pub returns-in-Ended-clause-ends : goal.returns-in-Ended-clause-ends
 returns-in-Ended-clause-ends g c o first ready =
-    let s = c.next_act.new.run.heap in
-    let ended = c.in-Ended.ensures.goes o first (c.acts.invariant.ready o first ready) in
-    let how = c.first_uncaught.ensures
-    ∙ ap (λ (states : List ThreadState). first_uncaught 0 (map plain_thread states)) c.threads.ensures in (
-      has-run o first s ended.0.table ended.0.threads ended.0.running,
-      subst (λ (ending : Ending). HasEnded o first s.machine ending) (sym how)
-          (c.machines_finish_with_their_threads.ensures.all o s.machine ended.0.table ended.0.threads
-          ended.0.running.runs.keeps ended.0.running.runs.plain _ ended.1),
-    )
+    c.ended.ensures.ends o first (g.C.Types.facts c.args.set.now) (g.H.Host.setting c.args.host.now)
+    c.next_act.new.run.frames.items (c.in-Ended.ensures.goes o first (c.acts.invariant.ready o first ready)).0
+
+pub returns-in-Ended-clause-cause : goal.returns-in-Ended-clause-cause
+returns-in-Ended-clause-cause g c =
+    subst (λ (over : Option RunFault). IsCaused over (g.S.Sink.faults c.args.run.now.sink)
+    (g.S.Sink.faults c.next_act.new.run.sink) (memory_of c.args.run.now.heap.machine).faults
+    (memory_of c.next_act.new.run.heap.machine).faults) (sym c.ended.ensures.unfaulted)
+    (caused-since None _ _ _ _ _ _ c.acts.invariant.cause c.in-Ended.ensures.cause)
 
 pub returns-in-Ended-clause-told : goal.returns-in-Ended-clause-told
 returns-in-Ended-clause-told g c =
@@ -107,3 +115,22 @@ pub returns-in-Over-clause-shares : goal.returns-in-Over-clause-shares
 returns-in-Over-clause-shares g c o first ready =
     shares-both o.launch _ _ _ _ _ _ (c.acts.invariant.shares o first ready)
     (c.in-Over.ensures.shares o first (c.acts.invariant.ready o first ready))
+
+pub returns-in-Ended-clause-spares : goal.returns-in-Ended-clause-spares
+returns-in-Ended-clause-spares g c o first ready =
+    subst (λ (over : Option RunFault). SparesSink g.S.Sink.taken o.launch over c.args.run.now.sink
+    c.next_act.new.run.sink c.args.run.now.heap.history.acts c.next_act.new.run.heap.history.acts)
+    (sym c.ended.ensures.unfaulted)
+    (spares-both g.S.Sink.taken o.launch None c.args.run.now.sink
+    c.acts.run.sink c.next_act.new.run.sink c.args.run.now.heap.history.acts c.acts.run.heap.history.acts
+    c.next_act.new.run.heap.history.acts (c.acts.invariant.spares o first ready)
+    (c.in-Ended.ensures.spares o first (c.acts.invariant.ready o first ready)))
+
+pub returns-in-Over-clause-spares : goal.returns-in-Over-clause-spares
+returns-in-Over-clause-spares g c o first ready =
+    subst (λ (f : RunFault). SparesSink g.S.Sink.taken o.launch (Some f) c.args.run.now.sink
+    c.next_act.new.run.sink c.args.run.now.heap.history.acts c.next_act.new.run.heap.history.acts) (sym c.fault_of.ensures)
+    (spares-both g.S.Sink.taken o.launch _ c.args.run.now.sink
+    c.acts.run.sink c.next_act.new.run.sink c.args.run.now.heap.history.acts c.acts.run.heap.history.acts
+    c.next_act.new.run.heap.history.acts (c.acts.invariant.spares o first ready)
+    (c.in-Over.ensures.spares o first (c.acts.invariant.ready o first ready)))

@@ -1,12 +1,13 @@
 use Rattle.std.proofs.Common.{◌-◌, ℕ, length, None}
 use Rattle.machine.specs.Passed.{Opening, memory_of}
 use Rattle.durable_run.specs.Shares.{PrintsShares}
+use Rattle.durable_run.specs.Sparing.{SparesSink}
 use Rattle.durable_run.specs.Telling.{HasTold, IsCaused}
 use Rattle.durable_run.specs.Turning.{IsReady}
 use Rattle.durable_run.proofs.runs.run_threads.Given as goal
 
--- What was ready at first is so still; the outside was told the acts since then; each print of them took its share; and no count
--- of faults fell.
+-- What was ready at first is so still; the outside was told the acts since then; each print of them took its share, and no other
+-- act called the sink; the sink's count of faults stands still, and the image's didn't fall.
 abbrev pub invariant-acts : goal.invariant-acts
 invariant-acts g l = record {
   ready : (o : Opening) (first : ℕ)
@@ -20,6 +21,11 @@ invariant-acts g l = record {
       → IsReady o first (g.C.Types.facts l.set) (g.H.Host.setting l.host) l.initial.run.heap
       l.initial.run.frames.items
       → PrintsShares o.launch (g.S.Sink.takes l.initial.run.sink) (g.S.Sink.takes l.run.sink)
+      l.initial.run.heap.history.acts l.run.heap.history.acts;
+  spares : (o : Opening) (first : ℕ)
+      → IsReady o first (g.C.Types.facts l.set) (g.H.Host.setting l.host) l.initial.run.heap
+      l.initial.run.frames.items
+      → SparesSink g.S.Sink.taken o.launch None l.initial.run.sink l.run.sink
       l.initial.run.heap.history.acts l.run.heap.history.acts;
   cause : IsCaused None (g.S.Sink.faults l.initial.run.sink) (g.S.Sink.faults l.run.sink)
       (memory_of l.initial.run.heap.machine).faults (memory_of l.run.heap.machine).faults;

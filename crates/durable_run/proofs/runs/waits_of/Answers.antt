@@ -1,4 +1,4 @@
-use Rattle.std.proofs.Common.{◌+◌, List, Option, None, arith, subst, sym}
+use Rattle.std.proofs.Common.{◌+◌, List, Option, arith, subst, sym}
 use Rattle.run_types.specs.declared.wait.On.{On}
 use Rattle.durable_run.proofs.Places.{IsFilled, filled-is, fills-none, fills-one, next-is}
 use Rattle.durable_run.proofs.runs.waits_of.Goals as goal

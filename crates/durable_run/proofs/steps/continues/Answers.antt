@@ -1,103 +1,72 @@
-use Rattle.std.proofs.Common.{◌≡◌, ℕ, Option, Some, sym, ◌∙◌, ap, subst}
-use Rattle.ap_base.specs.declared.reference.Ref.{Ref}
-use Rattle.ap_base.specs.declared.reference.Item.{Item}
-use Rattle.natives.specs.declared.requests.Request.{Request}
-use Rattle.machine.specs.Passed.{Shared, asked_by, taken}
-use Rattle.machine.specs.Events.{KeepsBound}
-use Rattle.durable_run.specs.Events.{FindsItsWait, HasAsked, LeavesAlone, RemembersAfter, StepsTo, event_of}
-use Rattle.durable_run.specs.Shares.{PrintsShares}
-use Rattle.durable_run.specs.Telling.{AddsShare}
-use Rattle.durable_run.proofs.Going.{goes-still}
-use Rattle.durable_run.proofs.Places.{index-of-get}
-use Rattle.durable_run.proofs.Stepping.{alone-taken, bound-from, remembers-taken, steps-from}
+use Rattle.std.proofs.Common.{◌∙◌, ℕ, List, ap, arith, length, subst, sym}
+use Rattle.std.specs.Prelude.{slice_set}
+use Rattle.std.proofs.lemmas.List.{length-set}
+use Rattle.shared_objects.specs.declared.threads.ThreadState.{ThreadState}
+use Rattle.durable_run.specs.Apart.{after_event}
+use Rattle.durable_run.specs.Events.{StepsTo}
+use Rattle.durable_run.proofs.Stepping.{elem-at}
 use Rattle.durable_run.proofs.steps.continues.Goals as goal
 
-pub goes_on-requires : goal.goes_on-requires
-goes_on-requires g c =
+pub step_asked-went-requires : goal.step_asked-went-requires
+step_asked-went-requires g c =
     let r = c.requires.ready in
-    let asked = index-of-get c.args.run.now.heap.notes.asks c.args.t (Some c.in-Some.request) c.in-Some.ensures.asked in
+    let many = r.2.many in
     record {
-      asked = (
+      ready = (
         r.0,
         r.1,
-        subst (λ (s : Shared). HasAsked r.0 r.1 (g.C.Types.facts c.args.set.now) (g.H.Host.setting c.args.host.now) s
-            c.args.run.now.frames.items c.args.t c.in-Some.request) (sym c.take_asked.ensures.taken)
-            (goes-still r.0 r.1 (g.C.Types.facts c.args.set.now) (g.H.Host.setting c.args.host.now) c.args.run.now.heap
-            c.args.run.now.frames.items c.args.t r.2 c.in-Some.request asked),
+        c.args.run.now.frames.items,
+        r.2,
+        elem-at c.args.run.now.frames.items c.args.t c.number.result c.index_mut.result.now c.number.ensures.same
+            c.index_mut.ensures.value (omega (arith, many)),
       );
+      asked = c.requires.asked;
     }
+
+pub begin_after-requires : goal.begin_after-requires
+begin_after-requires g c = record {
+  many = length-set c.args.run.now.frames.items c.number.result c.step_asked-went.new.frames
+      ∙ c.requires.ready.2.many;
+}
 
 pub returns-clause-goes : goal.returns-clause-goes
 returns-clause-goes g c o first ready =
     let set = g.C.Types.facts c.args.set.now in
     let x = g.H.Host.setting c.args.host.now in
     let s = c.args.run.now.heap in
-    let asked = index-of-get s.notes.asks c.args.t (Some c.in-Some.request) c.in-Some.ensures.asked in
-    steps-from o first set x c.args.t c.goes_on.result s c.goes_on.new.run.heap (taken s.notes c.args.t)
-    c.goes_on.new.run.frames.items
-    (subst (λ (y : Shared). StepsTo o first set x c.args.t c.goes_on.result y c.goes_on.new.run.heap
-    c.goes_on.new.run.frames.items) c.take_asked.ensures.taken
-    (c.goes_on.ensures.goes o first
-    (subst (λ (y : Shared). HasAsked o first set x y c.args.run.now.frames.items c.args.t c.in-Some.request)
-    (sym c.take_asked.ensures.taken)
-    (goes-still o first set x s c.args.run.now.frames.items c.args.t ready c.in-Some.request asked))))
-
-pub returns-clause-remembers : goal.returns-clause-remembers
-returns-clause-remembers g c =
-    let s = c.args.run.now.heap in
-    let asked = index-of-get s.notes.asks c.args.t (Some c.in-Some.request) c.in-Some.ensures.asked in
-    subst (λ (q : Option (Request Ref Item)). RemembersAfter c.args.t q c.goes_on.result s c.goes_on.new.run.heap)
-    (sym asked) (remembers-taken c.args.t (Some c.in-Some.request) c.goes_on.result s c.goes_on.new.run.heap
-    (subst (λ (y : Shared). RemembersAfter c.args.t (Some c.in-Some.request) c.goes_on.result y c.goes_on.new.run.heap)
-    c.take_asked.ensures.taken c.goes_on.ensures.remembers))
-
-pub returns-clause-share : goal.returns-clause-share
-returns-clause-share g c =
-    let s = c.args.run.now.heap in
-    let asked = index-of-get s.notes.asks c.args.t (Some c.in-Some.request) c.in-Some.ensures.asked in
-    subst (λ (q : Option (Request Ref Item)).
-    AddsShare q (g.S.Sink.takes c.args.run.now.sink 0) s.history.acts c.goes_on.new.run.heap.history.acts) (sym asked)
-    (subst (λ (y : Shared). AddsShare (Some c.in-Some.request) (g.S.Sink.takes c.args.run.now.sink 0) y.history.acts
-    c.goes_on.new.run.heap.history.acts) c.take_asked.ensures.taken c.goes_on.ensures.share)
-
-pub returns-clause-finds : goal.returns-clause-finds
-returns-clause-finds g c o first ready =
-    let set = g.C.Types.facts c.args.set.now in
-    let x = g.H.Host.setting c.args.host.now in
-    let s = c.args.run.now.heap in
-    let asked = index-of-get s.notes.asks c.args.t (Some c.in-Some.request) c.in-Some.ensures.asked in
-    subst (λ (y : Shared). FindsItsWait o c.args.t c.goes_on.result y.machine) c.take_asked.ensures.taken
-    (c.goes_on.ensures.finds o first
-    (subst (λ (y : Shared). HasAsked o first set x y c.args.run.now.frames.items c.args.t c.in-Some.request)
-    (sym c.take_asked.ensures.taken)
-    (goes-still o first set x s c.args.run.now.frames.items c.args.t ready c.in-Some.request asked)))
-
-pub returns-clause-alone : goal.returns-clause-alone
-returns-clause-alone g c =
-    let s = c.args.run.now.heap in
-    let Same = c.goes_on.new.run.sink ≡ c.args.run.now.sink in
-    let asked = index-of-get s.notes.asks c.args.t (Some c.in-Some.request) c.in-Some.ensures.asked in
-    subst (λ (q : Option (Request Ref Item)). LeavesAlone c.args.t q c.goes_on.result s c.goes_on.new.run.heap Same)
-    (sym asked) (alone-taken c.args.t (Some c.in-Some.request) c.goes_on.result s c.goes_on.new.run.heap (taken s.notes c.args.t) Same
-    (subst (λ (y : Shared). LeavesAlone c.args.t (Some c.in-Some.request) c.goes_on.result y c.goes_on.new.run.heap Same)
-    c.take_asked.ensures.taken c.goes_on.ensures.alone))
+    let new = c.step_asked-went.new.heap in
+    let items = c.args.run.now.frames.items in
+    let own = c.step_asked-went.new.frames in
+    let went = c.step_asked-went.result in
+    let many = ready.many in
+    subst (StepsTo o first set x c.args.t went s new)
+    (ap (λ (n : ℕ). after_event went s new (slice_set items n own)) (sym c.number.ensures.same)
+    ∙ sym (c.begin_after.ensures.begun s
+    (c.count-before.ensures.count ∙ ap (λ (states : List ThreadState). length states) c.threads.ensures)))
+    (c.step_asked-went.ensures.goes o first items ready
+    (elem-at items c.args.t c.number.result c.index_mut.result.now c.number.ensures.same c.index_mut.ensures.value
+    (omega (arith, many))))
 
 pub returns-clause-shares : goal.returns-clause-shares
 returns-clause-shares g c o first ready =
-    let set = g.C.Types.facts c.args.set.now in
-    let x = g.H.Host.setting c.args.host.now in
-    let s = c.args.run.now.heap in
-    let asked = index-of-get s.notes.asks c.args.t (Some c.in-Some.request) c.in-Some.ensures.asked in
-    subst (λ (y : Shared). PrintsShares o.launch (g.S.Sink.takes c.args.run.now.sink)
-    (g.S.Sink.takes c.goes_on.new.run.sink) y.history.acts
-    c.goes_on.new.run.heap.history.acts) c.take_asked.ensures.taken
-    (c.goes_on.ensures.shares o first
-    (subst (λ (y : Shared). HasAsked o first set x y c.args.run.now.frames.items c.args.t c.in-Some.request)
-    (sym c.take_asked.ensures.taken)
-    (goes-still o first set x s c.args.run.now.frames.items c.args.t ready c.in-Some.request asked)))
+    let items = c.args.run.now.frames.items in
+    let many = ready.many in
+    c.step_asked-went.ensures.shares o first items ready
+    (elem-at items c.args.t c.number.result c.index_mut.result.now c.number.ensures.same c.index_mut.ensures.value
+    (omega (arith, many)))
 
-pub returns-clause-work : goal.returns-clause-work
-returns-clause-work g c =
-    bound-from c.goes_on.result c.args.run.now.heap c.goes_on.new.run.heap (taken c.args.run.now.heap.notes c.args.t)
-    (subst (λ (y : Shared). KeepsBound (event_of c.goes_on.result) y c.goes_on.new.run.heap) c.take_asked.ensures.taken
-    c.goes_on.ensures.work)
+pub returns-clause-finds : goal.returns-clause-finds
+returns-clause-finds g c o first ready =
+    let items = c.args.run.now.frames.items in
+    let many = ready.many in
+    c.step_asked-went.ensures.finds o first items ready
+    (elem-at items c.args.t c.number.result c.index_mut.result.now c.number.ensures.same c.index_mut.ensures.value
+    (omega (arith, many)))
+
+pub returns-clause-spares : goal.returns-clause-spares
+returns-clause-spares g c o first ready =
+    let items = c.args.run.now.frames.items in
+    let many = ready.many in
+    c.step_asked-went.ensures.spares o first items ready
+    (elem-at items c.args.t c.number.result c.index_mut.result.now c.number.ensures.same c.index_mut.ensures.value
+    (omega (arith, many)))

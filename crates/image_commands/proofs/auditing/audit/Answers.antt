@@ -30,5 +30,6 @@ returns g c =
         source_fault = done.source_fault;
         image_fault = done.image_fault;
         sink_fault = done.sink_fault;
+        sink_spared = done.sink_spared;
       };
     }

@@ -47,41 +47,39 @@ begin-requires-clause-short c =
     (c.in_ok-first_objects.ensures c.args.opening.now (sym c.as_slice.ensures)) c.requires.short
     (c.literals_are_short.ensures set c.shapes-linked.ensures.linked)
 
-pub returns : goal.returns
-returns c = record {
-  stands = λ limits.
-      let set = c.args.set.now in
-      let main = c.args.main.now in
-      let opening = c.args.opening.now in
-      let linked = c.shapes-linked.ensures.linked in
-      let launch = launch_of set main opening limits in
-      let plain = c.in_ok-begin.field-0 in
-      let known = known_classes (facts_of set) in
-      let host = c.new-host.ensures
-      ∙ ap (λ (p : Program Native). setting_of p main.method c.known.result c.from_vec-2.result)
-      c.in_ok-program_of.ensures
-      ∙ ap (λ (k : Known). setting_of (set_program set) main.method k c.from_vec-2.result) c.known.ensures
-      ∙ ap (λ (rs : List Ref). setting_of (set_program set) main.method known rs)
-      (c.from_vec-2.ensures ∙ c.in_ok-references.ensures (facts_of set)
-      ∙ ap (λ (ts : List (List ℕ)). references_to (facts_of set) opening (length ts))
-      (c.as_slice-texts.ensures ∙ c.in_ok-literals.ensures)) in
-      subst (λ (x : Setting Native Ref (NativeState Ref) Item). Stands launch [] (facts_of set) x
-      (shown_of plain.world.heap) plain.world.rest plain.world.steps plain.lanes.items) (sym host)
-      (c.in_ok-begin.ensures launch
-      (begins set main opening limits _
-      (record {
-        consistent = c.linked_sets_are_consistent.ensures.consistent set linked;
-        names = c.programs_name_what_is_there.ensures native_at set linked;
-        graph = c.requires.opening;
-        class = c.requires.main;
-      })
-      (record {
-        shapes = c.from_vec.ensures ∙ c.in_ok-first_shapes.ensures;
-        objects = c.in_ok-first_objects.ensures opening (sym c.as_slice.ensures);
-        statics = c.in_ok-first_statics.ensures;
-        classes = c.in_ok-first_progress.ensures opening;
-        class_is = refl;
-        method_is = refl;
-        array = c.arguments_number.ensures (facts_of set);
-      })));
-}
+pub returns-clause-stands : goal.returns-clause-stands
+returns-clause-stands c = λ limits.
+    let set = c.args.set.now in
+    let main = c.args.main.now in
+    let opening = c.args.opening.now in
+    let linked = c.shapes-linked.ensures.linked in
+    let launch = launch_of set main opening limits in
+    let plain = c.in_ok-begin.field-0 in
+    let known = known_classes (facts_of set) in
+    let host = c.new-host.ensures
+    ∙ ap (λ (p : Program Native). setting_of p main.method c.known.result c.from_vec-2.result)
+    c.in_ok-program_of.ensures.program
+    ∙ ap (λ (k : Known). setting_of (set_program set) main.method k c.from_vec-2.result) c.known.ensures
+    ∙ ap (λ (rs : List Ref). setting_of (set_program set) main.method known rs)
+    (c.from_vec-2.ensures ∙ c.in_ok-references.ensures (facts_of set)
+    ∙ ap (λ (ts : List (List ℕ)). references_to (facts_of set) opening (length ts))
+    (c.as_slice-texts.ensures ∙ c.in_ok-literals.ensures)) in
+    subst (λ (x : Setting Native Ref (NativeState Ref) Item). Stands launch [] (facts_of set) x
+    (shown_of plain.world.heap) plain.world.rest plain.world.steps plain.lanes.items) (sym host)
+    (c.in_ok-begin.ensures launch
+    (begins set main opening limits _
+    (record {
+      consistent = c.linked_sets_are_consistent.ensures.consistent set linked;
+      names = c.programs_name_what_is_there.ensures native_at set linked;
+      graph = c.requires.opening;
+      class = c.requires.main;
+    })
+    (record {
+      shapes = c.from_vec.ensures ∙ c.in_ok-first_shapes.ensures;
+      objects = c.in_ok-first_objects.ensures opening (sym c.as_slice.ensures);
+      statics = c.in_ok-first_statics.ensures;
+      classes = c.in_ok-first_progress.ensures opening;
+      class_is = refl;
+      method_is = refl;
+      array = c.arguments_number.ensures (facts_of set);
+    })))

@@ -17,6 +17,5 @@ loop-taken-preserved g c =
       took = took-more (g.S.Sink.taken c.args.sink.now) (g.S.Sink.taken c.loop-taken.sink) (g.S.Sink.taken c.put.new.self)
           bytes k n c.loop-taken.invariant.took (c.in_ok-taken.ensures.taken
           ∙ ap (λ (xs : List ℕ). with_bytes (g.S.Sink.taken c.loop-taken.sink) (take n xs)) rest);
-      later = (let before = c.loop-taken.invariant.later in let now = c.put.ensures.cause.later in
-          omega (arith, before, now));
+      unfailed = c.in_ok-taken.ensures.unfailed ∙ c.loop-taken.invariant.unfailed;
     }

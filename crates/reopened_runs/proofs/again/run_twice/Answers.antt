@@ -17,8 +17,15 @@ returns-in-Ok g c =
       telling = tt;
       read = fresh_reads left c.in-Ok.ensures.untouched;
     } in
+    let stop = c.in-Ok.ensures in
     record {
-      again = runs_again c.stopped_runs_open_again.ensures.again (texts c.args.words.now.items) _ _ _ _ _ _ _ first _ _ _ _ _ _ _ second
-          tt (λ same. ap told_of same) (first_word (trace_of left)) c.in-Ok.ensures.outcome is c.args.given.source.left c.args.again.source.left
-          refl refl;
+      first = first;
+      second = (
+        left,
+        record { untouched = stop.untouched; faultless = stop.faultless; size = stop.size; words = stop.outcome },
+        second,
+        runs_again c.stopped_runs_open_again.ensures.again (texts c.args.words.now.items) _ _ _ _ _ _ _ first _ _ _ _ _ _ _ second
+            tt (λ same. ap told_of same) (first_word (trace_of left)) c.in-Ok.ensures.outcome is c.args.given.source.left
+            c.args.again.source.left refl refl,
+      );
     }

@@ -11,6 +11,7 @@ returns g c =
     let found = c.recover_left-recovered.ensures.found in
     let words = first_word (trace_of c.args.left) in
     record {
+      meets = c.autopersist-ended.ensures.meets;
       recovers = λ n is fenced.
           recovers_within (texts c.args.words.now.items) _ _ _ _ _ _ _ c.autopersist-ended.ensures.meets c.args.source.left refl tt
           (λ same. ap told_of same) words c.recover_left-recovered.result.0

@@ -2,7 +2,7 @@ use Rattle.std.proofs.Common.{sym, ◌∙◌, ap}
 use Rattle.std.specs.Prelude.{is_some}
 use Rattle.std.proofs.lemmas.Bool.{false≢true}
 use Rattle.twin_forms.specs.Sights.{view_of}
-use Rattle.two_spaces.proofs.Valuing.{item_to}
+use Rattle.machine_forms.proofs.Passed.{item_to}
 use Rattle.store_barrier.specs.Barriers.{spaces_of}
 use Rattle.store_barrier.proofs.barrier.converted_first.Goals as goal
 

@@ -2,7 +2,7 @@ use Rattle.std.proofs.Common.{sym, ◌∙◌, subst}
 use Rattle.std.proofs.lemmas.Bool.{false≢true}
 use Rattle.ap_base.specs.References.{reference_word}
 use Rattle.twin_forms.specs.Table.{Names, entry}
-use Rattle.two_spaces.specs.Whole.{IsItem}
+use Rattle.machine_forms.specs.Passed.{IsItem}
 use Rattle.store_barrier.proofs.Holders.{same_ref, to_object}
 use Rattle.store_barrier.proofs.barrier.volatile_object.Goals as goal
 

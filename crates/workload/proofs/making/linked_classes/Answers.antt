@@ -3,7 +3,7 @@ use Rattle.class_links.specs.Kept.{is_kept, kept_files}
 use Rattle.listing.specs.Classes.{assembled}
 use Rattle.workload.specs.Listings.{work_listing as listing_of}
 use Rattle.workload.proofs.Whole.{whole}
-use Rattle.workload.proofs.making.make_classes.Goals as goal
+use Rattle.workload.proofs.making.linked_classes.Goals as goal
 
 pub returns-clause-listing : goal.returns-clause-listing
 returns-clause-listing c =
