@@ -79,6 +79,7 @@ impl Sink for MemorySink {
         ensures none { OnErr result (Some self.new.taken ≡ Some self.old.taken) }
         ensures unfailed { OnOk result (self.new.faults ≡ self.old.faults) }
         ensures failed { OnErr result (self.new.faults ≡ next_count self.old.faults) }
+        ensures later { self.old.faults ≤ self.new.faults }
 
         ensures fails { IsErr result ↔ (Contains self.old.fails (next_count self.old.calls) ⊎ (self.old.room ≡ 0)) }
         ensures calls { self.new.calls ≡ next_count self.old.calls }

@@ -31,5 +31,6 @@ pub trait Sink: Drop {
         ensures taken { IfOk result (λ n. taken self.new ≡ with_bytes (taken self.old) (take n piece.now)) }
         ensures none { OnErr result (taken self.new ≡ taken self.old) }
         ensures unfailed { OnOk result (faults self.new ≡ faults self.old) }
-        ensures failed { OnErr result (faults self.new ≡ next_count (faults self.old)) };
+        ensures failed { OnErr result (faults self.new ≡ next_count (faults self.old)) }
+        ensures later { faults self.old ≤ faults self.new };
 }

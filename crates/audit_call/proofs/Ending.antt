@@ -13,7 +13,7 @@ use Rattle.class_set.specs.Linked.{Linked}
 use Rattle.class_set.specs.ArrayTypes.{linked_from}
 use Rattle.source_classes.specs.Files.{classes_among}
 use Rattle.source_classes.specs.Reading as reading
-use Rattle.source_classes.specs.Reading.{FailsUnrefused, HadLeft, HasNoCause, IsLeft, IsOfLinking, LeavesAt}
+use Rattle.source_classes.specs.Reading.{HadLeft, HasNoCause, IsLeft, IsOfLinking, LeavesAt}
 use Rattle.source_classes.proofs.SourceFiles.{all_read}
 use Rattle.statuses.specs.Stages.{Stage, OfWords, OfSource, OfMemory, OfFile, OfListing, OfLinking, OfOpening, OfRoom, OfNames}
 use Rattle.statuses.specs.Stages.{OfImage, OfTurns, OfOthers, stage_of}
@@ -100,16 +100,20 @@ one_answer : (read : Result (List ClassFile) Status) (a b : Result Linked Status
 one_answer (Ok classes) a b links too = one_link (kept_files classes) a b links too
 one_answer (Err s) a b is too = sym is ∙ too
 
+-- files link to one answer
+pub one_files_answer : (files : List NamedBytes) (a b : Result Linked Status) → FilesLinkTo files a → FilesLinkTo files b → a ≡ b
+one_files_answer files a b links too = one_answer (classes_among files) a b links too
+
 abbrev ok : Linked → Result Linked Status
 ok set = Ok set
 
 abbrev err : Status → Result Linked Status
 err s = Err s
 
-never_both : (set : Linked) (s : Status) → ok set ≡ err s → ⊥
+pub never_both : (set : Linked) (s : Status) → ok set ≡ err s → ⊥
 never_both set s same = cc
 
-same_set : (a b : Linked) → ok a ≡ ok b → a ≡ b
+pub same_set : (a b : Linked) → ok a ≡ ok b → a ≡ b
 same_set a b same = cc
 
 same_status : (a b : Status) → err a ≡ err b → a ≡ b
@@ -121,9 +125,9 @@ module _ (left : Option (List NamedBytes)) (name : List ℕ) (had has : Images) 
   lacks none = elim none.cause [
     | inl comes ↦ record {
       refused = λ s refused. inr (same_status how s
-          (one_answer (classes_among files) (err how) (err s) (source_links left files told (err how) comes) refused));
+          (one_files_answer files (err how) (err s) (source_links left files told (err how) comes) refused));
       links = λ set links. absurd (never_both set how
-          (one_answer (classes_among files) (ok set) (err how) links (source_links left files told (err how) comes)));
+          (one_files_answer files (ok set) (err how) links (source_links left files told (err how) comes)));
     }
     | inr free ↦ record { refused = λ s refused. inl free; links = λ set links. inl free }
   ]
@@ -131,9 +135,9 @@ module _ (left : Option (List NamedBytes)) (name : List ℕ) (had has : Images) 
   links_so : HasSet left name had has was now how → Answers files name had has was now how
   links_so of =
       let here : FilesLinkTo files (ok of.set) = source_links left files told (ok of.set) of.links in record {
-        refused = λ s refused. absurd (never_both of.set s (one_answer (classes_among files) (ok of.set) (err s) here refused));
+        refused = λ s refused. absurd (never_both of.set s (one_files_answer files (ok of.set) (err s) here refused));
         links = λ set links. inr (subst (λ (x : Linked). SetEnds x name had has was now how)
-            (same_set of.set set (one_answer (classes_among files) (ok of.set) (ok set) here links)) of.ends);
+            (same_set of.set set (one_files_answer files (ok of.set) (ok set) here links)) of.ends);
       }
 
   pub answers : AuditEnds left name had has was now how → Answers files name had has was now how

@@ -1,5 +1,6 @@
 pub mod Audits
 pub mod Judged
+pub mod Laws
 pub mod Late
 pub mod Linking
 pub mod Printing

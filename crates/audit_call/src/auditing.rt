@@ -1,6 +1,7 @@
 // The audit of a saved run, from the files of its classes on.
 ghost use Rattle.std.specs.Prelude.{◌≡◌, ◌≢◌, ◌⊎◌, All, List, [], Some, Ok, Err, IfOk, IfErr, OnOk, IsOk, IsErrOf};
 ghost use Rattle.ap_base.specs.Causes.{Rose, next_count};
+ghost use Rattle.image_opening.specs.Unopened.{NoneFailed, OneFailed};
 ghost use Rattle.ap_base.specs.declared.source.NamedBytes.{NamedBytes as File};
 ghost use Rattle.class_file.specs.Classes.{HasAtMost};
 ghost use Rattle.source_classes.specs.Files.{classes_among};
@@ -67,7 +68,9 @@ fn judge_set<R: ClassSource, I: Image, J: Image, S: Sink>(
     ensures after_kept { audits.IsKept (J.told after) (J.told result.after) }
     ensures late { IsLate result.status }
     ensures image_fault { result.status ≡ Status.ImageFault
-        → Rose (I.faults before) (I.faults result.before) ⊎ Rose (J.faults after) (J.faults result.after) }
+        → OneFailed (I.faults before) (I.faults result.before) (J.faults after) (J.faults result.after) }
+    ensures image_spared { result.status ≢ Status.ImageFault
+        → NoneFailed (I.faults before) (I.faults result.before) (J.faults after) (J.faults result.after) }
     ensures source_fault { result.status ≡ Status.SourceFault → Rose (R.faults records.old) (R.faults records.new) }
     ensures sink_fault { result.status ≡ Status.SinkFault → S.faults sink.new ≡ next_count (S.faults sink.old) }
     ensures sink_spared { result.status ≢ Status.SinkFault → S.faults sink.new ≡ S.faults sink.old }
@@ -92,7 +95,7 @@ fn judge_set<R: ClassSource, I: Image, J: Image, S: Sink>(
 ///
 /// In this order: `SourceFault` only where the count of faults of the source rose; `Full` of files, `BadClass` and `LinkRefused` exactly as
 /// `read_files` and `link` answer; `SourceFault` of the records, and `Full` exactly where their source gave a front of one alone;
-/// `ImageFault` only where an image's count of faults rose, `BadImage`, `ShapeChanged` and `Full` of the directory exactly as `find_for`
+/// `ImageFault` exactly where one of the images failed, once, `BadImage`, `ShapeChanged` and `Full` of the directory exactly as `find_for`
 /// answers, for `before` first; `LinkFault` exactly where the class or its `main` is missing; `BadHistory` exactly where the history is
 /// bad; `Refuted` exactly where the verdict isn't Yes; `SinkFault` exactly where the sink failed, once, behind a front of the verdict
 /// was put. `OutOfMemory` may stand in place of any answer. Nothing is put but a verdict.
@@ -123,11 +126,13 @@ pub fn audit_files<C: ClassSource, R: ClassSource, I: Image, J: Image, S: Sink>(
     // It knows no words.
     ensures no_words { result.status ≢ Status.Usage }
 
-    // Faults come only where a count rose.
+    // A source's fault comes only where its count rose; the images and the sink fail once where the call ends by them, and else never.
     ensures source_fault { result.status ≡ Status.SourceFault
         → Rose (C.faults source) (C.faults result.source) ⊎ Rose (R.faults records) (R.faults result.records) }
     ensures image_fault { result.status ≡ Status.ImageFault
-        → Rose (I.faults before) (I.faults result.before) ⊎ Rose (J.faults after) (J.faults result.after) }
+        → OneFailed (I.faults before) (I.faults result.before) (J.faults after) (J.faults result.after) }
+    ensures image_spared { result.status ≢ Status.ImageFault
+        → NoneFailed (I.faults before) (I.faults result.before) (J.faults after) (J.faults result.after) }
     ensures sink_fault { result.status ≡ Status.SinkFault → S.faults result.sink ≡ next_count (S.faults sink) }
     ensures sink_spared { result.status ≢ Status.SinkFault → S.faults result.sink ≡ S.faults sink }
 {

@@ -1,6 +1,7 @@
 // The two images of a run are opened for its class set, one after the other, and its records are judged between their graphs.
 ghost use Rattle.std.specs.Prelude.{◌≡◌, ◌≢◌, ◌⊎◌, All, IfOk, Ok};
-ghost use Rattle.ap_base.specs.Causes.{Rose, next_count};
+ghost use Rattle.ap_base.specs.Causes.{next_count};
+ghost use Rattle.image_opening.specs.Unopened.{NoneFailed, OneFailed};
 ghost use Rattle.line_image.specs.Told.{Told};
 ghost use Rattle.class_file.specs.Classes.{HasAtMost};
 ghost use Rattle.class_set.specs.Facts.{facts_of};
@@ -215,7 +216,8 @@ fn judge_after<J: Image, S: Sink>(
         result.status (S.taken sink.old) (S.taken sink.new) }
     ensures kept { audits.IsKept (J.told after) (J.told result.image) }
     ensures late { IsLate result.status }
-    ensures image_fault { result.status ≡ Status.ImageFault → Rose (J.faults after) (J.faults result.image) }
+    ensures image_fault { result.status ≡ Status.ImageFault → J.faults result.image ≡ next_count (J.faults after) }
+    ensures image_spared { result.status ≢ Status.ImageFault → J.faults result.image ≡ J.faults after }
     ensures no_source { result.status ≢ Status.SourceFault }
     ensures sink_fault { result.status ≡ Status.SinkFault → S.faults sink.new ≡ next_count (S.faults sink.old) }
     ensures sink_spared { result.status ≢ Status.SinkFault → S.faults sink.new ≡ S.faults sink.old }
@@ -251,7 +253,9 @@ pub(crate) fn judge_images<I: Image, J: Image, S: Sink>(
     ensures after_kept { audits.IsKept (J.told after) (J.told result.after) }
     ensures late { IsLate result.status }
     ensures image_fault { result.status ≡ Status.ImageFault
-        → Rose (I.faults before) (I.faults result.before) ⊎ Rose (J.faults after) (J.faults result.after) }
+        → OneFailed (I.faults before) (I.faults result.before) (J.faults after) (J.faults result.after) }
+    ensures image_spared { result.status ≢ Status.ImageFault
+        → NoneFailed (I.faults before) (I.faults result.before) (J.faults after) (J.faults result.after) }
     ensures no_source { result.status ≢ Status.SourceFault }
     ensures sink_fault { result.status ≡ Status.SinkFault → S.faults sink.new ≡ next_count (S.faults sink.old) }
     ensures sink_spared { result.status ≢ Status.SinkFault → S.faults sink.new ≡ S.faults sink.old }

@@ -3,6 +3,7 @@
 
 mod auditing;
 mod judging;
+pub mod laws;
 mod records;
 
 pub use auditing::{Audited, audit_files};

@@ -245,7 +245,7 @@ pub complete : (words : List (List ℕ)) (before after : Outside) (SameSource Sa
     → DoesItsWork (command_of words) before after how opening acts
 complete words before after SameSource SameImage how opening acts meets none =
     let source : how ≡ status.SourceFault → ⊥ = λ is. none.source (meets.source_fault is) in
-    let image : how ≡ status.ImageFault → ⊥ = λ is. none.image (meets.image_fault is) in
+    let image : how ≡ status.ImageFault → ⊥ = λ is. none.image (let failed = meets.image_fault is in omega (arith, failed)) in
     let sink : how ≡ status.SinkFault → ⊥ = λ is. none.sink (let failed = meets.sink_fault is in omega (arith, failed)) in
     ⊎_elim
     (λ (did : Does (of_top (command_of words)) before after SameSource SameImage how opening acts).

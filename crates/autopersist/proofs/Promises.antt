@@ -109,7 +109,8 @@ put_so (Err (Unopened unopened.OutOfMemory)) put = put
 put_so (Err OutOfMemory) put = tt
 
 pub report_image : (how : Result (Unit {0}) NotReported) (before after : ℕ)
-    → IfErr how (λ why. why ≡ Unopened unopened.ImageFailed → Rose before after) → status_of_report how ≡ status.ImageFault → Rose before after
+    → IfErr how (λ why. why ≡ Unopened unopened.ImageFailed → after ≡ next_count before) → status_of_report how ≡ status.ImageFault
+    → after ≡ next_count before
 report_image (Ok done) before after cause is = absurd cc
 report_image (Err (Unopened (unopened.BadImage line reason))) before after cause is = absurd cc
 report_image (Err (Unopened unopened.ImageFailed)) before after cause is = cause refl
@@ -126,10 +127,10 @@ report_sink (Err (Unopened unopened.OutOfMemory)) before after cause is = absurd
 report_sink (Err SinkFailed) before after cause is = cause refl
 report_sink (Err OutOfMemory) before after cause is = absurd cc
 
--- the sink doesn't fail in a report that ends otherwise
-report_spared : (how : Result (Unit {0}) NotReported) (before after : ℕ) → (how ≢ Err SinkFailed → after ≡ before)
-    → status_of_report how ≢ status.SinkFault → after ≡ before
-report_spared how before after spared isnt = spared (λ is. isnt (ap status_of_report is))
+-- what doesn't fail but by this answer stands in a report that ends otherwise
+report_spared : (how last : Result (Unit {0}) NotReported) (before after : ℕ) → (how ≢ last → after ≡ before)
+    → status_of_report how ≢ status_of_report last → after ≡ before
+report_spared how last before after spared isnt = spared (λ is. isnt (ap status_of_report is))
 
 -- ---- the whole
 
@@ -174,16 +175,18 @@ module _ (words : List (List ℕ)) (before after : Outside) (SameSource SameImag
           subst (λ (s : Status). IsCauseOf (ComesTo text before.left) run.limits (over before.image before.takes opening acts after.image) s) is cause
 
       pub run_meets : (how ≡ status.SourceFault → Rose before.source_faults after.source_faults)
-          → (how ≡ status.ImageFault → Rose before.image_faults after.image_faults)
+          → (how ≡ status.ImageFault → after.image_faults ≡ next_count before.image_faults)
+          → (how ≢ status.ImageFault → after.image_faults ≡ before.image_faults)
           → (how ≡ status.SinkFault → after.sink_faults ≡ next_count before.sink_faults)
           → (how ≢ status.SinkFault → after.sink_faults ≡ before.sink_faults)
           → (how ≡ status.OutOfMemory → acts ≡ []) → (acts ≡ [] → opening ≡ empty_graph) → after.image.size ≡ before.image.size
           → Meets words before after SameSource SameImage how opening acts
-      run_meets source image sink spared memory none size = record {
+      run_meets source image image_spared sink spared memory none size = record {
         usage = λ is. absurd (not_usage is);
         does = inl (does_so how opening acts (Run run) asked named);
         source_fault = source;
         image_fault = image;
+        image_spared = image_spared;
         sink_fault = sink;
         sink_spared = spared;
         no_memory = λ is. (memory is, nothing_put acts before.seen after.seen before.taken after.taken before.takes after.takes told (memory is));
@@ -201,12 +204,13 @@ module _ (words : List (List ℕ)) (before after : Outside) (SameSource SameImag
       → IfErr how (IsUnreported Says before.image after.image before.taken after.taken)
       → (WasOpened how → IsLeftOpen before.image after.image)
       → (IsSettled before.image → KeepsItsGraph before.image after.image)
-      → IfErr how (λ why. why ≡ Unopened unopened.ImageFailed → Rose before.image_faults after.image_faults)
+      → IfErr how (λ why. why ≡ Unopened unopened.ImageFailed → after.image_faults ≡ next_count before.image_faults)
+      → (how ≢ Err (Unopened unopened.ImageFailed) → after.image_faults ≡ before.image_faults)
       → IfErr how (λ why. why ≡ SinkFailed → after.sink_faults ≡ next_count before.sink_faults)
       → (how ≢ Err SinkFailed → after.sink_faults ≡ before.sink_faults)
       → after.seen ≡ before.seen → after.image.size ≡ before.image.size
       → Meets words before after SameSource SameImage (status_of_report how) empty_graph []
-  reports_meet Says how command asked so source printed unreported left stops image sink spared seen size =
+  reports_meet Says how command asked so source printed unreported left stops image image_spared sink spared seen size =
       let report = report_so Says before.image after.image before.taken after.taken how printed unreported left in
       record {
         usage = λ is. absurd (report_usage how is);
@@ -214,8 +218,9 @@ module _ (words : List (List ℕ)) (before after : Outside) (SameSource SameImag
             (so (record { unasked = source; unrun = refl; report = report; left = λ put. left (put_so how put); stops = stops })));
         source_fault = λ is. absurd (report_source how is);
         image_fault = report_image how before.image_faults after.image_faults image;
+        image_spared = report_spared how (Err (Unopened unopened.ImageFailed)) before.image_faults after.image_faults image_spared;
         sink_fault = report_sink how before.sink_faults after.sink_faults sink;
-        sink_spared = report_spared how before.sink_faults after.sink_faults spared;
+        sink_spared = report_spared how (Err SinkFailed) before.sink_faults after.sink_faults spared;
         no_memory = λ is. (
           refl,
           report_none Says before.image after.image before.taken after.taken (status_of_report how) report is,

@@ -53,10 +53,12 @@ pub record Meets (words : List (List ℕ)) (before after : Outside) (SameSource 
   -- What the command does. Memory may run out before any of it.
   pub does : Does (of_top (command_of words)) before after SameSource SameImage how opening acts
       ⊎ ((how ≡ status.OutOfMemory) × IsIdle before after SameSource SameImage acts)
-  -- A fault of the outside comes only where it failed.
+  -- A fault of the source comes only where it failed.
   pub source_fault : how ≡ status.SourceFault → Rose before.source_faults after.source_faults
-  pub image_fault : how ≡ status.ImageFault → Rose before.image_faults after.image_faults
-  -- The sink fails once where the call ends by it, and else never.
+  -- The image fails once where the call ends by it, and else never.
+  pub image_fault : how ≡ status.ImageFault → after.image_faults ≡ next_count before.image_faults
+  pub image_spared : how ≢ status.ImageFault → after.image_faults ≡ before.image_faults
+  -- So does the sink.
   pub sink_fault : how ≡ status.SinkFault → after.sink_faults ≡ next_count before.sink_faults
   pub sink_spared : how ≢ status.SinkFault → after.sink_faults ≡ before.sink_faults
   -- Memory runs out only before the first act, and before the first byte is put.

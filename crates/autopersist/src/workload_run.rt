@@ -1,6 +1,6 @@
 // The workload is run on the image.
 ghost use Rattle.std.specs.Prelude.{◌≡◌, ◌≢◌, ◌≤◌, ◌⊎◌, []};
-ghost use Rattle.ap_base.specs.Causes.{Rose, next_count};
+ghost use Rattle.ap_base.specs.Causes.{next_count};
 ghost use Rattle.image_meaning.specs.Meaning.{empty_graph};
 ghost use Rattle.class_runs.specs.Passed.{IsOfClasses};
 ghost use Rattle.class_runs.specs.Runs.{IsOfRun, Tells};
@@ -56,7 +56,8 @@ where
     ensures of { IsOfClasses result.status ⊎ IsOfRun result.status }
     ensures sink_fault { result.status ≡ Status.SinkFault → S.faults result.sink ≡ next_count (S.faults sink) }
     ensures sink_spared { result.status ≢ Status.SinkFault → S.faults result.sink ≡ S.faults sink }
-    ensures image_fault { result.status ≡ Status.ImageFault → Rose (I.faults image) (I.faults result.image) }
+    ensures image_fault { result.status ≡ Status.ImageFault → I.faults result.image ≡ next_count (I.faults image) }
+    ensures image_spared { result.status ≢ Status.ImageFault → I.faults result.image ≡ I.faults image }
     ensures no_memory { result.status ≡ Status.OutOfMemory → result.acts.acts ≡ [] }
     ensures opening { result.acts.acts ≡ [] → result.opening ≡ empty_graph }
     ensures size { (I.told result.image).size ≡ (I.told image).size }

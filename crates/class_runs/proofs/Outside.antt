@@ -1,7 +1,7 @@
 -- What the outside is told of a call, and the faults by which it ends.
 use Rattle.std.proofs.Common.{◌≡◌, ◌≤◌, ℕ, ◌+◌, length, List, [], ◌++◌, Option, Some, None, refl, ap, sym, ◌∙◌, subst, arith}
 use Rattle.std.proofs.lemmas.List.{append-nil}
-use Rattle.ap_base.specs.Causes.{Rose, next_count}
+use Rattle.ap_base.specs.Causes.{next_count}
 use Rattle.ap_base.specs.Sinks.{TakesBehind, with_bytes}
 use Rattle.run_types.specs.declared.fault.RunFault.TheVariants as fault
 use Rattle.run_history.specs.Recorded.{Recorded}
@@ -81,7 +81,7 @@ module _ (set : Linked) (sink sink' image image' : ℕ) where
   sink_spared (Over (fault.LinkFault kind class index)) caused isnt = caused.0
 
   pub image_caused : (end : RunEnd) → IsCaused (fault_in end) sink sink' image image'
-      → status_of_end set end ≡ status.ImageFault → Rose image image'
+      → status_of_end set end ≡ status.ImageFault → image' ≡ next_count image
   image_caused (Ended None) caused is = absurd (cc)
   image_caused (Ended (Some thrown)) caused is = absurd (cc)
   image_caused (Over fault.SinkFault) caused is = absurd (cc)
@@ -91,6 +91,19 @@ module _ (set : Linked) (sink sink' image image' : ℕ) where
   image_caused (Over (fault.Full full)) caused is = absurd (cc)
   image_caused (Over (fault.Stuck waits)) caused is = absurd (cc)
   image_caused (Over (fault.LinkFault kind class index)) caused is = absurd (cc)
+
+  -- nor does the image
+  pub image_spared : (end : RunEnd) → IsCaused (fault_in end) sink sink' image image'
+      → (status_of_end set end ≡ status.ImageFault → ⊥) → image' ≡ image
+  image_spared (Ended None) caused isnt = caused.1
+  image_spared (Ended (Some thrown)) caused isnt = caused.1
+  image_spared (Over fault.SinkFault) caused isnt = caused.1
+  image_spared (Over fault.ImageFault) caused isnt = absurd (isnt refl)
+  image_spared (Over (fault.BadCode at)) caused isnt = caused.1
+  image_spared (Over (fault.RegionRace thread other place)) caused isnt = caused.1
+  image_spared (Over (fault.Full full)) caused isnt = caused.1
+  image_spared (Over (fault.Stuck waits)) caused isnt = caused.1
+  image_spared (Over (fault.LinkFault kind class index)) caused isnt = caused.1
 
 -- the sink fails in a run alone
 pub never_by_sink : (why : Unopened) → status_of_unopened why ≡ status.SinkFault → ⊥
@@ -117,6 +130,6 @@ pub unlaunched_by_image : (why : NoLaunch) → status_of_unlaunched why ≡ stat
 unlaunched_by_image (no_launch.Full full) is = cc
 unlaunched_by_image no_launch.OutOfMemory is = cc
 
--- a count that rose since a later moment rose since an earlier one
-pub rose_since : (first later now : ℕ) → first ≤ later → Rose later now → Rose first now
-rose_since first later now le rose = omega (arith, le, rose)
+-- a count that stood until a later moment is one more, or stands, since an earlier one as since that
+pub next_since : (first later now : ℕ) → later ≡ first → now ≡ next_count later → now ≡ next_count first
+next_since first later now same next = next ∙ ap next_count same

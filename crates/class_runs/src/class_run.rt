@@ -71,7 +71,8 @@ where
         → S.faults result.sink ≡ next_count (S.faults sink) }
     ensures sink_spared { result.status ≢ Status.SinkFault → S.faults result.sink ≡ S.faults sink }
     ensures image_fault { result.status ≡ Status.ImageFault
-        → Rose (I.faults image) (I.faults result.image) }
+        → I.faults result.image ≡ next_count (I.faults image) }
+    ensures image_spared { result.status ≢ Status.ImageFault → I.faults result.image ≡ I.faults image }
     ensures no_memory { result.status ≡ Status.OutOfMemory → result.acts.acts ≡ [] }
 
     // Where there are no acts, the opening graph has no roots and nodes.
@@ -141,7 +142,8 @@ where
         → S.faults result.sink ≡ next_count (S.faults sink) }
     ensures sink_spared { result.status ≢ Status.SinkFault → S.faults result.sink ≡ S.faults sink }
     ensures image_fault { result.status ≡ Status.ImageFault
-        → Rose (I.faults image) (I.faults result.image) }
+        → I.faults result.image ≡ next_count (I.faults image) }
+    ensures image_spared { result.status ≢ Status.ImageFault → I.faults result.image ≡ I.faults image }
     ensures no_memory { result.status ≡ Status.OutOfMemory → result.acts.acts ≡ [] }
 
     // The source is read to its end before its classes are linked and a run begins, and not past a file that is refused.

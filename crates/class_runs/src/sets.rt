@@ -1,6 +1,6 @@
 // The run of a class set over an image, from its opening on.
 ghost use Rattle.std.specs.Prelude.{◌≡◌, ◌≢◌, ℕ, [], All, Ok};
-ghost use Rattle.ap_base.specs.Causes.{Rose, next_count};
+ghost use Rattle.ap_base.specs.Causes.{next_count};
 ghost use Rattle.line_image.specs.Told.{Told};
 ghost use Rattle.image_meaning.specs.Meaning.{empty_graph};
 ghost use Rattle.class_file.specs.Classes.{HasAtMost};
@@ -128,7 +128,8 @@ where
         → S.faults result.sink ≡ next_count (S.faults sink) }
     ensures sink_spared { result.status ≢ Status.SinkFault → S.faults result.sink ≡ S.faults sink }
     ensures image_fault { result.status ≡ Status.ImageFault
-        → Rose (I.faults image) (I.faults result.image) }
+        → I.faults result.image ≡ next_count (I.faults image) }
+    ensures image_spared { result.status ≢ Status.ImageFault → I.faults result.image ≡ I.faults image }
 {
     match find_for(alloc, &mut set, image) {
         Ok(found) => run_found(
@@ -171,7 +172,8 @@ where
         → S.faults result.sink ≡ next_count (S.faults sink) }
     ensures sink_spared { result.status ≢ Status.SinkFault → S.faults result.sink ≡ S.faults sink }
     ensures image_fault { result.status ≡ Status.ImageFault
-        → Rose found.memory.faults (I.faults result.image) }
+        → I.faults result.image ≡ next_count (found.memory.faults) }
+    ensures image_spared { result.status ≢ Status.ImageFault → I.faults result.image ≡ found.memory.faults }
 {
     match find_room(alloc, set, limits.heap_words) {
         Ok(()) => run_main(
@@ -218,7 +220,8 @@ where
         → S.faults result.sink ≡ next_count (S.faults sink) }
     ensures sink_spared { result.status ≢ Status.SinkFault → S.faults result.sink ≡ S.faults sink }
     ensures image_fault { result.status ≡ Status.ImageFault
-        → Rose found.memory.faults (I.faults result.image) }
+        → I.faults result.image ≡ next_count (found.memory.faults) }
+    ensures image_spared { result.status ≢ Status.ImageFault → I.faults result.image ≡ found.memory.faults }
 {
     match find_main(set, class) {
         Ok(main) => run_complete(
@@ -269,7 +272,8 @@ where
         → S.faults result.sink ≡ next_count (S.faults sink) }
     ensures sink_spared { result.status ≢ Status.SinkFault → S.faults result.sink ≡ S.faults sink }
     ensures image_fault { result.status ≡ Status.ImageFault
-        → Rose found.memory.faults (I.faults result.image) }
+        → I.faults result.image ≡ next_count (found.memory.faults) }
+    ensures image_spared { result.status ≢ Status.ImageFault → I.faults result.image ≡ found.memory.faults }
 {
     match complete(found) {
         Ok(opened) => run_opened(
@@ -316,7 +320,8 @@ where
         → S.faults result.sink ≡ next_count (S.faults sink) }
     ensures sink_spared { result.status ≢ Status.SinkFault → S.faults result.sink ≡ S.faults sink }
     ensures image_fault { result.status ≡ Status.ImageFault
-        → Rose opened.memory.faults (I.faults result.image) }
+        → I.faults result.image ≡ next_count (opened.memory.faults) }
+    ensures image_spared { result.status ≢ Status.ImageFault → I.faults result.image ≡ opened.memory.faults }
 {
     match open_heap(alloc, set, opened, limits.heap_words) {
         Ok(heap) => run_heap(
@@ -370,7 +375,8 @@ where
         → S.faults result.sink ≡ next_count (S.faults sink) }
     ensures sink_spared { result.status ≢ Status.SinkFault → S.faults result.sink ≡ S.faults sink }
     ensures image_fault { result.status ≡ Status.ImageFault
-        → Rose heap.spaces.heap.memory.faults (I.faults result.image) }
+        → I.faults result.image ≡ next_count (heap.spaces.heap.memory.faults) }
+    ensures image_spared { result.status ≢ Status.ImageFault → I.faults result.image ≡ heap.spaces.heap.memory.faults }
 {
     each_stop_is_allowed();
     match launch(alloc, set, main, heap, limits) {
@@ -413,7 +419,8 @@ where
         → S.faults result.sink ≡ next_count (S.faults sink) }
     ensures sink_spared { result.status ≢ Status.SinkFault → S.faults result.sink ≡ S.faults sink }
     ensures image_fault { result.status ≡ Status.ImageFault
-        → Rose (memory_of launched.heap.machine).faults (I.faults result.image) }
+        → I.faults result.image ≡ next_count ((memory_of launched.heap.machine).faults) }
+    ensures image_spared { result.status ≢ Status.ImageFault → I.faults result.image ≡ (memory_of launched.heap.machine).faults }
 {
     let Launched {
         host,

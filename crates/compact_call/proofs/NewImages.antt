@@ -1,18 +1,16 @@
 -- What comes of a new image.
-use Rattle.std.proofs.Common.{◌≡◌, ◌≢◌, ◌⊎◌, ◌↔◌, inl, inr, ⊎_elim, ℕ, ◌<◌, ◌≤◌, true, Some, None, Err, Ok, refl, sym, ◌∙◌, ap, subst, arith, length, ◌-◌, ◌^◌}
-use Rattle.std.specs.Prelude.{Result}
-use Rattle.ap_base.specs.Causes.{Rose}
+use Rattle.std.proofs.Common.{◌≡◌, ◌≢◌, ◌⊎◌, ◌↔◌, inl, inr, ⊎_elim, ℕ, ◌<◌, true, Some, None, refl, sym, ◌∙◌, subst, arith, length, ◌-◌, ◌^◌}
+use Rattle.ap_base.specs.Causes.{IsCauseOf}
 use Rattle.graph_model.specs.declared.types.Graph.{Graph}
 use Rattle.line_image.specs.Told.{Told}
-use Rattle.line_image.specs.Trace.{Outcome, LeavesNow}
+use Rattle.line_image.specs.Trace.{LeavesNow}
 use Rattle.line_memory.specs.Attached.{Attaches, GivesBack}
 use Rattle.line_memory.specs.Memory.{Memory, IsTelling, shown}
-use Rattle.line_memory.specs.Moments.{Goes}
 use Rattle.line_memory.specs.declared.attach.AttachFault.{AttachFault}
 use Rattle.line_memory.specs.declared.attach.AttachFault.TheVariants as attach
-use Rattle.image_layout.specs.Places.{has_size, min_lines, max_lines}
+use Rattle.image_layout.specs.Places.{has_size}
 use Rattle.image_meaning.specs.Checks.{Words}
-use Rattle.word_changes.specs.Changes.{AllKnown, Nothing, ChangesTo, StopsLeave}
+use Rattle.word_changes.specs.Changes.{AllKnown, Nothing, ChangesTo}
 use Rattle.image_opening.specs.Attached.{AreRead, IsSettled}
 use Rattle.image_opening.specs.Unopened.{IsOfWrongSize}
 use Rattle.image_meaning.specs.Directories.{spelled_all}
@@ -20,13 +18,14 @@ use Rattle.dense_image.specs.Written.{no_room, lines_taken, entries_of, IsWhole}
 use Rattle.image_compact.specs.declared.fault.WriteFault.{WriteFault}
 use Rattle.image_compact.specs.declared.fault.WriteFault.TheVariants as write
 use Rattle.image_compact.specs.Outcomes.{IsBlankOrWhole, StopsKeepBlankOrWhole, Writes, IsRefused, FailsToWrite}
-use Rattle.statuses.specs.declared.status.NewReason.TheVariants.{Size, NotBlank}
+use Rattle.statuses.specs.declared.status.NewReason.TheVariants.{Size}
 use Rattle.compact_call.specs.declared.fault.CompactFault.{CompactFault}
 use Rattle.compact_call.specs.declared.fault.CompactFault.TheVariants.{BadImage, NewImage, Full, ImageFailed, SinkFailed, OutOfMemory}
 use Rattle.compact_call.specs.Faults.{IsOfAttach, IsOfWrite}
-use Rattle.compact_call.specs.Fresh.{StopsAre, IsInRange, IsBlank, WasBlank, WasUsed, HasWords, KeepsFresh, StaysAsItWas, IsWrittenTo}
+use Rattle.compact_call.specs.Fresh.{StopsAre, IsInRange, IsBlank, HasWords, KeepsFresh, StaysAsItWas, IsWrittenTo}
 use Rattle.compact_call.specs.Fresh.{IsNewFault, StaysIfRefused}
 use Rattle.image_compact.proofs.ImageWords.{sized}
+use Rattle.image_compact.proofs.Outcomes.{passed_on}
 use Rattle.image_compact.proofs.Plans.{room_of}
 use Rattle.compact_call.proofs.NewStops.{in_size, untouched, shown_is, telling, fixed, since, looked}
 
@@ -75,21 +74,29 @@ stays_refused start after ImageFailed stays = tt
 stays_refused start after (BadImage line reason) stays = tt
 stays_refused start after SinkFailed stays = tt
 
--- only a failure is told as one
-pub told_failure : {A : Type 0} (outcome : Result A CompactFault) (why : CompactFault) → outcome ≡ Err why → outcome ≡ Err ImageFailed
-    → why ≡ ImageFailed
-told_failure outcome why is failed = cc
+-- ---- a failure, and nothing else, is told as one
 
-pub failed_attach : (fault : AttachFault) (why : CompactFault) → IsOfAttach fault why → why ≡ ImageFailed → fault ≡ attach.ImageFailed
+failed_attach : (fault : AttachFault) (why : CompactFault) → IsOfAttach fault why → why ≡ ImageFailed → fault ≡ attach.ImageFailed
 failed_attach attach.Size why is failed = cc
 failed_attach attach.ImageFailed why is failed = refl
 failed_attach attach.OutOfMemory why is failed = cc
 
-pub failed_write : (fault : WriteFault) (why : CompactFault) → IsOfWrite fault why → why ≡ ImageFailed → fault ≡ write.ImageFailed
+attach_failed : (fault : AttachFault) (why : CompactFault) → IsOfAttach fault why → fault ≡ attach.ImageFailed → why ≡ ImageFailed
+attach_failed fault why is failed = subst (λ (f : AttachFault). IsOfAttach f why) failed is
+
+pub attach_cause : (fault : AttachFault) (why : CompactFault) (before now : ℕ) → IsOfAttach fault why
+    → IsCauseOf attach.ImageFailed fault before now → IsCauseOf ImageFailed why before now
+attach_cause fault why before now is cause =
+    passed_on attach.ImageFailed fault ImageFailed why before now (attach_failed fault why is) (failed_attach fault why is) cause
+
+failed_write : (fault : WriteFault) (why : CompactFault) → IsOfWrite fault why → why ≡ ImageFailed → fault ≡ write.ImageFailed
 failed_write write.NotBlank why is failed = cc
 failed_write (write.Full full) why is failed = cc
 failed_write write.ImageFailed why is failed = refl
 failed_write write.OutOfMemory why is failed = cc
+
+write_failed : (fault : WriteFault) (why : CompactFault) → IsOfWrite fault why → fault ≡ write.ImageFailed → why ≡ ImageFailed
+write_failed fault why is failed = subst (λ (f : WriteFault). IsOfWrite f why) failed is
 
 -- ---- one that was
 
@@ -193,11 +200,10 @@ module _ (graph : Graph) (start : Told) (faults : ℕ) (m n : Memory) (at : Atta
       let room = room_of m.size (length (spelled_all (entries_of graph))) (lines_taken graph.nodes) range.0 w.room in
       omega (arith, room.1, range.1)
 
-  -- it failed only where its count rose
-  rose : (fault : WriteFault) → fault ≡ write.ImageFailed → IsRefused graph fault m n → Rose m.faults n.faults
-  rose fault is refused = subst (λ (f : WriteFault). IsRefused graph f m n) is refused
-
-  pub attached_failed : (fault : WriteFault) → FailsToWrite graph fault m n → fault ≡ write.ImageFailed → (faults_after : ℕ)
-      → faults_after ≡ n.faults → Rose faults faults_after
-  attached_failed fault fails is faults_after same =
-      let up = rose fault is fails.refused in let later = at.later in omega (arith, up, later, same)
+  -- it failed since it had been attached, and not before
+  pub attached_cause : (fault : WriteFault) → FailsToWrite graph fault m n → (why : CompactFault) → IsOfWrite fault why → (faults_after : ℕ)
+      → faults_after ≡ n.faults → IsCauseOf ImageFailed why faults faults_after
+  attached_cause fault fails why is faults_after same =
+      passed_on write.ImageFailed fault ImageFailed why faults faults_after (write_failed fault why is) (failed_write fault why is)
+      (subst (λ (k : ℕ). IsCauseOf write.ImageFailed fault k faults_after) at.spared
+      (subst (λ (k : ℕ). IsCauseOf write.ImageFailed fault m.faults k) (sym same) fails.cause))

@@ -1,20 +1,20 @@
 -- Nothing but what is told stands in the way.
-use Rattle.std.proofs.Common.{◌≡◌, ◌⊎◌, ⊎_elim, ℕ, ◌<◌, ◌≤◌, true, List, Option, Some, None, Result, Ok, Err, refl, sym, ◌∙◌, subst, arith}
+use Rattle.std.proofs.Common.{◌≡◌, ◌⊎◌, inl, inr, ⊎_elim, ℕ, ◌<◌, List, Option, None, Result, Ok, Err, sym, ◌∙◌, ap, subst, arith}
+use Rattle.ap_base.specs.Sinks.{with_bytes}
 use Rattle.graph_model.specs.declared.types.Graph.{Graph}
 use Rattle.line_image.specs.Told.{Told}
-use Rattle.image_layout.specs.Places.{min_lines, max_lines}
 use Rattle.image_meaning.specs.Checks.{Words}
-use Rattle.image_meaning.specs.Meaning.{StandsFor, meaning}
+use Rattle.image_meaning.specs.Meaning.{StandsFor}
 use Rattle.image_meaning.proofs.Standing.{standing-sized}
 use Rattle.image_meaning.proofs.Standings.{stands-within}
 use Rattle.image_opening.specs.Attached.{AreRead}
-use Rattle.image_opening.specs.Unopened.{IsOfWrongSize}
 use Rattle.dense_image.specs.Written.{no_room}
 use Rattle.statuses.specs.declared.status.NewReason.TheVariants.{Size, NotBlank}
 use Rattle.compact_call.specs.declared.fault.CompactFault.{CompactFault}
 use Rattle.compact_call.specs.declared.fault.CompactFault.TheVariants.{BadImage, NewImage, Full, ImageFailed, SinkFailed, OutOfMemory}
+use Rattle.compact_call.specs.Fresh.{IsWrittenTo}
 use Rattle.compact_call.specs.Laws.{IsUnhindered, IsDoneOrFailed, UnhinderedIsDone}
-use Rattle.compact_call.specs.Outcomes.{StoodFor, IsOldFault, IsTried, CameOf}
+use Rattle.compact_call.specs.Outcomes.{StoodFor, IsOldFault, IsTried, CameOf, written_line}
 use Rattle.compact_call.proofs.NewStops.{in_size, one_read}
 
 module _ (old start : Told) (free : IsUnhindered old start) where
@@ -58,8 +58,30 @@ module _ (old start : Told) (free : IsUnhindered old start) where
         let some = is.came.1 in
         cc
 
+abbrev finished_as : Unit {0} → Result (Unit {0}) CompactFault
+finished_as done = Ok done
+
+never_done : (done : Unit {0}) (fault : CompactFault) → finished_as done ≡ Err fault → ⊥
+never_done done fault is = cc
+
 pub done : UnhinderedIsDone
 done old start after taken taken' outcome free came = ⊎_elim
     (λ unopened. subst IsDoneOrFailed (sym unopened.1) (opened old start free unopened.0 unopened.2.fault_is))
     (λ tried. written old start free tried.0 after taken taken' outcome tried.1)
     came
+
+-- the graph is written, and the line put
+pub finished : (old start after : Told) (taken taken' : Option (List ℕ)) (done : Unit {0}) (free : IsUnhindered old start)
+    → CameOf old start after taken taken' (Ok done)
+    → IsWrittenTo free.graph start after × (taken' ≡ with_bytes taken (written_line free.graph))
+finished old start after taken taken' done free (inl (fault, is, unopened)) = absurd (never_done done fault is)
+finished old start after taken taken' done free (inr (graph, tried)) =
+    let same = one_graph old start free graph tried.stood in (
+      subst (λ (g : Graph). IsWrittenTo g start after) same tried.came,
+      tried.puts ∙ ap (λ (g : Graph). with_bytes taken (written_line g)) same,
+    )
+
+-- where memory ran out nothing was put
+pub quiet : (old start after : Told) (taken taken' : Option (List ℕ)) → CameOf old start after taken taken' (Err OutOfMemory) → taken' ≡ taken
+quiet old start after taken taken' (inl (fault, is, unopened)) = unopened.nothing
+quiet old start after taken taken' (inr (graph, tried)) = tried.puts

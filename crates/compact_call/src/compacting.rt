@@ -1,6 +1,7 @@
 // An image is written anew, densely, to another one.
-ghost use Rattle.std.specs.Prelude.{◌≡◌, ◌≢◌, ◌⊎◌, Err, IfErr};
-ghost use Rattle.ap_base.specs.Causes.{Rose, next_count};
+ghost use Rattle.std.specs.Prelude.{◌≡◌, ◌≢◌, Err, IfErr};
+ghost use Rattle.ap_base.specs.Causes.{next_count};
+ghost use Rattle.image_opening.specs.Unopened.{NoneFailed, OneFailed};
 ghost use Rattle.image_opening.specs.Attached.{IsSettled};
 ghost use Rattle.image_opening.specs.Stops.{KeepsItsGraph};
 ghost use Rattle.graph_model.specs.declared.types.Graph.{Graph as WrittenGraph};
@@ -31,8 +32,8 @@ pub struct Compacted<I: Image, J: Image, S: Sink> {
 /// # Errors
 ///
 /// In this order: `BadImage` exactly where a check of the old image fails; `NewImage` exactly where the new one's size isn't in range,
-/// or it isn't blank; `Full` exactly where it has too few lines. `ImageFailed` only where the count of faults of one of the images
-/// rose, `SinkFailed` only where the sink's did, once the new image was written. `NewImage`, `Full` and want of memory leave the new
+/// or it isn't blank; `Full` exactly where it has too few lines. `ImageFailed` exactly where one of the images failed, once, and `SinkFailed`
+/// exactly where the sink did, once, and the new image was written. `NewImage`, `Full` and want of memory leave the new
 /// image as it was: the line is made before anything is written to it.
 pub fn compact_images<I: Image, J: Image, S: Sink>(
     alloc: Global,
@@ -44,8 +45,10 @@ pub fn compact_images<I: Image, J: Image, S: Sink>(
     ensures came { CameOf (I.told old) (J.told fresh) (J.told result.fresh) (S.taken sink) (S.taken result.sink) result.outcome }
     ensures old_size { (I.told result.old).size ≡ (I.told old).size }
     ensures new_size { (J.told result.fresh).size ≡ (J.told fresh).size }
-    ensures image_cause { result.outcome ≡ Err CompactFault.ImageFailed
-        → Rose (I.faults old) (I.faults result.old) ⊎ Rose (J.faults fresh) (J.faults result.fresh) }
+    ensures image_fault { result.outcome ≡ Err CompactFault.ImageFailed
+        → OneFailed (I.faults old) (I.faults result.old) (J.faults fresh) (J.faults result.fresh) }
+    ensures image_spared { result.outcome ≢ Err CompactFault.ImageFailed
+        → NoneFailed (I.faults old) (I.faults result.old) (J.faults fresh) (J.faults result.fresh) }
     ensures sink_fault { result.outcome ≡ Err CompactFault.SinkFailed → S.faults result.sink ≡ next_count (S.faults sink) }
     ensures sink_spared { result.outcome ≢ Err CompactFault.SinkFailed → S.faults result.sink ≡ S.faults sink }
 {

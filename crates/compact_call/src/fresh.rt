@@ -1,6 +1,6 @@
 // A graph is written to a new image.
-ghost use Rattle.std.specs.Prelude.{◌≡◌, ◌≤◌, Err, IfOk, IfErr, OnOk};
-ghost use Rattle.ap_base.specs.Causes.{Rose};
+ghost use Rattle.std.specs.Prelude.{◌≡◌, Err, IfOk, IfErr, OnOk};
+ghost use Rattle.ap_base.specs.Causes.{HasCauseOf};
 ghost use Rattle.image_opening.specs.Unopened.{IsOfWrongSize};
 ghost use Rattle.dense_image.specs.Graphs.{CanBeStoodFor};
 ghost use Rattle.compact_call.specs.Fresh.{KeepsFresh, IsWrittenTo, IsNewFault, StaysIfRefused};
@@ -31,8 +31,7 @@ pub(crate) fn write_fresh<J: Image>(alloc: Global, graph: &SharedGraph, image: J
     ensures line { IfOk result.outcome (λ line. line.items ≡ written_line graph.now) }
     ensures fault { IfErr result.outcome (IsNewFault graph.now (J.told image)) }
     ensures refused { IfErr result.outcome (StaysIfRefused (J.told image) (J.told result.image)) }
-    ensures cause { result.outcome ≡ Err CompactFault.ImageFailed → Rose (J.faults image) (J.faults result.image) }
-    ensures later { J.faults image ≤ J.faults result.image }
+    ensures cause { HasCauseOf CompactFault.ImageFailed (J.faults image) (J.faults result.image) result.outcome }
 {
     let memory = match LineMemory::attach(alloc, image) {
         Ok(memory) => memory,

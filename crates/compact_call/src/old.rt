@@ -1,6 +1,6 @@
 // The graph of the old image.
-ghost use Rattle.std.specs.Prelude.{◌≡◌, ◌≤◌, ℕ, IfOk, IfErr};
-ghost use Rattle.ap_base.specs.Causes.{Rose};
+ghost use Rattle.std.specs.Prelude.{◌≡◌, IfOk, IfErr};
+ghost use Rattle.ap_base.specs.Causes.{IsCauseOf};
 ghost use Rattle.dense_image.specs.Graphs.{CanBeStoodFor};
 ghost use Rattle.image_opening.specs.Attached.{IsSettled};
 ghost use Rattle.image_opening.specs.Stops.{KeepsItsGraph};
@@ -22,13 +22,11 @@ pub(crate) fn read_graph<I: Image>(
     ensures stood { IfOk result (λ r. StoodFor (I.told image) r.0) }
     ensures kept { IfOk result (λ r. IsSettled (I.told image) → KeepsItsGraph (I.told image) (I.told r.1)) }
     ensures size { IfOk result (λ r. (I.told r.1).size ≡ (I.told image).size) }
-    ensures later { IfOk result (λ r. I.faults image ≤ I.faults r.1) }
+    ensures spared { IfOk result (λ r. I.faults r.1 ≡ I.faults image) }
     ensures fault { IfErr result (λ e. IsOldFault (I.told image) e.0) }
     ensures kept_unopened { IfErr result (λ e. IsSettled (I.told image) → KeepsItsGraph (I.told image) (I.told e.1)) }
     ensures size_unopened { IfErr result (λ e. (I.told e.1).size ≡ (I.told image).size) }
-    ensures later_unopened { IfErr result (λ e. I.faults image ≤ I.faults e.1) }
-    ensures cause { IfErr result (λ e.
-        e.0 ≡ CompactFault.ImageFailed → Rose (I.faults image) (I.faults e.1)) }
+    ensures cause { IfErr result (λ e. IsCauseOf CompactFault.ImageFailed e.0 (I.faults image) (I.faults e.1)) }
 {
     standing_graphs_can_be_written();
     match open_image(alloc, image) {

@@ -1,6 +1,6 @@
 // The directory of an image is read.
 ghost use Rattle.std.specs.Prelude.{◌≡◌, ◌≤◌, ℕ, true, false, not, [], length, Ok, IfOk, IfErr, IsErrOf};
-ghost use Rattle.ap_base.specs.Causes.{Rose};
+ghost use Rattle.ap_base.specs.Causes.{HasCauseOf};
 ghost use Rattle.line_memory.specs.Memory.{shown};
 ghost use Rattle.line_memory.specs.Moments.{CountsFrom};
 ghost use Rattle.image_layout.specs.Places.{min_lines, root_slots, directory_words};
@@ -78,8 +78,7 @@ pub fn read_directory<I: Image>(
     ensures changes { ChangesTo Nothing memory.old memory.new }
     ensures counts { (begin : ℕ) → CountsFrom begin memory.old → CountsFrom begin memory.new }
     ensures calls { memory.new.calls ≡ memory.old.calls }
-    ensures later { memory.old.faults ≤ memory.new.faults }
-    ensures cause { IsErrOf result DirectoryFault.ImageFailed → Rose memory.old.faults memory.new.faults }
+    ensures cause { HasCauseOf DirectoryFault.ImageFailed memory.old.faults memory.new.faults result }
 {
     let words = read_words(alloc, memory, used)?;
     let (shapes, roots) = parse(alloc, words.as_slice())?;
@@ -123,8 +122,7 @@ fn read_words<I: Image>(
     ensures changes { ChangesTo Nothing memory.old memory.new }
     ensures counts { (begin : ℕ) → CountsFrom begin memory.old → CountsFrom begin memory.new }
     ensures calls { memory.new.calls ≡ memory.old.calls }
-    ensures later { memory.old.faults ≤ memory.new.faults }
-    ensures cause { IsErrOf result DirectoryFault.ImageFailed → Rose memory.old.faults memory.new.faults }
+    ensures cause { HasCauseOf DirectoryFault.ImageFailed memory.old.faults memory.new.faults result }
 {
     let mut words = Vec::with_capacity(alloc, used as usize)?;
     for i in 0..used {

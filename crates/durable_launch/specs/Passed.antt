@@ -2,6 +2,7 @@
 pub use Rattle.workers.specs.Passed.{EachStopIsAllowed, HadNoFault, Opening, Shared, memory_of}
 pub use Rattle.workers.specs.Passed.{shown_in}
 pub use Rattle.workers.specs.Passed.{EachPrintsItsShare, IsShareOfPiece, PrintsShares, piece_after, piece_of}
+pub use Rattle.workers.specs.Passed.{Spares, SparesAll, SparesSink}
 pub use Rattle.workers.specs.Passed.{HasTold, IsCaused, LeavesShares, with_all}
 pub use Rattle.workers.specs.Passed.{EndsBy, HasRun, IsReady, ending_of, fault_in}
 pub use Rattle.workers.specs.Passed.{RunEnd}

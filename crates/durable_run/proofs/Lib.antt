@@ -6,10 +6,11 @@ mod Places
 mod Raising
 mod Reading
 mod Sharing
-mod Sparing
 mod Stepping
 mod Telling
 mod Throwing
 mod Thrown
+mod Turns
 pub mod FramesApart
 pub mod Passed
+pub mod Sparing

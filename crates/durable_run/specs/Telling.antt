@@ -1,6 +1,6 @@
 -- What the outside is told of a run, and how it is over by the outside.
-use Rattle.std.specs.Prelude.{◌≡◌, ◌≤◌, ℕ, List, ◌++◌, length, Option, Some, None, All}
-use Rattle.ap_base.specs.Causes.{Rose, next_count}
+use Rattle.std.specs.Prelude.{◌≡◌, ℕ, List, ◌++◌, length, Option, Some, None, All}
+use Rattle.ap_base.specs.Causes.{next_count}
 use Rattle.ap_base.specs.Sinks.{TakesBehind, with_bytes}
 use Rattle.ap_base.specs.declared.reference.Ref.{Ref}
 use Rattle.ap_base.specs.declared.reference.Item.{Item}
@@ -46,9 +46,8 @@ pub record AddsShare (asks : Option (Request Ref Item)) (takes : ℕ → Option 
   pub acts : new ≡ old ++ further
   pub shares : All (λ (a : Recorded). IsShareOf asks takes a.act.op) further
 
--- The sink's count of faults stands still, but where the run is over by the sink: then it is one more. The image's never falls,
--- and the run is over by the image only where it rose.
+-- The counts of faults of the sink and of the image stand still, but where the run is over by one of them: then its own is one more.
 abbrev pub IsCaused : Option RunFault → (sink sink' image image' : ℕ) → Type 0
-IsCaused (Some fault.SinkFault) sink sink' image image' = (sink' ≡ next_count sink) × (image ≤ image')
-IsCaused (Some fault.ImageFault) sink sink' image image' = (sink' ≡ sink) × Rose image image'
-IsCaused over sink sink' image image' = (sink' ≡ sink) × (image ≤ image')
+IsCaused (Some fault.SinkFault) sink sink' image image' = (sink' ≡ next_count sink) × (image' ≡ image)
+IsCaused (Some fault.ImageFault) sink sink' image image' = (sink' ≡ sink) × (image' ≡ next_count image)
+IsCaused over sink sink' image image' = (sink' ≡ sink) × (image' ≡ image)

@@ -1,5 +1,5 @@
 -- When an event of a thread may come over a shared heap whose objects are made durable, and how a run ends.
-use Rattle.std.specs.Prelude.{◌≡◌, ℕ, ℤ, Bool, false, not, List, length, slice_get, slice_index, slice_set, Option, Some, None}
+use Rattle.std.specs.Prelude.{◌≡◌, ℕ, zero, suc, ℤ, Bool, false, not, List, length, slice_get, slice_index, slice_set, Option, Some, None}
 use Rattle.ap_base.specs.Causes.{next_count}
 use Rattle.ap_base.specs.declared.reference.Ref.{Ref}
 use Rattle.ap_base.specs.declared.reference.Item.{Item}
@@ -47,6 +47,15 @@ is_live states t = lives (slice_get states t)
 abbrev pub turns_after : Option (Request Ref Item) → ℕ → List ℕ → List ℕ
 turns_after None t turns = slice_set turns t (next_count (slice_index turns t))
 turns_after (Some request) t turns = turns
+
+-- a count that went on so many times, in its 64 bits
+abbrev pub count_on : ℕ → ℕ → ℕ
+count_on zero count = count
+count_on (suc times) count = next_count (count_on times count)
+
+-- The counts of the threads' turns went on since, each by as many turns as its thread began: none was set back.
+abbrev pub TurnsGoOn : (old new : List ℕ) → Type 0
+TurnsGoOn old new = (t : ℕ) → (turns : ℕ) × (slice_index new t ≡ count_on turns (slice_index old t))
 
 -- what thread t asks next: the request that isn't answered, or that of its next turn
 abbrev pub asks_next : Setting Native Ref (NativeState Ref) Item → Option (Request Ref Item) → ThreadFrames

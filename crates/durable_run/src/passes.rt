@@ -5,7 +5,7 @@ ghost use Rattle.durable_run.specs.Passes.{IsLess, PassesTo, fault_of_pass};
 ghost use Rattle.durable_run.specs.Shares.{PrintsShares};
 ghost use Rattle.durable_run.specs.Sparing.{SparesSink};
 ghost use Rattle.durable_run.specs.Telling.{HasTold, IsCaused};
-ghost use Rattle.durable_run.specs.Turning.{IsReady};
+ghost use Rattle.durable_run.specs.Turning.{IsReady, TurnsGoOn};
 
 use crate::parts::is_live;
 use crate::run::Run;
@@ -57,6 +57,7 @@ pub(crate) fn pass_over<
         run.old.heap.history.acts run.new.heap.history.acts }
     ensures cause { IsCaused (fault_of_pass run.new.heap result) (S.faults run.old.sink) (S.faults run.new.sink)
         (memory_of run.old.heap.machine).faults (memory_of run.new.heap.machine).faults }
+    ensures turns { TurnsGoOn run.old.turns run.new.turns }
     ensures full { run.old.heap.history.limit ≤ length run.old.heap.history.acts → result ≢ Pass.Went }
     ensures less { result ≡ Pass.Went → IsLess run.old.heap run.new.heap }
 {

@@ -16,7 +16,7 @@ ghost use Rattle.durable_run.specs.Passes.{PassesTo, fault_of_pass};
 ghost use Rattle.durable_run.specs.Shares.{PrintsShares};
 ghost use Rattle.durable_run.specs.Sparing.{SparesSink};
 ghost use Rattle.durable_run.specs.Telling.{HasTold, IsCaused};
-ghost use Rattle.durable_run.specs.Turning.{EndsBy, IsReady, fault_in};
+ghost use Rattle.durable_run.specs.Turning.{EndsBy, IsReady, TurnsGoOn, fault_in};
 
 use crate::parts::first_uncaught;
 use crate::passes::{Pass, pass_over};
@@ -111,6 +111,7 @@ fn next_act<
         run.old.heap.history.acts run.new.heap.history.acts }
     ensures cause { IsCaused (fault_of_pass run.new.heap result) (S.faults run.old.sink) (S.faults run.new.sink)
         (memory_of run.old.heap.machine).faults (memory_of run.new.heap.machine).faults }
+    ensures turns { TurnsGoOn run.old.turns run.new.turns }
     ensures full { run.old.heap.history.limit ≤ length run.old.heap.history.acts → result ≢ Pass.Went }
     ensures acts { result ≡ Pass.Went → length run.old.heap.history.acts < length run.new.heap.history.acts }
 {
@@ -155,6 +156,7 @@ pub fn run_threads<
         run.old.heap.history.acts run.new.heap.history.acts }
     ensures cause { IsCaused (fault_in result) (S.faults run.old.sink) (S.faults run.new.sink)
         (memory_of run.old.heap.machine).faults (memory_of run.new.heap.machine).faults }
+    ensures turns { TurnsGoOn run.old.turns run.new.turns }
     ensures size { (memory_of run.new.heap.machine).size ≡ (memory_of run.old.heap.machine).size }
 {
     'acts: loop {

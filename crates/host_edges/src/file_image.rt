@@ -69,6 +69,7 @@ impl FileImage {
         create: Option<u64>,
     ) -> Result<FileImage, AllocError>
         ensures uncalled { IfOk result (λ image. (file_told image).calls ≡ 0) }
+        ensures faultless { IfOk result (λ image. image.faults ≡ 0) }
     {
         match open_file(rt, path, create) {
             Ok((file, bytes)) => Ok(FileImage::opened(file, bytes)),
@@ -80,6 +81,7 @@ impl FileImage {
     fn opened(file: File, bytes: u64) -> FileImage
         requires apart { pos 2 <ℤ file_raw_fd file }
         ensures uncalled { (file_told result).calls ≡ 0 }
+        ensures faultless { result.faults ≡ 0 }
     {
         FileImage {
             file: Some(file),
@@ -92,6 +94,7 @@ impl FileImage {
 
     fn closed(trouble: Trouble) -> FileImage
         ensures uncalled { (file_told result).calls ≡ 0 }
+        ensures faultless { result.faults ≡ 0 }
     {
         FileImage {
             file: None,

@@ -37,7 +37,9 @@ impl FileSink {
         rt: &R,
         _alloc: Global,
         path: &str,
-    ) -> Result<FileSink, AllocError> {
+    ) -> Result<FileSink, AllocError>
+        ensures faultless { IfOk result (λ sink. sink.faults ≡ 0) }
+    {
         match empty_file(rt, path) {
             Ok(file) => Ok(FileSink::opened(file)),
             Err(Unopened::Trouble(trouble)) => Ok(FileSink::closed(trouble)),
@@ -47,6 +49,7 @@ impl FileSink {
 
     fn opened(file: File) -> FileSink
         requires apart { pos 2 <ℤ file_raw_fd file }
+        ensures faultless { result.faults ≡ 0 }
     {
         FileSink {
             file: Some(file),
@@ -56,7 +59,9 @@ impl FileSink {
         }
     }
 
-    fn closed(trouble: Trouble) -> FileSink {
+    fn closed(trouble: Trouble) -> FileSink
+        ensures faultless { result.faults ≡ 0 }
+    {
         FileSink {
             file: None,
             trouble: Some(trouble),

@@ -14,7 +14,9 @@ pub struct OutSink<R> {
 }
 
 impl<R: Print + Send + Drop> OutSink<R> {
-    pub fn new(rt: R) -> OutSink<R> {
+    pub fn new(rt: R) -> OutSink<R>
+        ensures faultless { result.faults ≡ 0 }
+    {
         OutSink { rt, faults: 0 }
     }
 }

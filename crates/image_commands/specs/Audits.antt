@@ -1,6 +1,7 @@
 -- What the call of `audit` promises, in one record: a field a promise.
 use Rattle.std.specs.Prelude.{◌≡◌, ◌≢◌, ◌⊎◌, ℕ, List, Option, Some, None}
 use Rattle.ap_base.specs.Causes.{Rose, next_count}
+use Rattle.image_opening.specs.Unopened.{NoneFailed, OneFailed}
 use Rattle.ap_base.specs.declared.source.NamedBytes.{NamedBytes}
 use Rattle.audit_call.specs.Audits.{AnswersFor, AuditEnds, Images, IsKept, Outside}
 use Rattle.command_words.specs.Commands.{command_of}
@@ -63,6 +64,9 @@ pub record MeetsAudit (words : List (List ℕ)) (had has : Things) (Untouched : 
   pub after_kept : IsKept had.images.after has.images.after
   -- A fault of the outside comes only where it failed.
   pub source_fault : how ≡ status.SourceFault → Rose had.faults.source has.faults.source ⊎ Rose had.faults.records has.faults.records
-  pub image_fault : how ≡ status.ImageFault → Rose had.faults.before has.faults.before ⊎ Rose had.faults.after has.faults.after
+  -- One of the images fails once where the call ends by it, and else neither.
+  pub image_fault : how ≡ status.ImageFault → OneFailed had.faults.before has.faults.before had.faults.after has.faults.after
+  pub image_spared : how ≢ status.ImageFault → NoneFailed had.faults.before has.faults.before had.faults.after has.faults.after
+  -- The sink fails once where the call ends by it, and else never.
   pub sink_fault : how ≡ status.SinkFault → has.faults.sink ≡ next_count had.faults.sink
   pub sink_spared : how ≢ status.SinkFault → has.faults.sink ≡ had.faults.sink

@@ -1,6 +1,7 @@
 -- What the call of `compact` promises, in one record: a field a promise.
 use Rattle.std.specs.Prelude.{◌≡◌, ◌≢◌, ◌⊎◌, ℕ, List, Option, Some, None, Result, Ok, Err}
-use Rattle.ap_base.specs.Causes.{Rose, next_count}
+use Rattle.ap_base.specs.Causes.{next_count}
+use Rattle.image_opening.specs.Unopened.{NoneFailed, OneFailed}
 use Rattle.line_image.specs.Told.{Told}
 use Rattle.command_words.specs.Commands.{command_of}
 use Rattle.command_words.specs.declared.command.Compact.{Compact}
@@ -67,8 +68,10 @@ pub record MeetsCompact (words : List (List ℕ)) (before after : Images) (SameI
   -- What the command does. Memory may run out before any of it.
   pub does : DoesCompact (of_compact (command_of words)) before after SameImages how
       ⊎ ((how ≡ status.OutOfMemory) × IsUntouched before after SameImages)
-  -- A fault of the outside comes only where it failed.
-  pub image_fault : how ≡ status.ImageFault → Rose before.old_faults after.old_faults ⊎ Rose before.fresh_faults after.fresh_faults
+  -- One of the images fails once where the call ends by it, and else neither.
+  pub image_fault : how ≡ status.ImageFault → OneFailed before.old_faults after.old_faults before.fresh_faults after.fresh_faults
+  pub image_spared : how ≢ status.ImageFault → NoneFailed before.old_faults after.old_faults before.fresh_faults after.fresh_faults
+  -- The sink fails once where the call ends by it, and else never.
   pub sink_fault : how ≡ status.SinkFault → after.sink_faults ≡ next_count before.sink_faults
   pub sink_spared : how ≢ status.SinkFault → after.sink_faults ≡ before.sink_faults
   -- Both images keep their numbers of lines.

@@ -1,3 +1,4 @@
 pub mod Asked
 pub mod Compacts
 pub mod Audits
+pub mod Complete

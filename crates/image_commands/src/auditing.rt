@@ -1,8 +1,9 @@
 // The call of `audit`.
 ghost use Rattle.std.specs.Prelude.{◌≡◌, Some};
 ghost use Rattle.audit_call.specs.Audits.{IsKept, images, outside};
-ghost use Rattle.command_words.specs.Commands.{texts};
+ghost use Rattle.command_words.specs.Commands.{command_of, texts};
 ghost use Rattle.image_commands.specs.Asked.{of_audit};
+ghost use Rattle.image_commands.specs.Complete.{AuditDoesItsWork};
 ghost use Rattle.image_commands.specs.Audits.{MeetsAudit, faults, things};
 
 use crate::words::of_words;
@@ -65,6 +66,40 @@ pub fn audit<C: ClassSource, R: ClassSource, I: Image, J: Image, S: Sink>(
     sink: S,
 ) -> Audited<C, R, I, J, S>
     // The promises, a field each.
+    ensures meets { MeetsAudit (texts words.now.items)
+        (things (C.left source) (images (I.told before) (J.told after))
+        (outside (R.left records) (R.faults records) (S.taken sink))
+        (faults (C.faults source) (R.faults records) (I.faults before) (J.faults after) (S.faults sink)))
+        (things (C.left result.source) (images (I.told result.before) (J.told result.after))
+        (outside (R.left result.records) (R.faults result.records) (S.taken result.sink))
+        (faults (C.faults result.source) (R.faults result.records) (I.faults result.before) (J.faults result.after)
+        (S.faults result.sink)))
+        ((result.source ≡ source) × (result.records ≡ records) × (result.before ≡ before) × (result.after ≡ after)
+        × (result.sink ≡ sink)) result.status }
+    // Where the files, the records and the images are as it asks and nothing outside fails, it does its work, or memory runs out before a
+    // byte is put.
+    ensures complete { AuditDoesItsWork (of_audit (command_of (texts words.now.items)))
+        (things (C.left source) (images (I.told before) (J.told after))
+        (outside (R.left records) (R.faults records) (S.taken sink))
+        (faults (C.faults source) (R.faults records) (I.faults before) (J.faults after) (S.faults sink)))
+        (things (C.left result.source) (images (I.told result.before) (J.told result.after))
+        (outside (R.left result.records) (R.faults result.records) (S.taken result.sink))
+        (faults (C.faults result.source) (R.faults result.records) (I.faults result.before) (J.faults result.after)
+        (S.faults result.sink))) result.status }
+{
+    do_audit(alloc, words, source, records, before, after, sink)
+}
+
+// What the words ask for is done.
+fn do_audit<C: ClassSource, R: ClassSource, I: Image, J: Image, S: Sink>(
+    alloc: Global,
+    words: &Vec<String>,
+    source: C,
+    records: R,
+    before: I,
+    after: J,
+    sink: S,
+) -> Audited<C, R, I, J, S>
     ensures meets { MeetsAudit (texts words.now.items)
         (things (C.left source) (images (I.told before) (J.told after))
         (outside (R.left records) (R.faults records) (S.taken sink))

@@ -1,7 +1,8 @@
 // The call of `compact`.
 ghost use Rattle.std.specs.Prelude.{◌≡◌, Some};
-ghost use Rattle.command_words.specs.Commands.{texts};
+ghost use Rattle.command_words.specs.Commands.{command_of, texts};
 ghost use Rattle.image_commands.specs.Asked.{of_compact};
+ghost use Rattle.image_commands.specs.Complete.{CompactDoesItsWork};
 ghost use Rattle.image_commands.specs.Compacts.{MeetsCompact, images, status_of_compaction};
 
 use crate::words::of_words;
@@ -71,6 +72,28 @@ pub fn compact<I: Image, J: Image, S: Sink>(
     sink: S,
 ) -> Compacted<I, J, S>
     // The promises, a field each.
+    ensures meets { MeetsCompact (texts words.now.items)
+        (images (I.told old) (I.faults old) (J.told fresh) (J.faults fresh) (S.taken sink) (S.faults sink))
+        (images (I.told result.old) (I.faults result.old) (J.told result.fresh) (J.faults result.fresh)
+        (S.taken result.sink) (S.faults result.sink))
+        ((result.old ≡ old) × (result.fresh ≡ fresh)) result.status }
+    // Where the images are as it asks and nothing outside fails, it does its work, or memory runs out before a byte is put.
+    ensures complete { CompactDoesItsWork (of_compact (command_of (texts words.now.items)))
+        (images (I.told old) (I.faults old) (J.told fresh) (J.faults fresh) (S.taken sink) (S.faults sink))
+        (images (I.told result.old) (I.faults result.old) (J.told result.fresh) (J.faults result.fresh)
+        (S.taken result.sink) (S.faults result.sink)) result.status }
+{
+    do_compact(alloc, words, old, fresh, sink)
+}
+
+// What the words ask for is done.
+fn do_compact<I: Image, J: Image, S: Sink>(
+    alloc: Global,
+    words: &Vec<String>,
+    old: I,
+    fresh: J,
+    sink: S,
+) -> Compacted<I, J, S>
     ensures meets { MeetsCompact (texts words.now.items)
         (images (I.told old) (I.faults old) (J.told fresh) (J.faults fresh) (S.taken sink) (S.faults sink))
         (images (I.told result.old) (I.faults result.old) (J.told result.fresh) (J.faults result.fresh)

@@ -1,11 +1,10 @@
 -- What writing a graph to an image comes to. A stop at any moment leaves a blank image, or the whole graph: no durable state is ever half made
 -- (Shull, Huang and Torrellas, "AutoPersist", PLDI 2019). Of this project's own format.
-use Rattle.std.specs.Prelude.{◌≡◌, ◌≢◌, ◌⊎◌, ◌≤◌, ℕ, None, Some}
-use Rattle.ap_base.specs.Causes.{Rose}
+use Rattle.std.specs.Prelude.{◌≡◌, ◌≢◌, ◌⊎◌, ℕ, None, Some}
+use Rattle.ap_base.specs.Causes.{IsCauseOf}
 use Rattle.graph_model.specs.declared.types.Graph.{Graph}
 use Rattle.line_image.specs.Trace.{Outcome}
 use Rattle.line_memory.specs.Memory.{Memory, shown, CanLeaveAll}
-use Rattle.run_types.specs.declared.fault.Full.{Full as Wanted}
 use Rattle.image_layout.specs.Places.{IsBlank}
 use Rattle.image_meaning.specs.Checks.{Words}
 use Rattle.word_changes.specs.Changes.{Tells, AllKnown, IsFixed, Nothing, ChangesTo, StopsLeave, GoesOn}
@@ -31,14 +30,14 @@ pub record Writes (graph : Graph) (old new : Memory) : Type 0 where
   pub stops : StopsKeepBlankOrWhole graph old new
   pub kept : Tells old → (c : Outcome) → CanLeaveAll new c → IsWhole old.size c graph
   pub goes_on : GoesOn old new
-  pub later : old.faults ≤ new.faults
+  pub spared : new.faults ≡ old.faults
 
 -- What the fault says of the image. It is as it was, unless it failed.
 abbrev pub IsRefused : Graph → WriteFault → Memory → Memory → Type 0
 IsRefused graph NotBlank old new = (AllKnown old → shown old 0 0 ≢ 0) × ChangesTo Nothing old new
 IsRefused graph (Full full) old new =
     (AllKnown old → shown old 0 0 ≡ 0) × (no_room old.size graph ≡ Some full) × ChangesTo Nothing old new
-IsRefused graph ImageFailed old new = Rose old.faults new.faults
+IsRefused graph ImageFailed old new = Unit {0}
 IsRefused graph OutOfMemory old new = ChangesTo Nothing old new
 
 -- The graph isn't written, for this fault.
@@ -49,4 +48,4 @@ pub record FailsToWrite (graph : Graph) (fault : WriteFault) (old new : Memory) 
   -- what stops leave, meanwhile and from now on
   pub stops : StopsKeepBlankOrWhole graph old new
   pub goes_on : GoesOn old new
-  pub later : old.faults ≤ new.faults
+  pub cause : IsCauseOf ImageFailed fault old.faults new.faults

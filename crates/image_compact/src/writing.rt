@@ -1,12 +1,10 @@
 // A graph is written to a blank image.
-ghost use Rattle.std.specs.Prelude.{◌≡◌, ◌<◌, ◌≤◌, ◌↔◌, ℕ, length, IsTrue, OnOk, IfOk, IfErr};
+ghost use Rattle.std.specs.Prelude.{◌≡◌, ◌<◌, ◌≤◌, ◌↔◌, length, IsTrue, OnOk, IfOk, IfErr};
 ghost use Rattle.ap_base.specs.Causes.{HasCause};
 ghost use Rattle.line_memory.specs.Memory.{shown};
 ghost use Rattle.image_layout.specs.Places.{min_lines, max_lines, directory_words, logs, log_head_line};
-ghost use Rattle.image_meaning.specs.Directories.{spelled_all};
 ghost use Rattle.word_changes.specs.Changes.{Tells, AllKnown, Nothing, ChangesTo, GoesOn, WritesAll, AllFixed};
 ghost use Rattle.dense_image.specs.Graphs.{CanBeStoodFor};
-ghost use Rattle.dense_image.specs.Written.{entries_of};
 ghost use Rattle.image_compact.specs.Planning.{IsPlan};
 ghost use Rattle.image_compact.specs.Writing.{OfSlots, OfDirectory, OfHeads, OfFront, OfSuperblock, OfBody, OfImage};
 ghost use Rattle.image_compact.specs.Writing.{lines_for};
@@ -33,8 +31,8 @@ use word_changes::{fetch_line, make_fence, put_word, write_line};
 /// # Errors
 ///
 /// `NotBlank` where word 0 of the image isn't 0. `Full` where the directory has too few words, or else the image too few lines for
-/// all objects: as many are needed as are told. These, and want of memory, leave the image as it was. `ImageFailed` where the
-/// image's count of faults rose.
+/// all objects: as many are needed as are told. These, and want of memory, leave the image as it was. `ImageFailed` exactly where
+/// the image failed, once.
 pub fn write_image<J: Image>(
     alloc: Global,
     graph: &SharedGraph,

@@ -1,3 +1,4 @@
+pub mod Causes
 pub mod Fenced
 pub mod Finding
 pub mod Opened

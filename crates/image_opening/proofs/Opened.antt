@@ -1,6 +1,6 @@
 -- An image that was attached and then recovered, and one that wasn't.
-use Rattle.std.proofs.Common.{◌≡◌, ◌≢◌, ℕ, List, [], false, Option, Some, None, Err, sym, refl, ap, ◌∙◌, subst, arith, ⊎_elim, inl, inr}
-use Rattle.std.specs.Prelude.{◌<◌, ◌≤◌, nat_le}
+use Rattle.std.proofs.Common.{◌≡◌, ◌≢◌, ℕ, List, false, Option, Some, None, Err, sym, refl, ◌∙◌, subst, ⊎_elim, inl, inr}
+use Rattle.std.specs.Prelude.{nat_le}
 use Rattle.std.proofs.lemmas.Bool.{cases_eq, lt-leb, and_left, and_right}
 use Rattle.graph_model.specs.declared.types.Graph.{Graph}
 use Rattle.line_image.specs.Told.{Told}
@@ -9,22 +9,20 @@ use Rattle.line_memory.specs.Memory.{Memory, ReadsWord, shown}
 use Rattle.image_layout.specs.Places.{has_size, max_lines, min_lines, super_check}
 use Rattle.image_layout.specs.declared.superblock.BadReason.TheVariants.{Size}
 use Rattle.image_meaning.specs.Checks.{Words}
-use Rattle.image_meaning.specs.Logs.{NoneLogged}
-use Rattle.image_meaning.specs.Meaning.{StandsFor, IsWellFormed, meaning}
-use Rattle.word_changes.specs.Changes.{AllKnown, ChangesTo, GoesOn, StopsLeave, Tells}
-use Rattle.directories.specs.Formatting.{IsFormatted}
+use Rattle.image_meaning.specs.Meaning.{meaning}
+use Rattle.word_changes.specs.Changes.{AllKnown, ChangesTo}
 use Rattle.directories.specs.Kept.{Kept}
-use Rattle.image_recovery.specs.Putting.{AllDurable, AllWritten, IsPutBack, IsRecovered}
-use Rattle.image_recovery.specs.Recovered.{FindsImage, FindsNothing, IsBadFault, entries_in}
+use Rattle.image_recovery.specs.Putting.{AllDurable, IsPutBack}
+use Rattle.image_recovery.specs.Recovered.{IsBadFault, entries_in}
 use Rattle.image_recovery.specs.Recoveries.{FailsToRecover, HasDirectory, Recovers}
 use Rattle.image_walk.specs.declared.fault.RecoverFault.{RecoverFault}
 use Rattle.image_walk.specs.declared.fault.RecoverFault.TheVariants as recovery
 use Rattle.image_walk.specs.Walking.{IsFaultOf}
 use Rattle.image_opening.specs.declared.not_opened.NotOpened.{NotOpened}
 use Rattle.image_opening.specs.declared.not_opened.NotOpened.TheVariants.{BadImage, ImageFailed, OutOfMemory}
-use Rattle.image_opening.specs.Attached.{AreRead, IsAttached}
+use Rattle.image_opening.specs.Attached.{IsAttached}
 use Rattle.image_opening.specs.Opened.{IsDirectoryIn, IsFoundIn, IsOpenImage, IsRecoveredAs}
-use Rattle.image_opening.specs.Unopened.{IsBad, IsBadThere, IsOfRecovery, IsOfWrongSize, IsRecoveryFault, IsUnattached}
+use Rattle.image_opening.specs.Unopened.{IsBadThere, IsOfRecovery, IsOfWrongSize, IsRecoveryFault, IsUnattached}
 use Rattle.image_opening.specs.Unopened.{IsUnrecovered}
 use Rattle.image_opening.proofs.Fenced.{attached_durable, attached_written, silent_durable, tells_or_not}
 use Rattle.image_opening.proofs.Finding.{IsFoundNow, blank_found, none_found, used_found}

@@ -1,7 +1,7 @@
 -- What stops leave of an image, from its attaching on.
-use Rattle.std.proofs.Common.{◌≡◌, ◌⊎◌, ⊎_elim, ℕ, ◌<◌, ◌≤◌, inr, List, Option, Some, None, sym, ◌∙◌, subst, arith}
+use Rattle.std.proofs.Common.{◌≡◌, ℕ, ◌≤◌, inr, List, Option, Some, None, sym, ◌∙◌, subst}
 use Rattle.std.proofs.lemmas.Bool.{and_parts, leb-true}
-use Rattle.std.specs.Prelude.{true, ◌&&◌, nat_le}
+use Rattle.std.specs.Prelude.{true, nat_le}
 use Rattle.graph_model.specs.declared.types.Graph.{Graph}
 use Rattle.line_image.specs.Told.{Told}
 use Rattle.line_image.specs.Trace.{Trace, Outcome, IsAllFenced, LeavesNow}
@@ -10,7 +10,7 @@ use Rattle.line_memory.specs.Moments.{Goes}
 use Rattle.line_memory.proofs.Chain.{goes_on}
 use Rattle.image_layout.specs.Places.{has_size, max_lines, min_lines}
 use Rattle.image_meaning.specs.Checks.{Words}
-use Rattle.image_meaning.specs.Meaning.{StandsFor, meaning}
+use Rattle.image_meaning.specs.Meaning.{StandsFor}
 use Rattle.image_meaning.proofs.Standing.{standing-sized}
 use Rattle.image_meaning.proofs.Standings.{stands-within}
 use Rattle.word_changes.specs.Changes.{StopsLeave}

@@ -1,5 +1,6 @@
 -- Images that couldn't be opened.
 use Rattle.std.specs.Prelude.{◌≡◌, ◌≢◌, ◌⊎◌, ◌<◌, ℕ, None, Err}
+use Rattle.ap_base.specs.Causes.{next_count}
 use Rattle.graph_model.specs.declared.types.Graph.{Graph}
 use Rattle.line_image.specs.Told.{Told}
 use Rattle.line_image.specs.Trace.{LeavesNow}
@@ -100,3 +101,14 @@ pub record IsUnrecovered (start after : Told) (why : NotOpened) : Type 0 where
 
 abbrev pub IsUnopened : Told → Told → NotOpened → Type 0
 IsUnopened start after why = IsUnattached start after why ⊎ IsUnrecovered start after why
+
+-- ---- two images
+
+-- Of two images, which had failed so often before and now, one failed once, and the other didn't.
+abbrev pub OneFailed : (first first' second second' : ℕ) → Type 0
+OneFailed first first' second second' =
+    ((first' ≡ next_count first) × (second' ≡ second)) ⊎ ((first' ≡ first) × (second' ≡ next_count second))
+
+-- neither failed
+abbrev pub NoneFailed : (first first' second second' : ℕ) → Type 0
+NoneFailed first first' second second' = (first' ≡ first) × (second' ≡ second)

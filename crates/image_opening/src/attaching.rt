@@ -1,6 +1,6 @@
 // An image is attached and fenced.
-ghost use Rattle.std.specs.Prelude.{◌≡◌, ◌≤◌, IfOk, IfErr};
-ghost use Rattle.ap_base.specs.Causes.{Rose};
+ghost use Rattle.std.specs.Prelude.{◌≡◌, IfOk, IfErr};
+ghost use Rattle.ap_base.specs.Causes.{IsCauseOf};
 ghost use Rattle.image_opening.specs.Attached.{IsAttached};
 ghost use Rattle.image_opening.specs.Unopened.{IsUnattached};
 
@@ -13,11 +13,9 @@ use std::alloc::Global;
 /// not, and gives it back.
 pub(crate) fn attach<I: Image>(alloc: Global, image: I) -> Result<LineMemory<I>, (NotOpened, I)>
     ensures attached { IfOk result (IsAttached (I.told image)) }
-    ensures later { IfOk result (λ m. I.faults image ≤ m.faults) }
+    ensures spared { IfOk result (λ m. m.faults ≡ I.faults image) }
     ensures unattached { IfErr result (λ e. IsUnattached (I.told image) (I.told e.1) e.0) }
-    ensures later_unattached { IfErr result (λ e. I.faults image ≤ I.faults e.1) }
-    ensures cause { IfErr result (λ e.
-        e.0 ≡ NotOpened.ImageFailed → Rose (I.faults image) (I.faults e.1)) }
+    ensures cause { IfErr result (λ e. IsCauseOf NotOpened.ImageFailed e.0 (I.faults image) (I.faults e.1)) }
 {
     every_line_is_resident();
     let mut memory = match LineMemory::attach(alloc, image) {

@@ -1,6 +1,6 @@
 // An image is attached, fenced and recovered.
-ghost use Rattle.std.specs.Prelude.{◌≡◌, ◌≤◌, IfOk, IfErr};
-ghost use Rattle.ap_base.specs.Causes.{Rose};
+ghost use Rattle.std.specs.Prelude.{◌≡◌, IfOk, IfErr};
+ghost use Rattle.ap_base.specs.Causes.{IsCauseOf};
 ghost use Rattle.line_memory.specs.Memory.{Memory};
 ghost use Rattle.image_opening.specs.Attached.{IsSettled};
 ghost use Rattle.image_opening.specs.Opened.{IsOpenImage};
@@ -22,7 +22,7 @@ use std::alloc::Global;
 ///
 /// With each the image is given back. `BadImage` exactly where a check fails, the first one: that of the number of lines, of the
 /// superblock, the directory, the logs, the root slots, or the objects; then nothing was written but words that the logs put back.
-/// `ImageFailed` only where the image's count of faults rose.
+/// `ImageFailed` exactly where the image failed, once.
 pub fn open_image<I: Image>(alloc: Global, image: I) -> Result<Recovered<I>, (NotOpened, I)>
     ensures opened { IfOk result (λ r. (before : Memory) × IsOpenImage (I.told image) before
         r.memory r.version r.directory r.graph r.lines r.free r.undone) }
@@ -30,10 +30,8 @@ pub fn open_image<I: Image>(alloc: Global, image: I) -> Result<Recovered<I>, (No
     ensures bad { IfErr result (λ e. IsBadThere (I.told image) e.0) }
     ensures stops { IfOk result (λ r. IsSettled (I.told image) → KeepsItsGraph (I.told image) r.memory.image) }
     ensures stops_unopened { IfErr result (λ e. IsSettled (I.told image) → KeepsItsGraph (I.told image) (I.told e.1)) }
-    ensures later { IfOk result (λ r. I.faults image ≤ r.memory.faults) }
-    ensures later_unopened { IfErr result (λ e. I.faults image ≤ I.faults e.1) }
-    ensures cause { IfErr result (λ e.
-        e.0 ≡ NotOpened.ImageFailed → Rose (I.faults image) (I.faults e.1)) }
+    ensures spared { IfOk result (λ r. r.memory.faults ≡ I.faults image) }
+    ensures cause { IfErr result (λ e. IsCauseOf NotOpened.ImageFailed e.0 (I.faults image) (I.faults e.1)) }
 {
     every_line_is_resident();
     let memory = match attach(alloc, image) {

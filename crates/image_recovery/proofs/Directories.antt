@@ -1,5 +1,5 @@
 -- The directory of an image while it is recovered.
-use Rattle.std.proofs.Common.{◌≡◌, ◌⊎◌, ⊎_elim, inl, inr, ℕ, ◌+◌, ◌<◌, ◌≤◌, ◌∙◌, sym, subst, arith}
+use Rattle.std.proofs.Common.{◌≡◌, ⊎_elim, inl, inr, ℕ, ◌+◌, ◌<◌, ◌≤◌, ◌∙◌, sym, subst, arith}
 use Rattle.line_image.specs.Trace.{Outcome}
 use Rattle.line_memory.specs.Memory.{Memory, shown}
 use Rattle.image_layout.specs.Places.{directory_line, directory_word, directory_words, log_entries, log_entry_line, log_entry_word}

@@ -1,3 +1,4 @@
+pub mod Causes
 pub mod PutSteps
 pub mod Stops
 pub mod Checks

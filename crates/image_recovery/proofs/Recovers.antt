@@ -1,9 +1,9 @@
 -- What is found in an image that is recovered, and what stops meanwhile leave.
-use Rattle.std.proofs.Common.{◌≡◌, ◌≢◌, inl, inr, ⊎_elim, ◌<◌, ◌≤◌, ℕ, nat_le, List, Option, None, Result, Ok, Err, IfOk, IfErr}
+use Rattle.std.proofs.Common.{◌≡◌, inl, inr, ⊎_elim, ◌<◌, ◌≤◌, ℕ, nat_le, List, Option, None, Result, Ok, Err, IfOk, IfErr}
 use Rattle.std.proofs.Common.{OnOk, refl, sym, ◌∙◌, ap, subst, arith}
 use Rattle.std.specs.Prelude.{is_some, is_err, IsSome, IsErr}
 use Rattle.std.proofs.lemmas.Bool.{and_parts, cases_eq, cases_lt, eq-eqb, leb-true, ne_eqb, true≢false}
-use Rattle.ap_base.specs.Causes.{Rose}
+use Rattle.ap_base.specs.Causes.{IsCauseOf}
 use Rattle.graph_model.specs.declared.types.Shape.{Shape}
 use Rattle.graph_model.specs.declared.types.Graph.{Graph}
 use Rattle.line_image.specs.Trace.{Outcome}
@@ -39,6 +39,7 @@ use Rattle.image_recovery.specs.Putting.{IsPutBack, IsCleared, IsRestored, AllDu
 use Rattle.image_recovery.specs.Putting.{within, IsRecoveringIn}
 use Rattle.image_recovery.specs.Recovered.{IsUsed, FailsFirst, FindsImage, FindsNothing, IsSameFault, IsBadFault, entries_in}
 use Rattle.image_recovery.specs.Recoveries.{FailsToRecover, Recovers, StopsKeepTheDirectory, StopsKeepTheGraph, StoresItsOwn}
+use Rattle.image_recovery.proofs.Causes.{cause_as, cause_on}
 use Rattle.image_recovery.proofs.Directories.{formatting_keeps, looking_keeps, recovering_keeps}
 use Rattle.image_recovery.proofs.PutSteps.{head_in}
 use Rattle.image_recovery.proofs.Stops.{inside, behind, putting_stop, emptying_stop}
@@ -91,10 +92,22 @@ fault_same given (from.Bad line) b same is = subst (IsFaultOf given) (sym same) 
 fault_same given from.ImageFailed b same is = subst (IsFaultOf given) (sym same) tt
 fault_same given from.OutOfMemory b same is = subst (IsFaultOf given) (sym same) tt
 
-pub failed_same : (a : DirectoryFault) (b : RecoverFault) → IsSameFault a b → b ≡ faults.ImageFailed → a ≡ from.ImageFailed
+-- the image failed as the directory was read, and so it isn't recovered, and the other way round
+failed_same : (a : DirectoryFault) (b : RecoverFault) → IsSameFault a b → b ≡ faults.ImageFailed → a ≡ from.ImageFailed
 failed_same (from.Bad line) b same is = absurd (cc)
 failed_same from.ImageFailed b same is = refl
 failed_same from.OutOfMemory b same is = absurd (cc)
+
+failed_alike : (a : DirectoryFault) (b : RecoverFault) → IsSameFault a b → a ≡ from.ImageFailed → b ≡ faults.ImageFailed
+failed_alike (from.Bad line) b same is = absurd (cc)
+failed_alike from.ImageFailed b same is = same
+failed_alike from.OutOfMemory b same is = absurd (cc)
+
+-- faults that are the same have one cause
+pub cause_same : (a : DirectoryFault) (b : RecoverFault) (before now : ℕ) → IsSameFault a b → IsCauseOf from.ImageFailed a before now
+    → IsCauseOf faults.ImageFailed b before now
+cause_same a b before now same cause =
+    cause_as from.ImageFailed a faults.ImageFailed b before now (failed_alike a b same) (failed_same a b same) cause
 
 pub fails_at_directory : (size : ℕ) (words : Words) (used : ℕ) (fault : RecoverFault) → IsUsed size words used
     → IsFaultOf (directory_of words) fault → IsFaultOf (meaning size words) fault
@@ -349,14 +362,11 @@ on_ok_at {T} {E} r A x is holds = let ok : Result T E = Ok x in let at : OnOk ok
 pub err_at : {T E : Type 0} (r : Result T E) (P : E → Type 0) (e : E) → r ≡ Err e → IfErr r P → P e
 err_at {T} {E} r P e is holds = let err : Result T E = Err e in let at : IfErr err P = subst (λ (s : Result T E). IfErr s P) is holds in at
 
-rose_later : (a b c : ℕ) → a ≤ b → Rose b c → Rose a c
-rose_later a b c before rose = omega (arith, before, rose)
-
 -- ---- the superblock isn't read, or fails
 
 pub unread_fails : (first seen : Memory) (fault : RecoverFault) → Looks first seen
     → (AllKnown first → IsFault (at_super (super_check (shown first 0) first.size)) fault)
-    → (fault ≡ faults.ImageFailed → Rose first.faults seen.faults) → FailsToRecover first seen fault
+    → IsCauseOf faults.ImageFailed fault first.faults seen.faults → FailsToRecover first seen fault
 unread_fails first seen fault looks fails cause = record {
   bad = λ known. fails_at_super first.size (shown first) fault (fails known);
   cause = cause;
@@ -373,7 +383,6 @@ unread_fails first seen fault looks fails cause = record {
   recovering = λ tells durable all enough used pass.
       stops_putting first enough pass durable seen (changes_nowhere (IsPutBack (shown first)) first seen looks.changes);
   goes_on = goes_by_looks first seen looks;
-  later = looks.later;
 }
 
 -- ---- a blank image was formatted, or not
@@ -381,7 +390,7 @@ unread_fails first seen fault looks fails cause = record {
 module _ (first seen new : Memory) (enough : min_lines ≤ first.size) (most : first.size ≤ max_lines) (looks : Looks first seen)
     (zero : AllKnown first → shown first 0 0 ≡ 0) (passes : AllKnown first → super_check (shown first 0) first.size ≡ None)
     (formats : Tells seen → IsFixed seen 0 0 0 → StopsLeave seen new (IsBlankOrFormatted seen.size))
-    (lays : ChangesTo (OfLayout seen.size) seen new) (goes : GoesOn seen new) (later : seen.faults ≤ new.faults) where
+    (lays : ChangesTo (OfLayout seen.size) seen new) (goes : GoesOn seen new) (stood : seen.faults ≡ first.faults) where
   -- the layout alone is written
   blank_stores : StoresItsOwn first new
   blank_stores = record {
@@ -419,8 +428,9 @@ module _ (first seen new : Memory) (enough : min_lines ≤ first.size) (most : f
       → (AllKnown seen → FindsNothing directory graph lines free undone)
       → (AllKnown seen → IsFormatted seen.size (shown new))
       → (Tells seen → AllDurable seen → AllDurable new)
+      → new.faults ≡ seen.faults
       → Recovers first new directory graph lines free undone
-  blank_recovers directory graph lines free undone finds formatted durable =
+  blank_recovers directory graph lines free undone finds formatted durable spared =
       let known_seen : AllKnown first → AllKnown seen = looks.changes.known in
       let same : new.size ≡ seen.size = goes.size in
       let size : seen.size ≡ first.size = looks.changes.size in
@@ -446,21 +456,20 @@ module _ (first seen new : Memory) (enough : min_lines ≤ first.size) (most : f
         directory_stays = blank_keeps;
         recovering = λ tells before all used. absurd (used (zero (telling_knows first tells)));
         goes_on = blank_goes;
-        later = omega (arith, looks.later, later);
+        spared = spared ∙ stood;
       }
 
   pub blank_fails : (fault : RecoverFault) → (AllKnown seen → IsBadFault fault → ⊥)
-      → (fault ≡ faults.ImageFailed → Rose seen.faults new.faults) → FailsToRecover first new fault
+      → IsCauseOf faults.ImageFailed fault seen.faults new.faults → FailsToRecover first new fault
   blank_fails fault never cause = record {
     bad = λ known. untied (meaning first.size (shown first)) fault (never (looks.changes.known known));
-    cause = λ is. let rose = cause is in rose_later first.faults seen.faults new.faults looks.later rose;
+    cause = cause_on faults.ImageFailed fault first.faults seen.faults new.faults stood cause;
     put_back = λ known bad. absurd (never (looks.changes.known known) bad);
     stores = blank_stores;
     stops = blank_stops;
     directory_stays = blank_keeps;
     recovering = λ tells before all enough used pass. absurd (used (zero (telling_knows first tells)));
     goes_on = blank_goes;
-    later = omega (arith, looks.later, later);
   }
 
 -- ---- any other was recovered, or not
@@ -471,7 +480,7 @@ module _ (first seen new : Memory) (words : ℕ) (enough : min_lines ≤ first.s
     → StopsLeave first new (IsRecoveringIn first.size (shown first)))
     (restores : AllKnown first → ChangesTo (IsRestored (shown first)) first new)
     (refused : AllKnown first → FailsFirst first.size (shown first) → ChangesTo Nothing first new)
-    (goes : GoesOn seen new) (later : seen.faults ≤ new.faults) where
+    (goes : GoesOn seen new) (stood : seen.faults ≡ first.faults) where
   -- words are put back and counts cleared, alone
   used_stores : StoresItsOwn first new
   used_stores = record {
@@ -503,8 +512,9 @@ module _ (first seen new : Memory) (words : ℕ) (enough : min_lines ≤ first.s
       → (AllKnown first → FindsImage first.size (shown first) directory graph lines free undone)
       → (AllKnown first → IsRecovered first new)
       → (Tells first → AllWritten first → AllDurable new)
+      → new.faults ≡ seen.faults
       → Recovers first new directory graph lines free undone
-  used_recovers directory graph lines free undone finds done durable =
+  used_recovers directory graph lines free undone finds done durable spared =
       let size : new.size ≡ first.size = goes.size ∙ looks.changes.size in
       let stands : AllKnown first → StandsFor first.size (shown first) graph
       = λ known. finds_stand first.size (shown first) directory graph lines free undone (finds known) in
@@ -525,7 +535,7 @@ module _ (first seen new : Memory) (words : ℕ) (enough : min_lines ≤ first.s
         directory_stays = used_keeps;
         recovering = λ tells before all used. leaves tells before all (finds (telling_knows first tells)).finds.opens.logs;
         goes_on = used_goes;
-        later = omega (arith, looks.later, later);
+        spared = spared ∙ stood;
       }
 
   -- it is of the version that its superblock has
@@ -538,15 +548,14 @@ module _ (first seen new : Memory) (words : ℕ) (enough : min_lines ≤ first.s
 
   pub used_fails : (fault : RecoverFault) → (AllKnown first → IsFaultOf (meaning first.size (shown first)) fault)
       → (AllKnown first → IsBadFault fault → ChangesTo (IsPutBack (shown first)) first new)
-      → (fault ≡ faults.ImageFailed → Rose seen.faults new.faults) → FailsToRecover first new fault
+      → IsCauseOf faults.ImageFailed fault seen.faults new.faults → FailsToRecover first new fault
   used_fails fault bad put_back cause = record {
     bad = bad;
-    cause = λ same. rose_later first.faults seen.faults new.faults looks.later (cause same);
+    cause = cause_on faults.ImageFailed fault first.faults seen.faults new.faults stood cause;
     put_back = put_back;
     stores = used_stores;
     stops = used_stops;
     directory_stays = used_keeps;
     recovering = λ tells before all enough used pass. leaves tells before all pass;
     goes_on = used_goes;
-    later = omega (arith, looks.later, later);
   }

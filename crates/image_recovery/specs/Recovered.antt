@@ -1,7 +1,6 @@
 -- Images that were recovered. Of this project's own format.
 use Rattle.std.specs.Prelude.{◌≡◌, ◌≢◌, ◌⊎◌, ℕ, List, [], None, IsSome, IsErr}
 use Rattle.graph_model.specs.declared.types.Graph.{Graph}
-use Rattle.line_memory.specs.Memory.{Memory, shown}
 use Rattle.image_layout.specs.Places.{first_object_line, super_check}
 use Rattle.image_meaning.specs.Checks.{Words}
 use Rattle.image_meaning.specs.Directories.{Directory, directory_of}

@@ -1,6 +1,6 @@
 -- What a recovery comes to: an image that is recovered, or one that isn't. Of this project's own format.
 use Rattle.std.specs.Prelude.{◌≡◌, ◌≢◌, ◌⊎◌, ◌≤◌, ◌+◌, ◌*◌, ℕ, List, None}
-use Rattle.ap_base.specs.Causes.{Rose}
+use Rattle.ap_base.specs.Causes.{IsCauseOf}
 use Rattle.graph_model.specs.declared.types.Graph.{Graph}
 use Rattle.line_memory.specs.Memory.{Memory, shown}
 use Rattle.image_layout.specs.Places.{max_lines, min_lines, logs, log_entries}
@@ -66,14 +66,14 @@ pub record Recovers (old new : Memory) (directory : Kept) (graph : Graph) (lines
   pub directory_stays : StopsKeepTheDirectory old new
   pub recovering : Tells old → AllDurable old → AllWritten old → shown old 0 0 ≢ 0
       → StopsLeave old new (IsRecoveringIn old.size (shown old))
-  -- the memory goes on, and its image's count of faults never falls
+  -- the memory goes on, and its image didn't fail
   pub goes_on : GoesOn old new
-  pub later : old.faults ≤ new.faults
+  pub spared : new.faults ≡ old.faults
 
 -- An image isn't recovered, for this fault.
 pub record FailsToRecover (old new : Memory) (fault : RecoverFault) : Type 0 where
   pub bad : AllKnown old → IsFaultOf (meaning old.size (shown old)) fault
-  pub cause : fault ≡ ImageFailed → Rose old.faults new.faults
+  pub cause : IsCauseOf ImageFailed fault old.faults new.faults
   -- where it is bad, words were put back alone
   pub put_back : AllKnown old → IsBadFault fault → ChangesTo (IsPutBack (shown old)) old new
   pub stores : StoresItsOwn old new
@@ -82,6 +82,5 @@ pub record FailsToRecover (old new : Memory) (fault : RecoverFault) : Type 0 whe
   pub directory_stays : StopsKeepTheDirectory old new
   pub recovering : Tells old → AllDurable old → AllWritten old → min_lines ≤ old.size → shown old 0 0 ≢ 0
       → logs_fault old.size (shown old) ≡ None → StopsLeave old new (IsRecoveringIn old.size (shown old))
-  -- the memory goes on, and its image's count of faults never falls
+  -- the memory goes on
   pub goes_on : GoesOn old new
-  pub later : old.faults ≤ new.faults

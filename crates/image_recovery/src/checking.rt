@@ -1,6 +1,6 @@
 // The logs are checked.
-ghost use Rattle.std.specs.Prelude.{◌≡◌, ◌<◌, ◌≤◌, ◌+◌, ◌++◌, ◌==◌, if◌then◌else◌, None, OnOk, IfOk, IfErr, IsErrOf};
-ghost use Rattle.ap_base.specs.Causes.{Rose};
+ghost use Rattle.std.specs.Prelude.{◌≡◌, ◌<◌, ◌≤◌, ◌+◌, ◌++◌, ◌==◌, if◌then◌else◌, None, OnOk, IfOk, IfErr};
+ghost use Rattle.ap_base.specs.Causes.{HasCauseOf};
 ghost use Rattle.line_memory.specs.Memory.{Memory, shown};
 ghost use Rattle.image_layout.specs.declared.superblock.BadReason.TheVariants.{LogCount};
 ghost use Rattle.image_layout.specs.Places.{min_lines, logs, log_entries};
@@ -31,7 +31,7 @@ pub fn check_logs<I: Image>(alloc: Global, memory: &mut LineMemory<I>) -> Result
     ensures bad { (first : Memory) → AllKnown first → Looks first memory.old
         → IfErr result (IsFault (logs_fault first.size (shown first))) }
     ensures looks { Looks memory.old memory.new }
-    ensures cause { IsErrOf result RecoverFault.ImageFailed → Rose memory.old.faults memory.new.faults }
+    ensures cause { HasCauseOf RecoverFault.ImageFailed memory.old.faults memory.new.faults result }
 {
     let mut places = BTreeSet::new(alloc);
     let mut undone = 0;
@@ -69,7 +69,7 @@ fn check_log<I: Image>(
         → HasPlaces places.old (logs_below (shown first) thread)
         → IfErr result (IsFault (log_fault first.size (shown first) thread)) }
     ensures looks { Looks memory.old memory.new }
-    ensures cause { IsErrOf result RecoverFault.ImageFailed → Rose memory.old.faults memory.new.faults }
+    ensures cause { HasCauseOf RecoverFault.ImageFailed memory.old.faults memory.new.faults result }
 {
     let head = head_spot(thread);
     let word = read_word(memory, head)?;
@@ -116,7 +116,7 @@ fn check_entry<I: Image>(
         → HasPlaces places.old (first_logged (shown first) thread n ++ logs_below (shown first) thread)
         → IfErr result (IsFault (entry_fault first.size (shown first) thread n)) }
     ensures looks { Looks memory.old memory.new }
-    ensures cause { IsErrOf result RecoverFault.ImageFailed → Rose memory.old.faults memory.new.faults }
+    ensures cause { HasCauseOf RecoverFault.ImageFailed memory.old.faults memory.new.faults result }
 {
     let spot = entry_spot(thread, n);
     let place = read_word(memory, spot)?;

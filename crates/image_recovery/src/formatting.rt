@@ -1,6 +1,6 @@
 // A blank image is formatted.
-ghost use Rattle.std.specs.Prelude.{◌≡◌, ◌≤◌, [], OnOk, IfOk, IfErr, IsErrOf};
-ghost use Rattle.ap_base.specs.Causes.{Rose};
+ghost use Rattle.std.specs.Prelude.{◌≡◌, ◌≤◌, [], OnOk, IfOk, IfErr};
+ghost use Rattle.ap_base.specs.Causes.{HasCauseOf};
 ghost use Rattle.line_memory.specs.Memory.{shown};
 ghost use Rattle.image_layout.specs.Places.{min_lines, max_lines, first_object_line, version};
 ghost use Rattle.image_meaning.specs.Meaning.{empty_graph};
@@ -38,8 +38,7 @@ pub(crate) fn recover_blank<I: Image>(
         → StopsLeave memory.old memory.new (IsBlankOrFormatted memory.old.size) }
     ensures goes_on { GoesOn memory.old memory.new }
     ensures calls { CallsAtMost memory.old memory.new most_formatting_calls }
-    ensures later { memory.old.faults ≤ memory.new.faults }
-    ensures cause { IsErrOf result RecoverFault.ImageFailed → Rose memory.old.faults memory.new.faults }
+    ensures cause { HasCauseOf RecoverFault.ImageFailed memory.old.faults memory.new.faults result }
 {
     format_image(memory)?;
     let directory = read_entries(alloc, memory, 0)?;

@@ -1,6 +1,6 @@
 // What stands before the objects of an image is read and checked: the directory, and the logs.
-ghost use Rattle.std.specs.Prelude.{◌≡◌, ◌≤◌, [], length, None, Ok, OnOk, IfOk, IfErr, IsErrOf};
-ghost use Rattle.ap_base.specs.Causes.{Rose};
+ghost use Rattle.std.specs.Prelude.{◌≡◌, ◌≤◌, [], length, None, Ok, OnOk, IfOk, IfErr};
+ghost use Rattle.ap_base.specs.Causes.{HasCauseOf};
 ghost use Rattle.line_memory.specs.Memory.{Memory, shown};
 ghost use Rattle.image_layout.specs.Places.{min_lines, root_slots, directory_words};
 ghost use Rattle.image_meaning.specs.Directories.{directory_of};
@@ -52,7 +52,7 @@ pub(crate) fn read_front<I: Image>(
     ensures bad { (first : Memory) → AllKnown first → Looks first memory.old
         → IsUsed first.size (shown first) used → IfErr result (IsFaultOf (meaning first.size (shown first))) }
     ensures looks { Looks memory.old memory.new }
-    ensures cause { IsErrOf result RecoverFault.ImageFailed → Rose memory.old.faults memory.new.faults }
+    ensures cause { HasCauseOf RecoverFault.ImageFailed memory.old.faults memory.new.faults result }
 {
     let directory = read_entries(alloc, memory, used)?;
     let undone = check_logs(alloc, memory)?;
@@ -79,7 +79,7 @@ pub(crate) fn read_entries<I: Image>(
     ensures bad { (first : Memory) → AllKnown first → Looks first memory.old → used ≡ shown first 0 3
         → IfErr result (IsFaultOf (directory_of (shown first))) }
     ensures looks { Looks memory.old memory.new }
-    ensures cause { IsErrOf result RecoverFault.ImageFailed → Rose memory.old.faults memory.new.faults }
+    ensures cause { HasCauseOf RecoverFault.ImageFailed memory.old.faults memory.new.faults result }
 {
     match read_directory(alloc, memory, used) {
         Ok(directory) => Ok(directory),

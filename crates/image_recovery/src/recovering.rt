@@ -1,6 +1,6 @@
 // An image that isn't blank is recovered.
-ghost use Rattle.std.specs.Prelude.{◌≡◌, ◌≤◌, None, OnOk, IfOk, IfErr, IsErrOf};
-ghost use Rattle.ap_base.specs.Causes.{Rose};
+ghost use Rattle.std.specs.Prelude.{◌≡◌, ◌≤◌, None, OnOk, IfOk, IfErr};
+ghost use Rattle.ap_base.specs.Causes.{HasCauseOf};
 ghost use Rattle.line_memory.specs.Memory.{Memory, shown};
 ghost use Rattle.image_layout.specs.Places.{min_lines, max_lines, directory_words};
 ghost use Rattle.image_meaning.specs.Logs.{logs_fault};
@@ -70,8 +70,7 @@ pub(crate) fn recover_used<I: Image>(
         → StopsLeave first memory.new (IsRecoveringIn first.size (shown first)) }
     ensures goes_on { GoesOn memory.old memory.new }
     ensures calls { CallsAtMost memory.old memory.new most_recovery_calls }
-    ensures later { memory.old.faults ≤ memory.new.faults }
-    ensures cause { IsErrOf result RecoverFault.ImageFailed → Rose memory.old.faults memory.new.faults }
+    ensures cause { HasCauseOf RecoverFault.ImageFailed memory.old.faults memory.new.faults result }
 {
     let front = read_front(alloc, memory, used)?;
     put_back_logs(memory)?;

@@ -44,7 +44,7 @@ pub struct Recovered<I: Image> {
 /// # Errors
 ///
 /// `Bad` exactly where a check fails, of the size among them: the first one; then words were put back alone, and none where it
-/// is of the size, the superblock, the directory or the logs. `ImageFailed` where the image's count of faults rose.
+/// is of the size, the superblock, the directory or the logs. `ImageFailed` exactly where the image failed, once.
 pub fn recover<I: Image>(
     alloc: Global,
     mut memory: LineMemory<I>,

@@ -1,6 +1,6 @@
 // The superblock is read.
-ghost use Rattle.std.specs.Prelude.{◌≡◌, ◌<◌, ◌≤◌, ℕ, false, None, slice_index, OnOk, IfOk, IfErr, IsErrOf};
-ghost use Rattle.ap_base.specs.Causes.{HasCause, Rose};
+ghost use Rattle.std.specs.Prelude.{◌≡◌, ◌<◌, ◌≤◌, ℕ, false, None, slice_index, OnOk, IfOk, IfErr};
+ghost use Rattle.ap_base.specs.Causes.{HasCause, HasCauseOf};
 ghost use Rattle.line_memory.specs.Memory.{shown};
 ghost use Rattle.image_layout.specs.declared.superblock.BadReason.TheVariants.{Size};
 ghost use Rattle.image_layout.specs.Places.{min_lines, max_lines, has_size, super_check, super_of};
@@ -29,7 +29,7 @@ pub fn read_super<I: Image>(memory: &mut LineMemory<I>) -> Result<Super, Recover
     ensures bad { AllKnown memory.old
         → IfErr result (IsFault (at_super (super_check (shown memory.old 0) memory.old.size))) }
     ensures looks { Looks memory.old memory.new }
-    ensures cause { IsErrOf result RecoverFault.ImageFailed → Rose memory.old.faults memory.new.faults }
+    ensures cause { HasCauseOf RecoverFault.ImageFailed memory.old.faults memory.new.faults result }
 {
     check_size(memory.lines())?;
     let words = read_first_line(memory)?;

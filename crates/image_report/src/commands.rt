@@ -1,6 +1,6 @@
 // An image is opened, and what it holds is printed.
 ghost use Rattle.std.specs.Prelude.{◌≡◌, ◌≢◌, Err, OnOk, IfErr};
-ghost use Rattle.ap_base.specs.Causes.{Rose, next_count};
+ghost use Rattle.ap_base.specs.Causes.{next_count};
 ghost use Rattle.image_opening.specs.Attached.{IsSettled};
 ghost use Rattle.image_opening.specs.Stops.{KeepsItsGraph};
 ghost use Rattle.image_report.specs.Reports.{HasPrinted, IsChecked, IsDumped, IsLeftOpen, IsUnreported, WasOpened};
@@ -37,8 +37,10 @@ pub fn check_image<I: Image, S: Sink>(alloc: Global, image: I, mut sink: S) -> R
     ensures left { WasOpened result.how → IsLeftOpen (I.told image) (I.told result.image) }
     ensures stops { IsSettled (I.told image) → KeepsItsGraph (I.told image) (I.told result.image) }
     ensures size { (I.told result.image).size ≡ (I.told image).size }
-    ensures image_cause { IfErr result.how (λ why. why ≡ NotReported.Unopened NotOpened.ImageFailed
-        → Rose (I.faults image) (I.faults result.image)) }
+    ensures image_fault { IfErr result.how (λ why. why ≡ NotReported.Unopened NotOpened.ImageFailed
+        → I.faults result.image ≡ next_count (I.faults image)) }
+    ensures image_spared { result.how ≢ Err (NotReported.Unopened NotOpened.ImageFailed)
+        → I.faults result.image ≡ I.faults image }
     ensures sink_fault { IfErr result.how (λ why. why ≡ NotReported.SinkFailed
         → S.faults result.sink ≡ next_count (S.faults sink)) }
     ensures sink_spared { result.how ≢ Err NotReported.SinkFailed → S.faults result.sink ≡ S.faults sink }
@@ -85,8 +87,10 @@ pub fn dump_image<I: Image, S: Sink>(alloc: Global, image: I, mut sink: S) -> Re
     ensures left { WasOpened result.how → IsLeftOpen (I.told image) (I.told result.image) }
     ensures stops { IsSettled (I.told image) → KeepsItsGraph (I.told image) (I.told result.image) }
     ensures size { (I.told result.image).size ≡ (I.told image).size }
-    ensures image_cause { IfErr result.how (λ why. why ≡ NotReported.Unopened NotOpened.ImageFailed
-        → Rose (I.faults image) (I.faults result.image)) }
+    ensures image_fault { IfErr result.how (λ why. why ≡ NotReported.Unopened NotOpened.ImageFailed
+        → I.faults result.image ≡ next_count (I.faults image)) }
+    ensures image_spared { result.how ≢ Err (NotReported.Unopened NotOpened.ImageFailed)
+        → I.faults result.image ≡ I.faults image }
     ensures sink_fault { IfErr result.how (λ why. why ≡ NotReported.SinkFailed
         → S.faults result.sink ≡ next_count (S.faults sink)) }
     ensures sink_spared { result.how ≢ Err NotReported.SinkFailed → S.faults result.sink ≡ S.faults sink }

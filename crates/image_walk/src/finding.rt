@@ -1,7 +1,7 @@
 // The graph of an image.
-ghost use Rattle.std.specs.Prelude.{◌≡◌, ◌≤◌, map, length, slice_index_or, IfOk, IfErr, IsErrOf};
+ghost use Rattle.std.specs.Prelude.{◌≡◌, ◌≤◌, map, length, slice_index_or, IfOk, IfErr};
 ghost use Rattle.std.specs.List.{range_with_len};
-ghost use Rattle.ap_base.specs.Causes.{Rose};
+ghost use Rattle.ap_base.specs.Causes.{HasCauseOf};
 ghost use Rattle.graph_model.specs.declared.types.Value.TheVariants.{Null};
 ghost use Rattle.image_layout.specs.Places.{min_lines, max_lines, root_slots};
 ghost use Rattle.image_meaning.specs.Checks.{Words};
@@ -45,7 +45,7 @@ pub fn find_graph<I: Image>(
     ensures bad { (c : Words) → Shows memory.old c
         → IfErr result (IsFaultOf (graph_from memory.old.size (directory_with shapes.now roots.now) c)) }
     ensures looks { Looks memory.old memory.new }
-    ensures cause { IsErrOf result RecoverFault.ImageFailed → Rose memory.old.faults memory.new.faults }
+    ensures cause { HasCauseOf RecoverFault.ImageFailed memory.old.faults memory.new.faults result }
 {
     let values = read_roots(alloc, memory, roots.len())?;
     let mut found = FoundObjects::new(alloc, memory.lines() as usize)?;

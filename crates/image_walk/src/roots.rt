@@ -1,6 +1,6 @@
 // The root slots.
 ghost use Rattle.std.specs.Prelude.{◌≡◌, ◌<◌, ◌≤◌, ◌++◌, None, All, IfOk, OnOk, IfErr, IsErrOf};
-ghost use Rattle.ap_base.specs.Causes.{Rose};
+ghost use Rattle.ap_base.specs.Causes.{HasCauseOf};
 ghost use Rattle.image_layout.specs.Places.{min_lines, max_lines, root_slots, slot_line, slot_word};
 ghost use Rattle.image_meaning.specs.Checks.{Words};
 ghost use Rattle.image_meaning.specs.Meaning.{roots_fault, root_values_of};
@@ -40,7 +40,7 @@ pub(crate) fn read_roots<I: Image>(
     ensures within { IfOk result (λ values. All (NamesIn memory.old.size) values.items) }
     ensures bad { (c : Words) → Shows memory.old c → IfErr result (IsFault (roots_fault memory.old.size c roots)) }
     ensures looks { Looks memory.old memory.new }
-    ensures cause { IsErrOf result RecoverFault.ImageFailed → Rose memory.old.faults memory.new.faults }
+    ensures cause { HasCauseOf RecoverFault.ImageFailed memory.old.faults memory.new.faults result }
 {
     let size = memory.lines();
     let mut values = Vec::new(alloc);

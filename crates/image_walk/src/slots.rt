@@ -1,7 +1,6 @@
 // The slots of objects.
-ghost use Rattle.std.specs.Prelude.{◌≡◌, ◌<◌, ◌≤◌, ◌+◌, None, map, All, IfOk, IfErr, IsErrOf};
-ghost use Rattle.std.specs.List.{range_with_len};
-ghost use Rattle.ap_base.specs.Causes.{Rose};
+ghost use Rattle.std.specs.Prelude.{◌≡◌, ◌<◌, ◌≤◌, ◌+◌, None, All, IfOk, IfErr};
+ghost use Rattle.ap_base.specs.Causes.{HasCauseOf};
 ghost use Rattle.image_layout.specs.Places.{max_lines, first_object_line, lines_of, object_line, object_word};
 ghost use Rattle.image_meaning.specs.Checks.{Words, first_fault};
 ghost use Rattle.image_meaning.specs.Objects.{slot_fault};
@@ -45,7 +44,7 @@ pub(crate) fn read_values<I: Image>(
     ensures bad { (c : Words) → Shows memory.old c
         → IfErr result (IsFault (first_fault (slot_fault memory.old.size c shape.now line) length)) }
     ensures looks { Looks memory.old memory.new }
-    ensures cause { IsErrOf result RecoverFault.ImageFailed → Rose memory.old.faults memory.new.faults }
+    ensures cause { HasCauseOf RecoverFault.ImageFailed memory.old.faults memory.new.faults result }
 {
     let size = memory.lines();
     let mut values = Vec::with_capacity(alloc, length as usize)?;

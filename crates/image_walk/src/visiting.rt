@@ -1,6 +1,6 @@
 // One object that was found.
-ghost use Rattle.std.specs.Prelude.{◌≡◌, ◌<◌, ◌≤◌, ℕ, List, length, IfOk, IfErr, IsErrOf};
-ghost use Rattle.ap_base.specs.Causes.{Rose};
+ghost use Rattle.std.specs.Prelude.{◌≡◌, ◌<◌, ◌≤◌, ℕ, List, length, IfOk, IfErr};
+ghost use Rattle.ap_base.specs.Causes.{HasCauseOf};
 ghost use Rattle.image_layout.specs.Places.{max_lines, first_object_line};
 ghost use Rattle.image_meaning.specs.Checks.{Words};
 ghost use Rattle.image_meaning.specs.Objects.{object_fault};
@@ -48,7 +48,7 @@ pub(crate) fn visit<I: Image>(
     ensures objects_after { found.new.objects ≡ found.old.objects }
     ensures lines_after { length taken.new ≡ length taken.old }
     ensures looks { Looks memory.old memory.new }
-    ensures cause { IsErrOf result RecoverFault.ImageFailed → Rose memory.old.faults memory.new.faults }
+    ensures cause { HasCauseOf RecoverFault.ImageFailed memory.old.faults memory.new.faults result }
 {
     let word = read_word(memory, Spot { line, word: 0 })?;
     let head = check_head(shapes, memory.lines(), line, word)?;

@@ -1,6 +1,6 @@
 // The walk over all objects that are found.
-ghost use Rattle.std.specs.Prelude.{◌≡◌, ◌≤◌, [], List, IfOk, IfErr, IsErrOf};
-ghost use Rattle.ap_base.specs.Causes.{Rose};
+ghost use Rattle.std.specs.Prelude.{◌≡◌, ◌≤◌, [], List, IfOk, IfErr};
+ghost use Rattle.ap_base.specs.Causes.{HasCauseOf};
 ghost use Rattle.graph_model.specs.declared.types.Value.{Value as AnyValue};
 ghost use Rattle.graph_model.specs.Canon.{with_new};
 ghost use Rattle.image_layout.specs.Places.{max_lines};
@@ -41,7 +41,7 @@ pub(crate) fn walk_objects<I: Image>(
     ensures bad { (c : Words) (start : List AnyValue) → Shows memory.old c → found.numbers ≡ with_new [] start
         → IfErr result (IsFaultOf (walk shapes.now memory.old.size c start memory.old.size)) }
     ensures looks { Looks memory.old memory.new }
-    ensures cause { IsErrOf result RecoverFault.ImageFailed → Rose memory.old.faults memory.new.faults }
+    ensures cause { HasCauseOf RecoverFault.ImageFailed memory.old.faults memory.new.faults result }
 {
     let mut lines = vec![in alloc; false; memory.lines() as usize]?;
     let taken = lines.as_mut_slice();

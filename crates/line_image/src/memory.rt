@@ -194,7 +194,6 @@ impl Image for MemoryImage {
         ensures cause { HasCause (faults_of self.old) (faults_of self.new) result }
 
         ensures fails { IsErr result ↔ CallFails (fails_of self.old) (told_of self.new).calls }
-        ensures no_fault { OnOk result (faults_of self.new ≡ faults_of self.old) }
         ensures same_fails { fails_of self.new ≡ fails_of self.old }
         ensures same_room { room_of self.new ≡ room_of self.old }
     {
@@ -223,7 +222,6 @@ impl Image for MemoryImage {
         ensures adds { 0 < room_of self.old → (told_of self.new).trace
             ≡ did (Wrote line words.now) (told_of self.new).calls (told_of self.old).trace }
         ensures full { room_of self.old ≡ 0 → (told_of self.new).trace ≡ (told_of self.old).trace }
-        ensures no_fault { OnOk result (faults_of self.new ≡ faults_of self.old) }
         ensures same_fails { fails_of self.new ≡ fails_of self.old }
         ensures room { room_of self.new ≡ room_of self.old - 1 }
     {
@@ -253,7 +251,6 @@ impl Image for MemoryImage {
 
         ensures fails { IsErr result ↔ (CallFails (fails_of self.old) (told_of self.new).calls
             ⊎ (room_of self.old ≡ 0)) }
-        ensures no_fault { OnOk result (faults_of self.new ≡ faults_of self.old) }
         ensures same_fails { fails_of self.new ≡ fails_of self.old }
         ensures room { room_of self.new ≡ room_of self.old - 1 }
     {

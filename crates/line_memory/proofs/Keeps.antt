@@ -106,9 +106,9 @@ module _ (old new : Memory) (lines : new.lines ≡ old.lines) (size : new.size �
 pub attaches : (image : Told) (faults : ℕ) (m : Memory) → IsCounted image → m.size ≡ image.size
     → (32768 ≤ m.size) × (m.size ≤ 4194304) → m.image.trace ≡ image.trace → image.calls ≤ m.image.calls
     → m.calls ≡ image.size → CountsFrom image.calls m
-    → ((l : ℕ) → l < m.size → Reads image.trace l (line_shown m l)) → faults ≤ m.faults
+    → ((l : ℕ) → l < m.size → Reads image.trace l (line_shown m l)) → m.faults ≡ faults
     → Attaches image faults m
-attaches image faults m counted size range same calls_later calls counts reads later = record {
+attaches image faults m counted size range same calls_later calls counts reads spared = record {
   size = size;
   range = range;
   known = λ l below. inl (every_line_is_resident m l below);
@@ -118,7 +118,7 @@ attaches image faults m counted size range same calls_later calls counts reads l
   calls = calls;
   counts = counts;
   any_moment = goes_quietly image m.image counted calls_later same;
-  later = later;
+  spared = spared;
 }
   where
     shows : (l w : ℕ) → l < m.size → ReadsWord image.trace l w (shown m l w)

@@ -1,6 +1,6 @@
 -- An image whose lines were read, each once, and one that is given back.
 use Rattle.std.specs.Prelude.{◌≡◌, ◌⊎◌, ◌↔◌, ◌<◌, ◌≤◌, ℕ}
-use Rattle.ap_base.specs.Causes.{Rose}
+use Rattle.ap_base.specs.Causes.{IsCauseOf}
 use Rattle.line_image.specs.Trace.{LeavesNow, IsAllFenced}
 use Rattle.line_image.specs.Told.{Told}
 use Rattle.line_memory.specs.Memory.{Memory, shown, IsKnown, ReadsWord, IsDurable}
@@ -19,13 +19,12 @@ pub record Attaches (image : Told) (faults : ℕ) (m : Memory) : Type 0 where
   pub calls : m.calls ≡ image.size
   pub counts : CountsFrom image.calls m
   pub any_moment : Goes image m.image (LeavesNow image.trace)
-  pub later : faults ≤ m.faults
+  pub spared : m.faults ≡ faults
 
 -- The image given back with the fault, and what it tells and how often it has failed by then.
 pub record GivesBack (image : Told) (faults : ℕ) (fault : AttachFault) (back : Told) (faults_back : ℕ) : Type 0 where
   pub size_fault : fault ≡ Size ↔ ((image.size < 32768) ⊎ (4194304 < image.size))
-  pub cause : fault ≡ ImageFailed → Rose faults faults_back
+  pub cause : IsCauseOf ImageFailed fault faults faults_back
   pub same_size : back.size ≡ image.size
   pub same_trace : back.trace ≡ image.trace
   pub any_moment : Goes image back (LeavesNow image.trace)
-  pub later : faults ≤ faults_back

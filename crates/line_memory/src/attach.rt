@@ -1,6 +1,6 @@
 // Reads all lines of an image.
 ghost use Rattle.std.specs.Prelude.{◌≡◌, ◌+◌, ◌-◌, ◌^◌, min, ◌<◌, ◌≤◌, ℕ, [], length, get_or, OnOk, IfOk, IsErrOf};
-ghost use Rattle.ap_base.specs.Causes.{Rose};
+ghost use Rattle.ap_base.specs.Causes.{HasCauseOf};
 ghost use Rattle.line_image.specs.Trace.{Reads};
 ghost use Rattle.line_memory.specs.declared.attach.AttachFault.TheVariants.{OutOfMemory as NoMemory, ImageFailed as Failed};
 
@@ -58,8 +58,7 @@ pub(crate) fn read_lines<I: Image>(
     ensures calls { OnOk result ((I.told image.new).calls
         ≡ min ((I.told image.old).calls + count) (2 ^ 64 - 1)) }
     ensures calls_later { (I.told image.old).calls ≤ (I.told image.new).calls }
-    ensures later { I.faults image.old ≤ I.faults image.new }
-    ensures cause { IsErrOf result AttachFault.ImageFailed → Rose (I.faults image.old) (I.faults image.new) }
+    ensures cause { HasCauseOf AttachFault.ImageFailed (I.faults image.old) (I.faults image.new) result }
     ensures never { IsErrOf result AttachFault.Size → ⊥ }
 {
     let mut lines = Vec::with_capacity(alloc, count as usize)?;

@@ -3,10 +3,10 @@ use Rattle.std.proofs.Common.{◌≡◌, ℕ, List, None}
 use Rattle.run_history.specs.Knowing.{Knowledge, pending_of}
 use Rattle.stop_theorem.specs.Layouts.{Layout}
 use Rattle.twin_forms.specs.Table.{Entry}
-use Rattle.machine_forms.specs.declared.doing.Doing.{Doing}
-use Rattle.machine_forms.specs.declared.doing.Doing.TheVariants.{Nothing, Converting, Writing, Fencing}
-use Rattle.machine_forms.specs.Machines.{Opening, Machine, known_in, doing_of, layout_in}
-use Rattle.machine_forms.specs.Keeping.{IsDoing, KeepsRun}
+use Rattle.machine_threads.specs.Passed.{Doing}
+use Rattle.machine_threads.specs.Passed.{Nothing, Converting, Writing, Fencing}
+use Rattle.machine_threads.specs.Passed.{Opening, Machine, known_in, doing_of, layout_in}
+use Rattle.machine_threads.specs.Passed.{IsDoing, KeepsRun}
 
 abbrev pub IsIdle : Doing → Type 0
 IsIdle Converting = ⊥

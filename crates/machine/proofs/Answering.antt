@@ -12,7 +12,7 @@ use Rattle.shared_heap.specs.Passed.{BehindGoes, FaultsGo, OutputGoes, SharesGo}
 use Rattle.run_forms.specs.Views.{ThreadFrames}
 use Rattle.twin_forms.specs.Table.{Entry}
 use Rattle.region_log.specs.declared.entry.Underway.TheVariants.{Nothing as Idle}
-use Rattle.machine_forms.specs.Machines.{Opening, doing_of, log_of, shown_in}
+use Rattle.machine_threads.specs.Passed.{Opening, doing_of, log_of, shown_in}
 use Rattle.machine_threads.specs.Passed.{IsReady}
 use Rattle.object_steps.specs.declared.storing.Store.{Store}
 use Rattle.shared_heap.specs.Shared.{Shared}

@@ -28,8 +28,8 @@ use Rattle.convert_words.specs.Agreeing.{current_word, IsResolved}
 use Rattle.convert_words.specs.Scenes.{Scene, AgreesAt, IsKey}
 use Rattle.converter.specs.Stepping.{keys_of, key_words}
 use Rattle.converter.proofs.Calling.{key_cons}
-use Rattle.machine_forms.specs.Machines.{Opening, Machine, roots_in, scene_of, shown_in}
-use Rattle.machine_forms.specs.Keeping.{KeepsRun, KeepsHeap, KeepsWorld, KeepsAsked}
+use Rattle.machine_threads.specs.Passed.{Opening, Machine, roots_in, scene_of, shown_in}
+use Rattle.machine_threads.specs.Passed.{KeepsRun, KeepsHeap, KeepsWorld, KeepsAsked}
 use Rattle.machine_threads.specs.Passed.{RunsAsPlain}
 
 -- ---- keys of monitors

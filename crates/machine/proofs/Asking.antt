@@ -34,11 +34,11 @@ use Rattle.std.proofs.lemmas.Bool.{cases_lt}
 use Rattle.convert_queue.specs.Queues.{Queued, phase_of, queue_of, total, Queues}
 use Rattle.converter.specs.declared.begin.Begun.{Begun}
 use Rattle.converter.specs.declared.begin.Begun.TheVariants as begun
-use Rattle.machine_forms.specs.declared.doing.Doing.{Doing}
-use Rattle.machine_forms.specs.declared.doing.Doing.TheVariants.{Nothing, Converting}
-use Rattle.machine_forms.specs.Machines.{Opening, Machine, doing_of, known_in, layout_in, memory_of, scene_of, log_of, shown_in}
-use Rattle.machine_forms.specs.Keeping.{IsDoing}
-use Rattle.machine_forms.specs.Events.{AsksFor, BeginsOn, act_in, value_in, with_asked}
+use Rattle.machine_threads.specs.Passed.{Doing}
+use Rattle.machine_threads.specs.Passed.{Nothing, Converting}
+use Rattle.machine_threads.specs.Passed.{Opening, Machine, doing_of, known_in, layout_in, memory_of, scene_of, log_of, shown_in}
+use Rattle.machine_threads.specs.Passed.{IsDoing}
+use Rattle.machine_threads.specs.Passed.{AsksFor, BeginsOn, act_in, value_in, with_asked}
 use Rattle.machine_threads.specs.Passed.{IsReady}
 use Rattle.machine_threads.specs.Passed.{StoresFreely}
 use Rattle.object_steps.specs.declared.storing.Store.{Store}
@@ -62,7 +62,7 @@ use Rattle.machine.proofs.Freely.{freely-volatile}
 use Rattle.machine.proofs.Leaving.{ends-same, few, goes-on, same-room, same-size, happened, as-they-were, Kept, asks-by, converts-now}
 use Rattle.machine.proofs.Memory.{same-image}
 use Rattle.machine.proofs.Planned.{is-store, same-value, to-hold, waits-none}
-use Rattle.machine_forms.specs.Happening as event
+use Rattle.machine_threads.specs.Happening as event
 use Rattle.machine.proofs.Needing.{NeedsBy, NeedsFirst}
 use Rattle.machine.proofs.Queued.{begun-queued}
 use Rattle.machine_threads.specs.Keeping.{LagsByItsStore}
@@ -156,7 +156,7 @@ module _ (laws : Laws) (o : Opening) (first : ℕ) (set : SetFacts) (s : Shared)
           };
           acts = inr (record { act = act; thread = refl; acts = refl });
           calls = inl (same-image (memory_of s.machine) (memory_of s.machine) refl);
-          cause = omega arith;
+          cause = refl;
           answers = tt;
           finds = λ logs. waits-none laws o first set s es threads t fs request store h;
           awaits = awaits-nothing o s.machine t nothing Micro;
@@ -275,7 +275,7 @@ module _ (laws : Laws) (o : Opening) (first : ℕ) (set : SetFacts) (s : Shared)
         goes = begun-asks begun.Claimed b claim-room;
         acts = inl (ap (λ (y : History). y.acts) b.history);
         calls = inl (same-image (memory_of s.machine) (memory_of new.machine) b.begins.memory);
-        cause = (let same = ap (λ (m : Memory). m.faults) b.begins.memory in omega (arith, same));
+        cause = ap (λ (m : Memory). m.faults) b.begins.memory;
         answers = tt;
         finds = λ logs. waits-none laws o first set s es threads t fs request store h;
         awaits = awaits-idle o s.machine t idle Micro;

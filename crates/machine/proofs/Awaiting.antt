@@ -22,9 +22,9 @@ use Rattle.converter.proofs.Waiting.{lacking_threads_wait}
 use Rattle.convert_waits.specs.Stuck.{HoldsWait}
 use Rattle.convert_waits.specs.Waiting.{WaitsForMember}
 use Rattle.convert_waits.proofs.Waiting.{needs-below}
-use Rattle.machine_forms.specs.declared.doing.Doing.TheVariants.{Nothing, Converting, Writing, Fencing}
-use Rattle.machine_forms.specs.Machines.{Opening, Machine, doing_of, scene_of}
-use Rattle.machine_forms.specs.Events.{IsFree}
+use Rattle.machine_threads.specs.Passed.{Nothing, Converting, Writing, Fencing}
+use Rattle.machine_threads.specs.Passed.{Opening, Machine, doing_of, scene_of}
+use Rattle.machine_threads.specs.Passed.{IsFree}
 use Rattle.machine_threads.specs.Stuck.{plain_waits}
 use Rattle.shared_heap.specs.Conversions.{HasBegun, MovesOn}
 use Rattle.machine.specs.declared.events.Event.{Event}

@@ -3,9 +3,9 @@ use Rattle.std.proofs.Common.{◌≡◌, ℕ, ◌<◌, List, [], ◌∷◌, ◌+
 use Rattle.std.specs.Prelude.{slice_index_or, slice_set}
 use Rattle.std.proofs.lemmas.List.{get_or-set_same, set-get_or, length-append}
 use Rattle.run_history.specs.Recorded.{History}
-use Rattle.machine_forms.specs.declared.doing.Doing.{Doing}
-use Rattle.machine_forms.specs.declared.doing.Doing.TheVariants.{Nothing}
-use Rattle.machine_forms.specs.Machines.{Machine}
+use Rattle.machine_threads.specs.Passed.{Doing}
+use Rattle.machine_threads.specs.Passed.{Nothing}
+use Rattle.machine_threads.specs.Passed.{Machine}
 use Rattle.shared_heap.specs.Notes.{ThreadNotes}
 use Rattle.shared_heap.specs.Shared.{Shared}
 

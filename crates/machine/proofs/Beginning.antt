@@ -25,11 +25,11 @@ use Rattle.region_log.specs.Log.{Log}
 use Rattle.region_events.specs.Laws.{MayBegin, one_deeper}
 use Rattle.twin_forms.specs.Table.{Entry}
 use Rattle.convert_queue.specs.Queues.{Queues, total}
-use Rattle.machine_forms.specs.declared.doing.Doing.{Doing}
-use Rattle.machine_forms.specs.declared.doing.Doing.TheVariants.{Nothing}
-use Rattle.machine_forms.specs.Machines.{Opening, Machine, doing_of, empty_log, known_in, log_of, shown_in}
-use Rattle.machine_forms.specs.Events.{BeginsRegion, DoesRequest, RegionStep, act_in}
-use Rattle.machine_forms.specs.Events as region
+use Rattle.machine_threads.specs.Passed.{Doing}
+use Rattle.machine_threads.specs.Passed.{Nothing}
+use Rattle.machine_threads.specs.Passed.{Opening, Machine, doing_of, empty_log, known_in, log_of, shown_in}
+use Rattle.machine_threads.specs.Passed.{BeginsRegion, DoesRequest, RegionStep, act_in}
+use Rattle.machine_threads.specs.RegionEvents as region
 use Rattle.plain_model.specs.Ends.{wait_of}
 use Rattle.machine_threads.specs.Passed.{IsReady, Begins}
 use Rattle.shared_heap.specs.Shared.{Shared}
@@ -48,7 +48,7 @@ use Rattle.machine.proofs.Leaving.{ends-idle, few, happened, asked, Kept, as-ans
 use Rattle.machine.proofs.Marks.{IsRegional, begins, marks, regional-whole}
 use Rattle.machine.proofs.Memory.{does-stay}
 use Rattle.machine.proofs.Stepping
-use Rattle.machine_forms.specs.Happening as event
+use Rattle.machine_threads.specs.Happening as event
 use Rattle.frames.specs.Turns.{answer, turn}
 use Rattle.machine.proofs.Noting.{noted-asks, noted-waits}
 use Rattle.machine.proofs.Threads.{as-many-threads}
@@ -184,7 +184,7 @@ module _ (laws : Laws) (o : Opening) (first : ℕ) (set : SetFacts) (s : Shared)
             tt (few laws o first set s es threads t fs request due room)))) nothing-now;
         acts = record { act = act; thread = refl; acts = new-acts };
         calls = inl stays.image;
-        cause = (let same = stays.image.faults in omega (arith, same));
+        cause = stays.image.faults;
         answers = regional-whole request (subst IsRegional (sym is_begin) tt);
         finds = laws.threads.wait o s.machine es threads due.running.keeps due.running.plain t fs request ready due.asks
             ∙ ap wait_of (begins o.launch.set (known_in o s.machine).world t 1 (shown_in s.machine).number request from

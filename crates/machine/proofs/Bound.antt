@@ -3,7 +3,7 @@ use Rattle.std.proofs.Common.{◌≡◌, ◌+◌, ◌*◌, ◌≤◌, [], ◌∷
 use Rattle.std.proofs.lemmas.List.{length-append}
 use Rattle.run_types.specs.declared.wait.On.{On}
 use Rattle.run_history.specs.Recorded.{Recorded}
-use Rattle.machine_forms.specs.Machines.{memory_of}
+use Rattle.machine_threads.specs.Passed.{memory_of}
 use Rattle.machine_threads.specs.Passed.{measure, work_left}
 use Rattle.shared_heap.specs.Shared.{Shared}
 use Rattle.machine.specs.declared.events.Event.{Event}

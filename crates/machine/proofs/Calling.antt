@@ -6,7 +6,6 @@ use Rattle.std.proofs.Common.{
   ℕ,
   ◌-◌,
   ◌<◌,
-  ◌≤◌,
   List,
   [],
   ◌∷◌,
@@ -21,7 +20,7 @@ use Rattle.std.proofs.Common.{
 }
 use Rattle.std.specs.Prelude.{IsSome, slice_set}
 use Rattle.std.proofs.lemmas.List.{append-nil, length-set}
-use Rattle.ap_base.specs.Causes.{Rose}
+use Rattle.ap_base.specs.Causes.{next_count}
 use Rattle.ap_base.specs.declared.reference.Ref.{Ref}
 use Rattle.ap_base.specs.declared.reference.Item.{Item}
 use Rattle.run_types.specs.declared.fault.StepFault.TheVariants as met
@@ -39,9 +38,9 @@ use Rattle.machine_threads.specs.Passed.{Begins, stored_frames}
 use Rattle.region_log.specs.declared.entry.Underway.{Underway}
 use Rattle.region_log.specs.declared.entry.Underway.TheVariants.{Nothing as Idle, Adding, Ending}
 use Rattle.twin_forms.specs.Table.{Entry}
-use Rattle.machine_forms.specs.declared.doing.Doing.TheVariants.{Nothing, Writing, Fencing}
-use Rattle.machine_forms.specs.Machines.{Opening, doing_of, log_of, memory_of}
-use Rattle.machine_forms.specs.Events.{with_twin, with_write, with_fence}
+use Rattle.machine_threads.specs.Passed.{Nothing, Writing, Fencing}
+use Rattle.machine_threads.specs.Passed.{Opening, doing_of, log_of, memory_of}
+use Rattle.machine_threads.specs.Passed.{with_twin, with_write, with_fence}
 use Rattle.shared_heap.specs.Shared.{Shared, Failed, TellsFence, Writes}
 use Rattle.machine.specs.declared.events.Event.TheVariants.{Did, Micro, Over}
 use Rattle.machine.specs.declared.events.Halt.TheVariants.{Met}
@@ -56,7 +55,7 @@ use Rattle.machine.proofs.Bound.{act-bound, quiet-bound}
 use Rattle.machine.proofs.Faults.{none-more}
 use Rattle.machine.proofs.Leaving.{AsksStill, Kept, as-set, as-they-were, few, goes-on, happened, lives, same-room}
 use Rattle.machine.proofs.Steps.{given-whole}
-use Rattle.machine_forms.specs.Happening as event
+use Rattle.machine_threads.specs.Happening as event
 
 module _ (laws : Laws) (o : Opening) (first : ℕ) (set : SetFacts) (s : Shared) (es : List Entry)
     (threads : List ThreadFrames) (t : ℕ) (fs : ThreadFrames) (request : Request Ref Item) (due : IsDue o first set s es threads t fs request) where
@@ -88,7 +87,7 @@ module _ (laws : Laws) (o : Opening) (first : ℕ) (set : SetFacts) (s : Shared)
   -- ---- the write-back
 
   module _ (new : Shared) (w : Writes t s new)
-      (later : (memory_of s.machine).faults ≤ (memory_of new.machine).faults) where
+      (cause : (memory_of new.machine).faults ≡ (memory_of s.machine).faults) where
     abbrev written : Shared
     written = record {
       machine = with_write s.machine w.twin t;
@@ -100,9 +99,9 @@ module _ (laws : Laws) (o : Opening) (first : ℕ) (set : SetFacts) (s : Shared)
     wrote-is : new ≡ written
     wrote-is = shared-is new _ _ _ _ w.machine w.history w.lines w.notes
 
-    wrote-now : (memory_of s.machine).faults ≤ w.twin.memory.faults
+    wrote-now : w.twin.memory.faults ≡ (memory_of s.machine).faults
         → Comes o first es threads t fs request Micro s written
-    wrote-now later_now =
+    wrote-now cause_now =
         let still : AsksStill o written.machine t fs = record {
           lags = subst (λ d. LagsByItsStore o.launch d fs)
               (sym (doing-set s.machine.doing t Fencing due.thread due.running.keeps.asked.threads))
@@ -129,7 +128,7 @@ module _ (laws : Laws) (o : Opening) (first : ℕ) (set : SetFacts) (s : Shared)
           };
           acts = inl refl;
           calls = w.wrote.calls.count;
-          cause = later_now;
+          cause = cause_now;
           answers = tt;
           finds = λ logs. laws.threads.fences o s.machine es threads due.running.keeps due.running.plain t
               (inl (w.wrote.line, w.wrote.doing));
@@ -146,14 +145,14 @@ module _ (laws : Laws) (o : Opening) (first : ℕ) (set : SetFacts) (s : Shared)
 
     pub wrote : Comes o first es threads t fs request Micro s new
     wrote = subst (Comes o first es threads t fs request Micro s) (sym wrote-is)
-        (wrote-now (subst (λ (x : Shared). (memory_of s.machine).faults ≤ (memory_of x.machine).faults)
+        (wrote-now (subst (λ (x : Shared). (memory_of x.machine).faults ≡ (memory_of s.machine).faults)
         wrote-is
-        later))
+        cause))
 
   -- ---- the fence
 
   module _ (new : Shared) (f : TellsFence t s new) (room : length s.history.acts < s.history.limit)
-      (later : (memory_of s.machine).faults ≤ (memory_of new.machine).faults) where
+      (cause : (memory_of new.machine).faults ≡ (memory_of s.machine).faults) where
     abbrev fence_act : Act
     fence_act = record { thread = t; at = f.twin.memory.calls; op = op.Fenced }
 
@@ -206,9 +205,9 @@ module _ (laws : Laws) (o : Opening) (first : ℕ) (set : SetFacts) (s : Shared)
     fence-begins [] begins = sym (append-nil (slice_set threads t answer_now))
     fence-begins (x ∷ xs) begins = absurd (let no = begins in cc)
 
-    fenced-comes : (memory_of s.machine).faults ≤ f.twin.memory.faults
+    fenced-comes : f.twin.memory.faults ≡ (memory_of s.machine).faults
         → Comes o first es threads t fs request (Did reply.Done) s fenced_now
-    fenced-comes later_now = record {
+    fenced-comes cause_now = record {
       goes = record {
         after = es;
         act = fence_recorded;
@@ -222,7 +221,7 @@ module _ (laws : Laws) (o : Opening) (first : ℕ) (set : SetFacts) (s : Shared)
       };
       acts = record { act = fence_recorded; thread = refl; acts = refl };
       calls = f.made.calls.count;
-      cause = later_now;
+      cause = cause_now;
       answers = whole (lag-fencing f.made.doing);
       finds = laws.threads.fences o s.machine es threads due.running.keeps due.running.plain t (inr f.made.doing);
       awaits = awaits-fencing o s.machine t f.made.doing (Did reply.Done);
@@ -238,13 +237,13 @@ module _ (laws : Laws) (o : Opening) (first : ℕ) (set : SetFacts) (s : Shared)
 
     pub fenced : Comes o first es threads t fs request (Did reply.Done) s new
     fenced = subst (Comes o first es threads t fs request (Did reply.Done) s) (sym fenced-is)
-        (fenced-comes (subst (λ (x : Shared). (memory_of s.machine).faults ≤ (memory_of x.machine).faults)
-        fenced-is later))
+        (fenced-comes (subst (λ (x : Shared). (memory_of x.machine).faults ≡ (memory_of s.machine).faults)
+        fenced-is cause))
 
   -- ---- a call that failed
 
   module _ (new : Shared) (f : Failed s new) (room : length s.history.acts < s.history.limit)
-      (rose : Rose (memory_of s.machine).faults (memory_of new.machine).faults) where
+      (cause : (memory_of new.machine).faults ≡ next_count (memory_of s.machine).faults) where
     abbrev failed_now : Shared
     failed_now = record {
       machine = with_twin s.machine f.twin;
@@ -256,9 +255,9 @@ module _ (laws : Laws) (o : Opening) (first : ℕ) (set : SetFacts) (s : Shared)
     failed-is : new ≡ failed_now
     failed-is = shared-is new _ _ _ _ f.machine f.history f.lines f.notes
 
-    failed-comes : Rose (memory_of s.machine).faults f.twin.memory.faults
+    failed-comes : f.twin.memory.faults ≡ next_count (memory_of s.machine).faults
         → Comes o first es threads t fs request (Over (Met met.ImageFault)) s failed_now
-    failed-comes rose_now =
+    failed-comes cause_now =
         let now = happened laws o first set s es threads t fs request due (event.called f.twin f.calls) [] due.asks.frames
         tt tt (as-they-were laws o first set s es threads t fs request due failed_now.machine
         (record { lags = own.lags; ends = own.ends })) in record {
@@ -274,7 +273,7 @@ module _ (laws : Laws) (o : Opening) (first : ℕ) (set : SetFacts) (s : Shared)
           };
           acts = refl;
           calls = f.calls.count;
-          cause = rose_now;
+          cause = cause_now;
           answers = tt;
           finds = tt;
           awaits = λ u w. tt;
@@ -288,33 +287,33 @@ module _ (laws : Laws) (o : Opening) (first : ℕ) (set : SetFacts) (s : Shared)
 
     pub call-failed : Comes o first es threads t fs request (Over (Met met.ImageFault)) s new
     call-failed = subst (Comes o first es threads t fs request (Over (Met met.ImageFault)) s) (sym failed-is)
-        (failed-comes (subst (λ (x : Shared). Rose (memory_of s.machine).faults (memory_of x.machine).faults)
-        failed-is rose))
+        (failed-comes (subst (λ (x : Shared). (memory_of x.machine).faults ≡ next_count (memory_of s.machine).faults)
+        failed-is cause))
 
 -- ---- of each run
 
 pub wrote-comes : Laws → (s new : Shared) (t : ℕ) → Writes t s new
-    → (memory_of s.machine).faults ≤ (memory_of new.machine).faults → ComesTo t Micro s new
-wrote-comes laws s new t w later = record {
+    → (memory_of new.machine).faults ≡ (memory_of s.machine).faults → ComesTo t Micro s new
+wrote-comes laws s new t w cause = record {
   comes = λ o first set es threads fs request due.
-      wrote laws o first set s es threads t fs request due new w later;
+      wrote laws o first set s es threads t fs request due new w cause;
   sink = record { acts = inl (ap (λ (h : History). h.acts) w.history); fault = tt };
 }
 
 pub fenced-comes-to : Laws → (s new : Shared) (t : ℕ) → TellsFence t s new
     → length s.history.acts < s.history.limit
-    → (memory_of s.machine).faults ≤ (memory_of new.machine).faults → ComesTo t (Did reply.Done) s new
-fenced-comes-to laws s new t f room later = record {
+    → (memory_of new.machine).faults ≡ (memory_of s.machine).faults → ComesTo t (Did reply.Done) s new
+fenced-comes-to laws s new t f room cause = record {
   comes = λ o first set es threads fs request due.
-      fenced laws o first set s es threads t fs request due new f room later;
+      fenced laws o first set s es threads t fs request due new f room cause;
   sink = record { acts = inr (_, ap (λ (h : History). h.acts) f.history, tt); fault = tt };
 }
 
 pub failed-comes-to : Laws → (s new : Shared) (t : ℕ) → Failed s new → length s.history.acts < s.history.limit
-    → Rose (memory_of s.machine).faults (memory_of new.machine).faults
+    → (memory_of new.machine).faults ≡ next_count (memory_of s.machine).faults
     → ComesTo t (Over (Met met.ImageFault)) s new
-failed-comes-to laws s new t f room rose = record {
+failed-comes-to laws s new t f room cause = record {
   comes = λ o first set es threads fs request due.
-      call-failed laws o first set s es threads t fs request due new f room rose;
+      call-failed laws o first set s es threads t fs request due new f room cause;
   sink = record { acts = inl (ap (λ (h : History). h.acts) f.history); fault = tt };
 }

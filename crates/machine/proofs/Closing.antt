@@ -2,7 +2,7 @@
 use Rattle.std.proofs.Common.{◌≡◌, ◌⊎◌, inl, inr, ℕ, ◌-◌, ◌<◌, ◌≤◌, ◌^◌, List, [], ◌∷◌, ◌++◌, length, Option, Some, None}
 use Rattle.std.proofs.Common.{refl, sym, ◌∙◌, ap, subst, arith}
 use Rattle.std.specs.Prelude.{slice_index_or}
-use Rattle.ap_base.specs.Causes.{Rose}
+use Rattle.ap_base.specs.Causes.{next_count}
 use Rattle.ap_base.specs.declared.reference.Ref.{Ref}
 use Rattle.ap_base.specs.declared.reference.Item.{Item}
 use Rattle.run_types.specs.declared.fault.StepFault.TheVariants as met
@@ -32,14 +32,14 @@ use Rattle.convert_queue.specs.Queues.{Queues, total}
 use Rattle.two_spaces.specs.Seen.{Spaces}
 use Rattle.two_spaces.specs.Whole.{IsWhole}
 use Rattle.monitors.specs.Indexed.{AreSound}
-use Rattle.machine_forms.specs.declared.doing.Doing.{Doing}
-use Rattle.machine_forms.specs.declared.doing.Doing.TheVariants.{Nothing, Converting}
-use Rattle.machine_forms.specs.Machines.{Opening, Machine, doing_of, empty_log, known_in, layout_in, log_of, memory_of}
-use Rattle.machine_forms.specs.Machines.{shown_in}
-use Rattle.machine_forms.specs.Keeping.{IsDoing}
-use Rattle.machine_forms.specs.Events.{AsksEnd, CallsEnd, ClosesRegion, DoesRequest, EndsPart, EndsByAct, IsFree, LeavesLog}
-use Rattle.machine_forms.specs.Events.{RegionStep, act_in, with_closing, with_logged}
-use Rattle.machine_forms.specs.Events as region
+use Rattle.machine_threads.specs.Passed.{Doing}
+use Rattle.machine_threads.specs.Passed.{Nothing, Converting}
+use Rattle.machine_threads.specs.Passed.{Opening, Machine, doing_of, empty_log, known_in, layout_in, log_of, memory_of}
+use Rattle.machine_threads.specs.Passed.{shown_in}
+use Rattle.machine_threads.specs.Passed.{IsDoing}
+use Rattle.machine_threads.specs.Passed.{AsksEnd, CallsEnd, ClosesRegion, DoesRequest, EndsPart, EndsByAct, IsFree, LeavesLog}
+use Rattle.machine_threads.specs.Passed.{RegionStep, act_in, with_closing, with_logged}
+use Rattle.machine_threads.specs.RegionEvents as region
 use Rattle.plain_model.specs.Ends.{wait_of}
 use Rattle.machine_threads.specs.Stuck.{plain_waits}
 use Rattle.machine_threads.specs.Passed.{KeepsShared}
@@ -66,7 +66,7 @@ use Rattle.machine.proofs.Logging.{log-now}
 use Rattle.machine.proofs.Marks.{IsRegional, end-stores-none, ends, marks, regional-fits, regional-gives, regional-known}
 use Rattle.machine.proofs.Marks.{regional-whole}
 use Rattle.machine.proofs.Memory.{same-image}
-use Rattle.machine_forms.specs.Happening as event
+use Rattle.machine_threads.specs.Happening as event
 use Rattle.frames.specs.Turns.{answer, turn}
 use Rattle.graph_model.specs.declared.types.Value.TheVariants.{Obj as Object}
 use Rattle.machine.proofs.Leaving.{answered-on}
@@ -166,8 +166,8 @@ module _ (laws : Laws) (o : Opening) (first : ℕ) (set : SetFacts) (s : Shared)
     abbrev part-step : RegionStep o t s.machine es part_now.machine
     part-step = region.ending l.twin request l.log part
 
-    part-comes : (memory_of s.machine).faults ≤ l.twin.memory.faults → Comes o first es threads t fs request Micro s part_now
-    part-comes later =
+    part-comes : l.twin.memory.faults ≡ (memory_of s.machine).faults → Comes o first es threads t fs request Micro s part_now
+    part-comes cause =
         let now = happened laws o first set s es threads t fs request due (event.region _ part-step) [] due.asks tt tt
         (as-they-were laws o first set s es threads t fs request due part_now.machine
         (record { lags = own.lags; ends = asks-its-end (log_of part_now.machine t).underway })) in record {
@@ -175,7 +175,7 @@ module _ (laws : Laws) (o : Opening) (first : ℕ) (set : SetFacts) (s : Shared)
               refl due.running.unnamed refl refl refl due.running.unfaulted;
           acts = inl refl;
           calls = inr l.call.call.call;
-          cause = later;
+          cause = cause;
           answers = tt;
           finds = λ logs. waits-none;
           awaits = awaits-nothing o s.machine t nothing Micro;
@@ -197,11 +197,11 @@ module _ (laws : Laws) (o : Opening) (first : ℕ) (set : SetFacts) (s : Shared)
           noted = refl;
         }
 
-    pub ends-on : (memory_of s.machine).faults ≤ (memory_of new.machine).faults
+    pub ends-on : (memory_of new.machine).faults ≡ (memory_of s.machine).faults
         → Comes o first es threads t fs request Micro s new
-    ends-on later = subst (Comes o first es threads t fs request Micro s) (sym part-is)
-        (part-comes (subst (λ (x : Shared). (memory_of s.machine).faults ≤ (memory_of x.machine).faults)
-        part-is later))
+    ends-on cause = subst (Comes o first es threads t fs request Micro s) (sym part-is)
+        (part-comes (subst (λ (x : Shared). (memory_of x.machine).faults ≡ (memory_of s.machine).faults)
+        part-is cause))
 
   -- ---- the fence behind all that was logged
 
@@ -226,9 +226,9 @@ module _ (laws : Laws) (o : Opening) (first : ℕ) (set : SetFacts) (s : Shared)
     abbrev closes-step : RegionStep o t s.machine es closed_now.machine
     closes-step = region.closing l.twin request l.log closes
 
-    closed-comes : (memory_of s.machine).faults ≤ l.twin.memory.faults
+    closed-comes : l.twin.memory.faults ≡ (memory_of s.machine).faults
         → Comes o first es threads t fs request Micro s closed_now
-    closed-comes later =
+    closed-comes cause =
         let now = happened laws o first set s es threads t fs request due (event.region _ closes-step) [] due.asks tt tt
         (as-they-were laws o first set s es threads t fs request due closed_now.machine
         (record { lags = own.lags; ends = asks-its-end (log_of closed_now.machine t).underway })) in record {
@@ -239,7 +239,7 @@ module _ (laws : Laws) (o : Opening) (first : ℕ) (set : SetFacts) (s : Shared)
               request due.asks asks-end (few laws o first set s es threads t fs request due room)));
           acts = inr (record { act = act; thread = refl; acts = refl });
           calls = inr l.call.call.call;
-          cause = later;
+          cause = cause;
           answers = tt;
           finds = λ logs. waits-none;
           awaits = awaits-nothing o s.machine t nothing Micro;
@@ -252,11 +252,11 @@ module _ (laws : Laws) (o : Opening) (first : ℕ) (set : SetFacts) (s : Shared)
           noted = refl;
         }
 
-    pub closed : (memory_of s.machine).faults ≤ (memory_of new.machine).faults
+    pub closed : (memory_of new.machine).faults ≡ (memory_of s.machine).faults
         → Comes o first es threads t fs request Micro s new
-    closed later = subst (Comes o first es threads t fs request Micro s) (sym closed-is)
-        (closed-comes (subst (λ (x : Shared). (memory_of s.machine).faults ≤ (memory_of x.machine).faults)
-        closed-is later))
+    closed cause = subst (Comes o first es threads t fs request Micro s) (sym closed-is)
+        (closed-comes (subst (λ (x : Shared). (memory_of x.machine).faults ≡ (memory_of s.machine).faults)
+        closed-is cause))
 
   -- ---- the image failed
 
@@ -275,9 +275,9 @@ module _ (laws : Laws) (o : Opening) (first : ℕ) (set : SetFacts) (s : Shared)
     failed-part : EndsPart o s.machine f.twin t request f.log
     failed-part = record { calls = calls-end f.twin f.log f.call; went = inr (inr f.fails) }
 
-    failed-comes : Rose (memory_of s.machine).faults f.twin.memory.faults
+    failed-comes : f.twin.memory.faults ≡ next_count (memory_of s.machine).faults
         → Comes o first es threads t fs request (Over (Met met.ImageFault)) s failed_now
-    failed-comes rose =
+    failed-comes cause =
         let now = happened laws o first set s es threads t fs request due
         (event.region _ (region.ending f.twin request f.log failed-part)) [] due.asks tt tt
         (as-they-were laws o first set s es threads t fs request due failed_now.machine
@@ -294,7 +294,7 @@ module _ (laws : Laws) (o : Opening) (first : ℕ) (set : SetFacts) (s : Shared)
           };
           acts = refl;
           calls = inr f.call.call.call;
-          cause = rose;
+          cause = cause;
           answers = tt;
           finds = tt;
           awaits = λ u w. tt;
@@ -306,11 +306,11 @@ module _ (laws : Laws) (o : Opening) (first : ℕ) (set : SetFacts) (s : Shared)
           noted = refl;
         }
 
-    pub ending-failed : Rose (memory_of s.machine).faults (memory_of new.machine).faults
+    pub ending-failed : (memory_of new.machine).faults ≡ next_count (memory_of s.machine).faults
         → Comes o first es threads t fs request (Over (Met met.ImageFault)) s new
-    ending-failed rose = subst (Comes o first es threads t fs request (Over (Met met.ImageFault)) s) (sym failed-is)
-        (failed-comes (subst (λ (x : Shared). Rose (memory_of s.machine).faults (memory_of x.machine).faults)
-        failed-is rose))
+    ending-failed cause = subst (Comes o first es threads t fs request (Over (Met met.ImageFault)) s) (sym failed-is)
+        (failed-comes (subst (λ (x : Shared). (memory_of x.machine).faults ≡ next_count (memory_of s.machine).faults)
+        failed-is cause))
 
   -- ---- the log is left
 
@@ -472,9 +472,9 @@ module _ (laws : Laws) (o : Opening) (first : ℕ) (set : SetFacts) (s : Shared)
             ends = ends-idle o.launch new.machine t answer_now idle-now;
           }))
 
-      did-comes : (memory_of s.machine).faults ≤ (memory_of between.machine).faults
+      did-comes : (memory_of between.machine).faults ≡ (memory_of s.machine).faults
           → Comes o first es threads t fs request (Did reply) s new
-      did-comes later = record {
+      did-comes cause = record {
         goes = answered-on laws o first set s es threads t fs request due new es reply end_act ended-keeps machine-acts
             (λ begun begins. no-begun o new.machine begun begins) refl same-many does.free
             (ap (λ (q : Queues). total q.queues) region-ends.queue)
@@ -491,9 +491,8 @@ module _ (laws : Laws) (o : Opening) (first : ℕ) (set : SetFacts) (s : Shared)
         acts = record { act = end_act; thread = refl; acts = new-history };
         calls = subst (λ (y : Memory). SameImage (memory_of s.machine) y ⊎ OneCall (memory_of s.machine) y)
             (sym same-memory) one-or-none;
-        cause = (let same = ap (λ (y : Memory). y.faults) same-memory in
-            let left = ap (λ (m : Machine). (memory_of m).faults) l.left.machine in
-            omega (arith, same, left, later));
+        cause = ap (λ (y : Memory). y.faults) same-memory
+            ∙ sym (ap (λ (m : Machine). (memory_of m).faults) l.left.machine) ∙ cause;
         answers = regional-whole request regional;
         finds = waits-none;
         awaits = awaits-nothing o s.machine t nothing (Did reply);
@@ -509,10 +508,10 @@ module _ (laws : Laws) (o : Opening) (first : ℕ) (set : SetFacts) (s : Shared)
             ∙ ap (λ (n : ThreadNotes). n.waits) l.left.notes;
       }
 
-      pub ended-comes : (memory_of s.machine).faults ≤ (memory_of between.machine).faults
+      pub ended-comes : (memory_of between.machine).faults ≡ (memory_of s.machine).faults
           → Comes o first es threads t fs request (event_of request result) s new
-      ended-comes later = subst (λ y. Comes o first es threads t fs request (event_of request y) s new) (sym is-did.1)
-          (did-comes later)
+      ended-comes cause = subst (λ y. Comes o first es threads t fs request (event_of request y) s new) (sym is-did.1)
+          (did-comes cause)
 
       pub ended-spares : SparesSink (event_of request result) s.history.acts new.history.acts
       ended-spares = subst (λ y. SparesSink (event_of request y) s.history.acts new.history.acts) (sym is-did.1)
@@ -528,23 +527,23 @@ module _ (laws : Laws) (set : SetFacts) (s : Shared) (t : ℕ) (request : Reques
       → Serves set t request result s new takes takes taken taken faults faults
 
   pub part-serves : (new : Shared) → EndsOnTo t s new
-      → (memory_of s.machine).faults ≤ (memory_of new.machine).faults → ServesBy Micro new
-  part-serves new l later = spared-serves set s new t request Micro
-      (λ o first es threads fs due. ends-on laws o first set s es threads t fs request due room ready is_open from is_end new l later)
+      → (memory_of new.machine).faults ≡ (memory_of s.machine).faults → ServesBy Micro new
+  part-serves new l cause = spared-serves set s new t request Micro
+      (λ o first es threads fs due. ends-on laws o first set s es threads t fs request due room ready is_open from is_end new l cause)
       (record { acts = inl (ap (λ (h : History). h.acts) l.left.history); fault = tt })
 
   pub closed-serves : (new : Shared) → ClosesTo t s new
-      → (memory_of s.machine).faults ≤ (memory_of new.machine).faults → ServesBy Micro new
-  closed-serves new l later = spared-serves set s new t request Micro
-      (λ o first es threads fs due. closed laws o first set s es threads t fs request due room ready is_open from is_end new l later)
+      → (memory_of new.machine).faults ≡ (memory_of s.machine).faults → ServesBy Micro new
+  closed-serves new l cause = spared-serves set s new t request Micro
+      (λ o first es threads fs due. closed laws o first set s es threads t fs request due room ready is_open from is_end new l cause)
       (record { acts = inr (_, ap (λ (h : History). h.acts) l.history, tt); fault = tt })
 
   pub failed-serves : (new : Shared) → EndingFailsTo t s new
-      → Rose (memory_of s.machine).faults (memory_of new.machine).faults
+      → (memory_of new.machine).faults ≡ next_count (memory_of s.machine).faults
       → ServesBy (Over (Met met.ImageFault)) new
-  failed-serves new f rose = spared-serves set s new t request (Over (Met met.ImageFault))
+  failed-serves new f cause = spared-serves set s new t request (Over (Met met.ImageFault))
       (λ o first es threads fs due. ending-failed laws o first set s es threads t fs request due room ready is_open from is_end new f
-      rose)
+      cause)
       (record { acts = inl (ap (λ (h : History). h.acts) f.left.history); fault = tt })
 
   -- ---- the last part
@@ -586,10 +585,10 @@ module _ (laws : Laws) (set : SetFacts) (s : Shared) (t : ℕ) (request : Reques
     gives-none = regional-gives request (subst IsRegional (sym is_end) tt)
 
     pub ended-serves : (new : Shared) (result : Stepped) → StepsTo set t request result between new
-        → IsNoStore result → (memory_of s.machine).faults ≤ (memory_of between.machine).faults
+        → IsNoStore result → (memory_of between.machine).faults ≡ (memory_of s.machine).faults
         → ServesBy (event_of request result) new
-    ended-serves new result x none later = spared-serves set s new t request (event_of request result)
+    ended-serves new result x none cause = spared-serves set s new t request (event_of request result)
         (λ o first es threads fs its. ended-comes laws o first set s es threads t fs request its room ready is_open from is_end
-        between l new result x none later)
+        between l new result x none cause)
         (ended-spares laws due.0 due.1 set s due.2 due.3 t due.4 request due.5 room ready is_open from is_end between l
         new result x none)

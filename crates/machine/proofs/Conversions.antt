@@ -1,7 +1,7 @@
 -- Steps of conversions, and seals.
 use Rattle.std.proofs.Common.{◌≡◌, ◌⊎◌, inl, inr, ℕ, ◌+◌, ◌-◌, ◌<◌, ◌≤◌, List, [], ◌∷◌, ◌++◌, length, refl, sym, ◌∙◌, ap, subst}
 use Rattle.std.proofs.Common.{arith}
-use Rattle.ap_base.specs.Causes.{Rose}
+use Rattle.ap_base.specs.Causes.{next_count}
 use Rattle.ap_base.specs.declared.reference.Ref.{Ref}
 use Rattle.ap_base.specs.declared.reference.Item.{Item}
 use Rattle.run_types.specs.declared.fault.RunFault.TheVariants as fault
@@ -26,11 +26,11 @@ use Rattle.convert_words.specs.Scenes.{AgreesAt, Scene}
 use Rattle.convert_words.specs.Converting.{GoesOn, Says, Waits as WaitsOf}
 use Rattle.converter.proofs.Waiting.{waiting_threads_lack}
 use Rattle.convert_waits.specs.Stuck.{HoldsWait}
-use Rattle.machine_forms.specs.declared.doing.Doing.TheVariants.{Converting}
-use Rattle.machine_forms.specs.Machines.{Opening, Machine, doing_of, memory_of, scene_of}
-use Rattle.machine_forms.specs.Events.{Converted, act_in, value_in, with_joined}
-use Rattle.machine_forms.specs.Happening as event
-use Rattle.machine_forms.specs.Naming.{group_names}
+use Rattle.machine_threads.specs.Passed.{Converting}
+use Rattle.machine_threads.specs.Passed.{Opening, Machine, doing_of, memory_of, scene_of}
+use Rattle.machine_threads.specs.Passed.{Converted, act_in, value_in, with_joined}
+use Rattle.machine_threads.specs.Happening as event
+use Rattle.machine_threads.specs.Passed.{group_names}
 use Rattle.machine_threads.proofs.Passed.{counted}
 use Rattle.machine_threads.specs.Passed.{work_left}
 use Rattle.machine_threads.specs.Passed.{StoresFreely}
@@ -214,16 +214,16 @@ module _ (laws : Laws) (o : Opening) (first : ℕ) (set : SetFacts) (s : Shared)
     same-end = g.on.event.converts.size
 
     went-comes : MovesOn answer → FindsConversion o s.machine t Micro
-        → (memory_of s.machine).faults ≤ (memory_of new.machine).faults
+        → (memory_of new.machine).faults ≡ (memory_of s.machine).faults
         → Comes o first es threads t fs request Micro s new
-    went-comes moves stopped later = record {
+    went-comes moves stopped cause = record {
       goes = step-asks (subst (λ n. Roomy (total new.machine.queue.queues) n new.machine.free new.history.room)
           (sym same-end)
           (next-room answer t g.on.event.at (scene_of new.machine) es g.on.event.after new.history.room h.due.thread
           g.on.event.goes_on.agrees.sizes.queues moves g.on.event.converts.says room-before));
       acts = inl (ap (λ (x : History). x.acts) g.history);
       calls = counted o s.machine es h.due.running.keeps new.machine t answer g.on;
-      cause = later;
+      cause = cause;
       answers = tt;
       finds = λ logs. waits-none laws o first set s es threads t fs request store h;
       awaits = stopped;
@@ -242,9 +242,9 @@ module _ (laws : Laws) (o : Opening) (first : ℕ) (set : SetFacts) (s : Shared)
   -- ---- a refusal
 
   module _ (need left : ℕ) (g : GoesOnce t (step.Full need left) s new es) where
-    full-comes : (memory_of s.machine).faults ≤ (memory_of new.machine).faults
+    full-comes : (memory_of new.machine).faults ≡ (memory_of s.machine).faults
         → Comes o first es threads t fs request (Over (Met (lacks which.ImageLines need left))) s new
-    full-comes later =
+    full-comes cause =
         let now = step-keeps (step.Full need left) g in record {
           goes = refused-over laws o first set s es threads t fs request store h free room need left new
               g.on.event.after now.keeps now.plain
@@ -253,7 +253,7 @@ module _ (laws : Laws) (o : Opening) (first : ℕ) (set : SetFacts) (s : Shared)
               new.machine t need left g.on);
           acts = ap (λ (x : History). x.acts) g.history;
           calls = counted o s.machine es h.due.running.keeps new.machine t (step.Full need left) g.on;
-          cause = later;
+          cause = cause;
           answers = tt;
           finds = tt;
           awaits = λ u w. tt;
@@ -324,10 +324,10 @@ module _ (laws : Laws) (o : Opening) (first : ℕ) (set : SetFacts) (s : Shared)
               (scene_of s.machine) (scene_of new.machine) table waited t u below row begins goes waits),
         )
 
-    waits-comes : (memory_of s.machine).faults ≤ (memory_of new.machine).faults
+    waits-comes : (memory_of new.machine).faults ≡ (memory_of s.machine).faults
         → Comes o first es threads t fs request (WouldWait (on.Conversion u)) s new
     unfolding step-asks
-    waits-comes later = record {
+    waits-comes cause = record {
       goes = record {
         asks = step-asks (step.Wait u) g wait-room;
         table = es;
@@ -343,7 +343,7 @@ module _ (laws : Laws) (o : Opening) (first : ℕ) (set : SetFacts) (s : Shared)
       };
       acts = ap (λ (x : History). x.acts) g.history;
       calls = counted o s.machine es h.due.running.keeps new.machine t (step.Wait u) g.on;
-      cause = later;
+      cause = cause;
       answers = tt;
       finds = waits-none laws o first set s es threads t fs request store h;
       awaits = λ v w. tt;
@@ -406,9 +406,9 @@ module _ (laws : Laws) (o : Opening) (first : ℕ) (set : SetFacts) (s : Shared)
         omega (arith, size, free, left, room_is, before)
 
     joined-comes : FindsConversion o s.machine t Micro
-        → (memory_of s.machine).faults ≤ (memory_of new.machine).faults
+        → (memory_of new.machine).faults ≡ (memory_of s.machine).faults
         → Comes o first es threads t fs request Micro s new
-    joined-comes stopped later =
+    joined-comes stopped cause =
         let size = same-size laws o first set s es threads t fs request h.due new.machine after_seal
         sealed-keeps.keeps in record {
           goes = record {
@@ -439,7 +439,7 @@ module _ (laws : Laws) (o : Opening) (first : ℕ) (set : SetFacts) (s : Shared)
           calls = subst (λ (m : Machine). SameImage (memory_of s.machine) (memory_of m)
               ⊎ OneCall (memory_of s.machine) (memory_of m)) (sym j.machine)
               (counted o s.machine es h.due.running.keeps j.between t (step.Sealed j.set) j.seals.converts);
-          cause = later;
+          cause = cause;
           answers = tt;
           finds = λ logs. waits-none laws o first set s es threads t fs request store h;
           awaits = stopped;
@@ -457,9 +457,9 @@ module _ (laws : Laws) (o : Opening) (first : ℕ) (set : SetFacts) (s : Shared)
   -- ---- a step whose call failed
 
   module _ (f : FailsTo t s new es) where
-    failed-comes : Rose (memory_of s.machine).faults (memory_of new.machine).faults
+    failed-comes : (memory_of new.machine).faults ≡ next_count (memory_of s.machine).faults
         → Comes o first es threads t fs request (Over (Met met.ImageFault)) s new
-    failed-comes rose =
+    failed-comes cause =
         let c = f.fails in
         let memory : c.event.at.heap.memory ≡ memory_of s.machine =
         ap (λ (x : Twin). x.memory) c.event.goes_on.heap in
@@ -482,7 +482,7 @@ module _ (laws : Laws) (o : Opening) (first : ℕ) (set : SetFacts) (s : Shared)
           };
           acts = ap (λ (x : History). x.acts) f.history;
           calls = inr (subst (λ (x : Memory). OneCall x (memory_of new.machine)) memory c.event.fails.call);
-          cause = rose;
+          cause = cause;
           answers = tt;
           finds = tt;
           awaits = λ u w. tt;
@@ -501,7 +501,7 @@ module _ (laws : Laws) (s new : Shared) (t : ℕ) (store : Store) (object : Ref)
     (convert : (es : List Entry) → Stands s.machine.spaces es → ConvertsFirst s.machine.spaces es store object)
     (room : length s.history.acts < s.history.limit)
     (converting : doing_of s.machine t ≡ Converting)
-    (later : (memory_of s.machine).faults ≤ (memory_of new.machine).faults) where
+    (cause : (memory_of new.machine).faults ≡ (memory_of s.machine).faults) where
   abbrev Goes : Conversion → Type 0
   Goes result = (es : List Entry) → Converts s es → GoesTo t result s new es
 
@@ -530,13 +530,13 @@ module _ (laws : Laws) (s new : Shared) (t : ℕ) (store : Store) (object : Ref)
     went : (result : Conversion) → IsThread result → Goes result → GoesTo t result s new es
         → Comes o first es threads t fs request (went_event result) s new
     went did.Went thread all g = went-comes laws o first set s es threads t fs request store h free room converting new
-        g.0 g.2 g.1 (none-went all) later
+        g.0 g.2 g.1 (none-went all) cause
     went did.Joined thread all j = joined-comes laws o first set s es threads t fs request store h free room converting
-        new j (none-joined all) later
+        new j (none-joined all) cause
     went (did.Waits u) thread all g = waits-comes laws o first set s es threads t fs request store h free room converting
-        new u thread g all later
+        new u thread g all cause
     went (did.Full need left) thread all g =
-        full-comes laws o first set s es threads t fs request store h free room converting new need left g later
+        full-comes laws o first set s es threads t fs request store h free room converting new need left g cause
 
     joined-acts : (j : JoinsOnce t s new es)
         → new.history.acts ≡ s.history.acts
@@ -567,14 +567,14 @@ pub failed-comes-of : Laws → (s new : Shared) (t : ℕ) (store : Store) (objec
     → length s.history.acts < s.history.limit
     → doing_of s.machine t ≡ Converting
     → ((es : List Entry) → Converts s es → FailsTo t s new es)
-    → Rose (memory_of s.machine).faults (memory_of new.machine).faults → HasSomePlanned s t store
+    → (memory_of new.machine).faults ≡ next_count (memory_of s.machine).faults → HasSomePlanned s t store
     → StoreComesTo t store (Over (Met met.ImageFault)) s new
-failed-comes-of laws s new t store object apart convert room converting fails rose
+failed-comes-of laws s new t store object apart convert room converting fails cause
     (o, first, set, es, threads, fs, request, h) = record {
       comes = λ o2 first2 set2 es2 threads2 fs2 request2 h2. failed-comes laws o2 first2 set2 s es2 threads2 t fs2
           request2 store h2 (freely-volatile laws o2 first2 set2 s es2 threads2 t fs2 request2 store h2 apart object
           (convert es2 h2.due.running.keeps.heap.whole)) room
-          converting new (fails es2 (converts-now laws o2 first2 set2 s es2 threads2 t fs2 request2 h2.due)) rose;
+          converting new (fails es2 (converts-now laws o2 first2 set2 s es2 threads2 t fs2 request2 h2.due)) cause;
       sink = record {
         acts = inl (ap (λ (x : History). x.acts)
             (fails es (converts-now laws o first set s es threads t fs request h.due)).history);

@@ -16,15 +16,15 @@ use Rattle.run_forms.specs.Laws.{answered_threads}
 use Rattle.run_forms.specs.Ends.{MeetsNoFault}
 use Rattle.convert_queue.specs.Queues.{total}
 use Rattle.twin_forms.specs.Table.{Entry}
-use Rattle.machine_forms.specs.declared.doing.Doing.{Doing}
-use Rattle.machine_forms.specs.declared.doing.Doing.TheVariants.{Nothing}
+use Rattle.machine_threads.specs.Passed.{Doing}
+use Rattle.machine_threads.specs.Passed.{Nothing}
 use Rattle.region_log.specs.declared.entry.Underway.TheVariants.{Nothing as Idle}
 use Rattle.region_log.specs.Log.{Log}
-use Rattle.machine_forms.specs.Machines.{Opening, doing_of, empty_log, log_of}
-use Rattle.machine_forms.specs.Events.{ActsBeside, act_in, left_by}
-use Rattle.machine_forms.specs.Happening as event
-use Rattle.machine_forms.proofs.Happening.{table-is}
-use Rattle.machine_forms.specs.Happening.{table_after}
+use Rattle.machine_threads.specs.Passed.{Opening, doing_of, empty_log, log_of}
+use Rattle.machine_threads.specs.Passed.{ActsBeside, act_in, left_by}
+use Rattle.machine_threads.specs.Happening as event
+use Rattle.machine_threads.proofs.Passed.{table-is}
+use Rattle.machine_threads.specs.Passed.{table_after}
 use Rattle.machine_threads.specs.Stuck.{plain_waits}
 use Rattle.machine_threads.specs.Passed.{Begins}
 use Rattle.machine_threads.specs.Keeping.{LagsByItsStore}
@@ -135,7 +135,7 @@ module _ (laws : Laws) (o : Opening) (first : ℕ) (set : SetFacts) (s : Shared)
         acts = new-acts;
       };
       calls = inl stays.image;
-      cause = (let same = stays.image.faults in omega (arith, same));
+      cause = stays.image.faults;
       answers = a.whole;
       finds = a.free;
       awaits = awaits-free o s.machine t es due.running.keeps.heap.agrees acts.does.doing (Did r);

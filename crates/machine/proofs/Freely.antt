@@ -15,8 +15,8 @@ use Rattle.plain_model.specs.Runs.{is_volatile}
 use Rattle.run_forms.specs.Views.{ThreadFrames}
 use Rattle.twin_forms.specs.Table.{Entry}
 use Rattle.twin_forms.proofs.Led.{same_or_not}
-use Rattle.machine_forms.specs.Machines.{Opening, known_in, log_of}
-use Rattle.machine_forms.specs.Events.{value_in}
+use Rattle.machine_threads.specs.Passed.{Opening, known_in, log_of}
+use Rattle.machine_threads.specs.Passed.{value_in}
 use Rattle.machine_threads.specs.Passed.{StoresFreely, beside, own, outside, volatile}
 use Rattle.object_steps.specs.declared.storing.Store.{Store}
 use Rattle.object_steps.specs.Stores.{place_of}

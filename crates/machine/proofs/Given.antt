@@ -19,9 +19,9 @@ use Rattle.region_log.specs.declared.entry.Underway.{Underway}
 use Rattle.region_log.specs.declared.entry.Underway.TheVariants.{Nothing as Idle, Adding, Ending}
 use Rattle.twin_forms.specs.Table.{Entry}
 use Rattle.two_spaces.specs.Whole.{IsWhole}
-use Rattle.machine_forms.specs.declared.doing.Doing.TheVariants.{Writing}
-use Rattle.machine_forms.specs.Machines.{Opening, doing_of, known_in, layout_in, log_of, memory_of, shown_in}
-use Rattle.machine_forms.specs.Keeping.{IsDoing, KeepsRun}
+use Rattle.machine_threads.specs.Passed.{Writing}
+use Rattle.machine_threads.specs.Passed.{Opening, doing_of, known_in, layout_in, log_of, memory_of, shown_in}
+use Rattle.machine_threads.specs.Passed.{IsDoing, KeepsRun}
 use Rattle.machine_threads.specs.Passed.{Asks, IsReady}
 use Rattle.shared_heap.specs.Passed.{AgreesWith}
 use Rattle.converter.specs.Stepping.{keys_of}

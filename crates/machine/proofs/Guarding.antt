@@ -30,9 +30,9 @@ use Rattle.region_events.specs.Guards.{named_count}
 use Rattle.region_events.specs.Laws.{with_entry}
 use Rattle.twin_forms.specs.Table.{Entry}
 use Rattle.two_spaces.specs.Whole.{Stands}
-use Rattle.machine_forms.specs.Machines.{Opening, Machine, empty_log, known_in, log_of, memory_of}
-use Rattle.machine_forms.specs.Events.{GuardsPlace, RegionStep, act_in, value_in, with_guarded}
-use Rattle.machine_forms.specs.Events as region
+use Rattle.machine_threads.specs.Passed.{Opening, Machine, empty_log, known_in, log_of, memory_of}
+use Rattle.machine_threads.specs.Passed.{GuardsPlace, RegionStep, act_in, value_in, with_guarded}
+use Rattle.machine_threads.specs.RegionEvents as region
 use Rattle.machine_threads.proofs.Passed.{place-inside}
 use Rattle.machine_threads.specs.Passed.{StoresFreely, room as has_room}
 use Rattle.object_steps.specs.declared.storing.Store.{Store}
@@ -55,12 +55,12 @@ use Rattle.machine.proofs.Freely.{freely, guarded-by}
 use Rattle.machine.proofs.Leaving.{few, happened, as-they-were, stays-on, AsksStill}
 use Rattle.machine.proofs.Memory.{same-image}
 use Rattle.machine.proofs.Planned.{is-free, is-store, kept-durable, waits-none}
-use Rattle.machine_forms.specs.Happening as event
+use Rattle.machine_threads.specs.Happening as event
 use Rattle.machine_threads.specs.Keeping.{AsksItsEnd}
 
 unfailed : (f : StepFault) (before : ℕ) → (f ≡ met.ImageFault → ⊥) → HasImageCause (Over (Met f)) before before
 unfailed met.ImageFault before other = absurd (other refl)
-unfailed f before other = omega arith
+unfailed f before other = refl
 
 -- an entry that is being added isn't an end
 adding-ends : (o : Opening) (m : Machine) (t : ℕ) (word : LogEntry) (place : Place) (fs : ThreadFrames) → t < 64
@@ -225,7 +225,7 @@ module _ (laws : Laws) (o : Opening) (first : ℕ) (set : SetFacts) (s : Shared)
                 (few laws o first set s es threads t fs request h.due room)));
             acts = inr (record { act = act; thread = refl; acts = refl });
             calls = inl (same-image (memory_of s.machine) (memory_of s.machine) refl);
-            cause = omega arith;
+            cause = refl;
             answers = tt;
             finds = λ logs. waits-none laws o first set s es threads t fs request store h;
             awaits = awaits-free o s.machine t es h.due.running.keeps.heap.agrees guards.doing Micro;

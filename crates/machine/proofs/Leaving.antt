@@ -17,14 +17,14 @@ use Rattle.convert_queue.specs.Queues.{total}
 use Rattle.twin_forms.specs.Table.{Entry}
 use Rattle.region_log.specs.declared.entry.Underway.TheVariants.{Nothing as Idle}
 use Rattle.region_log.specs.Log.{Log}
-use Rattle.machine_forms.specs.declared.doing.Doing.TheVariants.{Nothing}
-use Rattle.machine_forms.specs.Machines.{Opening, Machine, doing_of, empty_log, log_of, memory_of, shown_in}
-use Rattle.machine_forms.specs.Keeping.{KeepsRun}
-use Rattle.machine_forms.specs.Events.{IsFitRequest}
+use Rattle.machine_threads.specs.Passed.{Nothing}
+use Rattle.machine_threads.specs.Passed.{Opening, Machine, doing_of, empty_log, log_of, memory_of, shown_in}
+use Rattle.machine_threads.specs.Passed.{KeepsRun}
+use Rattle.machine_threads.specs.Passed.{IsFitRequest}
 use Rattle.shared_objects.specs.declared.threads.ThreadState.{ThreadState}
 use Rattle.shared_objects.specs.Worlds.{plain_thread}
 use Rattle.machine_threads.specs.Passed.{Asks, AsksIts, Begins, BeginsBy, IsReady, RunsAsPlain, frames_by}
-use Rattle.machine_forms.specs.Happening.{Happens, request_of}
+use Rattle.machine_threads.specs.Passed.{Happens, request_of}
 use Rattle.machine_threads.specs.Passed.{TakesLines}
 use Rattle.machine_threads.specs.Passed.{HasUnwritten}
 use Rattle.machine_threads.specs.Passed.{Lives}

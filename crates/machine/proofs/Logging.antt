@@ -1,9 +1,9 @@
 -- The word that a region has guarded last is logged, a part with each call.
-use Rattle.std.proofs.Common.{◌≡◌, ◌⊎◌, inl, inr, ℕ, ◌-◌, ◌<◌, ◌≤◌, true, false, List, [], length, refl, sym, ◌∙◌, ap}
+use Rattle.std.proofs.Common.{◌≡◌, ◌⊎◌, inl, inr, ℕ, ◌-◌, ◌<◌, true, false, List, [], length, refl, sym, ◌∙◌, ap}
 use Rattle.std.proofs.Common.{subst, arith}
 use Rattle.std.proofs.lemmas.Bool.{cases_lt}
 use Rattle.std.proofs.lemmas.List.{get_or-set_same}
-use Rattle.ap_base.specs.Causes.{Rose}
+use Rattle.ap_base.specs.Causes.{next_count}
 use Rattle.ap_base.specs.declared.reference.Ref.{Ref}
 use Rattle.ap_base.specs.declared.reference.Item.{Item}
 use Rattle.run_types.specs.declared.fault.StepFault.TheVariants as met
@@ -19,9 +19,9 @@ use Rattle.region_log.specs.Log.{Log}
 use Rattle.region_log.specs.Steps.{AddsEntry, AddsOn, TouchesFor}
 use Rattle.twin_forms.specs.Sights.{Twin}
 use Rattle.twin_forms.specs.Table.{Entry}
-use Rattle.machine_forms.specs.Machines.{Opening, Machine, empty_log, log_of, memory_of}
-use Rattle.machine_forms.specs.Events.{LogsWord, RegionStep, with_logged}
-use Rattle.machine_forms.specs.Events as region
+use Rattle.machine_threads.specs.Passed.{Opening, Machine, empty_log, log_of, memory_of}
+use Rattle.machine_threads.specs.Passed.{LogsWord, RegionStep, with_logged}
+use Rattle.machine_threads.specs.RegionEvents as region
 use Rattle.shared_heap.specs.Shared.{Shared}
 use Rattle.shared_heap.specs.Regions.{IsLeft, LoggingFailsTo, LogsTo}
 use Rattle.machine.specs.declared.events.Event.TheVariants.{Micro, Over}
@@ -33,7 +33,7 @@ use Rattle.machine.specs.Running.{IsDue}
 use Rattle.machine.proofs.Basics.{shared-is}
 use Rattle.machine.proofs.Bound.{quiet-measured}
 use Rattle.machine.proofs.Leaving.{few, lives, happened, as-they-were, stays-on, AsksStill}
-use Rattle.machine_forms.specs.Happening as event
+use Rattle.machine_threads.specs.Happening as event
 use Rattle.machine_threads.specs.Keeping.{AsksItsEnd}
 
 -- the log of the thread is what it became
@@ -80,9 +80,9 @@ module _ (laws : Laws) (o : Opening) (first : ℕ) (set : SetFacts) (s : Shared)
         ])
       ]
 
-      logged-comes : (memory_of s.machine).faults ≤ l.twin.memory.faults
+      logged-comes : l.twin.memory.faults ≡ (memory_of s.machine).faults
           → Comes o first es threads t fs request Micro s logged_now
-      logged-comes later =
+      logged-comes cause =
           let still : AsksStill o logged_now.machine t fs = record {
             lags = (due.running.all.each t fs due.asks.frames).lags;
             ends = subst (λ (log : Log). AsksItsEnd o.launch log.underway fs)
@@ -95,7 +95,7 @@ module _ (laws : Laws) (o : Opening) (first : ℕ) (set : SetFacts) (s : Shared)
                 due.running.acts refl due.running.unnamed refl refl refl due.running.unfaulted;
             acts = inl refl;
             calls = inr l.logs.logs.call;
-            cause = later;
+            cause = cause;
             answers = tt;
             finds = λ idle. absurd (let no : true ≡ false = sym (ap is_adding l.logs.logs.adding.1) ∙ idle in cc);
             awaits = λ u w. absurd (let no : true ≡ false = sym (ap is_adding l.logs.logs.adding.1) ∙ w.unlogged in cc);
@@ -117,14 +117,14 @@ module _ (laws : Laws) (o : Opening) (first : ℕ) (set : SetFacts) (s : Shared)
             noted = refl;
           }
 
-      part-comes : (memory_of s.machine).faults ≤ (memory_of new.machine).faults
+      part-comes : (memory_of new.machine).faults ≡ (memory_of s.machine).faults
           → Comes o first es threads t fs request Micro s new
-      part-comes later = subst (Comes o first es threads t fs request Micro s) (sym logged-is)
-          (logged-comes (subst (λ (x : Shared). (memory_of s.machine).faults ≤ (memory_of x.machine).faults)
-          logged-is later))
+      part-comes cause = subst (Comes o first es threads t fs request Micro s) (sym logged-is)
+          (logged-comes (subst (λ (x : Shared). (memory_of x.machine).faults ≡ (memory_of s.machine).faults)
+          logged-is cause))
 
     pub logged : (step : LogStep) → LogsTo step t s new
-        → (memory_of s.machine).faults ≤ (memory_of new.machine).faults → Comes o first es threads t fs request Micro s new
+        → (memory_of new.machine).faults ≡ (memory_of s.machine).faults → Comes o first es threads t fs request Micro s new
     logged logging.More l = part-comes (record {
       twin = l.twin;
       log = l.log;
@@ -155,9 +155,9 @@ module _ (laws : Laws) (o : Opening) (first : ℕ) (set : SetFacts) (s : Shared)
       failed-is : new ≡ failed_now
       failed-is = shared-is new _ _ _ _ f.left.machine f.left.history f.left.lines f.left.notes
 
-      failed-comes : Rose (memory_of s.machine).faults f.twin.memory.faults
+      failed-comes : f.twin.memory.faults ≡ next_count (memory_of s.machine).faults
           → Comes o first es threads t fs request (Over (Met met.ImageFault)) s failed_now
-      failed-comes rose =
+      failed-comes cause =
           let now = happened laws o first set s es threads t fs request due
           (event.region _ (region.logged f.twin f.log f.logs)) [] due.asks.frames tt tt
           (as-they-were laws o first set s es threads t fs request due failed_now.machine (record {
@@ -178,7 +178,7 @@ module _ (laws : Laws) (o : Opening) (first : ℕ) (set : SetFacts) (s : Shared)
             };
             acts = refl;
             calls = inr f.logs.logs.call;
-            cause = rose;
+            cause = cause;
             answers = tt;
             finds = tt;
             awaits = λ u w. tt;
@@ -190,11 +190,11 @@ module _ (laws : Laws) (o : Opening) (first : ℕ) (set : SetFacts) (s : Shared)
             noted = refl;
           }
 
-      pub logging-failed : Rose (memory_of s.machine).faults (memory_of new.machine).faults
+      pub logging-failed : (memory_of new.machine).faults ≡ next_count (memory_of s.machine).faults
           → Comes o first es threads t fs request (Over (Met met.ImageFault)) s new
-      logging-failed rose = subst (Comes o first es threads t fs request (Over (Met met.ImageFault)) s) (sym failed-is)
-          (failed-comes (subst (λ (x : Shared). Rose (memory_of s.machine).faults (memory_of x.machine).faults)
-          failed-is rose))
+      logging-failed cause = subst (Comes o first es threads t fs request (Over (Met met.ImageFault)) s) (sym failed-is)
+          (failed-comes (subst (λ (x : Shared). (memory_of x.machine).faults ≡ next_count (memory_of s.machine).faults)
+          failed-is cause))
 
 -- ---- of each run
 
@@ -204,19 +204,19 @@ history-stays s new t logging.Logged l = ap (λ (h : History). h.acts) l.left.hi
 history-stays s new t logging.Full l = absurd l
 
 pub logged-comes-to : Laws → (s new : Shared) (t : ℕ) (step : LogStep) → LogsTo step t s new
-    → (memory_of s.machine).faults ≤ (memory_of new.machine).faults → ComesTo t Micro s new
-logged-comes-to laws s new t step l later = record {
+    → (memory_of new.machine).faults ≡ (memory_of s.machine).faults → ComesTo t Micro s new
+logged-comes-to laws s new t step l cause = record {
   comes = λ o first set es threads fs request due.
-      logged laws o first set s es threads t fs request due new step l later;
+      logged laws o first set s es threads t fs request due new step l cause;
   sink = record { acts = inl (history-stays s new t step l); fault = tt };
 }
 
 pub logging-failed-comes-to : Laws → (s new : Shared) (t : ℕ) → LoggingFailsTo t s new
-    → length s.history.acts < s.history.limit → Rose (memory_of s.machine).faults (memory_of new.machine).faults
+    → length s.history.acts < s.history.limit → (memory_of new.machine).faults ≡ next_count (memory_of s.machine).faults
     → ComesTo t (Over (Met met.ImageFault)) s new
-logging-failed-comes-to laws s new t f room rose = record {
+logging-failed-comes-to laws s new t f room cause = record {
   comes = λ o first set es threads fs request due.
-      logging-failed laws o first set s es threads t fs request due new f room rose;
+      logging-failed laws o first set s es threads t fs request due new f room cause;
   sink = record { acts = inl (ap (λ (h : History). h.acts) f.left.history); fault = tt };
 }
 

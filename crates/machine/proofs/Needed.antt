@@ -13,8 +13,8 @@ use Rattle.converter.specs.Beginning.{IsAsked}
 use Rattle.two_spaces.specs.Seen.{Spaces}
 use Rattle.two_spaces.specs.Whole.{Stands}
 use Rattle.region_log.specs.Log.{Log}
-use Rattle.machine_forms.specs.declared.doing.Doing.TheVariants.{Converting}
-use Rattle.machine_forms.specs.Machines.{Machine, doing_of, scene_of}
+use Rattle.machine_threads.specs.Passed.{Converting}
+use Rattle.machine_threads.specs.Passed.{Machine, doing_of, scene_of}
 use Rattle.object_steps.specs.declared.storing.Store.{Store}
 use Rattle.object_steps.specs.Stores.{place_of}
 use Rattle.shared_heap.specs.Passed.{ConvertsFirst}

@@ -12,13 +12,13 @@ use Rattle.run_forms.specs.Views.{ThreadFrames}
 use Rattle.line_memory.specs.Memory.{Memory, OneCall, SameImage}
 use Rattle.twin_forms.specs.Table.{Entry}
 use Rattle.object_steps.specs.declared.storing.Store.{Store}
-use Rattle.machine_forms.specs.Machines.{Opening, Machine, doing_of, memory_of, scene_of}
+use Rattle.machine_threads.specs.Passed.{Opening, Machine, doing_of, memory_of, scene_of}
 use Rattle.machine_threads.specs.Passed.{measure, work_left}
 use Rattle.convert_waits.specs.Rows.{BeginsToNeed, InRow}
 use Rattle.convert_words.specs.Scenes.{AgreesAt}
 use Rattle.converter.specs.Laws.{AreUnwritten}
 use Rattle.machine_threads.specs.Stuck.{plain_waits}
-use Rattle.machine_forms.specs.declared.doing.Doing.TheVariants.{Converting}
+use Rattle.machine_threads.specs.Passed.{Converting}
 use Rattle.shared_heap.specs.Conversions.{HasBegun}
 use Rattle.shared_heap.specs.Notes.{ThreadNotes}
 use Rattle.shared_heap.specs.Shared.{Shared}

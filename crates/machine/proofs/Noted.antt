@@ -10,7 +10,7 @@ use Rattle.run_types.specs.declared.wait.On.TheVariants as on
 use Rattle.natives.specs.declared.requests.Request.{Request}
 use Rattle.run_forms.specs.Views.{ThreadFrames}
 use Rattle.twin_forms.specs.Table.{Entry}
-use Rattle.machine_forms.specs.Machines.{Opening, doing_of}
+use Rattle.machine_threads.specs.Passed.{Opening, doing_of}
 use Rattle.machine_threads.specs.Passed.{Asks, IsReady}
 use Rattle.machine_threads.specs.Claiming.{HasForwarded}
 use Rattle.shared_heap.specs.Notes.{ThreadNotes, answered, asked_by, waits_on}

@@ -19,10 +19,10 @@ use Rattle.step_forms.specs.Follows.{stored_as}
 use Rattle.run_forms.specs.Views.{ThreadFrames}
 use Rattle.run_forms.specs.Standing.{plain_code}
 use Rattle.twin_forms.specs.Table.{Entry}
-use Rattle.machine_forms.specs.declared.doing.Doing.{Doing}
-use Rattle.machine_forms.specs.declared.doing.Doing.TheVariants.{Nothing, Converting, Writing, Fencing}
-use Rattle.machine_forms.specs.Machines.{Opening, doing_of, known_in, roots_in, shown_in, Machine}
-use Rattle.machine_forms.specs.Events.{IsFree, IsStoreOf, value_in}
+use Rattle.machine_threads.specs.Passed.{Doing}
+use Rattle.machine_threads.specs.Passed.{Nothing, Converting, Writing, Fencing}
+use Rattle.machine_threads.specs.Passed.{Opening, doing_of, known_in, roots_in, shown_in, Machine}
+use Rattle.machine_threads.specs.Passed.{IsFree, IsStoreOf, value_in}
 use Rattle.machine_threads.specs.Passed.{IsReady}
 use Rattle.machine_threads.specs.Stuck.{plain_waits}
 use Rattle.machine_threads.proofs.Passed.{stores-anyhow}
@@ -34,7 +34,7 @@ use Rattle.machine.specs.Ended.{HasPlanned}
 use Rattle.machine.specs.Laws.{Laws}
 use Rattle.machine.proofs.Leaving.{asked, fits}
 use Rattle.machine.proofs.Basics.{some-same}
-use Rattle.machine_forms.specs.Keeping.{KeepsRun}
+use Rattle.machine_threads.specs.Passed.{KeepsRun}
 use Rattle.machine_threads.specs.Keeping.{IsToHoldDurable, KeepsThread}
 
 -- an object that isn't volatile is durable

@@ -20,7 +20,7 @@ use Rattle.run_forms.specs.Laws.{answered_threads}
 use Rattle.run_forms.specs.Views.{ThreadFrames}
 use Rattle.twin_forms.specs.Table.{Entry}
 use Rattle.twin_forms.proofs.Led.{below_or_not}
-use Rattle.machine_forms.specs.Machines.{Opening, Machine, memory_of, roots_in}
+use Rattle.machine_threads.specs.Passed.{Opening, Machine, memory_of, roots_in}
 use Rattle.machine_threads.specs.Passed.{Asks, Begins, work_left}
 use Rattle.machine_threads.specs.Testing.{IsLive}
 use Rattle.convert_waits.specs.Stuck.{IsPlain}

@@ -1,5 +1,5 @@
 -- A claim that is refused for want of lines ends the run; and what begins so.
-use Rattle.std.proofs.Common.{◌≡◌, inl, ℕ, ◌-◌, ◌<◌, List, length, None, sym, ap, subst, arith}
+use Rattle.std.proofs.Common.{◌≡◌, inl, ℕ, ◌-◌, ◌<◌, List, length, None, sym, ap, subst}
 use Rattle.ap_base.specs.References.{reference_word}
 use Rattle.ap_base.specs.declared.reference.Ref.{Ref}
 use Rattle.ap_base.specs.declared.reference.Item.{Item}
@@ -16,13 +16,13 @@ use Rattle.twin_forms.specs.Table.{Entry}
 use Rattle.two_spaces.specs.Whole.{Stands}
 use Rattle.converter.specs.Beginning.{IsAsked}
 use Rattle.converter.specs.declared.begin.Begun.TheVariants as begun_as
-use Rattle.machine_forms.specs.declared.doing.Doing.TheVariants.{Converting}
-use Rattle.machine_forms.specs.Machines.{Opening, Machine, doing_of, memory_of, scene_of}
-use Rattle.machine_forms.specs.Keeping.{KeepsRun}
+use Rattle.machine_threads.specs.Passed.{Converting}
+use Rattle.machine_threads.specs.Passed.{Opening, Machine, doing_of, memory_of, scene_of}
+use Rattle.machine_threads.specs.Passed.{KeepsRun}
 use Rattle.machine_threads.specs.Passed.{RunsAsPlain}
 use Rattle.machine_threads.specs.Passed.{IsRefused, lines_fault, lines_from}
 use Rattle.machine_threads.specs.Passed.{StoresFreely}
-use Rattle.machine_forms.specs.Events.{value_in}
+use Rattle.machine_threads.specs.Passed.{value_in}
 use Rattle.object_steps.specs.declared.storing.Store.{Store}
 use Rattle.object_steps.specs.Stores.{place_of}
 use Rattle.shared_heap.specs.Passed.{ConvertsFirst}
@@ -98,8 +98,7 @@ module _ (laws : Laws) (o : Opening) (first : ℕ) (set : SetFacts) (s : Shared)
               b.after t convert.item.number (reference_word object) need left on);
           acts = ap (λ (y : History). y.acts) b.history;
           calls = inl (same-image (memory_of s.machine) (memory_of new.machine) b.begins.memory);
-          cause = (let same_faults = ap (λ (m : Memory). m.faults) b.begins.memory in
-              omega (arith, same_faults));
+          cause = ap (λ (m : Memory). m.faults) b.begins.memory;
           answers = tt;
           finds = tt;
           awaits = λ u w. tt;

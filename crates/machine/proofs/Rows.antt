@@ -10,8 +10,8 @@ use Rattle.convert_words.specs.Scenes.{AgreesAt}
 use Rattle.convert_waits.specs.Rows.{HasNothing, HoldsStill, Why}
 use Rattle.convert_waits.specs.Rows.Why.{Plain, Lacking, Member}
 use Rattle.convert_waits.proofs.Rows.{plain_waits_keep}
-use Rattle.machine_forms.specs.Machines.{Opening, Machine, scene_of, shown_in}
-use Rattle.machine_forms.specs.Keeping.{KeepsRun}
+use Rattle.machine_threads.specs.Passed.{Opening, Machine, scene_of, shown_in}
+use Rattle.machine_threads.specs.Passed.{KeepsRun}
 use Rattle.machine_threads.specs.Stuck.{plain_waits}
 use Rattle.machine.specs.Events.{KeepsRows}
 use Rattle.machine.proofs.Aside.{agrees-aside}

@@ -33,7 +33,7 @@ use Rattle.run_forms.specs.Views.{numbered}
 use Rattle.two_spaces.specs.Laws.{null_is_no_object}
 use Rattle.two_spaces.specs.Seen.{Spaces, shown_of}
 use Rattle.twin_forms.specs.Sights.{view_of}
-use Rattle.machine_forms.specs.Machines.{Opening, shown_in}
+use Rattle.machine_threads.specs.Passed.{Opening, shown_in}
 use Rattle.machine_threads.specs.Passed.{Begins}
 use Rattle.shared_heap.specs.Notes.{AreOf64, ThreadNotes, started_as, starting}
 use Rattle.shared_heap.specs.Requests.{noted_by}

@@ -39,14 +39,14 @@ use Rattle.run_forms.proofs.Visible.{is_print, prints, step-inside, step-silent,
 use Rattle.twin_forms.specs.Table.{Entry}
 use Rattle.convert_queue.specs.Queues.{Queues, total}
 use Rattle.two_spaces.specs.Seen.{Spaces, shown_of}
-use Rattle.machine_forms.specs.declared.doing.Doing.{Doing}
-use Rattle.machine_forms.specs.declared.doing.Doing.TheVariants.{Nothing, Converting}
+use Rattle.machine_threads.specs.Passed.{Doing}
+use Rattle.machine_threads.specs.Passed.{Nothing, Converting}
 use Rattle.region_log.specs.declared.entry.Underway.TheVariants.{Nothing as Idle}
 use Rattle.machine_threads.specs.Passed.{IsFreeOp}
-use Rattle.machine_forms.specs.Machines.{Opening, Machine, doing_of, known_in, layout_in, log_of, memory_of, roots_in, shown_in}
-use Rattle.machine_forms.specs.Keeping.{IsDoing, KeepsRun}
-use Rattle.machine_forms.specs.Events.{ActsBeside, DoesRequest, IsFree, IsListed, LeavesRegions, MakesListed, NotesStore}
-use Rattle.machine_forms.specs.Events.{StoresBeside, act_in, left_by}
+use Rattle.machine_threads.specs.Passed.{Opening, Machine, doing_of, known_in, layout_in, log_of, memory_of, roots_in, shown_in}
+use Rattle.machine_threads.specs.Passed.{IsDoing, KeepsRun}
+use Rattle.machine_threads.specs.Passed.{ActsBeside, DoesRequest, IsFree, IsListed, LeavesRegions, MakesListed, NotesStore}
+use Rattle.machine_threads.specs.Passed.{StoresBeside, act_in, left_by}
 use Rattle.machine_threads.specs.Passed.{IsReady, RunsAsPlain, Asks}
 use Rattle.shared_heap.specs.Shared.{Shared}
 use Rattle.shared_heap.specs.Requests.{StepsTo, noted_by}
@@ -74,7 +74,7 @@ use Rattle.machine.proofs.Noting.{noted-asks, noted-waits, noted-wait, noted-wro
 use Rattle.machine_threads.specs.Passed.{TakesLines}
 use Rattle.machine_threads.specs.Passed.{HasUnwritten}
 use Rattle.machine_threads.specs.Passed.{measure, work_left}
-use Rattle.machine_forms.specs.Machines.{scene_of}
+use Rattle.machine_threads.specs.Passed.{scene_of}
 use Rattle.machine_threads.specs.Keeping.{KeepsThread, IsUnbegun}
 use Rattle.machine_threads.specs.Stuck.{plain_waits, requests_in}
 use Rattle.run_types.specs.Faults.{run_fault}
@@ -142,10 +142,10 @@ abbrev IsNoImageFault : StepFault → Type 0
 IsNoImageFault met.ImageFault = ⊥
 IsNoImageFault f = Unit {0}
 
-unfailed : (f : StepFault) (before after : ℕ) → IsNoImageFault f → before ≡ after
+unfailed : (f : StepFault) (before after : ℕ) → IsNoImageFault f → after ≡ before
     → HasImageCause (Over (Met f)) before after
 unfailed met.ImageFault before after other same = absurd other
-unfailed f before after other same = omega (arith, same)
+unfailed f before after other same = same
 
 -- ---- waits of the plain world
 
@@ -433,7 +433,7 @@ module _ (laws : Laws) (o : Opening) (first : ℕ) (set : SetFacts) (s : Shared)
           };
           acts = ap (λ (y : History). y.acts) st.history;
           calls = inl put.image;
-          cause = unfailed f _ _ other (sym put.image.faults);
+          cause = unfailed f _ _ other put.image.faults;
           answers = tt;
           finds = tt;
           awaits = λ u w. tt;
@@ -552,7 +552,7 @@ module _ (laws : Laws) (o : Opening) (first : ℕ) (set : SetFacts) (s : Shared)
         };
         acts = ap (λ (y : History). y.acts) st.history;
         calls = inl (put (stepped.Waits on) x st).image;
-        cause = (let same = (put (stepped.Waits on) x st).image.faults in omega (arith, same));
+        cause = (put (stepped.Waits on) x st).image.faults;
         answers = tt;
         finds = finds-plain (logs_word s.machine t) on (plain_waits o s.machine t) is-plain waits-now;
         awaits = λ u w. absurd (not-converting-now w.converting);

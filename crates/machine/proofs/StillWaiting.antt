@@ -18,7 +18,7 @@ use Rattle.shared_objects.specs.Plain.{plain_request}
 use Rattle.shared_objects.specs.Worlds.{world_of}
 use Rattle.step_forms.specs.Follows.{Agrees}
 use Rattle.two_spaces.specs.Whole.{IsWhole}
-use Rattle.machine_forms.specs.Machines.{memory_of, shown_in}
+use Rattle.machine_threads.specs.Passed.{memory_of, shown_in}
 use Rattle.convert_waits.specs.Stuck.{IsPlain}
 use Rattle.machine_threads.specs.Testing.{IsLive, WaitsStill}
 use Rattle.shared_heap.specs.Notes.{asked_by, waits_on}

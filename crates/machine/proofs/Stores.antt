@@ -19,13 +19,13 @@ use Rattle.run_forms.specs.Ends.{MeetsNoFault}
 use Rattle.stop_theorem.specs.InvariantEvents.{line_at}
 use Rattle.twin_forms.specs.Table.{Entry, entry, line_of}
 use Rattle.two_spaces.specs.Whole.{Stands}
-use Rattle.machine_forms.specs.declared.doing.Doing.{Doing}
-use Rattle.machine_forms.specs.declared.doing.Doing.TheVariants.{Nothing, Writing}
+use Rattle.machine_threads.specs.Passed.{Doing}
+use Rattle.machine_threads.specs.Passed.{Nothing, Writing}
 use Rattle.region_log.specs.Log.{Log}
-use Rattle.machine_forms.specs.Machines.{Opening, Machine, doing_of, empty_log, known_in, layout_in, log_of}
-use Rattle.machine_forms.specs.Events.{ActsBeside, DoesRequest, RegionStep, StoresBeside, StoresDurably, StoresLogged, act_in}
-use Rattle.machine_forms.specs.Events.{NotesStore, value_in}
-use Rattle.machine_forms.specs.Events as region
+use Rattle.machine_threads.specs.Passed.{Opening, Machine, doing_of, empty_log, known_in, layout_in, log_of}
+use Rattle.machine_threads.specs.Passed.{ActsBeside, DoesRequest, RegionStep, StoresBeside, StoresDurably, StoresLogged, act_in}
+use Rattle.machine_threads.specs.Passed.{NotesStore, value_in}
+use Rattle.machine_threads.specs.RegionEvents as region
 use Rattle.machine_threads.specs.Passed.{StoresFreely, beside, own}
 use Rattle.object_steps.specs.declared.storing.Store.{Store}
 use Rattle.object_steps.specs.Stores.{place_of}
@@ -49,9 +49,9 @@ use Rattle.machine.proofs.Leaving.{ends-idle, ends-same, few, happened, as-they-
 use Rattle.machine.proofs.Memory.{does-stay}
 use Rattle.machine.proofs.Planned.{asks-store, is-free, is-store, kept-durable, waits-none}
 use Rattle.machine.proofs.Steps.{given-whole}
-use Rattle.machine_forms.specs.Happening as event
+use Rattle.machine_threads.specs.Happening as event
 use Rattle.graph_model.specs.declared.types.Value.{Value}
-use Rattle.machine_forms.specs.Keeping.{KeepsRun}
+use Rattle.machine_threads.specs.Passed.{KeepsRun}
 use Rattle.machine_threads.proofs.Passed.{in-durable}
 use Rattle.machine_threads.proofs.Passed.{copied-there}
 use Rattle.two_spaces.proofs.Keeping.{copied_or_not}
@@ -236,7 +236,7 @@ module _ (laws : Laws) (o : Opening) (first : ℕ) (set : SetFacts) (s : Shared)
               (none-more o.launch s.machine.acts act h.due.running.unfaulted meets));
           acts = inr (record { act = act; thread = refl; acts = new-acts });
           calls = inl stays.image;
-          cause = (let same = stays.image.faults in omega (arith, same));
+          cause = stays.image.faults;
           answers = tt;
           finds = λ logs. waits-none laws o first set s es threads t fs request store h;
           awaits = awaits-free o s.machine t es h.due.running.keeps.heap.agrees does.doing Micro;
@@ -309,7 +309,7 @@ module _ (laws : Laws) (o : Opening) (first : ℕ) (set : SetFacts) (s : Shared)
               (none-more o.launch s.machine.acts act h.due.running.unfaulted meets)) nothing-now;
           acts = record { act = act; thread = refl; acts = new-acts };
           calls = inl stays.image;
-          cause = (let same = stays.image.faults in omega (arith, same));
+          cause = stays.image.faults;
           answers = given-whole request h.gives;
           finds = waits-none laws o first set s es threads t fs request store h;
           awaits = awaits-free o s.machine t es h.due.running.keeps.heap.agrees does.doing (Did reply.Done);

@@ -14,8 +14,8 @@ use Rattle.shared_objects.specs.Worlds.{plain_thread}
 use Rattle.run_forms.specs.Views.{ThreadFrames, plain_frames}
 use Rattle.run_forms.specs.Standing.{plain_code}
 use Rattle.twin_forms.specs.Table.{Entry}
-use Rattle.machine_forms.specs.Machines.{Opening, Machine, shown_in}
-use Rattle.machine_forms.specs.Events.{DoesRequest}
+use Rattle.machine_threads.specs.Passed.{Opening, Machine, shown_in}
+use Rattle.machine_threads.specs.Passed.{DoesRequest}
 use Rattle.machine_threads.specs.Passed.{Begins}
 
 at-length : (f : Thread → Thread) (ths : List Thread) (t : ℕ) → length (at_thread f ths t) ≡ length ths

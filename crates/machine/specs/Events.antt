@@ -1,6 +1,6 @@
 -- What an event of a thread over a shared heap comes to.
 use Rattle.std.specs.Prelude.{◌≡◌, ◌≢◌, ◌⊎◌, ℕ, ◌+◌, ◌-◌, ◌*◌, ◌<◌, ◌≤◌, Bool, false, List, [], ◌∷◌, ◌++◌, length, Option, Some, None, IfSome}
-use Rattle.ap_base.specs.Causes.{Rose, next_count}
+use Rattle.ap_base.specs.Causes.{next_count}
 use Rattle.ap_base.specs.Sinks.{TakesBehind, with_bytes}
 use Rattle.ap_base.specs.declared.reference.Ref.{Ref}
 use Rattle.ap_base.specs.declared.reference.Item.{Item}
@@ -29,9 +29,9 @@ use Rattle.region_log.specs.Guarding.{is_adding}
 use Rattle.convert_waits.specs.Rows.{BeginsToNeed, Why, InRow, on_of, with_wait}
 use Rattle.convert_waits.specs.Stuck.{HoldsWait, IsPlain}
 use Rattle.twin_forms.specs.Table.{Entry, InP}
-use Rattle.machine_forms.specs.declared.doing.Doing.TheVariants.{Nothing, Converting}
-use Rattle.machine_forms.specs.Machines.{Opening, Machine, doing_of, known_in, log_of, memory_of, scene_of}
-use Rattle.machine_forms.specs.Keeping.{KeepsRun}
+use Rattle.machine_threads.specs.Passed.{Nothing, Converting}
+use Rattle.machine_threads.specs.Passed.{Opening, Machine, doing_of, known_in, log_of, memory_of, scene_of}
+use Rattle.machine_threads.specs.Passed.{KeepsRun}
 use Rattle.machine_threads.specs.Passed.{Asks, Begins, IsReady, RunsAsPlain}
 use Rattle.machine_threads.specs.Passed.{measure, work_left}
 use Rattle.machine_threads.specs.Claiming.{HasForwarded}
@@ -231,10 +231,10 @@ abbrev pub HasSinkCause : Event → ℕ → ℕ → Type 0
 HasSinkCause (Over (Met met.SinkFault)) before now = now ≡ next_count before
 HasSinkCause result before now = now ≡ before
 
--- The image's count of faults never falls, and where the run is over by the image it rose.
+-- The image fails only where the run is over by it, and then once.
 abbrev pub HasImageCause : Event → ℕ → ℕ → Type 0
-HasImageCause (Over (Met met.ImageFault)) before now = Rose before now
-HasImageCause result before now = before ≤ now
+HasImageCause (Over (Met met.ImageFault)) before now = now ≡ next_count before
+HasImageCause result before now = now ≡ before
 
 -- a turn that broke
 abbrev pub IsBroken : Request Ref Item → Type 0

@@ -22,9 +22,9 @@ pub use Rattle.shared_heap.specs.Notes.{AreOf64, ThreadNotes, answered, asked_by
 pub use Rattle.shared_heap.specs.Passed.{IsSilent}
 pub use Rattle.shared_heap.specs.Shared.{Shared}
 pub use Rattle.step_forms.specs.Becomes.{given}
-pub use Rattle.machine_forms.specs.Events.{IsListed}
-pub use Rattle.machine_forms.specs.Keeping.{IsDoing, KeepsRun}
-pub use Rattle.machine_forms.specs.Machines.{Machine, Opening, doing_of, empty_log, known_in, layout_in, log_of}
-pub use Rattle.machine_forms.specs.Machines.{memory_of, scene_of, shown_in}
-pub use Rattle.machine_forms.specs.declared.doing.Doing.{Doing}
-pub use Rattle.machine_forms.specs.declared.doing.Doing.TheVariants.{Converting, Fencing, Nothing, Writing}
+pub use Rattle.machine_threads.specs.Passed.{IsListed}
+pub use Rattle.machine_threads.specs.Passed.{IsDoing, KeepsRun}
+pub use Rattle.machine_threads.specs.Passed.{Machine, Opening, doing_of, empty_log, known_in, layout_in, log_of}
+pub use Rattle.machine_threads.specs.Passed.{memory_of, scene_of, shown_in}
+pub use Rattle.machine_threads.specs.Passed.{Doing}
+pub use Rattle.machine_threads.specs.Passed.{Converting, Fencing, Nothing, Writing}

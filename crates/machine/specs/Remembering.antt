@@ -14,8 +14,8 @@ use Rattle.run_forms.specs.Views.{ThreadFrames}
 use Rattle.convert_words.specs.Scenes.{AgreesAt}
 use Rattle.convert_waits.specs.Stuck.{HoldsWait, IsStuckAt}
 use Rattle.twin_forms.specs.Table.{Entry}
-use Rattle.machine_forms.specs.declared.doing.Doing.TheVariants.{Nothing}
-use Rattle.machine_forms.specs.Machines.{Opening, doing_of, scene_of}
+use Rattle.machine_threads.specs.Passed.{Nothing}
+use Rattle.machine_threads.specs.Passed.{Opening, doing_of, scene_of}
 use Rattle.machine_threads.specs.Passed.{Asks, Begins}
 use Rattle.machine_threads.specs.Plain.{asks_some}
 use Rattle.machine_threads.specs.Stuck.{plain_waits, requests_in}

@@ -11,9 +11,9 @@ use Rattle.run_forms.specs.Standing.{Launch}
 use Rattle.run_forms.specs.Ends.{MeetsNoFault}
 use Rattle.convert_queue.specs.Queues.{total}
 use Rattle.twin_forms.specs.Table.{Entry}
-use Rattle.machine_forms.specs.Machines.{Opening, Machine, memory_of}
-use Rattle.machine_forms.specs.Keeping.{KeepsRun}
-use Rattle.machine_forms.specs.Events.{IsListed}
+use Rattle.machine_threads.specs.Passed.{Opening, Machine, memory_of}
+use Rattle.machine_threads.specs.Passed.{KeepsRun}
+use Rattle.machine_threads.specs.Passed.{IsListed}
 use Rattle.machine_threads.specs.Passed.{Asks, RunsAsPlain}
 use Rattle.machine_threads.specs.Passed.{TakesLines}
 use Rattle.machine_threads.specs.Passed.{HasUnwritten}

@@ -7,7 +7,7 @@ ghost use Rattle.region_log.specs.Guarding.{is_adding};
 ghost use Rattle.region_log.specs.Stages.{CanEnd};
 ghost use Rattle.run_forms.specs.Views.{ThreadFrames};
 ghost use Rattle.twin_forms.specs.Table.{Entry};
-ghost use Rattle.machine_forms.specs.Machines.{Opening, doing_of, log_of};
+ghost use Rattle.machine_threads.specs.Passed.{Opening, doing_of, log_of};
 ghost use Rattle.machine_threads.specs.Passed.{IsReady};
 ghost use Rattle.machine.specs.Ended.{ComesTo, IsSomeDue, Serves};
 ghost use Rattle.machine.specs.Running.{IsDue};

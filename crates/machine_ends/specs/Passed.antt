@@ -13,3 +13,10 @@ pub use Rattle.machine_laws.specs.Passed.{Machine, Opening, doing_of, empty_log,
 pub use Rattle.machine_laws.specs.Passed.{roots_in, scene_of, shown_in}
 pub use Rattle.machine_laws.specs.Passed.{Doing}
 pub use Rattle.machine_laws.specs.Passed.{Converting, Fencing, Nothing, Writing}
+pub use Rattle.machine_laws.specs.Passed.{ActsBeside, AsksEnd, BeginsOn, BeginsRegion, CallsEnd, ClosesRegion}
+pub use Rattle.machine_laws.specs.Passed.{Converted, EndsByAct, EndsPart, GuardsPlace, Happens, IsFitRequest, IsFree}
+pub use Rattle.machine_laws.specs.Passed.{IsListed, IsStoreOf, KeepsAsked, KeepsHeap, KeepsWorld, LeavesLog}
+pub use Rattle.machine_laws.specs.Passed.{LeavesRegions, LogsWord, MakesListed, NotesStore, StoresBeside}
+pub use Rattle.machine_laws.specs.Passed.{StoresDurably, StoresLogged, group_names, left_by, memory_of, request_of}
+pub use Rattle.machine_laws.specs.Passed.{table_after, with_asked, with_closing, with_fence, with_guarded}
+pub use Rattle.machine_laws.specs.Passed.{with_joined, with_write}

@@ -14,5 +14,6 @@ pub use line_laws::{
 };
 // what crates above name of the laws below
 pub use machine_laws::{
-    each_stop_is_allowed, events_go_on_as_plain_runs, events_keep_runs, machines_ask_as_plain_runs,
+    Doing, each_stop_is_allowed, events_go_on_as_plain_runs, events_keep_runs,
+    machines_ask_as_plain_runs,
 };

@@ -43,7 +43,7 @@ use Rattle.machine_laws.proofs.Requested.{copied-there, stored-there, beside-who
 use Rattle.machine_laws.proofs.AskKeeping.{LeavesThread, doing-kept, line-in, is-queues, are-durable, durable-in, in-durable}
 use Rattle.machine_laws.proofs.AskActing.{Acted, acted-keeps, outside-regions, doing-after, holder-asks, claimer-asks}
 use Rattle.machine_laws.proofs.Fences.{same-closed, same-durable}
-use Rattle.machine_laws.proofs.Doing.{visible, about, owes-nothing, holds-nothing, free, calls-same}
+use Rattle.machine_laws.proofs.WhatIsDone.{visible, about, owes-nothing, holds-nothing, free, calls-same}
 
 -- ---- the table
 

@@ -17,7 +17,7 @@ pub mod Changes
 pub mod Closed
 pub mod Coming
 pub mod Converted
-pub mod Doing
+pub mod WhatIsDone
 pub mod Fences
 pub mod Fields
 pub mod Free

@@ -35,7 +35,7 @@ use Rattle.machine_laws.proofs.Acts.{asked_after, unfenced_after, asked-next, un
 use Rattle.machine_laws.proofs.AskActing.{acted-keeps}
 use Rattle.machine_laws.proofs.Changes.{whole-same}
 use Rattle.machine_laws.proofs.Coming.{LeavesClosed}
-use Rattle.machine_laws.proofs.Doing.{calls-same}
+use Rattle.machine_laws.proofs.WhatIsDone.{calls-same}
 use Rattle.machine_laws.proofs.Fences.{same-closed, same-durable}
 use Rattle.machine_laws.proofs.AskKeeping.{doing-kept, known-with, is-queues, are-durable}
 use Rattle.machine_laws.proofs.Logs.{StandsLog, regions-own, whole-now}

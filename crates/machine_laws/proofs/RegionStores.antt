@@ -32,7 +32,7 @@ use Rattle.machine_forms.specs.Events.{StoresLogged, act_in, value_in}
 use Rattle.machine_laws.proofs.Acts.{stored_unfenced, asked-next, unfenced-next, pending-without_own}
 use Rattle.machine_laws.proofs.AskActing.{Acted, acted-keeps, outside-regions, doing-after, holder-asks, claimer-asks}
 use Rattle.machine_laws.proofs.Changes.{whole-word}
-use Rattle.machine_laws.proofs.Doing.{owes-nothing, holds-nothing, calls-same}
+use Rattle.machine_laws.proofs.WhatIsDone.{owes-nothing, holds-nothing, calls-same}
 use Rattle.machine_laws.proofs.Fences.{same-closed, same-durable}
 use Rattle.machine_laws.proofs.AskKeeping.{is-queues}
 use Rattle.machine_laws.proofs.Logs.{StandsLog}

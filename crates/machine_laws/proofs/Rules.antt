@@ -33,7 +33,7 @@ use Rattle.machine_forms.specs.Events.{RegionStep}
 use Rattle.machine_forms.specs.Events as step
 use Rattle.machine_laws.specs.AskLaws.{asked_by, asked_with, MayCome}
 use Rattle.machine_laws.proofs.Coming.{LeavesClosed, act_at, names-of}
-use Rattle.machine_laws.proofs.Doing.{about, owes-nothing, idle-owes}
+use Rattle.machine_laws.proofs.WhatIsDone.{about, owes-nothing, idle-owes}
 use Rattle.machine_laws.proofs.Fences.{about-store, same-closed}
 use Rattle.plain_model.specs.Requests.{PlainRequest}
 use Rattle.machine_forms.specs.Happening.{region_request, region_act}

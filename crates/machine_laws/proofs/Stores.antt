@@ -35,7 +35,7 @@ use Rattle.machine_laws.proofs.Fences.{same-closed, same-durable}
 use Rattle.machine_laws.proofs.Memories.{KeepsWhole}
 use Rattle.machine_laws.proofs.Places.{place-inside}
 use Rattle.machine_laws.proofs.Requested.{stored-there, kept-stored, durable-word}
-use Rattle.machine_laws.proofs.Doing.{about, owes-nothing, holds-nothing, free, calls-same}
+use Rattle.machine_laws.proofs.WhatIsDone.{about, owes-nothing, holds-nothing, free, calls-same}
 
 -- ---- one store
 

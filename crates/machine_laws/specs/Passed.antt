@@ -16,3 +16,7 @@ pub use Rattle.machine_forms.specs.Events.{with_twin, with_write}
 pub use Rattle.machine_forms.specs.Keeping.{IsDoing}
 pub use Rattle.machine_forms.specs.Machines.{layout_in, roots_in, wants_in}
 pub use Rattle.machine_forms.specs.declared.doing.Doing.TheVariants.{Converting, Fencing, Writing}
+pub use Rattle.machine_forms.specs.Events.{CallsEnd, Converted, IsFitRequest, IsFree, IsListed, LeavesRegions}
+pub use Rattle.machine_forms.specs.Events.{MakesListed, NotesStore, StoresBeside}
+pub use Rattle.machine_forms.specs.Happening.{Happens, request_of, table_after}
+pub use Rattle.machine_forms.specs.Naming.{group_names}

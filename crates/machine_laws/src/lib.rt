@@ -17,3 +17,5 @@ pub use run_laws::{
 pub use stop_laws::{
     events_keep_stops, machines_start_with_allowed_stops, opened_images_start_machines,
 };
+// what crates above name of the forms below
+pub use machine_forms::Doing;

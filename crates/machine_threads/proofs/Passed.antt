@@ -6,3 +6,4 @@ pub use Rattle.machine_ends.proofs.Passed.{left_goes_on}
 pub use Rattle.machine_ends.proofs.Passed.{frames-at, ready-own}
 pub use Rattle.machine_ends.proofs.Passed.{place-inside}
 pub use Rattle.machine_ends.proofs.Passed.{copied-there}
+pub use Rattle.machine_ends.proofs.Passed.{table-is}

@@ -4,3 +4,5 @@ pub mod Plain
 pub mod Stuck
 pub mod Testing
 pub mod Passed
+pub mod Happening
+pub mod RegionEvents

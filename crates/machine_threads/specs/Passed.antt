@@ -16,3 +16,13 @@ pub use Rattle.machine_ends.specs.Passed.{IsReady, ReadyThreadsAskAlike, RunsAsP
 pub use Rattle.machine_ends.specs.Passed.{stored_frames}
 pub use Rattle.machine_ends.specs.Passed.{KeepsShared}
 pub use Rattle.machine_ends.specs.Passed.{EachStopIsAllowed, EventsKeepRuns}
+pub use Rattle.machine_ends.specs.Passed.{ActsBeside, AsksEnd, AsksFor, BeginsOn, BeginsRegion, CallsEnd}
+pub use Rattle.machine_ends.specs.Passed.{ClosesRegion, Converted, Converting, DoesRequest, Doing, EndsByAct}
+pub use Rattle.machine_ends.specs.Passed.{EndsPart, Fencing, GuardsPlace, Happens, IsDoing, IsFitRequest, IsFree}
+pub use Rattle.machine_ends.specs.Passed.{IsListed, IsStoreOf, KeepsAsked, KeepsHeap, KeepsRun, KeepsWorld}
+pub use Rattle.machine_ends.specs.Passed.{LeavesLog, LeavesRegions, LogsWord, Machine, MakesListed, NotesStore}
+pub use Rattle.machine_ends.specs.Passed.{Nothing, Opening, RegionStep, StoresBeside, StoresDurably, StoresLogged}
+pub use Rattle.machine_ends.specs.Passed.{Writing, act_in, doing_of, empty_log, group_names, known_in, layout_in}
+pub use Rattle.machine_ends.specs.Passed.{left_by, log_of, memory_of, request_of, roots_in, scene_of, shown_in}
+pub use Rattle.machine_ends.specs.Passed.{table_after, value_in, with_asked, with_closing, with_fence, with_guarded}
+pub use Rattle.machine_ends.specs.Passed.{with_joined, with_logged, with_twin, with_write}

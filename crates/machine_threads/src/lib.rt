@@ -10,7 +10,7 @@ pub use laws::{
 };
 // what crates above name of the laws below
 pub use machine_ends::{
-    acts_meet_no_fault, calls_of_regions_lower_the_measure, each_stop_is_allowed,
+    Doing, acts_meet_no_fault, calls_of_regions_lower_the_measure, each_stop_is_allowed,
     events_go_on_as_plain_runs, events_keep_lines, events_keep_runs, events_take_work,
     lines_stay_unwritten, machines_ask_as_plain_runs, machines_end_by_their_faults,
     machines_finish_with_their_threads, quiet_events_lower_the_measure, refusals_fill_the_image,

@@ -1,6 +1,6 @@
 -- Which halves are used after each way through a call.
-use Rattle.std.proofs.Common.{◌≡◌, ◌≤◌, ℕ, Bool, true, false, refl, arith, Ok, Err}
-use Rattle.ap_base.specs.Causes.{Rose, next_count}
+use Rattle.std.proofs.Common.{◌≡◌, ◌∙◌, ℕ, Bool, true, false, refl, ap, Ok, Err}
+use Rattle.ap_base.specs.Causes.{next_count}
 use Rattle.line_image.specs.Told.{Told}
 use Rattle.mirror_image.specs.declared.halves.Left.{Left}
 use Rattle.mirror_image.specs.declared.halves.Left.TheVariants.{Both, First, Second}
@@ -24,22 +24,22 @@ none_second Second = refl
 
 -- it wasn't called
 half_same : {told : Told} {faults : ℕ} (was is : Bool) → is ≡ was → LeavesHalf was is told told faults faults
-half_same true true same = record { uncalled = λ e. (refl, refl); given_up = λ e u. cc; for_good = λ e. refl }
+half_same true true same = record { uncalled = λ e. (refl, refl); given_up = λ e u. cc; spared = λ u. refl; for_good = λ e. refl }
 half_same true false same = cc
 half_same false true same = cc
-half_same false false same = record { uncalled = λ e. (refl, refl); given_up = λ e u. cc; for_good = λ e. e }
+half_same false false same = record { uncalled = λ e. (refl, refl); given_up = λ e u. cc; spared = λ u. refl; for_good = λ e. e }
 
--- it was called, and is used as before
-half_kept : {told told' : Told} {faults faults' : ℕ} (was is : Bool) → was ≡ true → is ≡ true → LeavesHalf was is told told' faults faults'
-half_kept true true w i = record { uncalled = λ e. cc; given_up = λ e u. cc; for_good = λ e. refl }
-half_kept true false w i = cc
-half_kept false is w i = cc
+-- it was called, didn't fail, and is used as before
+half_kept : {told told' : Told} {faults faults' : ℕ} (was is : Bool) → was ≡ true → is ≡ true → faults' ≡ faults → LeavesHalf was is told told' faults faults'
+half_kept true true w i spared = record { uncalled = λ e. cc; given_up = λ e u. cc; spared = λ u. spared; for_good = λ e. refl }
+half_kept true false w i spared = cc
+half_kept false is w i spared = cc
 
 -- it failed
-half_lost : {told told' : Told} {faults faults' : ℕ} (was is : Bool) → was ≡ true → is ≡ false → Rose faults faults' → LeavesHalf was is told told' faults faults'
-half_lost true false w i rose = record { uncalled = λ e. cc; given_up = λ e u. rose; for_good = λ e. cc }
-half_lost true true w i rose = cc
-half_lost false is w i rose = cc
+half_lost : {told told' : Told} {faults faults' : ℕ} (was is : Bool) → was ≡ true → is ≡ false → faults' ≡ next_count faults → LeavesHalf was is told told' faults faults'
+half_lost true false w i failed = record { uncalled = λ e. cc; given_up = λ e u. failed; spared = λ u. cc; for_good = λ e. cc }
+half_lost true true w i failed = cc
+half_lost false is w i failed = cc
 
 -- both had failed before
 pub uses_none : {T E : Type 0} {e : E} {a b : Told} {f g : ℕ} (left : Left) (alive : Bool) → alive ≡ false
@@ -55,125 +55,125 @@ uses_none left alive dead = record {
 
 -- the first half alone
 pub uses_first_ok : {T E : Type 0} {x : T} {a b a' : Told} {f g f' : ℕ} (left : Left) (alive : Bool) → left ≡ First → alive ≡ true
-    → UsesHalves {T = T} {E = E} left left alive alive a b a' b f g f' g (Ok x)
-uses_first_ok First true is lives = record {
-  first = half_kept _ _ refl refl;
+    → f' ≡ f → UsesHalves {T = T} {E = E} left left alive alive a b a' b f g f' g (Ok x)
+uses_first_ok First true is lives spared = record {
+  first = half_kept _ _ refl refl spared;
   second = half_same _ _ refl;
   ok = refl;
   failed = tt;
   once_first = λ was is lives. cc;
   once_second = λ was is lives. cc;
 }
-uses_first_ok First false is lives = cc
-uses_first_ok Both alive is lives = cc
-uses_first_ok Second alive is lives = cc
+uses_first_ok First false is lives spared = cc
+uses_first_ok Both alive is lives spared = cc
+uses_first_ok Second alive is lives spared = cc
 
 pub uses_first_lost : {T E : Type 0} {e : E} {a b a' : Told} {f g f' : ℕ} (left : Left) (alive : Bool) → left ≡ First → alive ≡ true
-    → Rose f f' → UsesHalves {T = T} left left alive false a b a' b f g f' g (Err e)
-uses_first_lost First true is lives rose = record {
-  first = half_lost _ _ refl refl rose;
+    → f' ≡ next_count f → UsesHalves {T = T} left left alive false a b a' b f g f' g (Err e)
+uses_first_lost First true is lives failed = record {
+  first = half_lost _ _ refl refl failed;
   second = half_same _ _ refl;
   ok = tt;
   failed = refl;
   once_first = λ was is lives. cc;
   once_second = λ was is lives. cc;
 }
-uses_first_lost First false is lives rose = cc
-uses_first_lost Both alive is lives rose = cc
-uses_first_lost Second alive is lives rose = cc
+uses_first_lost First false is lives failed = cc
+uses_first_lost Both alive is lives failed = cc
+uses_first_lost Second alive is lives failed = cc
 
 -- the second half alone
 pub uses_second_ok : {T E : Type 0} {x : T} {a b b' : Told} {f g g' : ℕ} (left : Left) (alive : Bool) → left ≡ Second → alive ≡ true
-    → UsesHalves {T = T} {E = E} left left alive alive a b a b' f g f g' (Ok x)
-uses_second_ok Second true is lives = record {
+    → g' ≡ g → UsesHalves {T = T} {E = E} left left alive alive a b a b' f g f g' (Ok x)
+uses_second_ok Second true is lives spared = record {
   first = half_same _ _ refl;
-  second = half_kept _ _ refl refl;
+  second = half_kept _ _ refl refl spared;
   ok = refl;
   failed = tt;
   once_first = λ was is lives. cc;
   once_second = λ was is lives. cc;
 }
-uses_second_ok Second false is lives = cc
-uses_second_ok Both alive is lives = cc
-uses_second_ok First alive is lives = cc
+uses_second_ok Second false is lives spared = cc
+uses_second_ok Both alive is lives spared = cc
+uses_second_ok First alive is lives spared = cc
 
 pub uses_second_lost : {T E : Type 0} {e : E} {a b b' : Told} {f g g' : ℕ} (left : Left) (alive : Bool) → left ≡ Second → alive ≡ true
-    → Rose g g' → UsesHalves {T = T} left left alive false a b a b' f g f g' (Err e)
-uses_second_lost Second true is lives rose = record {
+    → g' ≡ next_count g → UsesHalves {T = T} left left alive false a b a b' f g f g' (Err e)
+uses_second_lost Second true is lives failed = record {
   first = half_same _ _ refl;
-  second = half_lost _ _ refl refl rose;
+  second = half_lost _ _ refl refl failed;
   ok = tt;
   failed = refl;
   once_first = λ was is lives. cc;
   once_second = λ was is lives. cc;
 }
-uses_second_lost Second false is lives rose = cc
-uses_second_lost Both alive is lives rose = cc
-uses_second_lost First alive is lives rose = cc
+uses_second_lost Second false is lives failed = cc
+uses_second_lost Both alive is lives failed = cc
+uses_second_lost First alive is lives failed = cc
 
 -- both, and none failed
 pub uses_both_ok : {T E : Type 0} {x : T} {a b a' b' : Told} {f g f' g' : ℕ} (left : Left) (alive : Bool) → left ≡ Both → alive ≡ true
-    → UsesHalves {T = T} {E = E} left left alive alive a b a' b' f g f' g' (Ok x)
-uses_both_ok Both true is lives = record {
-  first = half_kept _ _ refl refl;
-  second = half_kept _ _ refl refl;
+    → f' ≡ f → g' ≡ g → UsesHalves {T = T} {E = E} left left alive alive a b a' b' f g f' g' (Ok x)
+uses_both_ok Both true is lives spared_f spared_g = record {
+  first = half_kept _ _ refl refl spared_f;
+  second = half_kept _ _ refl refl spared_g;
   ok = refl;
   failed = tt;
   once_first = λ was is lives. cc;
   once_second = λ was is lives. cc;
 }
-uses_both_ok Both false is lives = cc
-uses_both_ok First alive is lives = cc
-uses_both_ok Second alive is lives = cc
+uses_both_ok Both false is lives spared_f spared_g = cc
+uses_both_ok First alive is lives spared_f spared_g = cc
+uses_both_ok Second alive is lives spared_f spared_g = cc
 
 -- both, and the second one failed
 pub uses_both_first : {T E : Type 0} {x : T} {a b a' b' : Told} {f g f' g' : ℕ} (left : Left) (alive : Bool) → left ≡ Both → alive ≡ true
-    → Rose g g' → b'.calls ≡ next_count b.calls → UsesHalves {T = T} {E = E} left First alive alive a b a' b' f g f' g' (Ok x)
-uses_both_first Both true is lives rose counted = record {
-  first = half_kept _ _ refl refl;
-  second = half_lost _ _ refl refl rose;
+    → f' ≡ f → g' ≡ next_count g → b'.calls ≡ next_count b.calls → UsesHalves {T = T} {E = E} left First alive alive a b a' b' f g f' g' (Ok x)
+uses_both_first Both true is lives spared failed counted = record {
+  first = half_kept _ _ refl refl spared;
+  second = half_lost _ _ refl refl failed;
   ok = refl;
   failed = tt;
   once_first = λ was is lives. cc;
   once_second = λ was is lives. counted;
 }
-uses_both_first Both false is lives rose counted = cc
-uses_both_first First alive is lives rose counted = cc
-uses_both_first Second alive is lives rose counted = cc
+uses_both_first Both false is lives spared failed counted = cc
+uses_both_first First alive is lives spared failed counted = cc
+uses_both_first Second alive is lives spared failed counted = cc
 
 -- both, and the first one failed
 pub uses_both_second : {T E : Type 0} {x : T} {a b a' b' : Told} {f g f' g' : ℕ} (left : Left) (alive : Bool) → left ≡ Both → alive ≡ true
-    → Rose f f' → a'.calls ≡ next_count a.calls → UsesHalves {T = T} {E = E} left Second alive alive a b a' b' f g f' g' (Ok x)
-uses_both_second Both true is lives rose counted = record {
-  first = half_lost _ _ refl refl rose;
-  second = half_kept _ _ refl refl;
+    → f' ≡ next_count f → g' ≡ g → a'.calls ≡ next_count a.calls → UsesHalves {T = T} {E = E} left Second alive alive a b a' b' f g f' g' (Ok x)
+uses_both_second Both true is lives failed spared counted = record {
+  first = half_lost _ _ refl refl failed;
+  second = half_kept _ _ refl refl spared;
   ok = refl;
   failed = tt;
   once_first = λ was is lives. counted;
   once_second = λ was is lives. cc;
 }
-uses_both_second Both false is lives rose counted = cc
-uses_both_second First alive is lives rose counted = cc
-uses_both_second Second alive is lives rose counted = cc
+uses_both_second Both false is lives failed spared counted = cc
+uses_both_second First alive is lives failed spared counted = cc
+uses_both_second Second alive is lives failed spared counted = cc
 
 -- both failed
 pub uses_both_lost : {T E : Type 0} {e : E} {a b a' b' : Told} {f g f' g' : ℕ} (left left' : Left) (alive : Bool) → left ≡ Both → alive ≡ true
-    → Rose f f' → Rose g g' → UsesHalves {T = T} left left' alive false a b a' b' f g f' g' (Err e)
-uses_both_lost Both left' true is lives rose_f rose_g = record {
-  first = half_lost _ _ refl (none_first left') rose_f;
-  second = half_lost _ _ refl (none_second left') rose_g;
+    → f' ≡ next_count f → g' ≡ next_count g → UsesHalves {T = T} left left' alive false a b a' b' f g f' g' (Err e)
+uses_both_lost Both left' true is lives failed_f failed_g = record {
+  first = half_lost _ _ refl (none_first left') failed_f;
+  second = half_lost _ _ refl (none_second left') failed_g;
   ok = tt;
   failed = refl;
   once_first = λ was is lives. cc;
   once_second = λ was is lives. cc;
 }
-uses_both_lost Both left' false is lives rose_f rose_g = cc
-uses_both_lost First left' alive is lives rose_f rose_g = cc
-uses_both_lost Second left' alive is lives rose_f rose_g = cc
+uses_both_lost Both left' false is lives failed_f failed_g = cc
+uses_both_lost First left' alive is lives failed_f failed_g = cc
+uses_both_lost Second left' alive is lives failed_f failed_g = cc
 
--- an earlier call of the half counts for nothing
-pub rose_after : {f g h : ℕ} → f ≤ g → Rose g h → Rose f h
-rose_after later rose = omega (arith, later, rose)
+-- what the half was called for before, it did
+pub failed_after : {f g h : ℕ} → g ≡ f → h ≡ next_count g → h ≡ next_count f
+failed_after spared failed = failed ∙ ap next_count spared
 
 -- the second half alone was asked
 pub asks_second : {b b' : Told} {g g' : ℕ} (left : Left) (alive : Bool) → left ≡ Second → AsksFirst left alive b b' g g'

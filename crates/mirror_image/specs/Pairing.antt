@@ -1,6 +1,6 @@
 -- What pairing makes of two halves.
 use Rattle.std.specs.Prelude.{◌≡◌, ◌⊎◌, ◌≤◌, ◌+◌, ◌-◌, ℕ, Bool, true, false, Option, min}
-use Rattle.ap_base.specs.Causes.{Rose, next_count}
+use Rattle.ap_base.specs.Causes.{next_count}
 use Rattle.line_image.specs.Trace.{Trace, did}
 use Rattle.line_image.specs.Told.{Told}
 use Rattle.line_image.specs.declared.effect.Done.TheVariants.{Wrote, Fenced}
@@ -10,9 +10,17 @@ use Rattle.mirror_image.specs.Sound.{label_words, ReadsAlike, IsSound}
 use Rattle.mirror_image.specs.Labels.{IsLabelled, KeepsReads}
 use Rattle.mirror_image.specs.Safe.{IsSafe}
 
--- a half's count of faults rose
-abbrev pub OneRose : ℕ → ℕ → ℕ → ℕ → Type 0
-OneRose a a' b b' = Rose a a' ⊎ Rose b b'
+-- a half failed once: its count of faults is the next one, and didn't fall
+abbrev pub FailedOnce : ℕ → ℕ → Type 0
+FailedOnce faults faults' = (faults ≤ faults') × (faults' ≡ next_count faults)
+
+-- of two halves the one failed once, and the other didn't
+abbrev pub OneHalfFailed : ℕ → ℕ → ℕ → ℕ → Type 0
+OneHalfFailed a a' b b' = (FailedOnce a a' × (b' ≡ b)) ⊎ ((a' ≡ a) × FailedOnce b b')
+
+-- neither half failed
+abbrev pub NoneFailed : ℕ → ℕ → ℕ → ℕ → Type 0
+NoneFailed a a' b b' = (a' ≡ a) × (b' ≡ b)
 
 -- The leader was marked, and the other half, which reads as the leader, too.
 pub record IsLed (z generation : ℕ) (l o l' o' : Told) : Type 0 where

@@ -1,16 +1,18 @@
 -- Which halves a call of a mirror uses, and when it fails.
 use Rattle.std.specs.Prelude.{◌≡◌, ℕ, Bool, true, false, Result, OnOk, OnErr}
-use Rattle.ap_base.specs.Causes.{Rose, next_count}
+use Rattle.ap_base.specs.Causes.{next_count}
 use Rattle.line_image.specs.Told.{Told}
 use Rattle.mirror_image.specs.declared.halves.Left.{Left}
 use Rattle.mirror_image.specs.Leaving.{uses_first, uses_second}
 use Rattle.mirror_image.specs.Sound.{both_used}
 
 -- A half that was used, or wasn't, and now is, or isn't; it told this before the call and tells this now, and has failed so often.
--- One that isn't used isn't called. One that is given up failed in this call, and is never used again.
+-- One that isn't used isn't called. One that is given up failed in this call, once, and is never used again; one that goes on
+-- being used didn't fail.
 pub record LeavesHalf (was is : Bool) (told told' : Told) (faults faults' : ℕ) : Type 0 where
   pub uncalled : was ≡ false → (told' ≡ told) × (faults' ≡ faults)
-  pub given_up : was ≡ true → is ≡ false → Rose faults faults'
+  pub given_up : was ≡ true → is ≡ false → faults' ≡ next_count faults
+  pub spared : is ≡ true → faults' ≡ faults
   pub for_good : is ≡ true → was ≡ true
 
 -- A call that succeeds leaves a half that is used; one that fails leaves none. Where one half is given up and the other goes on,
@@ -35,8 +37,3 @@ AsksFirst left' alive' b b' g g' = uses_first left' alive' ≡ true → (b' ≡ 
 -- a write or a fence that leaves both halves used called each of them once
 abbrev pub CallsBoth : Left → Bool → Told → Told → Told → Told → Type 0
 CallsBoth left' alive' a b a' b' = both_used left' alive' ≡ true → (a'.calls ≡ next_count a.calls) × (b'.calls ≡ next_count b.calls)
-
--- each call that fails is counted, and no other
-pub record CountsFailures {T E : Type 0} (before now : ℕ) (result : Result T E) : Type 0 where
-  pub ok : OnOk result (now ≡ before)
-  pub failed : OnErr result (now ≡ next_count before)

@@ -6,7 +6,7 @@ ghost use Rattle.line_image.specs.declared.effect.Done.TheVariants.{Wrote, Fence
 ghost use Rattle.mirror_image.specs.Calls.{Called, IsSame, Did, MayHave};
 ghost use Rattle.mirror_image.specs.Sound.{IsSound};
 ghost use Rattle.mirror_image.specs.Leaving.{UsedLeave};
-ghost use Rattle.mirror_image.specs.Using.{UsesHalves, AsksFirst, CallsBoth, CountsFailures};
+ghost use Rattle.mirror_image.specs.Using.{UsesHalves, AsksFirst, CallsBoth};
 ghost use Rattle.mirror_image.specs.Joint.{told_by};
 ghost use Rattle.mirror_image.specs.Safe.{IsSafe};
 ghost use Rattle.mirror_image.specs.Stops.{PairingShows};
@@ -70,7 +70,6 @@ impl<A: Image, B: Image> Halves<A, B> {
         ensures words { OnOk result (Reads (told_by (A.told self.old.a) (B.told self.old.b) self.old.left self.old.less self.old.extra).trace line into.new) }
         ensures untouched { OnErr result (into.new ≡ into.old) }
         ensures cause { HasCause self.old.faults self.new.faults result }
-        ensures counts { CountsFailures self.old.faults self.new.faults result }
         ensures uses { UsesHalves self.old.left self.new.left self.old.alive self.new.alive
             (A.told self.old.a) (B.told self.old.b) (A.told self.new.a) (B.told self.new.b)
             (A.faults self.old.a) (B.faults self.old.b) (A.faults self.new.a) (B.faults self.new.b) result }
@@ -96,7 +95,7 @@ impl<A: Image, B: Image> Halves<A, B> {
                 if self.b.read_line(line, into).is_ok() {
                     return Ok(());
                 }
-                self.alive = false;
+                self.alive = false; // and isn't asked again
                 self.faults = self.faults.saturating_add(1);
                 Err(ImageFailed)
             }
@@ -111,7 +110,6 @@ impl<A: Image, B: Image> Halves<A, B> {
         ensures failed { OnErr result (Called (MayHave (Wrote line words.now)) (A.told self.old.a) (B.told self.old.b) self.old.left self.old.less self.old.extra
             (A.told self.new.a) (B.told self.new.b) self.new.left self.new.less self.new.extra) }
         ensures cause { HasCause self.old.faults self.new.faults result }
-        ensures counts { CountsFailures self.old.faults self.new.faults result }
         ensures uses { UsesHalves self.old.left self.new.left self.old.alive self.new.alive
             (A.told self.old.a) (B.told self.old.b) (A.told self.new.a) (B.told self.new.b)
             (A.faults self.old.a) (B.faults self.old.b) (A.faults self.new.a) (B.faults self.new.b) result }
@@ -151,7 +149,6 @@ impl<A: Image, B: Image> Halves<A, B> {
         ensures failed { OnErr result (Called IsSame (A.told self.old.a) (B.told self.old.b) self.old.left self.old.less self.old.extra
             (A.told self.new.a) (B.told self.new.b) self.new.left self.new.less self.new.extra) }
         ensures cause { HasCause self.old.faults self.new.faults result }
-        ensures counts { CountsFailures self.old.faults self.new.faults result }
         ensures uses { UsesHalves self.old.left self.new.left self.old.alive self.new.alive
             (A.told self.old.a) (B.told self.old.b) (A.told self.new.a) (B.told self.new.b)
             (A.faults self.old.a) (B.faults self.old.b) (A.faults self.new.a) (B.faults self.new.b) result }
@@ -195,7 +192,6 @@ impl<A: Image, B: Image> Halves<A, B> {
         ensures words { OnOk result (Reads (told_by (A.told self.old.a) (B.told self.old.b) self.old.left self.old.less self.old.extra).trace line into.new) }
         ensures untouched { OnErr result (into.new ≡ into.old) }
         ensures cause { HasCause self.old.faults self.new.faults result }
-        ensures counts { CountsFailures self.old.faults self.new.faults result }
         ensures uses { UsesHalves self.old.left self.new.left self.old.alive self.new.alive
             (A.told self.old.a) (B.told self.old.b) (A.told self.new.a) (B.told self.new.b)
             (A.faults self.old.a) (B.faults self.old.b) (A.faults self.new.a) (B.faults self.new.b) result }
@@ -228,7 +224,6 @@ impl<A: Image, B: Image> Halves<A, B> {
         ensures failed { OnErr result (Called (MayHave (Wrote line words.now)) (A.told self.old.a) (B.told self.old.b) self.old.left self.old.less self.old.extra
             (A.told self.new.a) (B.told self.new.b) self.new.left self.new.less self.new.extra) }
         ensures cause { HasCause self.old.faults self.new.faults result }
-        ensures counts { CountsFailures self.old.faults self.new.faults result }
         ensures uses { UsesHalves self.old.left self.new.left self.old.alive self.new.alive
             (A.told self.old.a) (B.told self.old.b) (A.told self.new.a) (B.told self.new.b)
             (A.faults self.old.a) (B.faults self.old.b) (A.faults self.new.a) (B.faults self.new.b) result }
@@ -271,7 +266,6 @@ impl<A: Image, B: Image> Halves<A, B> {
         ensures failed { OnErr result (Called IsSame (A.told self.old.a) (B.told self.old.b) self.old.left self.old.less self.old.extra
             (A.told self.new.a) (B.told self.new.b) self.new.left self.new.less self.new.extra) }
         ensures cause { HasCause self.old.faults self.new.faults result }
-        ensures counts { CountsFailures self.old.faults self.new.faults result }
         ensures uses { UsesHalves self.old.left self.new.left self.old.alive self.new.alive
             (A.told self.old.a) (B.told self.old.b) (A.told self.new.a) (B.told self.new.b)
             (A.faults self.old.a) (B.faults self.old.b) (A.faults self.new.a) (B.faults self.new.b) result }

@@ -1,7 +1,7 @@
 // One image over two halves.
 ghost use Rattle.std.specs.Prelude.{◌≡◌, ◌≢◌, ◌<◌, ◌≤◌, ◌+◌, ◌-◌, ◌^◌, ◌↔◌, ℕ, IfOk, IfErr};
 ghost use Rattle.line_image.specs.Trace.{Trace, Outcome, IsAllFenced};
-ghost use Rattle.mirror_image.specs.Pairing.{OneRose};
+ghost use Rattle.mirror_image.specs.Pairing.{OneHalfFailed, NoneFailed};
 ghost use Rattle.mirror_image.specs.Paired.{LeaderFits, LeaderTooHigh, ShowsLeader};
 ghost use Rattle.mirror_image.specs.Stops.{KeepsLeader, Holds, led};
 ghost use Rattle.mirror_image.specs.Labels.{leader};
@@ -31,7 +31,9 @@ impl<A: Image, B: Image> Mirror<A, B> {
         ensures differ { IfErr result (λ e. (e.0 ≡ Sizes) ↔ HalvesDiffer (A.told a).size (B.told b).size) }
         ensures too_high { IfErr result (λ e. e.0 ≡ TooHigh
             → LeaderTooHigh ((A.told a).size - 1) (A.told a).trace (B.told b).trace) }
-        ensures cause { IfErr result (λ e. e.0 ≡ Failed → OneRose (A.faults a) (A.faults e.1) (B.faults b) (B.faults e.2)) }
+        ensures spared { IfOk result (λ m. NoneFailed (A.faults a) (A.faults (mirror_halves m).0) (B.faults b) (B.faults (mirror_halves m).1)) }
+        ensures cause { IfErr result (λ e. e.0 ≡ Failed → OneHalfFailed (A.faults a) (A.faults e.1) (B.faults b) (B.faults e.2)) }
+        ensures refused { IfErr result (λ e. e.0 ≢ Failed → NoneFailed (A.faults a) (A.faults e.1) (B.faults b) (B.faults e.2)) }
         ensures same { IfErr result (λ e. e.0 ≢ Failed → ((A.told e.1).trace ≡ (A.told a).trace) × ((B.told e.2).trace ≡ (B.told b).trace)) }
         // A stop at any moment.
         ensures stops { IfOk result (λ m. KeepsWhatLed a b m) }
@@ -112,7 +114,6 @@ impl<A: Image, B: Image> Image for Mirror<A, B> {
     ghost use Rattle.mirror_image.specs.Joint.{told_by};
     ghost use Rattle.mirror_image.specs.Mirror.{in_order_of};
     ghost use Rattle.mirror_image.specs.Seen.{mirror_told, mirror_faults, AsksFirstAlone, CallsUsed, IsClosed, MirrorStops, MirrorUses};
-    ghost use Rattle.mirror_image.specs.Using.{CountsFailures};
     ghost use Rattle.mirror_image.specs.Order.{in_order_by};
 
     ghost told = { λ m. mirror_told m };
@@ -134,7 +135,6 @@ impl<A: Image, B: Image> Image for Mirror<A, B> {
         ensures words { OnOk result (Reads (mirror_told self.old).trace line into.new) }
         ensures untouched { OnErr result (into.new ≡ into.old) }
         ensures cause { HasCause (mirror_faults self.old) (mirror_faults self.new) result }
-        ensures counts { CountsFailures (mirror_faults self.old) (mirror_faults self.new) result }
         ensures closed { IsClosed self.old → IsErr result }
         ensures uses { MirrorUses result self.old self.new }
         ensures asks { AsksFirstAlone self.old self.new }
@@ -159,7 +159,6 @@ impl<A: Image, B: Image> Image for Mirror<A, B> {
             ≡ did (Wrote line words.now) (mirror_told self.new).calls (mirror_told self.old).trace)
             ⊎ ((mirror_told self.new).trace ≡ (mirror_told self.old).trace)) }
         ensures cause { HasCause (mirror_faults self.old) (mirror_faults self.new) result }
-        ensures counts { CountsFailures (mirror_faults self.old) (mirror_faults self.new) result }
         ensures closed { IsClosed self.old → IsErr result }
         ensures uses { MirrorUses result self.old self.new }
         ensures both { CallsUsed self.old self.new }
@@ -181,7 +180,6 @@ impl<A: Image, B: Image> Image for Mirror<A, B> {
             ≡ did Fenced (mirror_told self.new).calls (mirror_told self.old).trace) }
         ensures failed { OnErr result ((mirror_told self.new).trace ≡ (mirror_told self.old).trace) }
         ensures cause { HasCause (mirror_faults self.old) (mirror_faults self.new) result }
-        ensures counts { CountsFailures (mirror_faults self.old) (mirror_faults self.new) result }
         ensures closed { IsClosed self.old → IsErr result }
         ensures uses { MirrorUses result self.old self.new }
         ensures both { CallsUsed self.old self.new }

@@ -1,12 +1,12 @@
 // Two halves are made one image.
-ghost use Rattle.std.specs.Prelude.{◌≡◌, ◌⊎◌, ◌<◌, ◌≤◌, ◌+◌, ◌^◌, min, max, true, false, OnOk, OnErr, IfOk, IfErr};
+ghost use Rattle.std.specs.Prelude.{◌≡◌, ◌≢◌, ◌⊎◌, ◌<◌, ◌+◌, ◌^◌, min, max, true, false, OnOk, OnErr, IfOk, IfErr};
 ghost use Rattle.ap_base.specs.Causes.{next_count};
 ghost use Rattle.line_image.specs.Trace.{did};
 ghost use Rattle.line_image.specs.declared.effect.Done.TheVariants.{Fenced};
 ghost use Rattle.mirror_image.specs.Sound.{IsMarked, ReadsAlike};
 ghost use Rattle.mirror_image.specs.Joint.{most};
 ghost use Rattle.mirror_image.specs.Labels.{IsLabel, IsLabelled, generation as generation_in, leads};
-ghost use Rattle.mirror_image.specs.Pairing.{OneRose, IsLed, ArePaired, ArePairedFrom};
+ghost use Rattle.mirror_image.specs.Pairing.{OneHalfFailed, NoneFailed, IsLed, ArePaired, ArePairedFrom};
 ghost use Rattle.mirror_image.specs.Paired.{IsPairing, IsPairFault};
 ghost use Rattle.mirror_image.specs.Halfway.{KeepsLow, KeepsLead, KeepsYield, KeepsBoth};
 ghost use Rattle.mirror_image.specs.Stops.{KeepsLeader};
@@ -49,9 +49,8 @@ fn copy_lines<A: Image, B: Image>(from: &mut A, to: &mut B, count: u64) -> Resul
     ensures low { KeepsLow count (B.told to.old).trace (B.told to.new).trace }
     ensures from_calls { OnOk result ((A.told from.new).calls ≡ min ((A.told from.old).calls + count) most) }
     ensures to_calls { OnOk result ((B.told to.new).calls ≡ min ((B.told to.old).calls + count) most) }
-    ensures from_later { A.faults from.old ≤ A.faults from.new }
-    ensures to_later { B.faults to.old ≤ B.faults to.new }
-    ensures cause { OnErr result (OneRose (A.faults from.old) (A.faults from.new) (B.faults to.old) (B.faults to.new)) }
+    ensures spared { OnOk result (NoneFailed (A.faults from.old) (A.faults from.new) (B.faults to.old) (B.faults to.new)) }
+    ensures cause { OnErr result (OneHalfFailed (A.faults from.old) (A.faults from.new) (B.faults to.old) (B.faults to.new)) }
 {
     for line in 0..count {
         let mut words = [0; 8];
@@ -76,9 +75,8 @@ fn raise<L: Image, O: Image>(
     ensures other { OnOk result (IsMarked line 0 (O.told other.old) (O.told other.new)) }
     ensures leading { KeepsLead line generation (L.told leader.old).trace (L.told leader.new).trace }
     ensures low { KeepsLow line (O.told other.old).trace (O.told other.new).trace }
-    ensures leader_later { L.faults leader.old ≤ L.faults leader.new }
-    ensures other_later { O.faults other.old ≤ O.faults other.new }
-    ensures cause { OnErr result (OneRose (L.faults leader.old) (L.faults leader.new) (O.faults other.old) (O.faults other.new)) }
+    ensures spared { OnOk result (NoneFailed (L.faults leader.old) (L.faults leader.new) (O.faults other.old) (O.faults other.new)) }
+    ensures cause { OnErr result (OneHalfFailed (L.faults leader.old) (L.faults leader.new) (O.faults other.old) (O.faults other.new)) }
 {
     if mark(other, line, 0).is_err() {
         return Err(ImageFailed);
@@ -106,9 +104,8 @@ fn follow<L: Image, O: Image>(
     ensures yields { KeepsYield line (L.told leader.old).trace (O.told other.old).trace (O.told other.new).trace }
     ensures leader_calls { OnOk result ((L.told leader.new).calls ≡ min ((L.told leader.old).calls + line) most) }
     ensures other_calls { OnOk result ((O.told other.new).calls ≡ min ((O.told other.old).calls + line + 3) most) }
-    ensures leader_later { L.faults leader.old ≤ L.faults leader.new }
-    ensures other_later { O.faults other.old ≤ O.faults other.new }
-    ensures cause { OnErr result (OneRose (L.faults leader.old) (L.faults leader.new) (O.faults other.old) (O.faults other.new)) }
+    ensures spared { OnOk result (NoneFailed (L.faults leader.old) (L.faults leader.new) (O.faults other.old) (O.faults other.new)) }
+    ensures cause { OnErr result (OneHalfFailed (L.faults leader.old) (L.faults leader.new) (O.faults other.old) (O.faults other.new)) }
 {
     copy_lines(leader, other, line)?;
     other.fence()?;
@@ -132,9 +129,8 @@ fn lead<L: Image, O: Image>(
     ensures leading { KeepsLead line generation (L.told leader.old).trace (L.told leader.new).trace }
     ensures yields { KeepsYield line (L.told leader.old).trace (O.told other.old).trace (O.told other.new).trace }
     ensures led { OnOk result (IsLed line generation (L.told leader.old) (O.told other.old) (L.told leader.new) (O.told other.new)) }
-    ensures leader_later { L.faults leader.old ≤ L.faults leader.new }
-    ensures other_later { O.faults other.old ≤ O.faults other.new }
-    ensures cause { OnErr result (OneRose (L.faults leader.old) (L.faults leader.new) (O.faults other.old) (O.faults other.new)) }
+    ensures spared { OnOk result (NoneFailed (L.faults leader.old) (L.faults leader.new) (O.faults other.old) (O.faults other.new)) }
+    ensures cause { OnErr result (OneHalfFailed (L.faults leader.old) (L.faults leader.new) (O.faults other.old) (O.faults other.new)) }
 {
     raise(leader, other, line, generation)?;
     follow(leader, other, line, generation)
@@ -157,9 +153,8 @@ fn lead_either<A: Image, B: Image>(
     ensures second { first_leads ≡ false → KeepsLead line generation (B.told b.old).trace (B.told b.new).trace
         × KeepsYield line (B.told b.old).trace (A.told a.old).trace (A.told a.new).trace }
     ensures paired { OnOk result (ArePaired line generation first_leads (A.told a.old) (B.told b.old) (A.told a.new) (B.told b.new)) }
-    ensures a_later { A.faults a.old ≤ A.faults a.new }
-    ensures b_later { B.faults b.old ≤ B.faults b.new }
-    ensures cause { OnErr result (OneRose (A.faults a.old) (A.faults a.new) (B.faults b.old) (B.faults b.new)) }
+    ensures spared { OnOk result (NoneFailed (A.faults a.old) (A.faults a.new) (B.faults b.old) (B.faults b.new)) }
+    ensures cause { OnErr result (OneHalfFailed (A.faults a.old) (A.faults a.new) (B.faults b.old) (B.faults b.new)) }
 {
     if first_leads {
         return lead(a, b, line, generation);
@@ -177,9 +172,8 @@ fn settle<A: Image, B: Image>(a: &mut A, b: &mut B) -> Result<(), ImageFailed>
     ensures b_fenced { OnOk result ((B.told b.new).trace ≡ did Fenced (B.told b.new).calls (B.told b.old).trace) }
     ensures a_may { ((A.told a.new).trace ≡ did Fenced (A.told a.new).calls (A.told a.old).trace) ⊎ ((A.told a.new).trace ≡ (A.told a.old).trace) }
     ensures b_may { ((B.told b.new).trace ≡ did Fenced (B.told b.new).calls (B.told b.old).trace) ⊎ ((B.told b.new).trace ≡ (B.told b.old).trace) }
-    ensures a_later { A.faults a.old ≤ A.faults a.new }
-    ensures b_later { B.faults b.old ≤ B.faults b.new }
-    ensures cause { OnErr result (OneRose (A.faults a.old) (A.faults a.new) (B.faults b.old) (B.faults b.new)) }
+    ensures spared { OnOk result (NoneFailed (A.faults a.old) (A.faults a.new) (B.faults b.old) (B.faults b.new)) }
+    ensures cause { OnErr result (OneHalfFailed (A.faults a.old) (A.faults a.new) (B.faults b.old) (B.faults b.new)) }
 {
     a.fence()?;
     b.fence()
@@ -219,9 +213,8 @@ fn pair_labelled<A: Image, B: Image>(
     ensures second { leads labels.first labels.second ≡ false → KeepsBoth line generation (generation_in labels.second) labels.first
         (B.told b.old).trace (A.told a.old).trace (B.told b.new).trace (A.told a.new).trace }
     ensures paired { OnOk result (ArePairedFrom line generation (leads labels.first labels.second) (A.told a.old) (B.told b.old) (A.told a.new) (B.told b.new)) }
-    ensures a_later { A.faults a.old ≤ A.faults a.new }
-    ensures b_later { B.faults b.old ≤ B.faults b.new }
-    ensures cause { OnErr result (OneRose (A.faults a.old) (A.faults a.new) (B.faults b.old) (B.faults b.new)) }
+    ensures spared { OnOk result (NoneFailed (A.faults a.old) (A.faults a.new) (B.faults b.old) (B.faults b.new)) }
+    ensures cause { OnErr result (OneHalfFailed (A.faults a.old) (A.faults a.new) (B.faults b.old) (B.faults b.new)) }
 {
     let first_leads = generation_of(labels.second) <= generation_of(labels.first);
     clear_foreign(a, line, labels.first)?;
@@ -240,9 +233,8 @@ fn read_labels<A: Image, B: Image>(a: &mut A, b: &mut B, line: u64) -> Result<La
     ensures b_same { (B.told b.new).trace ≡ (B.told b.old).trace }
     ensures first { IfOk result (λ labels. IsLabel line labels.first (A.told a.old).trace) }
     ensures second { IfOk result (λ labels. IsLabel line labels.second (B.told b.old).trace) }
-    ensures a_later { A.faults a.old ≤ A.faults a.new }
-    ensures b_later { B.faults b.old ≤ B.faults b.new }
-    ensures cause { OnErr result (OneRose (A.faults a.old) (A.faults a.new) (B.faults b.old) (B.faults b.new)) }
+    ensures spared { OnOk result (NoneFailed (A.faults a.old) (A.faults a.new) (B.faults b.old) (B.faults b.new)) }
+    ensures cause { OnErr result (OneHalfFailed (A.faults a.old) (A.faults a.new) (B.faults b.old) (B.faults b.new)) }
 {
     let first = read_label(a, line)?;
     let second = read_label(b, line)?;
@@ -262,9 +254,9 @@ pub(crate) fn pair_halves<A: Image, B: Image>(
     ensures paired { IfOk result (λ g. IsPairing line (A.told a.old) (B.told b.old) (A.told a.new) (B.told b.new) g) }
     ensures kept { KeepsLeader line (A.told a.old).trace (B.told b.old).trace (A.told a.new).trace (B.told b.new).trace }
     ensures fault { IfErr result (λ fault. IsPairFault line (A.told a.old) (B.told b.old) (A.told a.new) (B.told b.new) fault) }
-    ensures a_later { A.faults a.old ≤ A.faults a.new }
-    ensures b_later { B.faults b.old ≤ B.faults b.new }
-    ensures cause { IfErr result (λ fault. fault ≡ Failed → OneRose (A.faults a.old) (A.faults a.new) (B.faults b.old) (B.faults b.new)) }
+    ensures spared { OnOk result (NoneFailed (A.faults a.old) (A.faults a.new) (B.faults b.old) (B.faults b.new)) }
+    ensures cause { IfErr result (λ fault. fault ≡ Failed → OneHalfFailed (A.faults a.old) (A.faults a.new) (B.faults b.old) (B.faults b.new)) }
+    ensures refused { IfErr result (λ fault. fault ≢ Failed → NoneFailed (A.faults a.old) (A.faults a.new) (B.faults b.old) (B.faults b.new)) }
 {
     let labels = read_labels(a, b, line)?;
     let greatest = generation_of(labels.first).max(generation_of(labels.second));

@@ -1,5 +1,5 @@
 // A text is put into a sink.
-ghost use Rattle.std.specs.Prelude.{◌≡◌, ◌<◌, ℕ, length, take, OnOk, OnErr};
+ghost use Rattle.std.specs.Prelude.{◌≡◌, ◌<◌, ◌≤◌, ℕ, length, take, OnOk, OnErr};
 ghost use Rattle.ap_base.specs.Causes.{next_count};
 ghost use Rattle.ap_base.specs.Sinks.{with_bytes};
 
@@ -12,6 +12,7 @@ pub fn put_all<S: Sink>(sink: &mut S, bytes: &[u8]) -> Result<(), SinkFailed>
         × (S.taken sink.new ≡ with_bytes (S.taken sink.old) (take k bytes.now))) }
     ensures unfailed { OnOk result (S.faults sink.new ≡ S.faults sink.old) }
     ensures failed { OnErr result (S.faults sink.new ≡ next_count (S.faults sink.old)) }
+    ensures later { S.faults sink.old ≤ S.faults sink.new }
 {
     let mut taken = 0;
     while taken < bytes.len() {

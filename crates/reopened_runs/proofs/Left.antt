@@ -3,7 +3,6 @@ use Rattle.std.proofs.Common.{◌≡◌, ◌⊎◌, inl, inr, ⊎_elim, ℕ, ◌
 use Rattle.std.proofs.Common.{refl, sym, ap, ◌∙◌, subst, arith, length, take, slice_index, get_or}
 use Rattle.std.specs.Prelude.{◌≢◌, IfOk, IfErr}
 use Rattle.std.proofs.lemmas.List.{append-nil}
-use Rattle.ap_base.specs.Causes.{Rose}
 use Rattle.ap_base.specs.Sinks.{TakesBehind, with_bytes}
 use Rattle.ap_base.specs.declared.source.NamedBytes.{NamedBytes}
 use Rattle.graph_model.specs.declared.types.Graph.{Graph}
@@ -83,23 +82,6 @@ module _ (start : Told) (telling : IsTelling start.trace) (words : Words) (read 
       bad.fails
   not_bad ImageFailed bad = tt
   not_bad OutOfMemory bad = tt
-
--- an image is blamed only where it failed
-abbrev err : NotOpened → Result Graph NotOpened
-err why = Err why
-
-abbrev ok : Graph → Result Graph NotOpened
-ok graph = Ok graph
-
-pub never_failed : (graph : Graph) → ok graph ≡ err ImageFailed → ⊥
-never_failed graph is = cc
-
-same_fault : (why : NotOpened) → err why ≡ err ImageFailed → why ≡ ImageFailed
-same_fault why is = cc
-
-pub failed_cause : (why : NotOpened) (before after : ℕ) → (why ≡ ImageFailed → Rose before after) → err why ≡ err ImageFailed
-    → Rose before after
-failed_cause why before after cause is = cause (same_fault why is)
 
 -- what is found has what that graph has
 if_found : (r : Result Graph NotOpened) (graph : Graph) (P : Graph → Type 0) → IfOk r (λ found. found ≡ graph) → P graph → IfOk r P

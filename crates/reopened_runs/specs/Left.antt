@@ -1,13 +1,13 @@
 -- What may be recovered of what a stop of a run left.
 use Rattle.std.specs.Prelude.{◌≡◌, ◌≢◌, ◌⊎◌, ◌<◌, ◌≤◌, ◌+◌, ◌-◌, ◌^◌, ℕ, List, [], length, take, Option, Some, None, Result, IfOk}
 use Rattle.std.specs.Prelude.{IfErr, IsErrOf}
-use Rattle.ap_base.specs.Causes.{Rose}
+use Rattle.ap_base.specs.Causes.{HasCauseOf}
 use Rattle.ap_base.specs.Sinks.{SinkState, share_of}
 use Rattle.ap_base.specs.Sources.{SourceState}
 use Rattle.ap_base.specs.declared.source.NamedBytes.{NamedBytes}
 use Rattle.graph_model.specs.declared.types.Graph.{Graph}
-use Rattle.line_image.specs.Crash.{first_word}
-use Rattle.line_image.specs.Memory.{faults_of, size_of, told_of, trace_of}
+use Rattle.line_image.specs.Crash.{first_word, word_left}
+use Rattle.line_image.specs.Memory.{calls_of, fails_of, faults_of, room_of, size_of, told_of, trace_of}
 use Rattle.line_image.specs.Told.{Told}
 use Rattle.line_image.specs.Trace.{IsAllFenced, LeavesNow, LeftWithin}
 use Rattle.line_image.specs.declared.memory.MemoryImage.{MemoryImage}
@@ -29,6 +29,7 @@ use Rattle.autopersist.specs.Meets.{Meets}
 use Rattle.autopersist.specs.Outside.{Outside, outside}
 use Rattle.autopersist.specs.Passed.{AreEntriesOf, AreRead, Choice, FilesGive, IsDirectoryIn, IsOpenedSo, Linked, OfChoice}
 use Rattle.autopersist.specs.Passed.{ShapeChanged, Status, facts_of, lacking, made_of, with_arrays_of}
+use Rattle.reopened_runs.specs.declared.stopping.Stop.{Stop}
 
 -- how many bytes of a piece a sink in memory takes, once it took so many more
 abbrev pub takes_of : SinkState → (ℕ → ℕ → Option ℕ)
@@ -98,30 +99,35 @@ abbrev pub IsUntouched : MemoryImage → Type 0
 IsUntouched image = (trace_of image).done ≡ []
 
 -- This was found of an image that a stop left: the graph for which its words stand. Where there is one, it isn't a bad image; where it is
--- told to be bad it is so, by that line and reason; and it failed only where its count of faults rose.
+-- told to be bad it is so, by that line and reason; and it failed exactly where that is told, once.
 pub record IsFoundIn (left back : MemoryImage) (found : Result Graph NotOpened) : Type 0 where
   pub opened : IfOk found (λ it. StandsFor (size_of left) (first_word (trace_of left)) it)
   pub stood : (graph : Graph) → StandsFor (size_of left) (first_word (trace_of left)) graph → IfOk found (λ it. it ≡ graph)
   pub refused : (graph : Graph) → StandsFor (size_of left) (first_word (trace_of left)) graph → IfErr found IsNoBadImage
   pub bad : IfErr found (IsBadThere (told_of left))
-  pub cause : IsErrOf found ImageFailed → Rose (faults_of left) (faults_of back)
+  pub cause : HasCauseOf ImageFailed (faults_of left) (faults_of back) found
 
 -- The image was given back, and this was found of it.
 abbrev pub FindsIn : (left : MemoryImage) → Option MemoryImage → (found : Result Graph NotOpened) → Type 0
 FindsIn left None found = ⊥
 FindsIn left (Some back) found = IsFoundIn left back found
 
--- A stop behind the last call of an image that tells `after` left it; nothing was done to it since, and it counts no fault.
-pub record IsStopBehind (after : Told) (left : MemoryImage) : Type 0 where
+-- This stop behind the last call of an image left it: of what the trace allows, what the stop picks. Its calls fail as the stop says; none was
+-- made yet, and it counts no fault.
+pub record IsStopBehind (after : MemoryImage) (stop : Stop) (left : MemoryImage) : Type 0 where
   pub untouched : IsUntouched left
   pub faultless : faults_of left ≡ 0
-  pub size : size_of left ≡ after.size
-  pub words : LeavesNow after.trace (first_word (trace_of left))
+  pub size : size_of left ≡ size_of after
+  pub words : LeavesNow (Some (trace_of after)) (first_word (trace_of left))
+  pub picked : (l w : ℕ) → l < size_of after → w < 8 → first_word (trace_of left) l w ≡ word_left stop.pick (trace_of after) l w
+  pub uncalled : calls_of left ≡ 0
+  pub fails : fails_of left ≡ stop.fails
+  pub room : room_of left ≡ stop.fails.room
 
 -- What was found of an image that such a stop left, and how it was given back; or there was no memory for it.
-abbrev pub FindsBehind : (after : Told) → Option MemoryImage → (found : Result Graph NotOpened) → Type 0
-FindsBehind after None found = IsErrOf found OutOfMemory
-FindsBehind after (Some back) found = (left : MemoryImage) × IsStopBehind after left × IsFoundIn left back found
+abbrev pub FindsBehind : (after : MemoryImage) → Stop → Option MemoryImage → (found : Result Graph NotOpened) → Type 0
+FindsBehind after stop None found = IsErrOf found OutOfMemory
+FindsBehind after stop (Some back) found = (left : MemoryImage) × IsStopBehind after stop left × IsFoundIn left back found
 
 -- This was found of what a stop behind these acts of all left, where the words ask for a run, and the files were there for it, over an image
 -- that told `start`. It isn't a bad image, but that where there are no acts the image has to have stood for a graph.

@@ -49,7 +49,7 @@ where
     // and the second run goes on with it.
     ensures first { MeetsOver (texts words.now.items) given.source result.first.source image result.first.image given.sink
         result.first.sink result.first.status result.first.opening result.first.acts.acts }
-    ensures second { IfSome result.second (λ second. (left : LeftImage) × IsStopBehind (told_of result.first.image) left
+    ensures second { IfSome result.second (λ second. (left : LeftImage) × IsStopBehind result.first.image stop left
         × MeetsOver (texts words.now.items) again.source second.source left second.image again.sink second.sink second.status
         second.opening second.acts.acts
         × RunsAgain (texts words.now.items) given.source.left again.source.left (told_of image) result.first.opening

@@ -70,8 +70,8 @@ where
         result.ended.acts.acts result.ended.acts.acts result.recovered }
     // Where a shape of the image was refused, it is the very graph for which the image stood.
     ensures keeps { KeepsRefused (texts words.now.items) (told_of image) result.ended.status result.recovered }
-    // It is the graph for which the image stands that the stop left.
-    ensures found { FindsBehind (told_of result.ended.image) result.image result.recovered }
+    // It is the graph for which the image stands that this stop left.
+    ensures found { FindsBehind result.ended.image stop result.image result.recovered }
 {
     stopped_runs_open_again();
     let ended = autopersist(rt, alloc, words, source, image, sink, &NoGate, NoWatch);

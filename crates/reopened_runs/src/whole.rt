@@ -1,5 +1,6 @@
 // Runs over forms in memory: what they print, and to what they come where nothing fails.
-ghost use Rattle.std.specs.Prelude.{◌≡◌};
+ghost use Rattle.std.specs.Prelude.{◌≡◌, ◌≢◌};
+ghost use Rattle.ap_base.specs.Causes.{next_count};
 ghost use Rattle.line_image.specs.Memory.{faults_of, told_of};
 ghost use Rattle.command_words.specs.Commands.{texts};
 ghost use Rattle.autopersist.specs.Passed.{with_all};
@@ -74,6 +75,9 @@ where
         → StaysFaultless sink.faults result.sink.faults
         → EndsWhole (texts words.now.items) source.left image result.image sink result.sink result.opening
         result.acts.acts result.status }
+    // The image failed once where the run ended by it, and else never.
+    ensures failed { result.status ≡ Status.ImageFault → faults_of result.image ≡ next_count (faults_of image) }
+    ensures unfailed { result.status ≢ Status.ImageFault → faults_of result.image ≡ faults_of image }
 {
     autopersist(rt, alloc, words, source, image, sink, &NoGate, NoWatch)
 }

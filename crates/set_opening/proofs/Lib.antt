@@ -2,6 +2,7 @@ pub mod Again
 pub mod Agreeing
 pub mod Arrays
 pub mod Belonging
+pub mod Causes
 pub mod Classes
 pub mod Literals
 pub mod Names

@@ -23,7 +23,7 @@ use Rattle.image_opening.specs.Unopened as of_opening
 use Rattle.first_spaces.specs.Opened.{IsOpened}
 use Rattle.first_spaces.specs.Laws.{EmptyImagesAreOpened, FoundImagesAreOpened}
 use Rattle.set_opening.specs.declared.unopened.Unopened.{Unopened}
-use Rattle.set_opening.specs.declared.unopened.Unopened.TheVariants.{BadImage, ImageFailed, OutOfMemory}
+use Rattle.set_opening.specs.declared.unopened.Unopened.TheVariants.{BadImage}
 use Rattle.set_opening.specs.Found.{HasDirectory, IsDirectoryIn, IsFound}
 use Rattle.set_opening.specs.Opened.{StandsWithFirst}
 use Rattle.set_opening.specs.Unopened.{IsAttachFault, IsOfOpening, IsRecoveryFault, IsUnattached, IsUnfound}
@@ -194,10 +194,3 @@ pub unfound : (start after : Told) (why : NotOpened) (fault : Unopened) → IsOf
     → of_opening.IsUnopened start after why → IsUnfound start after fault
 unfound start after why fault of (inl is) = inl (unattached start after why fault of is)
 unfound start after why fault of (inr is) = inr (unrecovered start after why fault of is)
-
--- the image failed, and nothing else
-pub failed_so : (why : NotOpened) (fault : Unopened) → IsOfOpening why fault → fault ≡ ImageFailed
-    → why ≡ opening.ImageFailed
-failed_so (opening.BadImage line reason) fault of is = let wrong : BadImage line reason ≡ ImageFailed = sym of ∙ is in cc
-failed_so opening.ImageFailed fault of is = refl
-failed_so opening.OutOfMemory fault of is = let wrong : OutOfMemory ≡ ImageFailed = sym of ∙ is in cc

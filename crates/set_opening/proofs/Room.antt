@@ -1,6 +1,6 @@
 -- Images that are refused for want of room, and images that had the first of the entries that their directory lacked.
 use Rattle.std.proofs.Common.{◌≡◌, ◌≢◌, ◌⊎◌, inl, inr, ℕ, zero, suc, ◌+◌, ◌-◌, ◌<◌, ◌≤◌, ◌^◌, min, Bool, true, false}
-use Rattle.std.proofs.Common.{List, [], ◌∷◌, ◌++◌, Option, Some, None, map, length, take, drop, refl, sym, ap, ◌∙◌, subst, arith}
+use Rattle.std.proofs.Common.{List, [], ◌∷◌, ◌++◌, Option, Some, None, Ok, map, length, take, drop, refl, sym, ap, ◌∙◌, subst, arith}
 use Rattle.std.proofs.Common.{⊎_elim, slice_index_or}
 use Rattle.std.specs.Prelude.{All, Contains}
 use Rattle.std.specs.List.{AllByRecursion, list_any}
@@ -13,6 +13,7 @@ use Rattle.std.proofs.lemmas.Bool.{cases_lt, le-ltb, lt-ltb}
 use Rattle.std.proofs.lemmas.List.{length-append, map-append, take-append-drop}
 use Rattle.std.proofs.lemmas.List.Elements.{All-cons, All-head, All-nil, All-tail, All-take, Contains-append_left, Contains-append_right}
 use Rattle.std.proofs.lemmas.List.Elements.{Contains-get_or}
+use Rattle.std.proofs.lemmas.List.FromFn.{length-map-range_with_len}
 use Rattle.std.proofs.lemmas.Map.Text.{is_eq-slice_cmp}
 use Rattle.std.proofs.lemmas.Slice.Eq.{bytes_eq-Decides}
 use Rattle.graph_walks.proofs.Lists.{Contains-cons_cases, Contains-head, Contains-nil, Contains-tail}
@@ -20,11 +21,19 @@ use Rattle.graph_model.specs.declared.types.Graph.{Graph}
 use Rattle.graph_model.specs.declared.types.Shape.{Shape}
 use Rattle.run_types.specs.declared.fault.Full.{Full}
 use Rattle.run_types.specs.declared.fault.Which.{Which}
-use Rattle.run_types.specs.declared.fault.Which.TheVariants.{DirectoryWords, Roots}
+use Rattle.run_types.specs.declared.fault.Which.TheVariants.{VolatileWords, ImageLines, LogEntries, Threads, FrameSlots, Acts, Monitors}
+use Rattle.run_types.specs.declared.fault.Which.TheVariants.{DirectoryWords, Roots, Files, FileBytes}
 use Rattle.line_image.specs.Told.{Told}
 use Rattle.line_memory.specs.Memory.{Memory}
-use Rattle.image_meaning.specs.Directories.{Directory, has_name, no_entries, spelled_all, with_all, with_entry}
+use Rattle.image_layout.specs.Places.{directory_line, directory_word, directory_words, root_slots}
+use Rattle.image_meaning.specs.Checks.{Words}
+use Rattle.image_meaning.specs.Directories.{Directory, directory_of, directory_words_of, has_name, no_entries, spelled_all, with_all}
+use Rattle.image_meaning.specs.Directories.{with_entries, with_entry}
 use Rattle.image_meaning.specs.Entries.{DirectoryEntry, RootEntry, ShapeEntry, spelled}
+use Rattle.image_meaning.specs.Laws.{Opens}
+use Rattle.image_meaning.proofs.Directories.{entries-taken}
+use Rattle.image_meaning.proofs.FoundImage.{directory-few}
+use Rattle.image_meaning.proofs.Standing.{use-within}
 use Rattle.plain_model.specs.BuiltIn.{array_class}
 use Rattle.plain_model.specs.Facts.{SetFacts, classes_of}
 use Rattle.class_set.specs.Linked.{Linked}
@@ -37,10 +46,10 @@ use Rattle.directories.specs.Planning.{AreOthers, has_entry, lacking, no_room, r
 use Rattle.directories.proofs.Grows.{spelled_both}
 use Rattle.image_recovery.specs.Recovered.{entries_in}
 use Rattle.set_opening.specs.declared.unopened.Unopened.TheVariants.{Full as FullOf}
-use Rattle.set_opening.specs.Again.{HoldsGraph, IsTooLarge, LacksRoom}
+use Rattle.set_opening.specs.Again.{HoldsGraph, IsOverfull, LacksRoom, StoredDirectoriesLackNoRoom}
 use Rattle.set_opening.specs.Arrays.{with_arrays_of}
 use Rattle.set_opening.specs.Fitted.{IsUnfit}
-use Rattle.set_opening.specs.Found.{IsFound}
+use Rattle.set_opening.specs.Found.{HasDirectory, IsFound}
 use Rattle.set_opening.specs.Opened.{IsKnownIn}
 use Rattle.set_opening.specs.Unopened.{IsAttachFault, IsRecoveryFault, IsUnopened}
 use Rattle.set_opening.proofs.Again.{all_stay, arrays_both, has_by, same_directory, shapes_behind, shapes_in}
@@ -125,7 +134,7 @@ none_some full is = cc
 
 -- a directory of which nothing is planned is too large with those entries for which it has no room
 too_large : (kept : Kept) (entries : List DirectoryEntry) (full : Full) → kept.left ≡ [] → kept.used ≡ words_of (entries_in kept)
-    → no_room kept entries ≡ Some full → IsTooLarge (with_all (entries_in kept) entries) full.which
+    → no_room kept entries ≡ Some full → IsOverfull (with_all (entries_in kept) entries) full.which
 unfolding words_of
 too_large kept entries full unplanned used lacks =
     let whole = with_all (entries_in kept) entries in
@@ -135,13 +144,13 @@ too_large kept entries full unplanned used lacks =
     ⊎_elim
     (λ (first : (words_left kept < length (spelled_all entries)) × (full.which ≡ DirectoryWords)).
     let over = first.0 in
-    let large : IsTooLarge whole DirectoryWords = omega (arith, over, none, words, used) in
-    subst (IsTooLarge whole) (sym first.1) large)
+    let large : IsOverfull whole DirectoryWords = omega (arith, over, none, words, used) in
+    subst (IsOverfull whole) (sym first.1) large)
     (λ later. ⊎_elim
     (λ (second : (roots_left kept < root_count entries) × (full.which ≡ Roots)).
     let over = second.0 in
-    let large : IsTooLarge whole Roots = omega (arith, over, roots) in
-    subst (IsTooLarge whole) (sym second.1) large)
+    let large : IsOverfull whole Roots = omega (arith, over, roots) in
+    subst (IsOverfull whole) (sym second.1) large)
     (λ (nothing : None ≡ Some full). absurd (none_some full nothing))
     (which_of Roots (roots_left kept) (root_count entries) None full later))
     (which_of DirectoryWords (words_left kept) (length (spelled_all entries))
@@ -246,6 +255,68 @@ one_list set made entries others a b =
 
     own_names : (names : List (List ℕ)) → AreInOrder names → AreInOrder (map (λ (n : List ℕ). n) names)
     own_names names in_order = subst AreInOrder (sym (same_names names)) in_order
+
+-- ---- a directory that an image has
+
+-- the words in use are those of its entries
+words_read : (words : Words) (used : ℕ) (directory : Directory)
+    → with_entries used 0 no_entries (directory_words_of words used) ≡ Ok directory → words_of directory ≡ used
+unfolding words_of
+words_read words used directory is =
+    let read = entries-taken used 0 no_entries directory (directory_words_of words used) is in
+    let many : length (spelled_all read.0) ≡ used =
+    ap length (sym read.1) ∙ length-map-range_with_len (λ i. words (directory_line i) (directory_word i)) 0 used in
+    let all = words_all no_entries read.0 in
+    let same : words_of directory ≡ words_of (with_all no_entries read.0) = ap words_of read.3 in
+    omega (arith, many, all, same)
+
+-- an image has room for them
+opened_words : (size : ℕ) (words : Words) (directory : Directory) → Opens size words directory → words_of directory ≤ directory_words
+unfolding directory_of
+opened_words size words directory opens =
+    let read = words_read words (words 0 3) directory opens.entries in
+    let within = use-within size (words 0) opens.used opens.super in
+    omega (arith, read, within)
+
+-- so does one that may be blank
+few_words : (size : ℕ) (words : Words) (directory : Directory) → HasDirectory size words directory → words_of directory ≤ directory_words
+unfolding words_of
+few_words size words directory (inl blank) =
+    let none : words_of directory ≡ words_of no_entries = ap words_of blank.1 in omega (arith, none)
+few_words size words directory (inr opens) = opened_words size words directory opens
+
+-- and a slot for each root
+few_roots : (size : ℕ) (words : Words) (directory : Directory) → HasDirectory size words directory → length directory.roots ≤ root_slots
+few_roots size words directory (inl blank) =
+    let none : length directory.roots ≡ 0 = ap (λ (d : Directory). length d.roots) blank.1 in omega (arith, none)
+few_roots size words directory (inr opens) = directory-few words directory opens.entries
+
+-- so it isn't too large
+not_overfull : (size : ℕ) (words : Words) (directory : Directory) → HasDirectory size words directory → (which : Which)
+    → IsOverfull directory which → ⊥
+unfolding words_of
+not_overfull size words directory has DirectoryWords large =
+    let few = few_words size words directory has in omega (arith, few, large)
+not_overfull size words directory has Roots large = let few = few_roots size words directory has in omega (arith, few, large)
+not_overfull size words directory has VolatileWords large = large
+not_overfull size words directory has ImageLines large = large
+not_overfull size words directory has LogEntries large = large
+not_overfull size words directory has Threads large = large
+not_overfull size words directory has FrameSlots large = large
+not_overfull size words directory has Acts large = large
+not_overfull size words directory has Monitors large = large
+not_overfull size words directory has Files large = large
+not_overfull size words directory has FileBytes large = large
+
+-- nor with the set's entries, of which it lacks none
+pub stored_has_room : StoredDirectoriesLackNoRoom
+stored_has_room size words directory has set entries its none which lacks =
+    let numbered = with_arrays_of set directory.shapes in
+    let same : lacks.entries ≡ entries = one_list (facts_of numbered) (made_of numbered) lacks.entries entries lacks.are_its its in
+    let nothing : lacking directory lacks.entries ≡ [] = ap (lacking directory) same ∙ none in
+    let large : IsOverfull (with_all directory []) which =
+    subst (λ es. IsOverfull (with_all directory es) which) nothing lacks.too_large in
+    not_overfull size words directory has which large
 
 -- ---- no two of them are of one kind and name
 
@@ -408,11 +479,11 @@ module _ (set : Linked) (found : Directory) (entries : List DirectoryEntry)
       let theirs : AreEntriesOf (facts_of numbered) (made_of numbered) lacks.entries =
       subst (λ (s : Linked). AreEntriesOf (facts_of s) (made_of s) lacks.entries) numbers_same lacks.are_its in
       let same : lacks.entries ≡ entries = one_list (facts_of numbered) (made_of numbered) lacks.entries entries theirs its in
-      let large : IsTooLarge (with_all (with_all found first) (lacking (with_all found first) entries)) which =
-      subst (λ es. IsTooLarge (with_all (with_all found first) (lacking (with_all found first) es)) which) same lacks.too_large in
+      let large : IsOverfull (with_all (with_all found first) (lacking (with_all found first) entries)) which =
+      subst (λ es. IsOverfull (with_all (with_all found first) (lacking (with_all found first) es)) which) same lacks.too_large in
       record {
         entries = entries;
         are_its = its;
-        too_large = subst (λ (d : Directory). IsTooLarge d which)
+        too_large = subst (λ (d : Directory). IsOverfull d which)
             (whole_same found entries k (entries_apart (facts_of numbered) (made_of numbered) entries its)) large;
       }

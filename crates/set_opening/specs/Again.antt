@@ -1,5 +1,5 @@
 -- Images over which a run of a class set could begin, opened for the same set again.
-use Rattle.std.specs.Prelude.{◌≡◌, ◌<◌, ◌++◌, ℕ, List, length, map}
+use Rattle.std.specs.Prelude.{◌≡◌, ◌<◌, ◌++◌, ℕ, List, [], length, map}
 use Rattle.graph_model.specs.declared.types.Graph.{Graph}
 use Rattle.line_image.specs.Told.{Told}
 use Rattle.line_memory.specs.Memory.{IsTelling, Memory}
@@ -45,17 +45,17 @@ pub record HoldsGraph (image : Told) (size : ℕ) (directory : Directory) (graph
   pub stands : StandsFor size words graph
 
 -- The directory's entries take more words than an image has for them, or its roots more slots.
-abbrev pub IsTooLarge : Directory → Which → Type 0
-IsTooLarge directory DirectoryWords =
+abbrev pub IsOverfull : Directory → Which → Type 0
+IsOverfull directory DirectoryWords =
     directory_words < length (spelled_all (map ShapeEntry directory.shapes ++ map RootEntry directory.roots))
-IsTooLarge directory Roots = root_slots < length directory.roots
-IsTooLarge directory other = ⊥
+IsOverfull directory Roots = root_slots < length directory.roots
+IsOverfull directory other = ⊥
 
 -- It is too large with the entries of the set that it lacks, once its array types have numbers in the set.
 pub record LacksRoom (set : Linked) (directory : Directory) (which : Which) : Type 0 where
   pub entries : List DirectoryEntry
   pub are_its : AreEntriesOf (facts_of (with_arrays_of set directory.shapes)) (made_of (with_arrays_of set directory.shapes)) entries
-  pub too_large : IsTooLarge (with_all directory (lacking directory entries)) which
+  pub too_large : IsOverfull (with_all directory (lacking directory entries)) which
 
 -- An image was opened for a set. One of as many lines that has the directory of then, and any graph, isn't refused for the set. Where
 -- it is opened for it, it has that very directory and that very graph, and each class of the set has the number of then.
@@ -70,11 +70,18 @@ pub record OpenedImagesOpenAgain : Type 0 where
       → (now : Linked) (n : Memory) (found : Kept) (places : List ℕ) (opening : Graph) (behind : ℕ)
       → IsOpenedFor again set now n found places opening behind
       → (entries_in found ≡ entries_in directory) × (opening ≡ stood) × (now ≡ numbered)
-  -- Any image that is refused for a shape has it in its directory: the first that doesn't agree with the set.
+  -- Any image that stands for a graph and is refused for a shape has it in its directory: the first that doesn't agree with the set.
   pub refused : (set : Linked) (again after : Told) (size : ℕ) (directory : Directory) (stood : Graph)
       → HoldsGraph again size directory stood → (now : Linked) (name : List ℕ) → IsUnopened again after set now (ShapeChanged name)
       → IsOtherShape (facts_of set) directory.shapes name
-  -- Any that is refused for want of room has a directory that lacks it, of the same.
+  -- Any such that is refused for want of room has a directory that lacks it, of the same.
   pub full : (set : Linked) (again after : Told) (size : ℕ) (directory : Directory) (stood : Graph)
       → HoldsGraph again size directory stood → (now : Linked) (full : Full) → IsUnopened again after set now (FullOf full)
       → LacksRoom set directory full.which
+
+-- The directory of an image lacks no room for a set, once its array types have numbers there, if it lacks none of the set's entries.
+abbrev pub StoredDirectoriesLackNoRoom : Type 0
+StoredDirectoriesLackNoRoom = (size : ℕ) (words : Words) (directory : Directory) → HasDirectory size words directory
+    → (set : Linked) (entries : List DirectoryEntry)
+    → AreEntriesOf (facts_of (with_arrays_of set directory.shapes)) (made_of (with_arrays_of set directory.shapes)) entries
+    → lacking directory entries ≡ [] → (which : Which) → LacksRoom set directory which → ⊥

@@ -1,9 +1,14 @@
-// Images that are opened for a class set again.
-ghost use Rattle.set_opening.specs.Again.{OpenedImagesOpenAgain};
+// Images that are opened for a class set again, and directories that have room for one.
+ghost use Rattle.set_opening.specs.Again.{OpenedImagesOpenAgain, StoredDirectoriesLackNoRoom};
 
-/// An image that was opened for a class set, and has its directory still, isn't refused for the set, whatever ran over it meanwhile: it
-/// opens with the graph for which it stands then. Whatever image is refused for the set, for a shape or for want of room, its directory is why.
-/// Does nothing.
+/// An image that was opened for a class set, has its directory still and stands for a graph isn't refused for the set, whatever ran over
+/// it meanwhile: it opens with that graph. Whatever image that stands for a graph is refused for the set, for a shape or for want of
+/// room, its directory is why. Does nothing.
 pub fn opened_images_open_again()
     ensures again { OpenedImagesOpenAgain }
+{}
+
+/// The directory of an image lacks no room for a class set of whose entries it lacks none. Does nothing.
+pub fn stored_directories_lack_no_room()
+    ensures room { StoredDirectoriesLackNoRoom }
 {}

@@ -1,6 +1,6 @@
 // An image is opened for a class set: what is in it is found, and then what it lacks is appended.
-ghost use Rattle.std.specs.Prelude.{◌≡◌, ◌≤◌, IfOk, IfErr};
-ghost use Rattle.ap_base.specs.Causes.{Rose};
+ghost use Rattle.std.specs.Prelude.{◌≡◌, IfOk, IfErr};
+ghost use Rattle.ap_base.specs.Causes.{IsCauseOf, next_count};
 ghost use Rattle.line_image.specs.Told.{Told};
 ghost use Rattle.class_set.specs.Linked.{Linked};
 ghost use Rattle.set_opening.specs.Opened.{IsFoundFor, IsOpenedFor};
@@ -61,11 +61,10 @@ pub fn find_for<I: Image>(
 ) -> Result<FoundImage<I>, (Unopened, I)>
     ensures found { IfOk result (λ o. IsFoundFor (I.told image) set.old set.new
         o.memory o.directory o.lines o.graph o.free) }
-    ensures later { IfOk result (λ o. I.faults image ≤ o.memory.faults) }
+    ensures spared { IfOk result (λ o. o.memory.faults ≡ I.faults image) }
     ensures unopened { IfErr result (λ e.
         IsUnopened (I.told image) (I.told e.1) set.old set.new e.0) }
-    ensures cause { IfErr result (λ e.
-        e.0 ≡ Unopened.ImageFailed → Rose (I.faults image) (I.faults e.1)) }
+    ensures cause { IfErr result (λ e. IsCauseOf Unopened.ImageFailed e.0 (I.faults image) (I.faults e.1)) }
 {
     let Recovered {
         memory,
@@ -98,11 +97,11 @@ pub fn complete<I: Image>(found: FoundImage<I>) -> Result<OpenedImage<I>, I>
     ensures opened { (start : Told) (old set : Linked) → IsFoundFor start old set
         found.memory found.directory found.lines found.graph found.free
         → IfOk result (λ o. IsOpenedFor start old set o.memory o.directory o.lines o.graph o.free) }
-    ensures later { IfOk result (λ o. found.memory.faults ≤ o.memory.faults) }
+    ensures spared { IfOk result (λ o. o.memory.faults ≡ found.memory.faults) }
     ensures unappended { (start : Told) (old set : Linked) → IsFoundFor start old set
         found.memory found.directory found.lines found.graph found.free
         → IfErr result (λ image. IsUnappended start (I.told image) old set) }
-    ensures cause { IfErr result (λ image. Rose found.memory.faults (I.faults image)) }
+    ensures failed { IfErr result (λ image. I.faults image ≡ next_count found.memory.faults) }
 {
     a_run_can_begin_over_recovered_images();
     every_line_is_resident();

@@ -1,6 +1,6 @@
 // An image is opened, whatever the class set.
-ghost use Rattle.std.specs.Prelude.{◌≡◌, ◌≤◌, IfOk, IfErr};
-ghost use Rattle.ap_base.specs.Causes.{Rose};
+ghost use Rattle.std.specs.Prelude.{◌≡◌, IfOk, IfErr};
+ghost use Rattle.ap_base.specs.Causes.{IsCauseOf};
 ghost use Rattle.line_memory.specs.Memory.{Memory};
 ghost use Rattle.set_opening.specs.Found.{IsFound};
 ghost use Rattle.set_opening.specs.Unopened.{IsOfOpening, IsUnfound};
@@ -27,10 +27,9 @@ fn of_opening(fault: NotOpened) -> Unopened
 pub(crate) fn find<I: Image>(alloc: Global, image: I) -> Result<Recovered<I>, (Unopened, I)>
     ensures found { IfOk result (λ r. (before : Memory)
         × IsFound (I.told image) before r.memory r.directory r.graph r.lines r.free) }
-    ensures later { IfOk result (λ r. I.faults image ≤ r.memory.faults) }
+    ensures spared { IfOk result (λ r. r.memory.faults ≡ I.faults image) }
     ensures unfound { IfErr result (λ e. IsUnfound (I.told image) (I.told e.1) e.0) }
-    ensures cause { IfErr result (λ e.
-        e.0 ≡ Unopened.ImageFailed → Rose (I.faults image) (I.faults e.1)) }
+    ensures cause { IfErr result (λ e. IsCauseOf Unopened.ImageFailed e.0 (I.faults image) (I.faults e.1)) }
 {
     a_run_can_begin_over_recovered_images();
     match open_image(alloc, image) {

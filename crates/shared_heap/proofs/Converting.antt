@@ -546,8 +546,5 @@ some_scene old now es e before =
     (old.machine.free, keys_of old.machine.rest.monitors, es, omega (arith, within, lines), b.agrees)
 
 -- a call that succeeds needs no cause
-pub cause_same : {T E : Type 0} (old now : Shared) (faults : ℕ) (x : T) → old ≡ now
-    → (memory_of old.machine).faults ≤ faults
-    → HasCause {T = T} {E = E} (memory_of now.machine).faults faults (Ok x)
-cause_same old now faults x e later = record
-    { later = subst (λ (s : Shared). (memory_of s.machine).faults ≤ faults) e later; failed = tt }
+pub cause_same : {T E : Type 0} (before now : ℕ) (x : T) → now ≡ before → HasCause {T = T} {E = E} before now (Ok x)
+cause_same before now x same = record { later = omega (arith, same); spared = same; failed = tt }

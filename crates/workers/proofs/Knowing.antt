@@ -1,5 +1,5 @@
 -- What a run under a lock knows, from its beginning on.
-use Rattle.std.proofs.Common.{◌≡◌, ℕ, length, true, false, List, Option, Some, None, refl, sym, subst, ◌∙◌, arith}
+use Rattle.std.proofs.Common.{◌≡◌, ℕ, length, true, false, List, Option, Some, None, refl, sym, subst, ◌∙◌}
 use Rattle.std.specs.Prelude.{IfSome, is_some}
 use Rattle.ap_base.specs.declared.reference.Ref.{Ref}
 use Rattle.ap_base.specs.declared.reference.Item.{Item}
@@ -44,7 +44,7 @@ module _ (set : SetFacts) (x : Setting Native Ref (NativeState Ref) Item) where
       goes = λ o first now. now;
       told = told-nothing s.history.acts seen taken;
       shares = λ o first now. shares-nothing o.launch takes s.history.acts;
-      cause = (refl, omega arith);
+      cause = (refl, refl);
     },
   )
 
@@ -167,11 +167,13 @@ module _ (entry : Option Began) (k : Held) (s : Shared) (frames : List ThreadFra
         size = size-same r.0 r.1 e.set e.setting e.heap s e.frames r.2 (holds.goes r.0 r.1 r.2).0;
       })
 
+  pub knows-none : Knows entry k takes → over ≡ None → Knows entry (held s frames seen taken faults None) takes
+  knows-none knows none = (knows.0, knows.1, of-held None none knows.0 knows.2)
+
   module _ (set : SetFacts) (x : Setting Native Ref (NativeState Ref) Item) where
     -- An event of some opening may come, where it wasn't over.
     pub ready-left : Knows entry k takes → IsOf set x entry → over ≡ None → (o : Opening) × (first : ℕ) × IsReady o first set x s frames
-    ready-left knows same none = ready-now set x entry s frames seen taken takes faults
-        (knows.0, knows.1, of-held None none knows.0 knows.2) same
+    ready-left knows same none = ready-now set x entry s frames seen taken takes faults (knows-none knows none) same
 
     -- it went on so, to its end
     pub left-rest : Knows entry k takes → IsOf set x entry → over ≡ None → (end : RunEnd) (s' : Shared)
@@ -203,10 +205,3 @@ module _ (entry : Option Began) (k : Held) (s : Shared) (frames : List ThreadFra
               let now : IsReady r.0 r.1 e.set e.setting s frames = holds.goes r.0 r.1 r.2 in
               size ∙ (now.running.runs.keeps.heap.size ∙ sym r.2.running.runs.keeps.heap.size);
         })
-
--- what is left of the run of this name
-pub left-of : (entry : Option Began) (b : Began) → entry ≡ Some b → (end : RunEnd) (s : Shared) (seen : Option (List Recorded))
-    (taken : Option (List ℕ)) (takes : ℕ → ℕ → Option ℕ) (faults : ℕ) → IfSome entry (λ e. HasLeft e end s seen taken takes faults)
-    → HasLeft b end s seen taken takes faults
-left-of entry b is end s seen taken takes faults left =
-    subst (λ (e : Option Began). IfSome e (λ e. HasLeft e end s seen taken takes faults)) is left

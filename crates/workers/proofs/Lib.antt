@@ -2,5 +2,6 @@ mod Ending
 mod Filling
 mod Knowing
 mod Sharing
+mod Sparing
 mod Telling
 pub mod Passed

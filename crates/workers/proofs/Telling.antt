@@ -1,7 +1,7 @@
 -- What the outside is told of events in a row.
-use Rattle.std.proofs.Common.{◌≡◌, ◌≤◌, ℕ, List, [], ◌++◌, append_assoc, Option, Some, None, refl, ap, sym, ◌∙◌, arith}
+use Rattle.std.proofs.Common.{◌≡◌, ℕ, List, [], ◌++◌, append_assoc, Option, Some, None, refl, ap, sym, ◌∙◌}
 use Rattle.std.proofs.lemmas.List.{append-nil}
-use Rattle.ap_base.specs.Causes.{Rose, next_count}
+use Rattle.ap_base.specs.Causes.{next_count}
 use Rattle.ap_base.specs.Sinks.{with_bytes}
 use Rattle.run_types.specs.declared.fault.RunFault.{RunFault}
 use Rattle.run_types.specs.declared.fault.RunFault.TheVariants as fault
@@ -48,12 +48,9 @@ told-both a b c s1 s2 s3 t1 t2 t3 x y = record {
       ∙ ap (with_bytes t1) (sym (output_of-append x.further y.further));
 }
 
-rose-since : (first before now : ℕ) → first ≤ before → Rose before now → Rose first now
-rose-since first before now le rose = omega (arith, le, rose)
-
 pub caused-since : (over : Option RunFault) (s1 s2 s3 i1 i2 i3 : ℕ) → IsCaused None s1 s2 i1 i2
     → IsCaused over s2 s3 i2 i3 → IsCaused over s1 s3 i1 i3
-caused-since None s1 s2 s3 i1 i2 i3 le is = (is.0 ∙ le.0, omega (arith, le.1, is.1))
-caused-since (Some fault.SinkFault) s1 s2 s3 i1 i2 i3 le is = (is.0 ∙ ap next_count le.0, omega (arith, le.1, is.1))
-caused-since (Some fault.ImageFault) s1 s2 s3 i1 i2 i3 le is = (is.0 ∙ le.0, rose-since i1 i2 i3 le.1 is.1)
-caused-since (Some f) s1 s2 s3 i1 i2 i3 le is = (is.0 ∙ le.0, omega (arith, le.1, is.1))
+caused-since None s1 s2 s3 i1 i2 i3 stood is = (is.0 ∙ stood.0, is.1 ∙ stood.1)
+caused-since (Some fault.SinkFault) s1 s2 s3 i1 i2 i3 stood is = (is.0 ∙ ap next_count stood.0, is.1 ∙ stood.1)
+caused-since (Some fault.ImageFault) s1 s2 s3 i1 i2 i3 stood is = (is.0 ∙ stood.0, is.1 ∙ ap next_count stood.1)
+caused-since (Some f) s1 s2 s3 i1 i2 i3 stood is = (is.0 ∙ stood.0, is.1 ∙ stood.1)

@@ -14,6 +14,7 @@ use Rattle.durable_run.specs.Passed.{Shared}
 use Rattle.durable_run.specs.declared.runs.RunEnd.{RunEnd}
 use Rattle.durable_run.specs.declared.runs.RunEnd.TheVariants.{Over}
 use Rattle.durable_run.specs.Shares.{PrintsShares}
+use Rattle.durable_run.specs.Sparing.{SparesSink}
 use Rattle.durable_run.specs.Telling.{HasTold, IsCaused}
 use Rattle.durable_run.specs.Turning.{EndsBy, IsReady, fault_in}
 
@@ -97,3 +98,17 @@ pub record HasLeft (e : Began) (end : RunEnd) (s : Shared) (seen : Option (List 
       → PrintsShares o.launch e.takes takes e.heap.history.acts s.history.acts
   pub cause : IsCaused (fault_in end) e.faults faults (memory_of e.heap.machine).faults (memory_of s.machine).faults
   pub size : (memory_of s.machine).size ≡ (memory_of e.heap.machine).size
+
+-- ---- the sink
+
+-- The further acts of a run that began so lead from the one state of its sink to the other, whatever opening an event might have
+-- come of as it began.
+abbrev pub SparesSince : {S : Type 0} → (S → Option (List ℕ)) → Began → Option RunFault → (sink last : S) → Shared → Type 0
+SparesSince taken e over sink last s = (o : Opening) (first : ℕ) → IsReady o first e.set e.setting e.heap e.frames
+    → SparesSink taken o.launch over sink last e.heap.history.acts s.history.acts
+
+-- it is so of what the run's name says that it began with
+abbrev pub KnowsSink : {S : Type 0} → (S → Option (List ℕ)) → Option Began → Option S → Option RunFault → (last : S) → Shared
+    → Type 0
+KnowsSink {S = S} taken entry first over last s = (e : Began) × (sink : S) × (entry ≡ Some e) × (first ≡ Some sink)
+    × SparesSince taken e over sink last s

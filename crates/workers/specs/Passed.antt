@@ -5,6 +5,7 @@ pub use Rattle.durable_run.specs.Passed.{Shared, StartsHaveUnwritten, StartsTake
 pub use Rattle.durable_run.specs.Passed.{asked_by, empty_log, first_shared, log_of, memory_of, no_notes, shown_in}
 pub use Rattle.durable_run.specs.Passed.{waits_on, work_left}
 pub use Rattle.durable_run.specs.Shares.{EachPrintsItsShare, IsShareOfPiece, PrintsShares, piece_after, piece_of}
+pub use Rattle.durable_run.specs.Sparing.{Spares, SparesAll, SparesSink}
 pub use Rattle.durable_run.specs.Telling.{HasTold, IsCaused, LeavesShares, with_all}
 pub use Rattle.durable_run.specs.Turning.{AsksListed, EndsBy, HasFrames, HasRun, HaveTurned, IsReady, ending_of}
 pub use Rattle.durable_run.specs.Turning.{fault_in}

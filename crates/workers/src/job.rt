@@ -121,7 +121,7 @@ impl Job {
 
     // One event of each of its threads that were started, in rotation.
     fn rotate<
-        J: Naming,
+        J: Naming<S>,
         R: Wait,
         C: Types,
         I: Image,
@@ -162,7 +162,7 @@ impl Job {
 
     // One event of a thread. The gate comes first where its turn begins, and the lock isn't held then.
     fn turn<
-        J: Naming,
+        J: Naming<S>,
         R: Wait,
         C: Types,
         I: Image,
@@ -199,7 +199,7 @@ impl Job {
 }
 
 // How far a thread is, if it lives.
-fn place<J: Naming, R: Wait, I: Image, S: Sink, W: Watcher>(
+fn place<J: Naming<S>, R: Wait, I: Image, S: Sink, W: Watcher>(
     rt: &R,
     shared: &Mutex<Locked<J, I, S, W>>,
     t: ThreadNo,
@@ -236,7 +236,7 @@ fn comes<G: Gate>(seat: &mut Seat, gate: &G, t: ThreadNo) -> bool {
 
 // An event of a thread, under the lock.
 fn event<
-    J: Naming,
+    J: Naming<S>,
     R: Wait,
     C: Types,
     I: Image,
@@ -267,7 +267,7 @@ fn went_of(came: Came) -> Went {
 }
 
 // Looks whether something is done, for long; else ends the round.
-fn watch<J: Naming, R: Wait, I: Image, S: Sink, W: Watcher>(
+fn watch<J: Naming<S>, R: Wait, I: Image, S: Sink, W: Watcher>(
     rt: &R,
     shared: &Mutex<Locked<J, I, S, W>>,
     bells: &Bells,
@@ -284,7 +284,7 @@ fn watch<J: Naming, R: Wait, I: Image, S: Sink, W: Watcher>(
 
 // Waits until there is something to do for a crew. How many threads are started then; none where the run is done. Of the host threads
 // that wait for the end of a round one watches, since a thread that is held at the gate has events left; the others sleep.
-fn rest<J: Naming, R: Wait, I: Image, S: Sink, W: Watcher>(
+fn rest<J: Naming<S>, R: Wait, I: Image, S: Sink, W: Watcher>(
     rt: &R,
     shared: &Mutex<Locked<J, I, S, W>>,
     bells: &Bells,
@@ -327,7 +327,7 @@ fn rest<J: Naming, R: Wait, I: Image, S: Sink, W: Watcher>(
 
 /// Rotations over the threads of a crew, until the run is over or no thread lives.
 pub(crate) fn work<
-    J: Naming,
+    J: Naming<S>,
     R: Wait,
     C: Types,
     I: Image,
@@ -361,7 +361,7 @@ pub(crate) fn work<
 
 /// The events of a run as long as no thread but the first is started: there is nobody to lock out.
 pub(crate) fn work_alone<
-    J: Naming,
+    J: Naming<S>,
     R: Wait,
     C: Types,
     I: Image,

@@ -2,7 +2,7 @@
 ghost use Rattle.std.specs.Prelude.{◌≡◌, ℕ, Some, None};
 ghost use Rattle.durable_run.specs.Passed.{Opening};
 ghost use Rattle.durable_run.specs.Turning.{IsReady};
-ghost use Rattle.workers.specs.Held.{IsOf, Knows, began, held};
+ghost use Rattle.workers.specs.Held.{IsOf, Knows, KnowsSink, began, held};
 
 use crate::crew::Crew;
 use crate::halts::fault_of;
@@ -17,31 +17,35 @@ use run_types::{On, RunFault};
 use shared_objects::Types;
 use std::marker::{Brand, Model, PhantomData};
 
-/// What a run began with. Each call of `run_all` picks it.
-pub trait Naming {
+/// What a run began with, and its sink then. Each call of `run_all` picks them.
+pub trait Naming<S> {
     ghost use Rattle.std.specs.Prelude.{Option};
     ghost use Rattle.workers.specs.Held.{Began};
 
     ghost entry: { Option Began };
+
+    ghost sink: { Option S };
 }
 
-impl Naming for Brand {
+impl<S> Naming<S> for Brand {
     ghost use Rattle.std.specs.Prelude.{None};
 
     ghost entry = { None };
+
+    ghost sink = { None };
 }
 
 /// A run that knows what it began with. Contracts see a `Held`.
 #[derive(Drop)]
-pub(crate) struct Locked<J: Naming, I: Image, S: Sink, W: Watcher> {
+pub(crate) struct Locked<J: Naming<S>, I: Image, S: Sink, W: Watcher> {
     run: Run<I, S, W>,
     over: Option<RunFault>,
     due: Due,
     of: PhantomData<J>,
 }
 
-impl<J: Naming, I: Image, S: Sink, W: Watcher> Model for Locked<J, I, S, W> {
-    ghost use Rattle.workers.specs.Held.{Held, Knows, held};
+impl<J: Naming<S>, I: Image, S: Sink, W: Watcher> Model for Locked<J, I, S, W> {
+    ghost use Rattle.workers.specs.Held.{Held, Knows, KnowsSink, held};
 
     ghost Value = { Held };
 
@@ -49,7 +53,8 @@ impl<J: Naming, I: Image, S: Sink, W: Watcher> Model for Locked<J, I, S, W> {
         (S.faults k.run.sink) k.over };
 
     ghost invariant = { λ k. Knows J.entry (held k.run.heap k.run.frames.items (W.seen k.run.watcher)
-        (S.taken k.run.sink) (S.faults k.run.sink) k.over) (S.takes k.run.sink) };
+        (S.taken k.run.sink) (S.faults k.run.sink) k.over) (S.takes k.run.sink)
+        × KnowsSink S.taken J.entry J.sink k.over k.run.sink k.run.heap };
 }
 
 /// What a worker is told of an event.
@@ -122,7 +127,7 @@ fn came_of(stepped: &Stepped, waited: Option<On>, lives: bool) -> Came {
     }
 }
 
-impl<J: Naming, I: Image, S: Sink, W: Watcher> Locked<J, I, S, W> {
+impl<J: Naming<S>, I: Image, S: Sink, W: Watcher> Locked<J, I, S, W> {
     /// A run from here on.
     pub(crate) fn new<C: Types, H: Host<Native, Ref, NativeState, Item>>(
         run: Run<I, S, W>,
@@ -131,6 +136,7 @@ impl<J: Naming, I: Image, S: Sink, W: Watcher> Locked<J, I, S, W> {
     ) -> Locked<J, I, S, W>
         requires entry { J.entry ≡ Some (began (C.facts set.now) (H.setting host.now) run.heap run.frames.items
             (W.seen run.watcher) (S.taken run.sink) (S.takes run.sink) (S.faults run.sink)) }
+        requires sink { J.sink ≡ Some run.sink }
         requires ready { (o : Opening) × (first : ℕ)
             × IsReady o first (C.facts set.now) (H.setting host.now) run.heap run.frames.items }
         ensures new { result ≡ held run.heap run.frames.items (W.seen run.watcher) (S.taken run.sink)
@@ -294,6 +300,7 @@ impl<J: Naming, I: Image, S: Sink, W: Watcher> Locked<J, I, S, W> {
         ensures left { self ≡ held result.1.heap result.1.frames.items (W.seen result.1.watcher)
             (S.taken result.1.sink) (S.faults result.1.sink) result.0 }
         ensures knows { Knows J.entry self (S.takes result.1.sink) }
+        ensures sink { KnowsSink S.taken J.entry J.sink result.0 result.1.sink result.1.heap }
     {
         let Locked { run, over, .. } = self;
         (over, run)

@@ -2,9 +2,10 @@
 ghost use Rattle.std.specs.Prelude.{◌≡◌, ℕ, IfSome, Some};
 ghost use Rattle.durable_run.specs.Passed.{Opening, memory_of};
 ghost use Rattle.durable_run.specs.Shares.{PrintsShares};
+ghost use Rattle.durable_run.specs.Sparing.{SparesSink};
 ghost use Rattle.durable_run.specs.Telling.{HasTold, IsCaused};
 ghost use Rattle.durable_run.specs.Turning.{EndsBy, IsReady, fault_in};
-ghost use Rattle.workers.specs.Held.{IsOf, HasLeft, began};
+ghost use Rattle.workers.specs.Held.{IsOf, HasLeft, SparesSince, began};
 
 use crate::crew::Crew;
 use crate::job::{Bells, work, work_alone};
@@ -23,7 +24,7 @@ use std::thread::Threads;
 
 // Each worker's threads in a thread of the host; where none can be started, in this one with those of worker 0.
 fn run_each<
-    J: Naming + Send + Sync,
+    J: Naming<S> + Send + Sync,
     R: Threads + Wait + Sync,
     C: Types + Sync,
     I: Image + Send,
@@ -67,7 +68,7 @@ fn run_each<
 
 // The events of a run, until it is over or no thread lives; none where one host thread is to make them all.
 fn work_off<
-    J: Naming + Send + Sync,
+    J: Naming<S> + Send + Sync,
     R: Threads + Wait + Sync,
     C: Types + Sync,
     I: Image + Send,
@@ -101,7 +102,7 @@ fn work_off<
 // How a run ended, and what is left of it. The workers come back where it is over or no thread lives; were it otherwise, or where
 // there is one, the rotation goes on with it.
 fn ended<
-    J: Naming,
+    J: Naming<S>,
     C: Types,
     I: Image,
     H: Host<Native, Ref, NativeState, Item>,
@@ -112,6 +113,8 @@ fn ended<
     requires of { IsOf (C.facts set.now) (H.setting host.now) J.entry }
     ensures left { IfSome J.entry (λ e. HasLeft e result.0 result.1.heap (W.seen result.1.watcher)
         (S.taken result.1.sink) (S.takes result.1.sink) (S.faults result.1.sink)) }
+    ensures spares { IfSome J.entry (λ e. IfSome J.sink (λ sink.
+        SparesSince S.taken e (fault_in result.0) sink result.1.sink result.1.heap)) }
 {
     let (over, mut run) = locked.finish();
     match over {
@@ -124,7 +127,7 @@ fn ended<
 }
 
 fn run_named<
-    J: Naming + Send + Sync,
+    J: Naming<S> + Send + Sync,
     R: Threads + Wait + Sync,
     C: Types + Sync,
     I: Image + Send,
@@ -135,12 +138,16 @@ fn run_named<
 >(rt: &R, run: Run<I, S, W>, set: &C, host: &H, workers: u8, gate: &G) -> (RunEnd, Run<I, S, W>)
     requires entry { J.entry ≡ Some (began (C.facts set.now) (H.setting host.now) run.heap run.frames.items
         (W.seen run.watcher) (S.taken run.sink) (S.takes run.sink) (S.faults run.sink)) }
+    requires sink { J.sink ≡ Some run.sink }
     requires ready { (o : Opening) × (first : ℕ)
         × IsReady o first (C.facts set.now) (H.setting host.now) run.heap run.frames.items }
     ensures left { HasLeft (began (C.facts set.now) (H.setting host.now) run.heap run.frames.items
         (W.seen run.watcher) (S.taken run.sink) (S.takes run.sink) (S.faults run.sink))
         result.0 result.1.heap (W.seen result.1.watcher) (S.taken result.1.sink) (S.takes result.1.sink)
         (S.faults result.1.sink) }
+    ensures spares { SparesSince S.taken (began (C.facts set.now) (H.setting host.now) run.heap run.frames.items
+        (W.seen run.watcher) (S.taken run.sink) (S.takes run.sink) (S.faults run.sink))
+        (fault_in result.0) run.sink result.1.sink result.1.heap }
 {
     let locked: Locked<J, I, S, W> = Locked::new(run, set, host);
     let locked = work_off(rt, locked, set, host, gate, workers);
@@ -174,6 +181,10 @@ pub fn run_all<
     ensures shares { (o : Opening) (first : ℕ)
         → IsReady o first (C.facts set.now) (H.setting host.now) run.heap run.frames.items
         → PrintsShares o.launch (S.takes run.sink) (S.takes result.1.sink)
+        run.heap.history.acts result.1.heap.history.acts }
+    ensures spares { (o : Opening) (first : ℕ)
+        → IsReady o first (C.facts set.now) (H.setting host.now) run.heap run.frames.items
+        → SparesSink S.taken o.launch (fault_in result.0) run.sink result.1.sink
         run.heap.history.acts result.1.heap.history.acts }
     ensures cause { IsCaused (fault_in result.0) (S.faults run.sink) (S.faults result.1.sink)
         (memory_of run.heap.machine).faults (memory_of result.1.heap.machine).faults }

@@ -1,6 +1,7 @@
-use Rattle.std.proofs.Common.{inl, inr, refl, subst, sym}
+use Rattle.std.proofs.Common.{inl, inr, refl, ap, ◌∙◌, subst, sym}
 use Rattle.graph_model.specs.declared.types.Graph.{Graph}
 use Rattle.source_classes.specs.Names.{slashed}
+use Rattle.audit_call.specs.Audits.{status_of_unopened}
 use Rattle.audit_call.specs.Judged.{GraphsEnd}
 use Rattle.audit_call.proofs.Found.{still_opens, still_small}
 use Rattle.audit_call.proofs.Keeping.{unbegun_kept, unopened_kept}
@@ -50,7 +51,14 @@ pub returns-in-Ok-clause-image_fault : goal.returns-in-Ok-clause-image_fault
 returns-in-Ok-clause-image_fault g c = λ is. absurd (c.judge_graphs-status.ensures.no_image is)
 
 pub returns-in-Err-clause-image_fault : goal.returns-in-Err-clause-image_fault
-returns-in-Err-clause-image_fault g c = λ is. c.in-Err.ensures.cause (c.of_unopened-status.ensures.image_failed is)
+returns-in-Err-clause-image_fault g c = λ is. c.in-Err.ensures.cause.failed (c.of_unopened-status.ensures.image_failed is)
+
+pub returns-in-Ok-clause-image_spared : goal.returns-in-Ok-clause-image_spared
+returns-in-Ok-clause-image_spared g c = λ other. c.give_back-graph.ensures.faults ∙ c.in-Ok.ensures.spared
+
+pub returns-in-Err-clause-image_spared : goal.returns-in-Err-clause-image_spared
+returns-in-Err-clause-image_spared g c = λ other.
+    c.in-Err.ensures.cause.spared (λ failed. other (c.of_unopened-status.ensures.is ∙ ap status_of_unopened failed))
 
 pub returns-in-Err-clause-sink_fault : goal.returns-in-Err-clause-sink_fault
 returns-in-Err-clause-sink_fault g c = λ is. absurd (c.of_unopened-status.ensures.no_sink is)

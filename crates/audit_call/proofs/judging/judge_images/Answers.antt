@@ -1,7 +1,7 @@
-use Rattle.std.proofs.Common.{inl, inr, refl, subst, sym}
+use Rattle.std.proofs.Common.{inl, inr, refl, ap, ◌∙◌, subst, sym}
 use Rattle.graph_model.specs.declared.types.Graph.{Graph}
 use Rattle.source_classes.specs.Names.{slashed}
-use Rattle.audit_call.specs.Audits.{AfterEnds}
+use Rattle.audit_call.specs.Audits.{AfterEnds, status_of_unopened}
 use Rattle.audit_call.proofs.Found.{still_small}
 use Rattle.audit_call.proofs.Keeping.{same_kept, unbegun_kept, unopened_kept}
 use Rattle.audit_call.proofs.judging.judge_images.Goals as goal
@@ -53,10 +53,19 @@ pub returns-clause-after_kept : goal.returns-clause-after_kept
 returns-clause-after_kept g c = same_kept (g.J.Image.told c.args.after)
 
 pub returns-in-Ok-clause-image_fault : goal.returns-in-Ok-clause-image_fault
-returns-in-Ok-clause-image_fault g c = λ is. inr (c.judge_after-judged.ensures.image_fault is)
+returns-in-Ok-clause-image_fault g c = λ is.
+    inr (c.give_back-opening.ensures.faults ∙ c.in-Ok.ensures.spared, c.judge_after-judged.ensures.image_fault is)
+
+pub returns-in-Ok-clause-image_spared : goal.returns-in-Ok-clause-image_spared
+returns-in-Ok-clause-image_spared g c = λ other.
+    (c.give_back-opening.ensures.faults ∙ c.in-Ok.ensures.spared, c.judge_after-judged.ensures.image_spared other)
 
 pub returns-clause-image_fault : goal.returns-clause-image_fault
-returns-clause-image_fault g c = λ is. inl (c.in-Err.ensures.cause (c.of_unopened-status.ensures.image_failed is))
+returns-clause-image_fault g c = λ is. inl (c.in-Err.ensures.cause.failed (c.of_unopened-status.ensures.image_failed is), refl)
+
+pub returns-clause-image_spared : goal.returns-clause-image_spared
+returns-clause-image_spared g c = λ other.
+    (c.in-Err.ensures.cause.spared (λ failed. other (c.of_unopened-status.ensures.is ∙ ap status_of_unopened failed)), refl)
 
 pub returns-clause-sink_fault : goal.returns-clause-sink_fault
 returns-clause-sink_fault g c = λ is. absurd (c.of_unopened-status.ensures.no_sink is)

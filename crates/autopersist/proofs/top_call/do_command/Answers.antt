@@ -16,7 +16,7 @@ returns-in-Ok-Run g c =
     record {
       meets = run_meets (texts c.args.words.now.items) _ _ _ _ c.run_class.result.status c.run_class.result.opening
           c.run_class.result.acts.acts c.in-Ok-Run.run' c.as_slice.result.now c.as_slice.ensures.same (read_so _ _ _ c.in-Ok-Run.ensures.command c.in-Ok-Run.field-0-is)
-          did.cause did.answers did.whole did.left did.theorem did.early did.told did.source_fault did.image_fault did.sink_fault did.sink_spared
+          did.cause did.answers did.whole did.left did.theorem did.early did.told did.source_fault did.image_fault did.image_spared did.sink_fault did.sink_spared
           did.no_memory did.opening did.size;
     }
 
@@ -40,7 +40,7 @@ returns-in-Ok-Check g c =
     (record {
       meets = reports_meet (texts c.args.words.now.items) _ _ _ _ IsChecked c.check_image-done.result.how
           (Check c.in-Ok-Check.field-0-0) (read_so _ _ _ c.in-Ok-Check.ensures.command c.in-Ok-Check.field-0-is) (λ r. r) refl did.printed did.unreported did.left did.stops
-          did.image_cause did.sink_fault did.sink_spared refl did.size;
+          did.image_fault did.image_spared did.sink_fault did.sink_spared refl did.size;
     })
 
 pub returns-in-Ok-Dump : goal.returns-in-Ok-Dump
@@ -51,5 +51,5 @@ returns-in-Ok-Dump g c =
     (record {
       meets = reports_meet (texts c.args.words.now.items) _ _ _ _ IsDumped c.dump_image-done.result.how
           (Dump c.in-Ok-Dump.field-0-0) (read_so _ _ _ c.in-Ok-Dump.ensures.command c.in-Ok-Dump.field-0-is) (λ r. r) refl did.printed did.unreported did.left did.stops
-          did.image_cause did.sink_fault did.sink_spared refl did.size;
+          did.image_fault did.image_spared did.sink_fault did.sink_spared refl did.size;
     })

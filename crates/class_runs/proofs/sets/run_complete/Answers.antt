@@ -1,5 +1,5 @@
-use Rattle.std.proofs.Common.{refl}
-use Rattle.class_runs.proofs.Outside.{rose_since, tells_nothing}
+use Rattle.std.proofs.Common.{refl, ◌∙◌}
+use Rattle.class_runs.proofs.Outside.{next_since, tells_nothing}
 use Rattle.class_runs.proofs.SetRan.{unappended_ran}
 use Rattle.class_runs.proofs.sets.run_complete.Goals as goal
 
@@ -13,8 +13,11 @@ returns-in-Ok-clause-ran g c = λ start old is.
 
 pub returns-in-Ok-clause-image_fault : goal.returns-in-Ok-clause-image_fault
 returns-in-Ok-clause-image_fault g c = λ is.
-    rose_since c.args.found.memory.faults c.in-Ok.opened.memory.faults (g.I.Image.faults c.run_opened.result.image)
-    c.in-Ok.ensures.later (c.run_opened.ensures.image_fault is)
+    next_since c.args.found.memory.faults c.in-Ok.opened.memory.faults (g.I.Image.faults c.run_opened.result.image)
+    c.in-Ok.ensures.spared (c.run_opened.ensures.image_fault is)
+
+pub returns-in-Ok-clause-image_spared : goal.returns-in-Ok-clause-image_spared
+returns-in-Ok-clause-image_spared g c = λ isnt. c.run_opened.ensures.image_spared isnt ∙ c.in-Ok.ensures.spared
 
 pub returns-in-Err-clause-ran : goal.returns-in-Err-clause-ran
 returns-in-Err-clause-ran g c = λ start old is.
@@ -28,7 +31,10 @@ returns-in-Err-clause-told g c =
     (tells_nothing (g.W.Watcher.seen c.args.watcher) (g.S.Sink.taken c.args.sink) (g.S.Sink.takes c.args.sink))
 
 pub returns-in-Err-clause-image_fault : goal.returns-in-Err-clause-image_fault
-returns-in-Err-clause-image_fault g c = λ is. rw c.unbegun.ensures.image c.in-Err.ensures.cause
+returns-in-Err-clause-image_fault g c = λ is. rw c.unbegun.ensures.image c.in-Err.ensures.failed
+
+pub returns-in-Err-clause-image_spared : goal.returns-in-Err-clause-image_spared
+returns-in-Err-clause-image_spared g c = λ isnt. absurd (isnt c.unbegun.ensures.status)
 
 pub returns-in-Err-clause-sink_spared : goal.returns-in-Err-clause-sink_spared
 returns-in-Err-clause-sink_spared g c = λ isnt. rw c.unbegun.ensures.sink refl

@@ -29,3 +29,6 @@ returns-in-Err-clause-image_fault g c = λ is.
 
 pub returns-in-Err-clause-sink_spared : goal.returns-in-Err-clause-sink_spared
 returns-in-Err-clause-sink_spared g c = λ isnt. rw c.unbegun.ensures.sink refl
+
+pub returns-in-Err-clause-image_spared : goal.returns-in-Err-clause-image_spared
+returns-in-Err-clause-image_spared g c = λ isnt. rw c.unbegun.ensures.image (c.into_image-image.ensures.faults)

@@ -1,5 +1,5 @@
-use Rattle.std.proofs.Common.{ap, refl, subst, ◌∙◌}
-use Rattle.ap_base.specs.Causes.{Rose}
+use Rattle.std.proofs.Common.{◌≡◌, ap, refl, subst, ◌∙◌}
+use Rattle.ap_base.specs.Causes.{next_count}
 use Rattle.graph_model.specs.declared.types.Graph.{Graph}
 use Rattle.line_memory.specs.Memory.{Memory}
 use Rattle.image_recovery.specs.Recovered.{entries_in}
@@ -43,8 +43,14 @@ returns-in-Ok-clause-ran g c = λ start old can.
 pub returns-in-Ok-clause-image_fault : goal.returns-in-Ok-clause-image_fault
 returns-in-Ok-clause-image_fault g c = λ is.
     let r = c.requires.can in
-    subst (λ (m : Memory). Rose m.faults (g.I.Image.faults c.run_launched.result.image))
+    subst (λ (m : Memory). g.I.Image.faults c.run_launched.result.image ≡ next_count m.faults)
     (c.in-Ok.ensures.ready r.0 r.1 r.2).memory (c.run_launched.ensures.image_fault is)
+
+pub returns-in-Ok-clause-image_spared : goal.returns-in-Ok-clause-image_spared
+returns-in-Ok-clause-image_spared g c = λ isnt.
+    let r = c.requires.can in
+    subst (λ (m : Memory). g.I.Image.faults c.run_launched.result.image ≡ m.faults)
+    (c.in-Ok.ensures.ready r.0 r.1 r.2).memory (c.run_launched.ensures.image_spared isnt)
 
 pub returns-in-Err-clause-ran : goal.returns-in-Err-clause-ran
 returns-in-Err-clause-ran g c = λ start old can.
@@ -69,3 +75,6 @@ returns-in-Err-clause-told g c =
 
 pub returns-in-Err-clause-sink_spared : goal.returns-in-Err-clause-sink_spared
 returns-in-Err-clause-sink_spared g c = λ isnt. rw c.unbegun.ensures.sink refl
+
+pub returns-in-Err-clause-image_spared : goal.returns-in-Err-clause-image_spared
+returns-in-Err-clause-image_spared g c = λ isnt. rw c.unbegun.ensures.image (c.into_image.ensures.faults ∙ ap (λ (m : Memory). m.faults) c.in-Err.ensures.given_back)

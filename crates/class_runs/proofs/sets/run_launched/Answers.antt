@@ -6,7 +6,7 @@ use Rattle.class_set.specs.Facts.{facts_of}
 use Rattle.program_host.specs.Hosts.{setting_in}
 use Rattle.durable_launch.specs.Passed.{EachPrintsItsShare, IsReady}
 use Rattle.class_runs.specs.Runs.{Tells}
-use Rattle.class_runs.proofs.Outside.{sink_caused, sink_spared, tells_all}
+use Rattle.class_runs.proofs.Outside.{image_caused, image_spared, sink_caused, sink_spared, tells_all}
 use Rattle.class_runs.proofs.sets.run_launched.Goals as goal
 
 pub returns-clause-ran : goal.returns-clause-ran
@@ -50,3 +50,13 @@ returns-clause-sink_fault g c = λ is.
 pub returns-clause-sink_spared : goal.returns-clause-sink_spared
 returns-clause-sink_spared g c = λ isnt.
     sink_spared c.args.set.now _ _ _ _ c.run_all-end.result.0 c.run_all-end.ensures.cause (λ is. isnt (c.of_end.ensures ∙ is))
+
+pub returns-clause-image_fault : goal.returns-clause-image_fault
+returns-clause-image_fault g c = λ is.
+    c.into_image.ensures.faults ∙ ap (λ (m : Memory). m.faults) c.finish-acts.ensures.memory
+    ∙ image_caused c.args.set.now _ _ _ _ c.run_all-end.result.0 c.run_all-end.ensures.cause (sym c.of_end.ensures ∙ is)
+
+pub returns-clause-image_spared : goal.returns-clause-image_spared
+returns-clause-image_spared g c = λ isnt.
+    c.into_image.ensures.faults ∙ ap (λ (m : Memory). m.faults) c.finish-acts.ensures.memory
+    ∙ image_spared c.args.set.now _ _ _ _ c.run_all-end.result.0 c.run_all-end.ensures.cause (λ is. isnt (c.of_end.ensures ∙ is))

@@ -32,3 +32,6 @@ returns-in-Err-clause-told g c =
 
 pub returns-in-Err-clause-sink_spared : goal.returns-in-Err-clause-sink_spared
 returns-in-Err-clause-sink_spared g c = λ isnt. rw c.unbegun.ensures.sink refl
+
+pub returns-in-Err-clause-image_spared : goal.returns-in-Err-clause-image_spared
+returns-in-Err-clause-image_spared g c = λ isnt. rw c.unbegun.ensures.image (c.into_image-image.ensures.faults)

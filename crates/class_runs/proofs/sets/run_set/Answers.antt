@@ -4,7 +4,8 @@ use Rattle.class_file.specs.declared.class.ClassFile.{ClassFile}
 use Rattle.class_file.specs.Classes.{HasAtMost}
 use Rattle.class_set.specs.Linked.{Linked}
 use Rattle.durable_launch.proofs.Passed.{arrays_files}
-use Rattle.class_runs.proofs.Outside.{failed_opening, never_by_sink, rose_since, tells_nothing}
+use Rattle.class_runs.specs.Sets.{status_of_unopened}
+use Rattle.class_runs.proofs.Outside.{failed_opening, never_by_sink, next_since, tells_nothing}
 use Rattle.class_runs.proofs.SetRan.{unopened_ran}
 use Rattle.class_runs.proofs.sets.run_set.Goals as goal
 
@@ -24,8 +25,11 @@ returns-in-Ok-clause-ran g c =
 
 pub returns-in-Ok-clause-image_fault : goal.returns-in-Ok-clause-image_fault
 returns-in-Ok-clause-image_fault g c = λ is.
-    rose_since (g.I.Image.faults c.args.image) c.in-Ok.found.memory.faults (g.I.Image.faults c.run_found.result.image)
-    c.in-Ok.ensures.later (c.run_found.ensures.image_fault is)
+    next_since (g.I.Image.faults c.args.image) c.in-Ok.found.memory.faults (g.I.Image.faults c.run_found.result.image)
+    c.in-Ok.ensures.spared (c.run_found.ensures.image_fault is)
+
+pub returns-in-Ok-clause-image_spared : goal.returns-in-Ok-clause-image_spared
+returns-in-Ok-clause-image_spared g c = λ isnt. c.run_found.ensures.image_spared isnt ∙ c.in-Ok.ensures.spared
 
 pub returns-clause-ran : goal.returns-clause-ran
 returns-clause-ran g c =
@@ -45,7 +49,12 @@ returns-clause-sink_fault g c = λ is.
 pub returns-clause-image_fault : goal.returns-clause-image_fault
 returns-clause-image_fault g c = λ is.
     rw c.unbegun.ensures.image
-    (c.in-Err.ensures.cause (failed_opening c.in-Err.why (sym (c.unbegun.ensures.status ∙ c.of_unopened.ensures) ∙ is)))
+    (c.in-Err.ensures.cause.failed (failed_opening c.in-Err.why (sym (c.unbegun.ensures.status ∙ c.of_unopened.ensures) ∙ is)))
+
+pub returns-clause-image_spared : goal.returns-clause-image_spared
+returns-clause-image_spared g c = λ isnt.
+    rw c.unbegun.ensures.image
+    (c.in-Err.ensures.cause.spared (λ why. isnt (c.unbegun.ensures.status ∙ c.of_unopened.ensures ∙ ap status_of_unopened why)))
 
 pub returns-clause-sink_spared : goal.returns-clause-sink_spared
 returns-clause-sink_spared g c = λ isnt. rw c.unbegun.ensures.sink refl

@@ -1,10 +1,12 @@
-use Rattle.std.proofs.Common.{Err, ap, refl, arith}
+use Rattle.std.proofs.Common.{Err, ap, refl, ◌∙◌}
 use Rattle.word_changes.specs.Changes.{Nothing}
 use Rattle.word_changes.proofs.Changing.{changes_nothing}
 use Rattle.image_compact.proofs.ImageWords.{look_stops}
-use Rattle.compact_call.proofs.NewImages.{unattached_keeps, unattached_sized, unattached_came, unattached_stays, stays_refused, failed_attach}
-use Rattle.compact_call.proofs.NewImages.{failed_write, attached_keeps, attached_stays, attached_refused, attached_line, is_written_to, attached_came}
-use Rattle.compact_call.proofs.NewImages.{attached_failed, right_size, told_failure}
+use Rattle.image_compact.proofs.Outcomes.{by_other}
+use Rattle.compact_call.specs.declared.fault.CompactFault.TheVariants.{ImageFailed, OutOfMemory}
+use Rattle.compact_call.proofs.NewImages.{unattached_keeps, unattached_sized, unattached_came, unattached_stays, stays_refused, attach_cause}
+use Rattle.compact_call.proofs.NewImages.{attached_keeps, attached_stays, attached_refused, attached_line, is_written_to, attached_came}
+use Rattle.compact_call.proofs.NewImages.{attached_cause, right_size}
 use Rattle.compact_call.proofs.fresh.write_fresh.Goals as goal
 
 pub returns-in-Err-clause-keeps : goal.returns-in-Err-clause-keeps
@@ -31,9 +33,14 @@ returns-in-Err-clause-refused g c =
     (g.J.Image.told c.in-Err.image) (g.J.Image.faults c.in-Err.image) c.in-Err.ensures.given_back)
 
 pub returns-in-Err-clause-cause : goal.returns-in-Err-clause-cause
-returns-in-Err-clause-cause g c failed =
+returns-in-Err-clause-cause g c =
+    attach_cause c.in-Err.fault c.of_attach.result (g.J.Image.faults c.args.image) (g.J.Image.faults c.in-Err.image) c.of_attach.ensures
     c.in-Err.ensures.given_back.cause
-    (failed_attach c.in-Err.fault c.of_attach.result c.of_attach.ensures (told_failure (Err c.of_attach.result) c.of_attach.result refl failed))
+
+pub returns-in-Err-line_of-clause-cause : goal.returns-in-Err-line_of-clause-cause
+returns-in-Err-line_of-clause-cause g c =
+    by_other ImageFailed OutOfMemory (g.J.Image.faults c.args.image) (g.J.Image.faults c.into_image.result) (λ is. cc)
+    (c.into_image.ensures.faults ∙ c.in-Ok.ensures.attached.spared)
 
 pub returns-in-Err-line_of-clause-keeps : goal.returns-in-Err-line_of-clause-keeps
 returns-in-Err-line_of-clause-keeps g c =
@@ -102,8 +109,7 @@ returns-in-Err-write_image-clause-refused g c =
     c.in-Err-write_image.fault c.in-Err-write_image.ensures.fails c.of_write.result c.of_write.ensures
 
 pub returns-in-Err-write_image-clause-cause : goal.returns-in-Err-write_image-clause-cause
-returns-in-Err-write_image-clause-cause g c failed =
-    attached_failed c.args.graph.now (g.J.Image.told c.args.image) (g.J.Image.faults c.args.image) c.in-Ok.memory c.in-Err-write_image.memory
-    c.in-Ok.ensures.attached c.in-Err-write_image.fault c.in-Err-write_image.ensures.fails
-    (failed_write c.in-Err-write_image.fault c.of_write.result c.of_write.ensures (told_failure (Err c.of_write.result) c.of_write.result refl failed))
+returns-in-Err-write_image-clause-cause g c =
+    attached_cause c.args.graph.now (g.J.Image.told c.args.image) (g.J.Image.faults c.args.image) c.in-Ok.memory c.in-Err-write_image.memory
+    c.in-Ok.ensures.attached c.in-Err-write_image.fault c.in-Err-write_image.ensures.fails c.of_write.result c.of_write.ensures
     (g.J.Image.faults c.into_image-in-Err-write_image.result) c.into_image-in-Err-write_image.ensures.faults

@@ -1,9 +1,7 @@
 use Rattle.std.proofs.Common.{sym, subst}
-use Rattle.graph_model.specs.declared.types.Graph.{Graph}
-use Rattle.image_opening.specs.Stops.{IsGivenBack}
 use Rattle.dense_image.specs.Graphs.{CanBeStoodFor}
 use Rattle.compact_call.specs.Outcomes.{StoodFor}
-use Rattle.compact_call.proofs.OldImages.{stood_for, can_be_written, old_fault, unopened_size, failed_opening, still_kept}
+use Rattle.compact_call.proofs.OldImages.{stood_for, can_be_written, old_fault, unopened_size, opening_cause, still_kept}
 use Rattle.compact_call.proofs.old.read_graph.Goals as goal
 
 pub returns-in-Ok-clause-can : goal.returns-in-Ok-clause-can
@@ -41,5 +39,6 @@ returns-in-Err-clause-size_unopened g c =
     unopened_size (g.I.Image.told c.args.image) (g.I.Image.told c.in-Err.image) c.in-Err.fault c.in-Err.ensures.unopened
 
 pub returns-in-Err-clause-cause : goal.returns-in-Err-clause-cause
-returns-in-Err-clause-cause g c failed =
-    c.in-Err.ensures.cause (failed_opening c.in-Err.fault c.of_opening.result c.of_opening.ensures failed)
+returns-in-Err-clause-cause g c =
+    opening_cause c.in-Err.fault c.of_opening.result (g.I.Image.faults c.args.image) (g.I.Image.faults c.in-Err.image) c.of_opening.ensures
+    c.in-Err.ensures.cause

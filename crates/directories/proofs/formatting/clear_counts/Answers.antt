@@ -1,4 +1,4 @@
-use Rattle.std.proofs.Common.{◌≤◌, ◌+◌, arith}
+use Rattle.std.proofs.Common.{◌≤◌, ◌+◌, ◌∙◌, refl, arith}
 use Rattle.line_memory.specs.Memory.{Memory}
 use Rattle.image_layout.specs.Places.{min_lines, logs, log_head_line}
 use Rattle.word_changes.proofs.Going.{goes_nowhere, goes_more}
@@ -10,7 +10,7 @@ pub loop-thread-init : goal.loop-thread-init
 loop-thread-init g c =
     let m : Memory = c.args.memory.now in
     let begin = counts_begin m in
-    record { wrote = begin.0; changes = begin.1; goes_on = goes_nowhere m; calls = omega arith; later = omega arith }
+    record { wrote = begin.0; changes = begin.1; goes_on = goes_nowhere m; calls = omega arith; spared = refl }
 
 pub returns-in_err-write_word-clause-changes : goal.returns-in_err-write_word-clause-changes
 returns-in_err-write_word-clause-changes g c =
@@ -45,7 +45,7 @@ loop-thread-preserved g c =
       changes = counts_changes t a b d so_far.changes put;
       goes_on = goes_more a b d so_far.goes_on c.write_word.ensures.goes_on;
       calls = omega (arith, so_far.calls, c.write_word.ensures.calls);
-      later = omega (arith, so_far.later, c.write_word.ensures.cause.later);
+      spared = c.in_ok-write_word.ensures.cause.spared ∙ so_far.spared;
     }
 
 pub returns-in_err-write_word-clause-calls : goal.returns-in_err-write_word-clause-calls

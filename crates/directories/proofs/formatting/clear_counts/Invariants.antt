@@ -1,5 +1,5 @@
 -- The counts so far are cleared and written.
-use Rattle.std.proofs.Common.{◌≤◌}
+use Rattle.std.proofs.Common.{◌≡◌}
 use Rattle.word_changes.specs.Changes.{ChangesTo, CallsAtMost, GoesOn, WritesAll}
 use Rattle.directories.specs.Formatting.{OfCounts}
 use Rattle.directories.proofs.formatting.clear_counts.Given as goal
@@ -10,5 +10,5 @@ invariant-loop-thread g l = record {
   changes : ChangesTo (OfCounts l.thread) l.fn.memory l.memory;
   goes_on : GoesOn l.fn.memory l.memory;
   calls : CallsAtMost l.fn.memory l.memory l.thread;
-  later : l.fn.memory.faults ≤ l.memory.faults;
+  spared : l.memory.faults ≡ l.fn.memory.faults;
 }

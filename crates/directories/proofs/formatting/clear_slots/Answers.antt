@@ -1,4 +1,4 @@
-use Rattle.std.proofs.Common.{◌+◌, arith}
+use Rattle.std.proofs.Common.{◌+◌, ◌∙◌, refl, arith}
 use Rattle.line_memory.specs.Memory.{Memory}
 use Rattle.word_changes.proofs.Going.{goes_nowhere, goes_more}
 use Rattle.directories.proofs.Formats.{lines_begin, lines_more, lines_changes, lines_of_slots, lines_within}
@@ -8,7 +8,7 @@ pub loop-line-init : goal.loop-line-init
 loop-line-init g c =
     let m : Memory = c.args.memory.now in
     let begin = lines_begin 1 m in
-    record { wrote = begin.0; changes = begin.1; goes_on = goes_nowhere m; calls = omega arith; later = omega arith }
+    record { wrote = begin.0; changes = begin.1; goes_on = goes_nowhere m; calls = omega arith; spared = refl }
 
 pub returns-in_err-clear_line-clause-changes : goal.returns-in_err-clear_line-clause-changes
 returns-in_err-clear_line-clause-changes g c =
@@ -34,7 +34,7 @@ loop-line-preserved g c =
       changes = lines_changes 1 line a b d (omega arith) so_far.changes c.clear_line.ensures.changes;
       goes_on = goes_more a b d so_far.goes_on c.clear_line.ensures.goes_on;
       calls = omega (arith, so_far.calls, c.clear_line.ensures.calls);
-      later = omega (arith, so_far.later, c.clear_line.ensures.cause.later);
+      spared = c.in_ok-clear_line.ensures.cause.spared ∙ so_far.spared;
     }
 
 pub returns-clause-changes : goal.returns-clause-changes

@@ -1,5 +1,5 @@
 -- The lines so far are cleared and written.
-use Rattle.std.proofs.Common.{◌≤◌, ◌-◌}
+use Rattle.std.proofs.Common.{◌≡◌, ◌-◌}
 use Rattle.image_layout.specs.Places.{slot_line}
 use Rattle.word_changes.specs.Changes.{ChangesTo, CallsAtMost, GoesOn, WritesAll}
 use Rattle.directories.specs.Formatting.{OfLines}
@@ -11,5 +11,5 @@ invariant-loop-line g l = record {
   changes : ChangesTo (OfLines (slot_line 0) l.line) l.fn.memory l.memory;
   goes_on : GoesOn l.fn.memory l.memory;
   calls : CallsAtMost l.fn.memory l.memory (l.line - slot_line 0);
-  later : l.fn.memory.faults ≤ l.memory.faults;
+  spared : l.memory.faults ≡ l.fn.memory.faults;
 }

@@ -72,7 +72,7 @@ loop-i-preserved g c =
       changes = changes;
       counts = λ begin counts. c.fetch_line.ensures.counts begin (c.loop-i.invariant.counts begin counts);
       calls = same.1.calls ∙ c.loop-i.invariant.calls;
-      later = omega (arith, c.loop-i.invariant.later, c.fetch_line.ensures.cause.later);
+      spared = c.in_ok-fetch_line.ensures.cause.spared ∙ c.loop-i.invariant.spared;
     }
 
 pub returns-clause-words : goal.returns-clause-words

@@ -1,5 +1,5 @@
 -- The words so far are read.
-use Rattle.std.proofs.Common.{◌≡◌, ◌<◌, ◌≤◌, ℕ, length, get_or}
+use Rattle.std.proofs.Common.{◌≡◌, ◌<◌, ℕ, length, get_or}
 use Rattle.line_memory.specs.Memory.{shown}
 use Rattle.line_memory.specs.Moments.{CountsFrom}
 use Rattle.image_layout.specs.Places.{directory_line, directory_word}
@@ -14,5 +14,5 @@ invariant-loop-i g l = record {
   changes : ChangesTo Nothing l.fn.memory l.memory;
   counts : (begin : ℕ) → CountsFrom begin l.fn.memory → CountsFrom begin l.memory;
   calls : l.memory.calls ≡ l.fn.memory.calls;
-  later : l.fn.memory.faults ≤ l.memory.faults;
+  spared : l.memory.faults ≡ l.fn.memory.faults;
 }

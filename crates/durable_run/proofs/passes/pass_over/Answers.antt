@@ -8,6 +8,7 @@ use Rattle.durable_run.proofs.Places.{next-is}
 use Rattle.durable_run.proofs.Sharing.{shares-both, shares-nothing}
 use Rattle.durable_run.proofs.Sparing.{spares-both, spares-nothing, spares-on}
 use Rattle.durable_run.proofs.Telling.{caused-since, told-both, told-nothing}
+use Rattle.durable_run.proofs.Turns.{turns-stand, turns-stepped}
 use Rattle.durable_run.proofs.passes.pass_over.Goals as goal
 
 no-true : {P : Type 0} → false ≡ true → P
@@ -22,7 +23,8 @@ threads-init g c =
       shares = λ o first ready. shares-nothing o.launch (g.S.Sink.takes c.args.run.now.sink)
           c.args.run.now.heap.history.acts;
       spares = λ o first ready. spares-nothing g.S.Sink.taken o.launch c.args.run.now.sink c.args.run.now.heap.history.acts;
-      cause = (refl, omega arith);
+      cause = (refl, refl);
+      turns = turns-stand c.args.run.now.turns;
       going = inr (λ o first ready. waits-begin o first set x c.args.run.now.heap c.args.run.now.frames.items ready
           c.machines_end_stuck.ensures.begin c.passes_fill_rows.ensures.begin);
       dead = λ e u below. absurd (omega (arith, below));
@@ -46,6 +48,7 @@ threads-preserved-then-not-is_live g c =
       shares = c.threads.invariant.shares;
       spares = c.threads.invariant.spares;
       cause = c.threads.invariant.cause;
+      turns = c.threads.invariant.turns;
       going = goes-past set x
           (λ o first. IsReady o first set x c.args.run.now.heap c.args.run.now.frames.items)
           c.args.run.now.heap s s c.threads.run.frames.items c.threads.run.frames.items c.threads.n c.threads.lived
@@ -99,6 +102,8 @@ threads-preserved g c =
           (c.step-went.ensures.spares o first (c.threads.invariant.ready o first ready)));
       cause = caused-since None _ _ _ _ _ _ c.threads.invariant.cause
           (cause-on new went _ _ _ _ isnt c.step-went.ensures.cause);
+      turns = turns-stepped _ t c.args.run.now.turns c.threads.run.turns c.step-went.new.run.turns
+          c.threads.invariant.turns c.step-went.ensures.turns;
       going = subst (λ (n : ℕ). IsGoing
           (λ o first. IsReady o first set x c.args.run.now.heap c.args.run.now.frames.items) old new (n + 1) true) t_is
           (goes-on set x (λ o first. IsReady o first set x c.args.run.now.heap c.args.run.now.frames.items)
@@ -136,6 +141,11 @@ returns-clause-goes g c o first ready =
       c.threads.invariant.ready o first ready,
       all-ended states (λ u below. c.threads.invariant.dead c.if-lived.false u (omega (arith, below, count, past))),
     )
+
+pub returns-in-Over-clause-turns : goal.returns-in-Over-clause-turns
+returns-in-Over-clause-turns g c =
+    turns-stepped _ c.unwrap-t.result c.args.run.now.turns c.threads.run.turns c.step-went.new.run.turns
+    c.threads.invariant.turns c.step-went.ensures.turns
 
 pub returns-in-Over-clause-shares : goal.returns-in-Over-clause-shares
 returns-in-Over-clause-shares g c o first ready =

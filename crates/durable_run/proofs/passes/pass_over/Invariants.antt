@@ -3,7 +3,7 @@ use Rattle.machine.specs.Passed.{Opening, memory_of}
 use Rattle.durable_run.specs.Shares.{PrintsShares}
 use Rattle.durable_run.specs.Sparing.{SparesSink}
 use Rattle.durable_run.specs.Telling.{HasTold, IsCaused}
-use Rattle.durable_run.specs.Turning.{IsReady, is_live}
+use Rattle.durable_run.specs.Turning.{IsReady, TurnsGoOn, is_live}
 use Rattle.durable_run.proofs.Passing.{IsGoing}
 use Rattle.durable_run.proofs.passes.pass_over.Given as goal
 
@@ -30,6 +30,7 @@ invariant-threads g l = record {
       l.initial.run.heap.history.acts l.run.heap.history.acts;
   cause : IsCaused None (g.S.Sink.faults l.initial.run.sink) (g.S.Sink.faults l.run.sink)
       (memory_of l.initial.run.heap.machine).faults (memory_of l.run.heap.machine).faults;
+  turns : TurnsGoOn l.initial.run.turns l.run.turns;
   going : IsGoing (λ o first. IsReady o first (g.C.Types.facts l.set) (g.H.Host.setting l.host) l.initial.run.heap
       l.initial.run.frames.items) l.initial.run.heap l.run.heap l.n l.lived;
   dead : l.lived ≡ false → (u : ℕ) → u < l.n → is_live l.run.heap.machine.rest.threads u ≡ false;

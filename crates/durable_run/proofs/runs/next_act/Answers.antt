@@ -5,6 +5,7 @@ use Rattle.durable_run.proofs.Passing.{limit-same}
 use Rattle.durable_run.proofs.Sharing.{shares-both, shares-nothing}
 use Rattle.durable_run.proofs.Sparing.{spares-both, spares-nothing}
 use Rattle.durable_run.proofs.Telling.{caused-since, none-more, told-both, told-nothing}
+use Rattle.durable_run.proofs.Turns.{turns-both, turns-stand}
 use Rattle.durable_run.proofs.runs.next_act.Goals as goal
 
 pub passes-init : goal.passes-init
@@ -14,7 +15,8 @@ passes-init g c = record {
   shares = λ o first ready. shares-nothing o.launch (g.S.Sink.takes c.args.run.now.sink)
       c.args.run.now.heap.history.acts;
   spares = λ o first ready. spares-nothing g.S.Sink.taken o.launch c.args.run.now.sink c.args.run.now.heap.history.acts;
-  cause = (refl, omega arith);
+  cause = (refl, refl);
+  turns = turns-stand c.args.run.now.turns;
   none = refl;
   limit = refl;
 }
@@ -36,6 +38,7 @@ returns-in_default g c =
           (c.pass_over.ensures.spares o first (c.passes.invariant.ready o first ready));
       cause = caused-since (fault_of_pass c.pass_over.new.run.heap c.pass_over.result) _ _ _ _ _ _
           c.passes.invariant.cause c.pass_over.ensures.cause;
+      turns = turns-both _ _ _ c.passes.invariant.turns c.pass_over.ensures.turns;
       full = λ full went. isnt went;
       acts = λ went. absurd (isnt went);
     }
@@ -43,6 +46,9 @@ returns-in_default g c =
 pub returns-then-len-before-clause-told : goal.returns-then-len-before-clause-told
 returns-then-len-before-clause-told g c =
     told-both _ _ _ _ _ _ _ _ _ c.passes.invariant.told c.pass_over.ensures.told
+
+pub returns-then-len-before-clause-turns : goal.returns-then-len-before-clause-turns
+returns-then-len-before-clause-turns g c = turns-both _ _ _ c.passes.invariant.turns c.pass_over.ensures.turns
 
 pub returns-then-len-before-clause-full : goal.returns-then-len-before-clause-full
 returns-then-len-before-clause-full g c full went =
@@ -69,6 +75,7 @@ passes-preserved g c =
           c.pass_over.new.run.heap.history.acts (c.passes.invariant.spares o first ready)
           (c.in-Went.ensures.spares o first (c.passes.invariant.ready o first ready));
       cause = caused-since None _ _ _ _ _ _ c.passes.invariant.cause c.in-Went.ensures.cause;
+      turns = turns-both _ _ _ c.passes.invariant.turns c.pass_over.ensures.turns;
       none = none-more _ _ told.further told.acts few ∙ c.passes.invariant.none;
       limit = limit-same r.0 r.1 (g.C.Types.facts c.args.set.now) (g.H.Host.setting c.args.host.now)
           c.args.run.now.heap c.pass_over.new.run.heap c.args.run.now.frames.items c.pass_over.new.run.frames.items r.2

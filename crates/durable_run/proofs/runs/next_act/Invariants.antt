@@ -4,7 +4,7 @@ use Rattle.machine.specs.Passed.{measure}
 use Rattle.durable_run.specs.Shares.{PrintsShares}
 use Rattle.durable_run.specs.Sparing.{SparesSink}
 use Rattle.durable_run.specs.Telling.{HasTold, IsCaused}
-use Rattle.durable_run.specs.Turning.{IsReady}
+use Rattle.durable_run.specs.Turning.{IsReady, TurnsGoOn}
 use Rattle.durable_run.proofs.runs.next_act.Given as goal
 
 -- No act was made yet, and an event may come still.
@@ -29,6 +29,7 @@ invariant-passes g l = record {
       l.initial.run.heap.history.acts l.run.heap.history.acts;
   cause : IsCaused None (g.S.Sink.faults l.initial.run.sink) (g.S.Sink.faults l.run.sink)
       (memory_of l.initial.run.heap.machine).faults (memory_of l.run.heap.machine).faults;
+  turns : TurnsGoOn l.initial.run.turns l.run.turns;
   none : l.run.heap.history.acts ≡ l.initial.run.heap.history.acts;
   limit : l.run.heap.history.limit ≡ l.initial.run.heap.history.limit;
 }

@@ -11,6 +11,7 @@ use Rattle.durable_run.proofs.Passing.{limit-same}
 use Rattle.durable_run.proofs.Sharing.{shares-both, shares-nothing}
 use Rattle.durable_run.proofs.Sparing.{spares-both, spares-nothing}
 use Rattle.durable_run.proofs.Telling.{caused-since, told-both, told-nothing}
+use Rattle.durable_run.proofs.Turns.{turns-both, turns-stand}
 use Rattle.durable_run.proofs.runs.run_threads.Goals as goal
 
 pub acts-init : goal.acts-init
@@ -20,7 +21,8 @@ acts-init g c = record {
   shares = λ o first ready. shares-nothing o.launch (g.S.Sink.takes c.args.run.now.sink)
       c.args.run.now.heap.history.acts;
   spares = λ o first ready. spares-nothing g.S.Sink.taken o.launch c.args.run.now.sink c.args.run.now.heap.history.acts;
-  cause = (refl, omega arith);
+  cause = (refl, refl);
+  turns = turns-stand c.args.run.now.turns;
 }
 
 pub next_act-requires : goal.next_act-requires
@@ -53,6 +55,7 @@ acts-preserved g c = record {
       c.next_act.new.run.heap.history.acts (c.acts.invariant.spares o first ready)
       (c.in-Went.ensures.spares o first (c.acts.invariant.ready o first ready));
   cause = caused-since None _ _ _ _ _ _ c.acts.invariant.cause c.in-Went.ensures.cause;
+  turns = turns-both _ _ _ c.acts.invariant.turns c.next_act.ensures.turns;
 }
 
 pub ended-requires : goal.ended-requires
@@ -74,6 +77,9 @@ returns-in-Ended-clause-cause g c =
 pub returns-in-Ended-clause-told : goal.returns-in-Ended-clause-told
 returns-in-Ended-clause-told g c =
     told-both _ _ _ _ _ _ _ _ _ c.acts.invariant.told c.next_act.ensures.told
+
+pub returns-in-Ended-clause-turns : goal.returns-in-Ended-clause-turns
+returns-in-Ended-clause-turns g c = turns-both _ _ _ c.acts.invariant.turns c.next_act.ensures.turns
 
 pub returns-in-Ended-clause-size : goal.returns-in-Ended-clause-size
 returns-in-Ended-clause-size g c =
@@ -99,6 +105,9 @@ returns-in-Over-clause-ends g c o first ready =
 pub returns-in-Over-clause-told : goal.returns-in-Over-clause-told
 returns-in-Over-clause-told g c =
     told-both _ _ _ _ _ _ _ _ _ c.acts.invariant.told c.next_act.ensures.told
+
+pub returns-in-Over-clause-turns : goal.returns-in-Over-clause-turns
+returns-in-Over-clause-turns g c = turns-both _ _ _ c.acts.invariant.turns c.next_act.ensures.turns
 
 pub returns-in-Over-clause-size : goal.returns-in-Over-clause-size
 returns-in-Over-clause-size g c =

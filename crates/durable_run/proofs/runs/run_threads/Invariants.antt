@@ -3,11 +3,11 @@ use Rattle.machine.specs.Passed.{Opening, memory_of}
 use Rattle.durable_run.specs.Shares.{PrintsShares}
 use Rattle.durable_run.specs.Sparing.{SparesSink}
 use Rattle.durable_run.specs.Telling.{HasTold, IsCaused}
-use Rattle.durable_run.specs.Turning.{IsReady}
+use Rattle.durable_run.specs.Turning.{IsReady, TurnsGoOn}
 use Rattle.durable_run.proofs.runs.run_threads.Given as goal
 
 -- What was ready at first is so still; the outside was told the acts since then; each print of them took its share, and no other
--- act called the sink; the sink's count of faults stands still, and the image's didn't fall.
+-- act called the sink; the counts of faults stand still, and those of turns went on.
 abbrev pub invariant-acts : goal.invariant-acts
 invariant-acts g l = record {
   ready : (o : Opening) (first : ℕ)
@@ -29,6 +29,7 @@ invariant-acts g l = record {
       l.initial.run.heap.history.acts l.run.heap.history.acts;
   cause : IsCaused None (g.S.Sink.faults l.initial.run.sink) (g.S.Sink.faults l.run.sink)
       (memory_of l.initial.run.heap.machine).faults (memory_of l.run.heap.machine).faults;
+  turns : TurnsGoOn l.initial.run.turns l.run.turns;
 }
 
 -- the acts for which there is room

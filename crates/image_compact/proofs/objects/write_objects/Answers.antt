@@ -1,6 +1,5 @@
-use Rattle.std.proofs.Common.{◌+◌, ℕ, length, ap, subst, sym, arith}
+use Rattle.std.proofs.Common.{◌+◌, ◌∙◌, length, ap, refl, arith}
 use Rattle.line_memory.specs.Memory.{Memory}
-use Rattle.word_changes.specs.Changes.{ChangesTo, WritesAll}
 use Rattle.word_changes.proofs.Changing.{changes_weaker}
 use Rattle.word_changes.proofs.Going.{goes_nowhere, goes_more}
 use Rattle.image_compact.specs.Writing.{OfObject, OfObjects}
@@ -12,7 +11,7 @@ pub loop-n-init : goal.loop-n-init
 loop-n-init g c =
     let m : Memory = c.args.memory.now in
     let begin = no_objects c.args.graph.now m in
-    record { wrote = begin.0; changes = begin.1; goes_on = goes_nowhere m; later = omega arith }
+    record { wrote = begin.0; changes = begin.1; goes_on = goes_nowhere m; spared = refl }
 
 pub returns-in_err-write_object-clause-changes : goal.returns-in_err-write_object-clause-changes
 returns-in_err-write_object-clause-changes g c =
@@ -47,5 +46,5 @@ loop-n-preserved g c =
       changes = both_change (OfObjects graph n) (OfObject graph n) (OfObjects graph (n + 1)) a b d so_far.changes c.write_object.ensures.changes
           (fewer_objects graph n (n + 1) (omega arith)) (next_object graph n);
       goes_on = goes_more a b d so_far.goes_on c.write_object.ensures.goes_on;
-      later = omega (arith, so_far.later, c.write_object.ensures.cause.later);
+      spared = c.in_ok-write_object.ensures.cause.spared ∙ so_far.spared;
     }

@@ -1,4 +1,4 @@
-use Rattle.std.proofs.Common.{◌≡◌, ◌<◌, ◌+◌, ◌*◌, ℕ, arith, slice_index_or}
+use Rattle.std.proofs.Common.{◌≡◌, ◌<◌, ◌+◌, ◌*◌, ◌∙◌, ℕ, refl, arith, slice_index_or}
 use Rattle.line_memory.specs.Memory.{Memory}
 use Rattle.word_changes.proofs.Changing.{changes_nothing, changes_weaker}
 use Rattle.word_changes.proofs.Going.{goes_nowhere, goes_more}
@@ -14,7 +14,7 @@ loop-i-init g c =
       wrote = no_lines c.args.words.now c.args.from m;
       changes = changes_nothing (OfWords c.args.words.now c.args.from 0) m;
       goes_on = goes_nowhere m;
-      later = omega arith;
+      spared = refl;
     }
 
 pub loop-i-preserved : goal.loop-i-preserved
@@ -37,7 +37,7 @@ loop-i-preserved g c =
       changes = both_change (OfWords words from i) (OfWords rest (from + i) 1) (OfWords words from (i + 1)) a b d
           so_far.changes c.write_eight.ensures.changes (before_of words from i (i + 1) (omega arith)) (next_of words rest from i same);
       goes_on = goes_more a b d so_far.goes_on c.write_eight.ensures.goes_on;
-      later = omega (arith, so_far.later, c.write_eight.ensures.cause.later);
+      spared = c.in_ok-write_eight.ensures.cause.spared ∙ so_far.spared;
     }
 
 pub returns-in_err-write_eight-clause-changes : goal.returns-in_err-write_eight-clause-changes

@@ -1,5 +1,5 @@
 -- The lines so far are written.
-use Rattle.std.proofs.Common.{◌≤◌}
+use Rattle.std.proofs.Common.{◌≡◌}
 use Rattle.word_changes.specs.Changes.{ChangesTo, GoesOn, WritesAll}
 use Rattle.image_compact.specs.Writing.{OfWords}
 use Rattle.image_compact.proofs.words.write_words.Given as goal
@@ -9,5 +9,5 @@ invariant-loop-i g l = record {
   wrote : WritesAll (OfWords l.words l.from l.i) l.fn.memory l.memory;
   changes : ChangesTo (OfWords l.words l.from l.i) l.fn.memory l.memory;
   goes_on : GoesOn l.fn.memory l.memory;
-  later : l.fn.memory.faults ≤ l.memory.faults;
+  spared : l.memory.faults ≡ l.fn.memory.faults;
 }

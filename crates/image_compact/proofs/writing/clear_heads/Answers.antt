@@ -1,4 +1,4 @@
-use Rattle.std.proofs.Common.{◌+◌, ℕ, [], subst, arith}
+use Rattle.std.proofs.Common.{◌+◌, ◌∙◌, ℕ, [], refl, subst, arith}
 use Rattle.line_memory.specs.Memory.{Memory}
 use Rattle.image_layout.specs.Places.{logs, log_head_line}
 use Rattle.word_changes.specs.Changes.{ChangesTo, WritesAll}
@@ -13,7 +13,7 @@ pub loop-thread-init : goal.loop-thread-init
 loop-thread-init g c =
     let m : Memory = c.args.memory.now in
     let begin = no_heads m in
-    record { wrote = begin.0; changes = begin.1; goes_on = goes_nowhere m; later = omega arith }
+    record { wrote = begin.0; changes = begin.1; goes_on = goes_nowhere m; spared = refl }
 
 pub returns-in_err-write_words-clause-changes : goal.returns-in_err-write_words-clause-changes
 returns-in_err-write_words-clause-changes g c =
@@ -49,5 +49,5 @@ loop-thread-preserved g c =
       changes = both_change (OfHeads t) (OfWords [] (log_head_line t) 1) (OfHeads (t + 1)) a b d so_far.changes put
           (fewer_heads t (t + 1) (omega arith)) (next_head t);
       goes_on = goes_more a b d so_far.goes_on c.write_words.ensures.goes_on;
-      later = omega (arith, so_far.later, c.write_words.ensures.cause.later);
+      spared = c.in_ok-write_words.ensures.cause.spared ∙ so_far.spared;
     }

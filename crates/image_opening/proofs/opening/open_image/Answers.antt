@@ -1,8 +1,11 @@
-use Rattle.std.proofs.Common.{inl, inr, refl}
+use Rattle.std.proofs.Common.{◌∙◌, inl, inr, refl}
 use Rattle.line_memory.specs.Memory.{Memory}
 use Rattle.line_image.specs.Told.{Told}
 use Rattle.image_opening.specs.Attached.{IsAttached}
 use Rattle.image_opening.specs.Unopened.{IsUnrecovered}
+use Rattle.image_recovery.proofs.Causes.{cause_on}
+use Rattle.image_opening.specs.declared.not_opened.NotOpened.TheVariants.{ImageFailed}
+use Rattle.image_opening.proofs.Causes.{recovering_cause}
 use Rattle.image_opening.proofs.Opened.{is_open, is_unrecovered, unattached_bad, unrecovered_bad}
 use Rattle.image_opening.proofs.Stops.{kept, kept_untouched}
 use Rattle.image_opening.proofs.opening.open_image.Goals as goal
@@ -54,3 +57,14 @@ pub returns-in-Err-clause-stops_unopened : goal.returns-in-Err-clause-stops_unop
 returns-in-Err-clause-stops_unopened g c =
     kept_untouched (g.I.Image.told c.args.image) (g.I.Image.told c.in-Err.given_back.1) c.in-Err.given_back.0
     c.in-Err.ensures.unattached
+
+pub returns-in-Ok-recover-clause-spared : goal.returns-in-Ok-recover-clause-spared
+returns-in-Ok-recover-clause-spared g c = c.in-Ok-recover.ensures.recovers.spared ∙ c.in-Ok.ensures.spared
+
+pub returns-in-Err-recover-clause-cause : goal.returns-in-Err-recover-clause-cause
+returns-in-Err-recover-clause-cause g c =
+    rw (c.into_image.ensures.faults)
+    (cause_on ImageFailed c.of_recovery.result (g.I.Image.faults c.args.image) c.in-Ok.memory.faults c.in-Err-recover.memory.faults
+    c.in-Ok.ensures.spared
+    (recovering_cause c.in-Err-recover.fault c.of_recovery.result c.in-Ok.memory.faults c.in-Err-recover.memory.faults
+    c.of_recovery.ensures c.in-Err-recover.ensures.fails.cause))

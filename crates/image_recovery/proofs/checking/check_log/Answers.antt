@@ -13,6 +13,7 @@ pub loop-n-init : goal.loop-n-init
 loop-n-init g c =
     record {
       looks = c.in_ok-word.ensures.looks;
+      spared = c.in_ok-word.ensures.cause.spared;
       passes = λ first known looks has. checks_none (entry_fault first.size (shown first) c.args.thread);
       places = λ first known looks has place. has place;
     }
@@ -27,6 +28,7 @@ loop-n-preserved g c =
     let entry : Memory = c.args.memory.now in
     record {
       looks = looks_more entry c.loop-n.memory c.check_entry.new.memory inv.looks c.check_entry.ensures.looks;
+      spared = c.in_ok-check_entry.ensures.cause ∙ inv.spared;
       passes = λ first known looks has.
           passes_more (entry_fault first.size (shown first) c.args.thread) c.loop-n.n (inv.passes first known looks has)
           (c.in_ok-check_entry.ensures.passes first known (looks_more first entry c.loop-n.memory looks inv.looks) (inv.places first known looks has));

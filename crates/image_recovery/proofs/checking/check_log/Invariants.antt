@@ -11,6 +11,7 @@ use Rattle.image_recovery.proofs.checking.check_log.Given as goal
 abbrev pub invariant-loop-n : goal.invariant-loop-n
 invariant-loop-n g l = record {
   looks : Looks l.fn.memory l.memory;
+  spared : l.memory.faults ≡ l.fn.memory.faults;
   passes : (first : Memory) → AllKnown first → Looks first l.fn.memory
       → HasPlaces l.fn.places (logs_below (shown first) l.thread)
       → first_fault (entry_fault first.size (shown first) l.thread) l.n ≡ None;

@@ -19,6 +19,7 @@ pub loop-thread-init : goal.loop-thread-init
 loop-thread-init g c =
     record {
       looks = looks_nowhere c.args.memory.now;
+      spared = refl;
       passes = λ first known looks. checks_none (log_fault first.size (shown first));
       places = λ first known looks place. rw (logs_none (shown first)) (ap (λ (ks : List ℕ). list_any (λ k. is_eq (nat_cmp place k)) ks) c.new-places.ensures.empty);
       undone = λ first known looks. refl;
@@ -36,6 +37,7 @@ loop-thread-preserved g c =
     let t = c.loop-thread.thread in
     record {
       looks = looks_more entry c.loop-thread.memory c.check_log.new.memory inv.looks c.check_log.ensures.looks;
+      spared = c.in_ok-count.ensures.cause ∙ inv.spared;
       passes = λ first known looks.
           passes_more (log_fault first.size (shown first)) t (inv.passes first known looks)
           (c.in_ok-count.ensures.passes first known (looks_more first entry c.loop-thread.memory looks inv.looks) (inv.places first known looks));

@@ -13,6 +13,7 @@ use Rattle.image_recovery.proofs.checking.check_logs.Given as goal
 abbrev pub invariant-loop-thread : goal.invariant-loop-thread
 invariant-loop-thread g l = record {
   looks : Looks l.fn.memory l.memory;
+  spared : l.memory.faults ≡ l.fn.memory.faults;
   passes : (first : Memory) → AllKnown first → Looks first l.fn.memory
       → first_fault (log_fault first.size (shown first)) l.thread ≡ None;
   places : (first : Memory) → AllKnown first → Looks first l.fn.memory

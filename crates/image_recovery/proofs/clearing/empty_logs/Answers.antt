@@ -1,6 +1,6 @@
-use Rattle.std.proofs.Common.{◌≡◌, ◌<◌, ◌≤◌, ◌∙◌, ℕ, below_more, arith}
+use Rattle.std.proofs.Common.{◌≡◌, ◌<◌, ◌∙◌, ℕ, below_more, arith}
 use Rattle.line_memory.specs.Memory.{Memory, shown}
-use Rattle.image_layout.specs.Places.{min_lines, logs, log_head_line}
+use Rattle.image_layout.specs.Places.{logs, log_head_line}
 use Rattle.word_changes.proofs.Changing.{changes_more, changes_nowhere}
 use Rattle.image_recovery.specs.Putting.{IsCleared, IsRecovered}
 use Rattle.word_changes.proofs.Going.{goes_more}
@@ -31,7 +31,7 @@ loop-thread-preserved g c =
       changes = changes_more IsCleared first before after so_far.changes (cleared_of t before after there c.empty_log.ensures.changes);
       goes_on = goes_more first before after so_far.goes_on c.empty_log.ensures.goes_on;
       calls = omega (arith, so_far.calls, c.empty_log.ensures.calls);
-      later = omega (arith, so_far.later, c.empty_log.ensures.cause.later);
+      spared = c.in_ok-empty_log.ensures.cause.spared ∙ so_far.spared;
     }
 
 pub returns-clause-changes : goal.returns-clause-changes

@@ -1,5 +1,5 @@
 -- The logs so far are empty.
-use Rattle.std.proofs.Common.{◌≡◌, ◌<◌, ◌≤◌, ℕ}
+use Rattle.std.proofs.Common.{◌≡◌, ◌<◌, ℕ}
 use Rattle.line_memory.specs.Memory.{shown}
 use Rattle.image_layout.specs.Places.{log_head_line}
 use Rattle.word_changes.specs.Changes.{Tells, AllKnown, ChangesTo, CallsAtMost, GoesOn}
@@ -13,5 +13,5 @@ invariant-loop-thread g l = record {
   changes : ChangesTo IsCleared l.fn.memory l.memory;
   goes_on : GoesOn l.fn.memory l.memory;
   calls : CallsAtMost l.fn.memory l.memory l.thread;
-  later : l.fn.memory.faults ≤ l.memory.faults;
+  spared : l.memory.faults ≡ l.fn.memory.faults;
 }

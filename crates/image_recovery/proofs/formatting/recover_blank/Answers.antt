@@ -1,5 +1,4 @@
-use Rattle.std.proofs.Common.{◌≡◌, ◌≤◌, ℕ, inr, arith, sym, ◌∙◌, ap}
-use Rattle.std.specs.Prelude.{IfOk}
+use Rattle.std.proofs.Common.{inr, arith, sym, ◌∙◌, ap}
 use Rattle.line_memory.specs.Memory.{Memory, shown}
 use Rattle.image_meaning.specs.Directories.{Directory, directory_of}
 use Rattle.word_changes.proofs.Changing.{changes_more, changes_nowhere}
@@ -9,7 +8,7 @@ use Rattle.directories.proofs.Formatted.{formatted_opens}
 use Rattle.image_meaning.specs.Directories.{no_entries}
 use Rattle.image_walk.proofs.Looking.{looks_nowhere}
 use Rattle.image_walk.proofs.Reading.{err_is}
-use Rattle.image_recovery.specs.Recovered.{IsBadFault, entries_in}
+use Rattle.image_recovery.specs.Recovered.{IsBadFault}
 use Rattle.image_recovery.proofs.Recovers.{durable_on, goes_by_looks, never_bad, formatted_on, stops_look, empty_directory}
 use Rattle.image_recovery.proofs.formatting.recover_blank.Goals as goal
 
@@ -83,12 +82,6 @@ pub returns-clause-goes_on : goal.returns-clause-goes_on
 returns-clause-goes_on g c =
     goes_more c.args.memory.now c.format_image.new.memory c.read_entries.new.memory c.format_image.ensures.goes_on
     (goes_by_looks c.format_image.new.memory c.read_entries.new.memory c.read_entries.ensures.looks)
-
-pub returns-in_err-directory-clause-later : goal.returns-in_err-directory-clause-later
-returns-in_err-directory-clause-later g c = omega (arith, c.format_image.ensures.cause.later, c.read_entries.ensures.looks.later)
-
-pub returns-clause-later : goal.returns-clause-later
-returns-clause-later g c = omega (arith, c.format_image.ensures.cause.later, c.read_entries.ensures.looks.later)
 
 pub returns-in_err-directory-clause-changes : goal.returns-in_err-directory-clause-changes
 returns-in_err-directory-clause-changes g c =

@@ -1,14 +1,10 @@
-use Rattle.std.proofs.Common.{◌≡◌, Result, Err, sym, ap, ◌∙◌, subst}
-use Rattle.line_memory.specs.Memory.{Memory, shown}
+use Rattle.std.proofs.Common.{Result, sym, ◌∙◌, subst, arith}
+use Rattle.line_memory.specs.Memory.{shown}
 use Rattle.image_meaning.specs.Checks as checks
 use Rattle.image_meaning.specs.Directories.{Directory, directory_of}
-use Rattle.directories.specs.Kept.{Kept}
 use Rattle.directories.specs.Read.{IsFault}
-use Rattle.directories.specs.declared.reading.DirectoryFault.{DirectoryFault}
-use Rattle.image_walk.specs.declared.fault.RecoverFault.{RecoverFault}
-use Rattle.image_walk.specs.declared.fault.RecoverFault.TheVariants as faults
 use Rattle.image_walk.proofs.Looking.{looks_by}
-use Rattle.image_recovery.proofs.Recovers.{directory_read, fault_same, failed_same}
+use Rattle.image_recovery.proofs.Recovers.{directory_read, fault_same, cause_same}
 use Rattle.image_recovery.proofs.front.read_entries.Goals as goal
 
 pub returns-in-Ok-clause-entries : goal.returns-in-Ok-clause-entries
@@ -28,12 +24,12 @@ returns-in-Ok-clause-used g c first known looks = (c.in-Ok.ensures.found (looks.
 pub returns-in-Ok-clause-looks : goal.returns-in-Ok-clause-looks
 returns-in-Ok-clause-looks g c =
     looks_by c.args.memory.now c.read_directory.new.memory c.read_directory.ensures.changes c.read_directory.ensures.counts
-    c.read_directory.ensures.calls c.read_directory.ensures.later
+    c.read_directory.ensures.calls (omega (arith, c.in-Ok.ensures.cause))
 
 pub returns-in-Err-clause-looks : goal.returns-in-Err-clause-looks
 returns-in-Err-clause-looks g c =
     looks_by c.args.memory.now c.read_directory.new.memory c.read_directory.ensures.changes c.read_directory.ensures.counts
-    c.read_directory.ensures.calls c.read_directory.ensures.later
+    c.read_directory.ensures.calls c.in-Err.ensures.cause.later
 
 pub returns-in-Err-clause-bad : goal.returns-in-Err-clause-bad
 returns-in-Err-clause-bad g c first known looks is =
@@ -43,12 +39,7 @@ returns-in-Err-clause-bad g c first known looks is =
     (directory_read first c.args.memory.now c.args.used c.requires.enough c.requires.range known looks is)
     (c.in-Err.ensures.bad (looks.changes.known known)))
 
-abbrev failed : DirectoryFault → Result Kept DirectoryFault
-failed fault = Err fault
-
 pub returns-in-Err-clause-cause : goal.returns-in-Err-clause-cause
-returns-in-Err-clause-cause g c is =
-    let left : Result Kept RecoverFault = Err c.recover_fault.result in
-    let e : left ≡ Err faults.ImageFailed = is in
-    let same : c.recover_fault.result ≡ faults.ImageFailed = cc in
-    c.in-Err.ensures.cause (ap failed (failed_same c.in-Err.fault c.recover_fault.result c.recover_fault.ensures same))
+returns-in-Err-clause-cause g c =
+    cause_same c.in-Err.fault c.recover_fault.result c.args.memory.now.faults c.read_directory.new.memory.faults c.recover_fault.ensures
+    c.in-Err.ensures.cause

@@ -1,7 +1,6 @@
-use Rattle.std.proofs.Common.{◌≡◌}
-use Rattle.line_memory.specs.Memory.{Memory, shown}
+use Rattle.line_memory.specs.Memory.{shown}
 use Rattle.image_meaning.specs.Meaning.{meaning}
-use Rattle.image_walk.specs.Walking.{Looks, IsFaultOf}
+use Rattle.image_walk.specs.Walking.{IsFaultOf}
 use Rattle.image_walk.proofs.Looking.{looks_more}
 use Rattle.image_walk.proofs.Reading.{err_is}
 use Rattle.image_recovery.specs.Recovered.{entries_in}

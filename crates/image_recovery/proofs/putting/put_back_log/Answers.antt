@@ -36,7 +36,7 @@ loop-left-init g c =
           );
       goes_on = goes_by_fetch Nothing c.args.memory.now a c.fetch_line.ensures.changes c.fetch_line.ensures.counts c.fetch_line.ensures.calls;
       calls = omega (arith, same.calls);
-      later = c.fetch_line.ensures.cause.later;
+      spared = c.in_ok-fetch_line.ensures.cause.spared;
     }
 
 pub loop-left-preserved : goal.loop-left-preserved
@@ -63,7 +63,7 @@ loop-left-preserved g c =
           );
       goes_on = goes_more c.args.memory.now before after inv.goes_on c.put_back_entry.ensures.goes_on;
       calls = omega (arith, some, inv.few, inv.calls, c.put_back_entry.ensures.calls);
-      later = omega (arith, inv.later, c.put_back_entry.ensures.cause.later);
+      spared = c.in_ok-put_back_entry.ensures.cause.spared ∙ inv.spared;
     }
 
 pub returns-in_err-put_back_entry-clause-changes : goal.returns-in_err-put_back_entry-clause-changes

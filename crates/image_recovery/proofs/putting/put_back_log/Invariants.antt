@@ -18,5 +18,5 @@ invariant-loop-left g l = record {
       → (l.left ≤ log_count c l.thread) × IsPutting c (drop l.left (log_of c l.thread) ++ logs_below c l.thread) first l.memory;
   goes_on : GoesOn l.fn.memory l.memory;
   calls : CallsAtMost l.fn.memory l.memory (log_entries - l.left);
-  later : l.fn.memory.faults ≤ l.memory.faults;
+  spared : l.memory.faults ≡ l.fn.memory.faults;
 }

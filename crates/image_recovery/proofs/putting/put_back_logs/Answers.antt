@@ -1,4 +1,4 @@
-use Rattle.std.proofs.Common.{◌≡◌, ◌<◌, ℕ, List, [], None, sym, ◌∙◌, subst, arith}
+use Rattle.std.proofs.Common.{◌≡◌, ◌<◌, ℕ, List, [], None, refl, sym, ◌∙◌, subst, arith}
 use Rattle.std.proofs.lemmas.Result.{on_ok_weaker}
 use Rattle.line_memory.specs.Memory.{Memory, shown}
 use Rattle.image_meaning.specs.Logs.{Logged, logs_below, logs_fault}
@@ -19,7 +19,7 @@ loop-thread-init g c =
           (nothing_put (shown first) [] first first m looks.changes (none_put first known));
       goes_on = goes_nowhere m;
       calls = omega arith;
-      later = omega arith;
+      spared = refl;
     }
 
 pub loop-thread-preserved : goal.loop-thread-preserved
@@ -37,7 +37,7 @@ loop-thread-preserved g c =
           (c.in_ok-put_back_log.ensures.puts (shown first) first here (inv.puts first known looks pass));
       goes_on = goes_more entry before after inv.goes_on c.put_back_log.ensures.goes_on;
       calls = omega (arith, inv.calls, c.put_back_log.ensures.calls);
-      later = omega (arith, inv.later, c.put_back_log.ensures.cause.later);
+      spared = c.in_ok-put_back_log.ensures.cause.spared ∙ inv.spared;
     }
 
 pub returns-in_err-put_back_log-clause-changes : goal.returns-in_err-put_back_log-clause-changes

@@ -1,5 +1,5 @@
 -- The logs so far are put back.
-use Rattle.std.proofs.Common.{◌≡◌, ◌≤◌, ◌*◌, None}
+use Rattle.std.proofs.Common.{◌≡◌, ◌*◌, None}
 use Rattle.line_memory.specs.Memory.{Memory, shown}
 use Rattle.image_layout.specs.Places.{log_entries}
 use Rattle.image_meaning.specs.Logs.{logs_below, logs_fault}
@@ -14,5 +14,5 @@ invariant-loop-thread g l = record {
       → IsPutting (shown first) (logs_below (shown first) l.thread) first l.memory;
   goes_on : GoesOn l.fn.memory l.memory;
   calls : CallsAtMost l.fn.memory l.memory (l.thread * log_entries);
-  later : l.fn.memory.faults ≤ l.memory.faults;
+  spared : l.memory.faults ≡ l.fn.memory.faults;
 }

@@ -1,18 +1,16 @@
-use Rattle.std.proofs.Common.{◌≡◌, None, inl, inr, ◌<◌, ℕ, List, ◌≤◌, length, arith, sym, ◌∙◌, subst}
-use Rattle.std.proofs.lemmas.Result.{on_ok_weaker}
+use Rattle.std.proofs.Common.{◌≡◌, inl, inr, ℕ, arith, ◌∙◌, subst}
 use Rattle.line_memory.specs.Memory.{Memory, shown}
-use Rattle.image_layout.specs.Places.{root_slots}
 use Rattle.image_meaning.specs.Directories.{Directory}
 use Rattle.image_meaning.specs.Logs.{put_back}
 use Rattle.image_meaning.specs.Meaning.{meaning, graph_from}
 use Rattle.word_changes.proofs.Changing.{changes_more, changes_nowhere, changes_weaker, stops_then, telling_knows}
 use Rattle.word_changes.proofs.Going.{goes_more}
 use Rattle.word_changes.specs.Changes.{Nothing, ChangesTo}
-use Rattle.image_walk.specs.Walking.{Looks, IsFaultOf, directory_with}
+use Rattle.image_walk.specs.Walking.{IsFaultOf}
 use Rattle.image_walk.specs.Found.{IsFoundGraph}
 use Rattle.image_walk.proofs.Looking.{looks_more}
 use Rattle.image_walk.proofs.Reading.{err_is}
-use Rattle.image_recovery.specs.Putting.{IsCleared, IsPutBack, IsRestored, AllWritten, IsRecoveringIn}
+use Rattle.image_recovery.specs.Putting.{IsCleared, IsPutBack, IsRestored, IsRecoveringIn}
 use Rattle.image_recovery.specs.Recovered.{IsBadFault, entries_in}
 use Rattle.image_recovery.proofs.PutSteps.{nothing_written}
 use Rattle.image_recovery.proofs.Recovers.{goes_by_looks, back_shows, fails_behind, never_first, same_directory, stops_putting}
@@ -192,21 +190,6 @@ returns-clause-goes_on g c =
     (goes_by_looks c.args.memory.now c.read_front.new.memory c.read_front.ensures.looks) c.put_back_logs.ensures.goes_on)
     (goes_by_looks c.put_back_logs.new.memory c.find_graph.new.memory c.find_graph.ensures.looks))
     c.empty_logs.ensures.goes_on
-
-pub returns-in_err-put_back_logs-clause-later : goal.returns-in_err-put_back_logs-clause-later
-returns-in_err-put_back_logs-clause-later g c = omega (arith, c.read_front.ensures.looks.later, c.put_back_logs.ensures.cause.later)
-
-pub returns-in_err-found-clause-later : goal.returns-in_err-found-clause-later
-returns-in_err-found-clause-later g c =
-    omega (arith, c.read_front.ensures.looks.later, c.put_back_logs.ensures.cause.later, c.find_graph.ensures.looks.later)
-
-pub returns-in_err-empty_logs-clause-later : goal.returns-in_err-empty_logs-clause-later
-returns-in_err-empty_logs-clause-later g c =
-    omega (arith, c.read_front.ensures.looks.later, c.put_back_logs.ensures.cause.later, c.find_graph.ensures.looks.later, c.empty_logs.ensures.cause.later)
-
-pub returns-clause-later : goal.returns-clause-later
-returns-clause-later g c =
-    omega (arith, c.read_front.ensures.looks.later, c.put_back_logs.ensures.cause.later, c.find_graph.ensures.looks.later, c.empty_logs.ensures.cause.later)
 
 -- ---- what is stored
 

@@ -1,4 +1,4 @@
-use Rattle.std.proofs.Common.{◌≡◌, Ok, Err, ap, sym, ◌∙◌, arith}
+use Rattle.std.proofs.Common.{◌≡◌, sym, ◌∙◌, arith}
 use Rattle.line_memory.specs.Memory.{Memory, shown}
 use Rattle.image_layout.specs.Places.{version}
 use Rattle.image_meaning.specs.Meaning.{meaning}
@@ -7,10 +7,12 @@ use Rattle.directories.specs.Formatting.{IsFormatted}
 use Rattle.image_walk.specs.Walking.{IsFaultOf}
 use Rattle.image_walk.proofs.Reading.{err_is}
 use Rattle.image_walk.specs.declared.fault.RecoverFault.{RecoverFault}
+use Rattle.image_walk.specs.declared.fault.RecoverFault.TheVariants as faults
 use Rattle.image_recovery.specs.Putting.{IsPutBack, AllDurable, IsRecovered}
 use Rattle.image_recovery.specs.Recovered.{FindsImage, FindsNothing, IsBadFault, IsUsed}
 use Rattle.image_recovery.specs.Recoveries.{FailsToRecover, Recovers}
 use Rattle.image_recovery.specs.declared.recovering.FoundImage.{FoundImage}
+use Rattle.image_recovery.proofs.Causes.{spared_at, cause_at}
 use Rattle.image_recovery.proofs.Recovers.{unread_fails, blank_recovers, blank_fails, finds_stand, used_recovers, used_fails}
 use Rattle.image_recovery.proofs.Recovers.{used_super, used_version, says_blank, says_used, when_ok, when_err, ok_at, on_ok_at}
 use Rattle.image_recovery.proofs.Recovers.{err_at}
@@ -32,7 +34,7 @@ returns-in_err-read_super-clause-fails g c =
     let fault = c.in_err-read_super.field-0.0 in
     err_is c.from_residual.result fault (FailsToRecover first seen) c.from_residual.ensures.1
     (unread_fails first seen fault c.read_super.ensures.looks c.in_err-read_super.ensures.bad
-    (λ same. c.read_super.ensures.cause (c.in_err-read_super.was ∙ ap Err same)))
+    c.in_err-read_super.ensures.cause)
 
 pub returns-in-Blank-clause-recovers : goal.returns-in-Blank-clause-recovers
 returns-in-Blank-clause-recovers g c =
@@ -45,10 +47,11 @@ returns-in-Blank-clause-recovers g c =
     when_ok r (Recovered first new) (λ found is.
     blank_recovers first seen new ok.ensures.enough ok.ensures.most c.read_super.ensures.looks
     (λ known. says_blank (shown first 0) ok.field-0 (ok.ensures.says known) c.in-Blank.is) ok.ensures.passes
-    blank.stops blank.changes blank.goes_on blank.later found.directory found.graph found.lines found.free found.undone
+    blank.stops blank.changes blank.goes_on ok.ensures.cause found.directory found.graph found.lines found.free found.undone
     (λ known. ok_at r NothingFound found is (blank.finds known))
     (λ known. on_ok_at r (IsFormatted seen.size (shown new)) found is (blank.formatted known))
-    (λ tells durable. on_ok_at r (AllDurable new) found is (blank.durable tells durable)))
+    (λ tells durable. on_ok_at r (AllDurable new) found is (blank.durable tells durable))
+    (spared_at faults.ImageFailed seen.faults new.faults r found is blank.cause))
 
 pub returns-in-Blank-clause-version : goal.returns-in-Blank-clause-version
 returns-in-Blank-clause-version g c known =
@@ -73,9 +76,9 @@ returns-in-Blank-clause-fails g c =
     when_err r (FailsToRecover first new) (λ fault is.
     blank_fails first seen new ok.ensures.enough ok.ensures.most c.read_super.ensures.looks
     (λ known. says_blank (shown first 0) ok.field-0 (ok.ensures.says known) c.in-Blank.is) ok.ensures.passes
-    blank.stops blank.changes blank.goes_on blank.later fault
+    blank.stops blank.changes blank.goes_on ok.ensures.cause fault
     (λ known. err_at r (λ (fault : RecoverFault). IsBadFault fault → ⊥) fault is (blank.never_bad known))
-    (λ same. blank.cause (is ∙ ap Err same)))
+    (cause_at faults.ImageFailed seen.faults new.faults r fault is blank.cause))
 
 pub returns-in-Used-clause-recovers : goal.returns-in-Used-clause-recovers
 returns-in-Used-clause-recovers g c =
@@ -93,11 +96,12 @@ returns-in-Used-clause-recovers g c =
     used_recovers first seen new c.in-Used.directory ok.ensures.enough ok.ensures.most looks is_used
     (λ tells durable all pass. used.stops first tells durable all looks pass)
     (λ known. used.changes first known looks) (λ known fails. used.refused first known looks (is_used known) fails)
-    used.goes_on used.later
+    used.goes_on ok.ensures.cause
     found.directory found.graph found.lines found.free found.undone
     (λ known. ok_at r (ImageFound first) found is (used.finds first known looks (is_used known)))
     (λ known. on_ok_at r (IsRecovered first new) found is (used.recovered first known looks))
-    (λ tells written. on_ok_at r (AllDurable new) found is (used.durable first tells written looks)))
+    (λ tells written. on_ok_at r (AllDurable new) found is (used.durable first tells written looks))
+    (spared_at faults.ImageFailed seen.faults new.faults r found is used.cause))
 
 pub returns-in-Used-clause-version : goal.returns-in-Used-clause-version
 returns-in-Used-clause-version g c known =
@@ -118,7 +122,7 @@ returns-in-Used-clause-version g c known =
     ∙ used_version first seen new says.directory ok.ensures.enough ok.ensures.most looks is_used
     (λ tells durable all pass. used.stops first tells durable all looks pass)
     (λ known. used.changes first known looks) (λ known fails. used.refused first known looks (is_used known) fails)
-    used.goes_on used.later found.graph says.version
+    used.goes_on ok.ensures.cause found.graph says.version
     (λ known. (says_used (shown first 0) ok.field-0 says.version says.directory (ok.ensures.says known) says.is).version_is)
     (λ known. finds_stand first.size (shown first) found.directory found.graph found.lines found.free found.undone (image known))
     (λ known. on_ok_at r (IsRecovered first new) found is (used.recovered first known looks)) known)
@@ -139,11 +143,11 @@ returns-in-Used-clause-fails g c =
     used_fails first seen new c.in-Used.directory ok.ensures.enough ok.ensures.most looks is_used
     (λ tells durable all pass. used.stops first tells durable all looks pass)
     (λ known. used.changes first known looks) (λ known fails. used.refused first known looks (is_used known) fails)
-    used.goes_on used.later fault
+    used.goes_on ok.ensures.cause fault
     (λ known. err_at r (IsFaultOf (meaning first.size (shown first))) fault is (used.bad first known looks (is_used known)))
     (λ known bad. err_at r (λ (fault : RecoverFault). IsBadFault fault → ChangesTo (IsPutBack (shown first)) first new) fault is
     (used.put_back first known looks) bad)
-    (λ same. used.cause (is ∙ ap Err same)))
+    (cause_at faults.ImageFailed seen.faults new.faults r fault is used.cause))
 
 pub returns-in_err-read_super-clause-calls : goal.returns-in_err-read_super-clause-calls
 returns-in_err-read_super-clause-calls g c =

@@ -14,6 +14,7 @@ pub loop-root-init : goal.loop-root-init
 loop-root-init g c =
     record {
       looks = looks_nowhere c.args.memory.now;
+      spared = refl;
       passes = λ words so. checks_none (root_fault c.args.memory.now.size words c.args.roots);
       reads = λ words so.
           let none : min 0 c.args.roots ≡ 0 = omega arith in
@@ -44,6 +45,7 @@ loop-root-preserved g c =
     let taken = c.in_ok-take_root.ensures in
     record {
       looks = looks_more c.args.memory.now c.loop-root.memory c.read_word.new.memory inv.looks c.read_word.ensures.looks;
+      spared = c.in_ok-word.ensures.cause.spared ∙ inv.spared;
       passes = λ words so.
           passes_more (root_fault size words roots) r (inv.passes words so)
           (root_checked size words roots r spot.line c.in_ok-word.word (nat_lt r roots) refl c.root_spot-spot.ensures.line (word_is words so)

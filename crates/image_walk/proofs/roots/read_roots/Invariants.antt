@@ -9,6 +9,7 @@ use Rattle.image_walk.proofs.roots.read_roots.Given as goal
 abbrev pub invariant-loop-root : goal.invariant-loop-root
 invariant-loop-root g l = record {
   looks : Looks l.fn.memory l.memory;
+  spared : l.memory.faults ≡ l.fn.memory.faults;
   passes : (c : Words) → Shows l.fn.memory c → first_fault (root_fault l.fn.memory.size c l.roots) l.root ≡ None;
   reads : (c : Words) → Shows l.fn.memory c → l.values.items ≡ root_values_of c (min l.root l.roots);
   within : All (NamesIn l.fn.memory.size) l.values.items;

@@ -1,4 +1,4 @@
-use Rattle.std.proofs.Common.{◌≡◌, ℕ, sym, ◌∙◌, ap, subst}
+use Rattle.std.proofs.Common.{◌≡◌, ℕ, refl, sym, ◌∙◌, ap, subst}
 use Rattle.std.specs.Prelude.{All}
 use Rattle.std.proofs.lemmas.List.Elements.{All-nil, All-push}
 use Rattle.ap_base.specs.declared.kind.Kind.{Kind}
@@ -14,6 +14,7 @@ pub loop-i-init : goal.loop-i-init
 loop-i-init g c =
     record {
       looks = looks_nowhere c.args.memory.now;
+      spared = refl;
       passes = λ words so. checks_none (slot_fault c.args.memory.now.size words c.args.shape.now c.args.line);
       reads = λ words so. c.in_ok-values.ensures.items;
       within = subst (All (NamesIn c.args.memory.now.size)) (sym c.in_ok-values.ensures.items) (All-nil (NamesIn c.args.memory.now.size));
@@ -64,6 +65,7 @@ loop-i-preserved g c =
     (c.in_ok-word.ensures.word words (inv.looks.keeps words so) outside) in
     record {
       looks = looks_more c.args.memory.now c.loop-i.memory c.read_word.new.memory inv.looks c.read_word.ensures.looks;
+      spared = c.in_ok-word.ensures.cause.spared ∙ inv.spared;
       passes = λ words so.
           passes_more (slot_fault size words shape line) i (inv.passes words so)
           (rw (c.kind_at.ensures, c.slot_spot-spot.ensures.line, word_is words so, bytes) at c.in_ok-word_value.ensures.passes);

@@ -1,4 +1,4 @@
-use Rattle.std.proofs.Common.{◌≡◌, ◌<◌, ◌≤◌, List, Bool, false, replicate, length, slice_index_or, Some, sym, ◌∙◌, ap, arith}
+use Rattle.std.proofs.Common.{◌≡◌, ◌<◌, ◌≤◌, List, Bool, false, replicate, length, slice_index_or, Some, refl, sym, ◌∙◌, ap, arith}
 use Rattle.std.proofs.Common.{rules, inl, inr, take}
 use Rattle.std.specs.Prelude.{slice_get}
 use Rattle.std.proofs.lemmas.Bool.{cases_lt}
@@ -20,6 +20,7 @@ loop-line-init g c =
     let count : length c.as_mut_slice-taken.result.now ≡ size = ap (λ (bs : List Bool). length bs) whole ∙ length-replicate c.lines.result false ∙ c.lines.ensures in
     record {
       looks = looks_nowhere c.args.memory.now;
+      spared = refl;
       objects = c.requires.objects;
       lines = count;
       within = omega arith;
@@ -43,6 +44,7 @@ loop-line-preserved g c =
     let few : next < c.loop-line.found.objects = c.in-Some.ensures.few in
     record {
       looks = looks_more c.args.memory.now c.loop-line.memory c.visit.new.memory inv.looks c.visit.ensures.looks;
+      spared = c.in_ok-visited.ensures.cause ∙ inv.spared;
       objects = c.visit.ensures.objects_after ∙ inv.objects;
       lines = c.visit.ensures.lines_after ∙ inv.lines;
       within = omega (arith, few, inv.objects);

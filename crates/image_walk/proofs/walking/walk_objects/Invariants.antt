@@ -13,6 +13,7 @@ decreases-loop-line g l = l.fn.memory.size - l.next
 abbrev pub invariant-loop-line : goal.invariant-loop-line
 invariant-loop-line g l = record {
   looks : Looks l.fn.memory l.memory;
+  spared : l.memory.faults ≡ l.fn.memory.faults;
   objects : l.found.objects ≡ l.fn.memory.size;
   lines : length l.taken ≡ l.fn.memory.size;
   within : l.next ≤ l.fn.memory.size;

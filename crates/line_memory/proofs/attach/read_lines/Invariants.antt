@@ -9,5 +9,5 @@ invariant-loop-line g l = record {
   same : (g.I.Image.told l.image).trace ≡ (g.I.Image.told l.fn.image).trace;
   reads : (k : ℕ) → k < l.line → Reads (g.I.Image.told l.fn.image).trace k (get_or l.lines.items k []);
   calls : (g.I.Image.told l.image).calls ≡ min ((g.I.Image.told l.fn.image).calls + l.line) (2 ^ 64 - 1);
-  faults : g.I.Image.faults l.fn.image ≤ g.I.Image.faults l.image;
+  faults : g.I.Image.faults l.image ≡ g.I.Image.faults l.fn.image;
 }

@@ -20,7 +20,7 @@ returns-in-Ok g c =
     (sym c.went.ensures.event)
     (went-comes-to c.laws.ensures c.args.heap.now c.convert.new.self c.args.t c.args.store.now c.requires.first.0
     c.requires.apart c.requires.first.1 c.requires.room
-    c.requires.doing c.convert.ensures.cause.later c.in-Ok.did c.went.ensures.thread
+    c.requires.doing c.in-Ok.ensures.cause.spared c.in-Ok.did c.went.ensures.thread
     c.in-Ok.ensures.converts c.requires.planned)
 
 pub returns-in-Err : goal.returns-in-Err

@@ -35,7 +35,7 @@ returns-in-Ok-Ended-clause-serves g c =
     (subst (λ (step : EndStep). EndsTo step c.args.t c.args.heap.now c.end_next.new.self)
     c.in-Ok-Ended.field-0-is c.in-Ok-Ended.ensures.ends) c.requires.due c.take-step.new.self c.take-step.result
     c.take-step.ensures.steps
-    c.take-step.ensures.no_store c.end_next.ensures.cause.later (g.S.Sink.takes c.args.sink.now) _ _)
+    c.take-step.ensures.no_store c.in-Ok-Ended.ensures.cause.spared (g.S.Sink.takes c.args.sink.now) _ _)
     c.ended.ensures
     (ap g.S.Sink.takes (c.take-step.ensures.silent (subst IsSilent (sym c.requires.is_end.1) tt)))
     (regional-output c.args.request.now regional _ _ c.take-step.result c.take-step.ensures.output)
@@ -46,7 +46,7 @@ returns-in-Ok-More-clause-serves g c =
     part-serves c.laws.ensures (g.C.Types.facts c.args.set.now) c.args.heap.now c.args.t c.args.request.now c.requires.room
     c.requires.ready c.requires.open c.requires.is_end.0 c.requires.is_end.1 c.end_next.new.self
     (subst (λ (step : EndStep). EndsTo step c.args.t c.args.heap.now c.end_next.new.self)
-    c.in-Ok-More.field-0-is c.in-Ok-More.ensures.ends) c.end_next.ensures.cause.later (g.S.Sink.takes c.args.sink.now)
+    c.in-Ok-More.field-0-is c.in-Ok-More.ensures.ends) c.in-Ok-More.ensures.cause.spared (g.S.Sink.takes c.args.sink.now)
     (g.S.Sink.taken c.args.sink.now) (g.S.Sink.faults c.args.sink.now)
 
 pub returns-in-Ok-AllFenced-clause-serves : goal.returns-in-Ok-AllFenced-clause-serves
@@ -55,7 +55,7 @@ returns-in-Ok-AllFenced-clause-serves g c =
     c.requires.room c.requires.ready c.requires.open c.requires.is_end.0 c.requires.is_end.1
     c.end_next.new.self
     (subst (λ (step : EndStep). EndsTo step c.args.t c.args.heap.now c.end_next.new.self)
-    c.in-Ok-AllFenced.field-0-is c.in-Ok-AllFenced.ensures.ends) c.end_next.ensures.cause.later (g.S.Sink.takes c.args.sink.now)
+    c.in-Ok-AllFenced.field-0-is c.in-Ok-AllFenced.ensures.ends) c.in-Ok-AllFenced.ensures.cause.spared (g.S.Sink.takes c.args.sink.now)
     (g.S.Sink.taken c.args.sink.now) (g.S.Sink.faults c.args.sink.now)
 
 pub returns-in-Err-clause-serves : goal.returns-in-Err-clause-serves

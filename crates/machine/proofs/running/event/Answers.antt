@@ -1,7 +1,7 @@
 use Rattle.std.proofs.Common.{◌≡◌, ◌⊎◌, inr, refl, ◌<◌, ◌≤◌, length, sym, ◌∙◌, ap, subst}
 use Rattle.line_memory.specs.Memory.{OneCall, SameImage}
 use Rattle.run_history.specs.Recorded.{History}
-use Rattle.machine_forms.specs.Machines.{Machine, memory_of}
+use Rattle.machine_threads.specs.Passed.{Machine, memory_of}
 use Rattle.machine_threads.specs.Passed.{measure}
 use Rattle.machine_threads.specs.Stuck.{plain_waits}
 use Rattle.machine.specs.Events.{TakesOutput, logs_word}

@@ -1,4 +1,4 @@
-use Rattle.std.proofs.Common.{◌≡◌, ◌≤◌, ◌+◌, min}
+use Rattle.std.proofs.Common.{◌≡◌, ◌+◌, min}
 use Rattle.mirror_image.specs.Joint.{most}
 use Rattle.mirror_image.specs.Sound.{ReadsAlike}
 use Rattle.mirror_image.specs.Halfway.{KeepsLow}
@@ -13,6 +13,6 @@ invariant-loop-line g l = record {
   from_calls : (g.A.Image.told l.from).calls ≡ min ((g.A.Image.told l.fn.from).calls + l.line) most;
   to_calls : (g.B.Image.told l.to).calls ≡ min ((g.B.Image.told l.fn.to).calls + l.line) most;
   low : KeepsLow l.count (g.B.Image.told l.fn.to).trace (g.B.Image.told l.to).trace;
-  from_later : g.A.Image.faults l.fn.from ≤ g.A.Image.faults l.from;
-  to_later : g.B.Image.faults l.fn.to ≤ g.B.Image.faults l.to;
+  from_spared : g.A.Image.faults l.from ≡ g.A.Image.faults l.fn.from;
+  to_spared : g.B.Image.faults l.to ≡ g.B.Image.faults l.fn.to;
 }

@@ -22,7 +22,16 @@ returns-in-Ok g c =
       first = first;
       second = (
         left,
-        record { untouched = stop.untouched; faultless = stop.faultless; size = stop.size; words = stop.outcome },
+        record {
+          untouched = stop.untouched;
+          faultless = stop.faultless;
+          size = stop.size;
+          words = stop.outcome;
+          picked = stop.picked;
+          uncalled = stop.uncalled;
+          fails = stop.fails;
+          room = stop.room;
+        },
         second,
         runs_again c.stopped_runs_open_again.ensures.again (texts c.args.words.now.items) _ _ _ _ _ _ _ first _ _ _ _ _ _ _ second
             tt (λ same. ap told_of same) (first_word (trace_of left)) c.in-Ok.ensures.outcome is c.args.given.source.left

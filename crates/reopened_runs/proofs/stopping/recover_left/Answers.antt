@@ -5,7 +5,7 @@ use Rattle.line_image.specs.Memory.{size_of, told_of, trace_of}
 use Rattle.line_memory.specs.Memory.{shown}
 use Rattle.image_meaning.specs.Meaning.{StandsFor, meaning}
 use Rattle.autopersist.proofs.Passed.{same_graph}
-use Rattle.reopened_runs.proofs.Left.{attached_stands, failed_cause, fresh_reads, left_stands, never_failed, not_bad}
+use Rattle.reopened_runs.proofs.Left.{attached_stands, fresh_reads, left_stands, not_bad}
 use Rattle.reopened_runs.proofs.stopping.recover_left.Goals as goal
 
 pub returns-in-Ok : goal.returns-in-Ok
@@ -27,7 +27,7 @@ returns-in-Ok c = record {
         opened.1.attached);
     refused = λ graph stands. tt;
     bad = tt;
-    cause = λ fails. absurd (never_failed c.give_back-graph.result.0 fails);
+    cause = c.give_back-graph.ensures.faults ∙ c.in-Ok.ensures.spared;
   };
 }
 
@@ -41,6 +41,6 @@ returns-in-Err c = record {
         not_bad (told_of image) tt (first_word (trace_of image)) (fresh_reads image c.requires.untouched) graph stands c.in-Err.why
         c.in-Err.ensures.bad;
     bad = c.in-Err.ensures.bad;
-    cause = failed_cause c.in-Err.why _ _ c.in-Err.ensures.cause;
+    cause = c.in-Err.ensures.cause;
   };
 }

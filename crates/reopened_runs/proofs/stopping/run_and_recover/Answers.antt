@@ -27,7 +27,20 @@ returns-in-Ok g c =
           (λ graph stands. found.stood graph (subst (λ (n : ℕ). StandsFor n words graph) (sym size) stands))
           (λ graph stands. found.refused graph (subst (λ (n : ℕ). StandsFor n words graph) (sym size) stands))
           c.stopped_runs_open_again.ensures.again is.outcome;
-      found = (left, record { untouched = is.untouched; faultless = is.faultless; size = is.size; words = is.outcome }, found);
+      found = (
+        left,
+        record {
+          untouched = is.untouched;
+          faultless = is.faultless;
+          size = is.size;
+          words = is.outcome;
+          picked = is.picked;
+          uncalled = is.uncalled;
+          fails = is.fails;
+          room = is.room;
+        },
+        found,
+      );
     }
 
 pub returns-in-Err : goal.returns-in-Err

@@ -7,4 +7,6 @@ pub returns : goal.returns
 returns g c = record {
   whole = ends_whole (texts c.args.words.now.items) _ _ _ _ _ c.autopersist.ensures.complete c.args.source.left refl c.args.image
       c.autopersist.result.image refl refl c.requires.untouched c.args.sink c.autopersist.result.sink refl refl refl;
+  failed = c.autopersist.ensures.meets.image_fault;
+  unfailed = c.autopersist.ensures.meets.image_spared;
 }

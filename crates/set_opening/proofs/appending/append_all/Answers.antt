@@ -17,7 +17,7 @@ entries-init g c = record {
   goes_on = goes_nowhere c.args.memory.now;
   enough = c.requires.enough;
   room = c.requires.room;
-  later = omega arith;
+  spared = refl;
 }
 
 pub returns-in_err-append_next-clause-appended : goal.returns-in_err-append_next-clause-appended
@@ -94,8 +94,7 @@ entries-preserved g c =
       enough = (let size = c.append_next.ensures.changes.size in let enough = inv.enough in
           omega (arith, size, enough));
       room = steps_room old new before after inv.room steps;
-      later = (let first = inv.later in let second = c.append_next.ensures.cause.later in
-          omega (arith, first, second));
+      spared = ok.cause.spared ∙ inv.spared;
     }
 
 pub returns-in-Done-clause-appended : goal.returns-in-Done-clause-appended

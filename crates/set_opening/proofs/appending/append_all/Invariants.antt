@@ -1,5 +1,5 @@
 -- The entries so far are appended, and there is room for those that are left.
-use Rattle.std.proofs.Common.{◌≤◌, ◌++◌, List, length}
+use Rattle.std.proofs.Common.{◌≡◌, ◌≤◌, ◌++◌, List, length}
 use Rattle.image_layout.specs.Places.{min_lines, directory_words}
 use Rattle.image_meaning.specs.Directories.{spelled_all}
 use Rattle.image_meaning.specs.Entries.{DirectoryEntry}
@@ -18,7 +18,7 @@ invariant-entries g l = record {
   goes_on : GoesOn l.fn.memory l.memory;
   enough : min_lines ≤ l.memory.size;
   room : HasRoom l.directory;
-  later : l.fn.memory.faults ≤ l.memory.faults;
+  spared : l.memory.faults ≡ l.fn.memory.faults;
 }
 
 abbrev pub decreases-entries : goal.decreases-entries

@@ -1,5 +1,6 @@
-use Rattle.std.proofs.Common.{inr}
+use Rattle.std.proofs.Common.{◌∙◌, inr}
 use Rattle.line_image.specs.Told.{Told}
+use Rattle.set_opening.proofs.Causes.{unfit_cause}
 use Rattle.set_opening.proofs.Opened.{found_left, found_roots, found_shapes}
 use Rattle.set_opening.proofs.opening.find_for.Goals as goal
 
@@ -39,3 +40,8 @@ returns-in-Ok-prepare-clause-found g c =
       fitted = c.in-Ok-prepare.ensures.fitted;
       continues = c.in-Ok-prepare.ensures.continues;
     }
+
+pub returns-in-Err-prepare-clause-cause : goal.returns-in-Err-prepare-clause-cause
+returns-in-Err-prepare-clause-cause g c =
+    unfit_cause c.args.set.now c.prepare.new.set c.in-Ok.recovered.directory c.in-Err-prepare.why (g.I.Image.faults c.args.image)
+    (g.I.Image.faults c.into_image.result) c.in-Err-prepare.ensures.unfit (c.into_image.ensures.faults ∙ c.in-Ok.ensures.spared)

@@ -1,4 +1,5 @@
-use Rattle.set_opening.proofs.Recovered.{failed_so, is_found, unfound}
+use Rattle.set_opening.proofs.Causes.{opening_cause}
+use Rattle.set_opening.proofs.Recovered.{is_found, unfound}
 use Rattle.set_opening.proofs.recovering.find.Goals as goal
 
 pub returns-in-Ok-clause-found : goal.returns-in-Ok-clause-found
@@ -16,5 +17,6 @@ returns-in-Err-clause-unfound g c =
     c.of_opening.ensures c.in-Err.ensures.unopened
 
 pub returns-in-Err-clause-cause : goal.returns-in-Err-clause-cause
-returns-in-Err-clause-cause g c is =
-    c.in-Err.ensures.cause (failed_so c.in-Err.fault c.of_opening.result c.of_opening.ensures is)
+returns-in-Err-clause-cause g c =
+    opening_cause c.in-Err.fault c.of_opening.result (g.I.Image.faults c.args.image) (g.I.Image.faults c.in-Err.image)
+    c.of_opening.ensures c.in-Err.ensures.cause

@@ -1,4 +1,7 @@
-use Rattle.workers.proofs.Knowing.{left-over, left-rest, ready-left}
+use Rattle.std.proofs.Common.{None, Some}
+use Rattle.durable_run.specs.Turning.{fault_in}
+use Rattle.workers.proofs.Knowing.{knows-none, left-over, left-rest, ready-left}
+use Rattle.workers.proofs.Sparing.{sink-left, sink-on, sink-over}
 use Rattle.workers.proofs.run.ended.Goals as goal
 
 pub run_threads-end-requires : goal.run_threads-end-requires
@@ -17,12 +20,19 @@ returns-in-Some g c =
       left = left-over g.J.Naming.entry c.args.locked run.heap run.frames.items (g.W.Watcher.seen run.watcher)
           (g.S.Sink.taken run.sink) (g.S.Sink.takes run.sink) (g.S.Sink.faults run.sink) c.finish-over.result.0 c.finish-over.ensures.left
           c.finish-over.ensures.knows c.in-Some.fault c.in-Some.is;
+      spares = sink-left g.S.Sink.taken g.J.Naming.entry g.J.Naming.sink (Some c.in-Some.fault) run.sink run.heap
+          (sink-over g.S.Sink.taken g.J.Naming.entry g.J.Naming.sink c.finish-over.result.0 (Some c.in-Some.fault) run.sink run.heap
+          c.in-Some.is c.finish-over.ensures.sink);
     }
 
 pub returns-in-None : goal.returns-in-None
 returns-in-None g c =
     let run = c.finish-over.result.1 in
     let left = c.run_threads-end.new.run in
+    let taken = g.S.Sink.taken in
+    let knows = knows-none g.J.Naming.entry c.args.locked run.heap run.frames.items (g.W.Watcher.seen run.watcher)
+    (taken run.sink) (g.S.Sink.takes run.sink) (g.S.Sink.faults run.sink) c.finish-over.result.0 c.finish-over.ensures.left
+    c.finish-over.ensures.knows c.in-None.is in
     record {
       left = left-rest g.J.Naming.entry c.args.locked run.heap run.frames.items (g.W.Watcher.seen run.watcher)
           (g.S.Sink.taken run.sink) (g.S.Sink.takes run.sink) (g.S.Sink.faults run.sink) c.finish-over.result.0 c.finish-over.ensures.left
@@ -30,4 +40,11 @@ returns-in-None g c =
           c.run_threads-end.result left.heap (g.W.Watcher.seen left.watcher) (g.S.Sink.taken left.sink)
           (g.S.Sink.takes left.sink) (g.S.Sink.faults left.sink)
           c.run_threads-end.ensures.ends c.run_threads-end.ensures.told c.run_threads-end.ensures.shares c.run_threads-end.ensures.cause c.run_threads-end.ensures.size;
+      spares = sink-left taken g.J.Naming.entry g.J.Naming.sink (fault_in c.run_threads-end.result) left.sink left.heap
+          (sink-on taken g.J.Naming.entry g.J.Naming.sink (g.C.Types.facts c.args.set.now) (g.H.Host.setting c.args.host.now)
+          run.heap run.frames.items (g.W.Watcher.seen run.watcher) (taken run.sink) (g.S.Sink.takes run.sink)
+          (g.S.Sink.faults run.sink) knows c.requires.of run.sink left.sink
+          (sink-over taken g.J.Naming.entry g.J.Naming.sink c.finish-over.result.0 None run.sink run.heap c.in-None.is
+          c.finish-over.ensures.sink)
+          (fault_in c.run_threads-end.result) left.heap c.run_threads-end.ensures.spares);
     }

@@ -8,4 +8,5 @@ ghosts-run_named g a = record {
   entry = Some (began (g.C.Types.facts a.set.now) (g.H.Host.setting a.host.now) a.run.heap a.run.frames.items
       (g.W.Watcher.seen a.run.watcher) (g.S.Sink.taken a.run.sink) (g.S.Sink.takes a.run.sink)
       (g.S.Sink.faults a.run.sink));
+  sink = Some a.run.sink;
 }

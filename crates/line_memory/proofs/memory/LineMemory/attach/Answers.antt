@@ -13,7 +13,7 @@ returns-in-Ok-clause-attached g c =
     attaches (g.I.Image.told c.args.image) (g.I.Image.faults c.args.image) _
     (g.met.I.Image.in_order c.args.image) read.size (omega (arith, read.size, count), omega (arith, read.size, count))
     read.same read.calls_later count read.calls
-    (λ l below. read.reads l (omega (arith, read.size, count, below))) read.later
+    (λ l below. read.reads l (omega (arith, read.size, count, below))) read.cause
 
 abbrev failed : AttachFault → Result (Vec (List ℕ) Global) AttachFault
 failed fault = Err fault
@@ -31,9 +31,8 @@ returns-in-Err-clause-given_back g c =
             (λ (many : 4194304 < start.size). omega (arith, count, many))
             wrong),
       );
-      cause = λ is. read.cause (ap failed is);
+      cause = read.cause;
       same_size = read.size;
       same_trace = read.same;
       any_moment = goes_quietly start _ (g.met.I.Image.in_order c.args.image) read.calls_later read.same;
-      later = read.later;
     }

@@ -3,7 +3,7 @@ use Rattle.mirror_image.proofs.Exits.{on_ok, on_err, on_done}
 use Rattle.mirror_image.proofs.Writes.{on_failed, failed_is}
 use Rattle.mirror_image.proofs.Safety.{exact}
 use Rattle.mirror_image.proofs.Calls.{fence_exit, fence_left_exit, fence_left_lost_exit, fence_lost_exit, fence_moved_exit, fence_moved_lost_exit, fence_unmarked_exit}
-use Rattle.mirror_image.proofs.Using.{uses_both_ok, uses_both_first, uses_both_second, uses_both_lost, rose_after, none_used}
+use Rattle.mirror_image.proofs.Using.{failed_after, none_used, uses_both_first, uses_both_lost, uses_both_ok, uses_both_second}
 use Rattle.mirror_image.proofs.halves.Halves.fence_both.Goals as goal
 
 pub invariant_of-self : goal.invariant_of-self
@@ -66,22 +66,22 @@ pub returns-in-Err-clause-uses : goal.returns-in-Err-clause-uses
 returns-in-Err-clause-uses g c = uses_both_lost c.args.self.now.left c.args.self.now.left c.args.self.now.alive c.requires.both c.requires.alive c.in-Err.ensures.cause.failed (on_failed c.fence.result (sym c.is_err.ensures.value ∙ c.if-is_err.true) c.fence.ensures.cause.failed)
 
 pub returns-then-is_ok-clause-uses : goal.returns-then-is_ok-clause-uses
-returns-then-is_ok-clause-uses g c = uses_both_first c.args.self.now.left c.args.self.now.alive c.requires.both c.requires.alive (on_failed c.fence.result (sym c.is_err.ensures.value ∙ c.if-is_err.true) c.fence.ensures.cause.failed) c.fence.ensures.counted
+returns-then-is_ok-clause-uses g c = uses_both_first c.args.self.now.left c.args.self.now.alive c.requires.both c.requires.alive (on_ok c.fence-then-is_err.result (sym c.is_ok.ensures.value ∙ c.if-is_ok.true) c.fence-then-is_err.ensures.cause.spared ∙ c.in_default.ensures.cause.spared) (on_failed c.fence.result (sym c.is_err.ensures.value ∙ c.if-is_err.true) c.fence.ensures.cause.failed) c.fence.ensures.counted
 
 pub returns-then-is_err-clause-uses : goal.returns-then-is_err-clause-uses
-returns-then-is_err-clause-uses g c = uses_both_lost c.args.self.now.left _ c.args.self.now.alive c.requires.both c.requires.alive (rose_after c.mark.ensures.cause.later (on_err c.fence-then-is_err.result (sym c.is_ok.ensures.value ∙ c.if-is_ok.false) c.fence-then-is_err.ensures.cause.failed)) (on_failed c.fence.result (sym c.is_err.ensures.value ∙ c.if-is_err.true) c.fence.ensures.cause.failed)
+returns-then-is_err-clause-uses g c = uses_both_lost c.args.self.now.left _ c.args.self.now.alive c.requires.both c.requires.alive (failed_after c.in_default.ensures.cause.spared (on_err c.fence-then-is_err.result (sym c.is_ok.ensures.value ∙ c.if-is_ok.false) c.fence-then-is_err.ensures.cause.failed)) (on_failed c.fence.result (sym c.is_err.ensures.value ∙ c.if-is_err.true) c.fence.ensures.cause.failed)
 
 pub returns-then-is_ok-2-clause-uses : goal.returns-then-is_ok-2-clause-uses
-returns-then-is_ok-2-clause-uses g c = uses_both_ok c.args.self.now.left c.args.self.now.alive c.requires.both c.requires.alive
+returns-then-is_ok-2-clause-uses g c = uses_both_ok c.args.self.now.left c.args.self.now.alive c.requires.both c.requires.alive (on_ok c.fence-2.result (sym c.is_ok-2.ensures.value ∙ c.if-is_ok-2.true) c.fence-2.ensures.cause.spared) (on_done c.fence.result (sym c.is_err.ensures.value ∙ c.if-is_err.false) c.fence.ensures.cause.spared)
 
 pub returns-then-is_err-2-clause-uses : goal.returns-then-is_err-2-clause-uses
-returns-then-is_err-2-clause-uses g c = uses_both_lost c.args.self.now.left c.args.self.now.left c.args.self.now.alive c.requires.both c.requires.alive (on_err c.fence-2.result (sym c.is_ok-2.ensures.value ∙ c.if-is_ok-2.false) c.fence-2.ensures.cause.failed) (rose_after c.fence.ensures.cause.later (on_failed c.mark-2.result (sym c.is_err-2.ensures.value ∙ c.if-is_err-2.true) c.mark-2.ensures.cause.failed))
+returns-then-is_err-2-clause-uses g c = uses_both_lost c.args.self.now.left c.args.self.now.left c.args.self.now.alive c.requires.both c.requires.alive (on_err c.fence-2.result (sym c.is_ok-2.ensures.value ∙ c.if-is_ok-2.false) c.fence-2.ensures.cause.failed) (failed_after (on_done c.fence.result (sym c.is_err.ensures.value ∙ c.if-is_err.false) c.fence.ensures.cause.spared) (on_failed c.mark-2.result (sym c.is_err-2.ensures.value ∙ c.if-is_err-2.true) c.mark-2.ensures.cause.failed))
 
 pub returns-then-is_ok-3-clause-uses : goal.returns-then-is_ok-3-clause-uses
-returns-then-is_ok-3-clause-uses g c = uses_both_second c.args.self.now.left c.args.self.now.alive c.requires.both c.requires.alive (on_err c.fence-2.result (sym c.is_ok-2.ensures.value ∙ c.if-is_ok-2.false) c.fence-2.ensures.cause.failed) c.fence-2.ensures.counted
+returns-then-is_ok-3-clause-uses g c = uses_both_second c.args.self.now.left c.args.self.now.alive c.requires.both c.requires.alive (on_err c.fence-2.result (sym c.is_ok-2.ensures.value ∙ c.if-is_ok-2.false) c.fence-2.ensures.cause.failed) (on_ok c.fence-3.result (sym c.is_ok-3.ensures.value ∙ c.if-is_ok-3.true) c.fence-3.ensures.cause.spared ∙ on_done c.mark-2.result (sym c.is_err-2.ensures.value ∙ c.if-is_err-2.false) c.mark-2.ensures.cause.spared ∙ on_done c.fence.result (sym c.is_err.ensures.value ∙ c.if-is_err.false) c.fence.ensures.cause.spared) c.fence-2.ensures.counted
 
 pub returns-clause-uses : goal.returns-clause-uses
-returns-clause-uses g c = uses_both_lost c.args.self.now.left _ c.args.self.now.alive c.requires.both c.requires.alive (on_err c.fence-2.result (sym c.is_ok-2.ensures.value ∙ c.if-is_ok-2.false) c.fence-2.ensures.cause.failed) (rose_after c.fence.ensures.cause.later (rose_after c.mark-2.ensures.cause.later (on_err c.fence-3.result (sym c.is_ok-3.ensures.value ∙ c.if-is_ok-3.false) c.fence-3.ensures.cause.failed)))
+returns-clause-uses g c = uses_both_lost c.args.self.now.left _ c.args.self.now.alive c.requires.both c.requires.alive (on_err c.fence-2.result (sym c.is_ok-2.ensures.value ∙ c.if-is_ok-2.false) c.fence-2.ensures.cause.failed) (failed_after (on_done c.fence.result (sym c.is_err.ensures.value ∙ c.if-is_err.false) c.fence.ensures.cause.spared) (failed_after (on_done c.mark-2.result (sym c.is_err-2.ensures.value ∙ c.if-is_err-2.false) c.mark-2.ensures.cause.spared) (on_err c.fence-3.result (sym c.is_ok-3.ensures.value ∙ c.if-is_ok-3.false) c.fence-3.ensures.cause.failed)))
 
 pub returns-in-Err-clause-both : goal.returns-in-Err-clause-both
 returns-in-Err-clause-both g c = none_used c.args.self.now.left false refl

@@ -1,9 +1,9 @@
-use Rattle.std.proofs.Common.{ℕ, ◌-◌, sym, ◌∙◌, ap}
+use Rattle.std.proofs.Common.{ℕ, ◌-◌, refl, sym, ◌∙◌, ap}
 use Rattle.mirror_image.proofs.Exits.{on_ok, on_err, on_done, words_both, words_moved}
 use Rattle.mirror_image.proofs.Writes.{failed_is, on_failed}
 use Rattle.mirror_image.proofs.Safety.{exact}
 use Rattle.mirror_image.proofs.Calls.{read_exit, read_lost_exit, read_moved_exit, read_moved_lost_exit}
-use Rattle.mirror_image.proofs.Using.{uses_both_ok, uses_both_second, uses_both_lost, rose_after, asks_none}
+use Rattle.mirror_image.proofs.Using.{asks_none, failed_after, uses_both_lost, uses_both_ok, uses_both_second}
 use Rattle.mirror_image.proofs.halves.Halves.read_both.Goals as goal
 
 pub invariant_of-self : goal.invariant_of-self
@@ -52,16 +52,16 @@ returns-then-is_ok-2-clause-words g c =
     (on_ok c.read_line-2.result (sym c.is_ok-2.ensures.value ∙ c.if-is_ok-2.true) c.read_line-2.ensures.words)
 
 pub returns-then-is_ok-clause-uses : goal.returns-then-is_ok-clause-uses
-returns-then-is_ok-clause-uses g c = uses_both_ok c.args.self.now.left c.args.self.now.alive c.requires.both c.requires.alive
+returns-then-is_ok-clause-uses g c = uses_both_ok c.args.self.now.left c.args.self.now.alive c.requires.both c.requires.alive (on_ok c.read_line.result (sym c.is_ok.ensures.value ∙ c.if-is_ok.true) c.read_line.ensures.cause.spared) refl
 
 pub returns-then-is_err-clause-uses : goal.returns-then-is_err-clause-uses
 returns-then-is_err-clause-uses g c = uses_both_lost c.args.self.now.left c.args.self.now.left c.args.self.now.alive c.requires.both c.requires.alive (on_err c.read_line.result (sym c.is_ok.ensures.value ∙ c.if-is_ok.false) c.read_line.ensures.cause.failed) (on_failed c.mark.result (sym c.is_err.ensures.value ∙ c.if-is_err.true) c.mark.ensures.cause.failed)
 
 pub returns-then-is_ok-2-clause-uses : goal.returns-then-is_ok-2-clause-uses
-returns-then-is_ok-2-clause-uses g c = uses_both_second c.args.self.now.left c.args.self.now.alive c.requires.both c.requires.alive (on_err c.read_line.result (sym c.is_ok.ensures.value ∙ c.if-is_ok.false) c.read_line.ensures.cause.failed) c.read_line.ensures.counted
+returns-then-is_ok-2-clause-uses g c = uses_both_second c.args.self.now.left c.args.self.now.alive c.requires.both c.requires.alive (on_err c.read_line.result (sym c.is_ok.ensures.value ∙ c.if-is_ok.false) c.read_line.ensures.cause.failed) (on_ok c.read_line-2.result (sym c.is_ok-2.ensures.value ∙ c.if-is_ok-2.true) c.read_line-2.ensures.cause.spared ∙ on_done c.mark.result (sym c.is_err.ensures.value ∙ c.if-is_err.false) c.mark.ensures.cause.spared) c.read_line.ensures.counted
 
 pub returns-clause-uses : goal.returns-clause-uses
-returns-clause-uses g c = uses_both_lost c.args.self.now.left _ c.args.self.now.alive c.requires.both c.requires.alive (on_err c.read_line.result (sym c.is_ok.ensures.value ∙ c.if-is_ok.false) c.read_line.ensures.cause.failed) (rose_after c.mark.ensures.cause.later (on_err c.read_line-2.result (sym c.is_ok-2.ensures.value ∙ c.if-is_ok-2.false) c.read_line-2.ensures.cause.failed))
+returns-clause-uses g c = uses_both_lost c.args.self.now.left _ c.args.self.now.alive c.requires.both c.requires.alive (on_err c.read_line.result (sym c.is_ok.ensures.value ∙ c.if-is_ok.false) c.read_line.ensures.cause.failed) (failed_after (on_done c.mark.result (sym c.is_err.ensures.value ∙ c.if-is_err.false) c.mark.ensures.cause.spared) (on_err c.read_line-2.result (sym c.is_ok-2.ensures.value ∙ c.if-is_ok-2.false) c.read_line-2.ensures.cause.failed))
 
 pub returns-then-is_err-clause-asks : goal.returns-then-is_err-clause-asks
 returns-then-is_err-clause-asks g c = asks_none c.args.self.now.left

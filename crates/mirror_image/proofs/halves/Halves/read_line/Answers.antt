@@ -2,7 +2,7 @@ use Rattle.std.proofs.Common.{false, sym, ◌∙◌}
 use Rattle.mirror_image.proofs.Exits.{on_ok, on_err, words_first, words_second}
 use Rattle.mirror_image.proofs.Safety.{dead_exit, exact}
 use Rattle.mirror_image.proofs.Calls.{first_same_exit, second_same_exit}
-use Rattle.mirror_image.proofs.Using.{uses_none, uses_first_ok, uses_first_lost, uses_second_ok, uses_second_lost, asks_none, asks_second}
+use Rattle.mirror_image.proofs.Using.{asks_none, asks_second, uses_first_lost, uses_first_ok, uses_none, uses_second_lost, uses_second_ok}
 use Rattle.mirror_image.proofs.halves.Halves.read_line.Goals as goal
 
 pub invariant_of-self : goal.invariant_of-self
@@ -66,13 +66,13 @@ pub returns-then-not-self-clause-uses : goal.returns-then-not-self-clause-uses
 returns-then-not-self-clause-uses g c = uses_none c.args.self.now.left c.args.self.now.alive c.if-not-self.true
 
 pub returns-then-is_ok-clause-uses : goal.returns-then-is_ok-clause-uses
-returns-then-is_ok-clause-uses g c = uses_first_ok c.args.self.now.left c.args.self.now.alive c.in-First.is c.if-not-self.false
+returns-then-is_ok-clause-uses g c = uses_first_ok c.args.self.now.left c.args.self.now.alive c.in-First.is c.if-not-self.false (on_ok c.read_line.result (sym c.is_ok.ensures.value ∙ c.if-is_ok.true) c.read_line.ensures.cause.spared)
 
 pub returns-else-is_ok-clause-uses : goal.returns-else-is_ok-clause-uses
 returns-else-is_ok-clause-uses g c = uses_first_lost c.args.self.now.left c.args.self.now.alive c.in-First.is c.if-not-self.false (on_err c.read_line.result (sym c.is_ok.ensures.value ∙ c.if-is_ok.false) c.read_line.ensures.cause.failed)
 
 pub returns-then-is_ok-2-clause-uses : goal.returns-then-is_ok-2-clause-uses
-returns-then-is_ok-2-clause-uses g c = uses_second_ok c.args.self.now.left c.args.self.now.alive c.in-Second.is c.if-not-self.false
+returns-then-is_ok-2-clause-uses g c = uses_second_ok c.args.self.now.left c.args.self.now.alive c.in-Second.is c.if-not-self.false (on_ok c.read_line-in-Second.result (sym c.is_ok-in-Second.ensures.value ∙ c.if-is_ok-2.true) c.read_line-in-Second.ensures.cause.spared)
 
 pub returns-else-is_ok-2-clause-uses : goal.returns-else-is_ok-2-clause-uses
 returns-else-is_ok-2-clause-uses g c = uses_second_lost c.args.self.now.left c.args.self.now.alive c.in-Second.is c.if-not-self.false (on_err c.read_line-in-Second.result (sym c.is_ok-in-Second.ensures.value ∙ c.if-is_ok-2.false) c.read_line-in-Second.ensures.cause.failed)

@@ -4,7 +4,7 @@ use Rattle.mirror_image.proofs.Exits.{on_ok, on_err, on_done}
 use Rattle.mirror_image.proofs.Writes.{on_failed, failed_is}
 use Rattle.mirror_image.proofs.Safety.{exact}
 use Rattle.mirror_image.proofs.Calls.{write_exit, write_left_exit, write_lost_exit, write_moved_exit, write_moved_lost_exit, write_unmarked_exit}
-use Rattle.mirror_image.proofs.Using.{uses_both_ok, uses_both_first, uses_both_second, uses_both_lost, rose_after, none_used}
+use Rattle.mirror_image.proofs.Using.{failed_after, none_used, uses_both_first, uses_both_lost, uses_both_ok, uses_both_second}
 use Rattle.mirror_image.proofs.halves.Halves.write_both.Goals as goal
 
 pub invariant_of-self : goal.invariant_of-self
@@ -59,19 +59,19 @@ pub returns-then-is_err-2-clause-uses : goal.returns-then-is_err-2-clause-uses
 returns-then-is_err-2-clause-uses g c = uses_both_lost c.args.self.now.left c.args.self.now.left c.args.self.now.alive c.requires.both c.requires.alive (on_failed c.write_line.result (sym c.is_err.ensures.value ∙ c.if-is_err.true) c.write_line.ensures.cause.failed) (on_failed c.mark.result (sym c.is_err-then-is_err.ensures.value ∙ c.if-is_err-2.true) c.mark.ensures.cause.failed)
 
 pub returns-then-is_ok-clause-uses : goal.returns-then-is_ok-clause-uses
-returns-then-is_ok-clause-uses g c = uses_both_second c.args.self.now.left c.args.self.now.alive c.requires.both c.requires.alive (on_failed c.write_line.result (sym c.is_err.ensures.value ∙ c.if-is_err.true) c.write_line.ensures.cause.failed) c.write_line.ensures.counted
+returns-then-is_ok-clause-uses g c = uses_both_second c.args.self.now.left c.args.self.now.alive c.requires.both c.requires.alive (on_failed c.write_line.result (sym c.is_err.ensures.value ∙ c.if-is_err.true) c.write_line.ensures.cause.failed) (on_ok c.write_line-then-is_err.result (sym c.is_ok.ensures.value ∙ c.if-is_ok.true) c.write_line-then-is_err.ensures.cause.spared ∙ on_done c.mark.result (sym c.is_err-then-is_err.ensures.value ∙ c.if-is_err-2.false) c.mark.ensures.cause.spared) c.write_line.ensures.counted
 
 pub returns-then-is_err-clause-uses : goal.returns-then-is_err-clause-uses
-returns-then-is_err-clause-uses g c = uses_both_lost c.args.self.now.left _ c.args.self.now.alive c.requires.both c.requires.alive (on_failed c.write_line.result (sym c.is_err.ensures.value ∙ c.if-is_err.true) c.write_line.ensures.cause.failed) (rose_after c.mark.ensures.cause.later (on_err c.write_line-then-is_err.result (sym c.is_ok.ensures.value ∙ c.if-is_ok.false) c.write_line-then-is_err.ensures.cause.failed))
+returns-then-is_err-clause-uses g c = uses_both_lost c.args.self.now.left _ c.args.self.now.alive c.requires.both c.requires.alive (on_failed c.write_line.result (sym c.is_err.ensures.value ∙ c.if-is_err.true) c.write_line.ensures.cause.failed) (failed_after (on_done c.mark.result (sym c.is_err-then-is_err.ensures.value ∙ c.if-is_err-2.false) c.mark.ensures.cause.spared) (on_err c.write_line-then-is_err.result (sym c.is_ok.ensures.value ∙ c.if-is_ok.false) c.write_line-then-is_err.ensures.cause.failed))
 
 pub returns-then-is_ok-2-clause-uses : goal.returns-then-is_ok-2-clause-uses
-returns-then-is_ok-2-clause-uses g c = uses_both_ok c.args.self.now.left c.args.self.now.alive c.requires.both c.requires.alive
+returns-then-is_ok-2-clause-uses g c = uses_both_ok c.args.self.now.left c.args.self.now.alive c.requires.both c.requires.alive (on_done c.write_line.result (sym c.is_err.ensures.value ∙ c.if-is_err.false) c.write_line.ensures.cause.spared) (on_ok c.write_line-2.result (sym c.is_ok-2.ensures.value ∙ c.if-is_ok-2.true) c.write_line-2.ensures.cause.spared)
 
 pub returns-in-Err-clause-uses : goal.returns-in-Err-clause-uses
-returns-in-Err-clause-uses g c = uses_both_lost c.args.self.now.left c.args.self.now.left c.args.self.now.alive c.requires.both c.requires.alive (rose_after c.write_line.ensures.cause.later c.in-Err.ensures.cause.failed) (on_err c.write_line-2.result (sym c.is_ok-2.ensures.value ∙ c.if-is_ok-2.false) c.write_line-2.ensures.cause.failed)
+returns-in-Err-clause-uses g c = uses_both_lost c.args.self.now.left c.args.self.now.left c.args.self.now.alive c.requires.both c.requires.alive (failed_after (on_done c.write_line.result (sym c.is_err.ensures.value ∙ c.if-is_err.false) c.write_line.ensures.cause.spared) c.in-Err.ensures.cause.failed) (on_err c.write_line-2.result (sym c.is_ok-2.ensures.value ∙ c.if-is_ok-2.false) c.write_line-2.ensures.cause.failed)
 
 pub returns-clause-uses : goal.returns-clause-uses
-returns-clause-uses g c = uses_both_first c.args.self.now.left c.args.self.now.alive c.requires.both c.requires.alive (on_err c.write_line-2.result (sym c.is_ok-2.ensures.value ∙ c.if-is_ok-2.false) c.write_line-2.ensures.cause.failed) c.write_line-2.ensures.counted
+returns-clause-uses g c = uses_both_first c.args.self.now.left c.args.self.now.alive c.requires.both c.requires.alive (c.in_default.ensures.cause.spared ∙ on_done c.write_line.result (sym c.is_err.ensures.value ∙ c.if-is_err.false) c.write_line.ensures.cause.spared) (on_err c.write_line-2.result (sym c.is_ok-2.ensures.value ∙ c.if-is_ok-2.false) c.write_line-2.ensures.cause.failed) c.write_line-2.ensures.counted
 
 pub returns-then-is_err-2-clause-both : goal.returns-then-is_err-2-clause-both
 returns-then-is_err-2-clause-both g c = none_used c.args.self.now.left false refl

@@ -4,7 +4,7 @@ use Rattle.mirror_image.proofs.Pushed.{not_label}
 use Rattle.mirror_image.proofs.Exits.{on_ok, on_err}
 use Rattle.mirror_image.proofs.Safety.{dead_exit, exact, may_have}
 use Rattle.mirror_image.proofs.Calls.{first_wrote_exit, first_write_exit, second_wrote_exit, second_write_exit}
-use Rattle.mirror_image.proofs.Using.{uses_none, uses_first_ok, uses_first_lost, uses_second_ok, uses_second_lost, none_used, first_alone, second_alone}
+use Rattle.mirror_image.proofs.Using.{first_alone, none_used, second_alone, uses_first_lost, uses_first_ok, uses_none, uses_second_lost, uses_second_ok}
 use Rattle.mirror_image.proofs.halves.Halves.write_line.Goals as goal
 
 pub invariant_of-self : goal.invariant_of-self
@@ -57,13 +57,13 @@ pub returns-then-not-self-clause-uses : goal.returns-then-not-self-clause-uses
 returns-then-not-self-clause-uses g c = uses_none c.args.self.now.left c.args.self.now.alive c.if-not-self.true
 
 pub returns-then-is_ok-clause-uses : goal.returns-then-is_ok-clause-uses
-returns-then-is_ok-clause-uses g c = uses_first_ok c.args.self.now.left c.args.self.now.alive c.in-First.is c.if-not-self.false
+returns-then-is_ok-clause-uses g c = uses_first_ok c.args.self.now.left c.args.self.now.alive c.in-First.is c.if-not-self.false (on_ok c.write_line.result (sym c.is_ok.ensures.value ∙ c.if-is_ok.true) c.write_line.ensures.cause.spared)
 
 pub returns-else-is_ok-clause-uses : goal.returns-else-is_ok-clause-uses
 returns-else-is_ok-clause-uses g c = uses_first_lost c.args.self.now.left c.args.self.now.alive c.in-First.is c.if-not-self.false (on_err c.write_line.result (sym c.is_ok.ensures.value ∙ c.if-is_ok.false) c.write_line.ensures.cause.failed)
 
 pub returns-then-is_ok-2-clause-uses : goal.returns-then-is_ok-2-clause-uses
-returns-then-is_ok-2-clause-uses g c = uses_second_ok c.args.self.now.left c.args.self.now.alive c.in-Second.is c.if-not-self.false
+returns-then-is_ok-2-clause-uses g c = uses_second_ok c.args.self.now.left c.args.self.now.alive c.in-Second.is c.if-not-self.false (on_ok c.write_line-in-Second.result (sym c.is_ok-in-Second.ensures.value ∙ c.if-is_ok-2.true) c.write_line-in-Second.ensures.cause.spared)
 
 pub returns-else-is_ok-2-clause-uses : goal.returns-else-is_ok-2-clause-uses
 returns-else-is_ok-2-clause-uses g c = uses_second_lost c.args.self.now.left c.args.self.now.alive c.in-Second.is c.if-not-self.false (on_err c.write_line-in-Second.result (sym c.is_ok-in-Second.ensures.value ∙ c.if-is_ok-2.false) c.write_line-in-Second.ensures.cause.failed)

@@ -17,9 +17,6 @@ returns-in-Paired-clause-failed g c = rw c.in-Paired.is (err_map c.fence.result 
 pub returns-in-Paired-clause-stops : goal.returns-in-Paired-clause-stops
 returns-in-Paired-clause-stops g c = rw c.in-Paired.is (either_way c.fence.result c.fence.ensures.fenced c.fence.ensures.failed (λ e. e.stops) (λ e. e.stops))
 
-pub returns-in-Paired-clause-counts : goal.returns-in-Paired-clause-counts
-returns-in-Paired-clause-counts g c = rw c.in-Paired.is c.fence.ensures.counts
-
 pub returns-in-Paired-clause-closed : goal.returns-in-Paired-clause-closed
 returns-in-Paired-clause-closed g c = not_closed _ c.in-Paired.is
 

@@ -16,9 +16,6 @@ returns-in-Paired-clause-words g c = rw c.in-Paired.is c.read_line.ensures.words
 pub returns-in-Paired-clause-stops : goal.returns-in-Paired-clause-stops
 returns-in-Paired-clause-stops g c = rw c.in-Paired.is c.read_line.ensures.call.stops
 
-pub returns-in-Paired-clause-counts : goal.returns-in-Paired-clause-counts
-returns-in-Paired-clause-counts g c = rw c.in-Paired.is c.read_line.ensures.counts
-
 pub returns-in-Paired-clause-closed : goal.returns-in-Paired-clause-closed
 returns-in-Paired-clause-closed g c = not_closed _ c.in-Paired.is
 

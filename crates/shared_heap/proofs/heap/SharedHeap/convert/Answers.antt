@@ -23,8 +23,7 @@ join-requires-clause-settled g c =
     subst (λ (s : Shared). AllSettled s.machine.queue c.in-Ok.set) c.self.view_is c.in-Ok.ensures.settled
 
 pub returns-in-Ok-clause-cause : goal.returns-in-Ok-clause-cause
-returns-in-Ok-clause-cause g c = cause_same c.args.self.now c.args.self.now _ did.Joined refl
-    (let same = c.join.ensures.faults in omega (arith, same))
+returns-in-Ok-clause-cause g c = cause_same _ _ did.Joined c.join.ensures.faults
 
 pub returns-in-Err-clause-converts : goal.returns-in-Err-clause-converts
 returns-in-Err-clause-converts g c =

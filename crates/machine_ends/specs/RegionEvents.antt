@@ -1,0 +1,2 @@
+-- The events of a machine's regions: what crates above name of them.
+pub use Rattle.machine_laws.specs.Passed.{at_once, begun, closing, emptied, ended, ending, guarded, logged, stored}
