@@ -24,7 +24,8 @@ use Rattle.directories.specs.Planning.{HasRead, lacking}
 use Rattle.image_recovery.specs.Recovered.{entries_in}
 use Rattle.set_opening.specs.Passed.{AppendedImagesAreOpened}
 use Rattle.set_opening.specs.Passed.{IsOpened}
-use Rattle.set_opening.specs.Fitted.{AllAgree, with_null_roots}
+use Rattle.set_opening.specs.Fitted.{AllAgree, IsFitted, with_null_roots}
+use Rattle.set_opening.specs.Found.{IsFound}
 use Rattle.set_opening.specs.Opened.{IsFoundFor, SuitsSet}
 use Rattle.set_opening.specs.Unopened.{IsUnbegun}
 use Rattle.set_opening.proofs.Arrays.{arrays_files, arrays_named}
@@ -33,6 +34,20 @@ use Rattle.set_opening.proofs.Opened.{found_left, found_roots, found_shapes}
 use Rattle.set_opening.proofs.Ready.{are_later, had_whole, roots_apart, shapes_apart, was_read}
 use Rattle.set_opening.proofs.Suits.{agrees_on, suits}
 use Rattle.audit_call.proofs.MoreArrays.{opens_still}
+
+-- the graph that was made ready has a null root for each root of the set that the directory lacked
+pub graph_grown : (start : Told) (old set : Linked) (before m : Memory) (found directory : Kept) (stood graph : Graph) (lines : List ℕ)
+    (free : ℕ) → IsFound start before m found stood lines free → (fitted : IsFitted old set found directory stood graph)
+    → graph ≡ with_all_too stood (lacking (entries_in found) fitted.planned.entries)
+graph_grown start old set before m found directory stood graph lines free is fitted =
+    let added = lacking (entries_in found) fitted.planned.entries in
+    let many : length stood.roots ≡ length found.roots =
+    sym (length-map stood.roots (λ (root : NamedValue). root.name))
+    ∙ ap (λ (names : List (List ℕ)). length names) (found_roots start before m found stood lines free is) in
+    fitted.graph_is
+    ∙ ap (λ (names : List (List ℕ)). with_null_roots stood (drop (length stood.roots) names))
+    (ap (λ (d : Directory). d.roots) fitted.planned.planned.directory)
+    ∙ roots_added stood (entries_in found) added many
 
 module _ (start : Told) (old set : Linked) (m : Memory) (directory : Kept) (lines : List ℕ) (graph : Graph) (free : ℕ)
     (is : IsFoundFor start old set m directory lines graph free) where
@@ -59,23 +74,13 @@ module _ (start : Told) (old set : Linked) (m : Memory) (directory : Kept) (line
       (are_later no_entries read.had added
       (subst (λ (l : List DirectoryEntry). AreEntries no_entries (read.had ++ l)) left_is (is.continues read.had read.continues).are))
 
-  many_roots : length is.stood.roots ≡ length is.found.roots
-  many_roots =
-      sym (length-map is.stood.roots (λ (root : NamedValue). root.name))
-      ∙ ap (λ (names : List (List ℕ)). length names)
-      (found_roots start is.before m is.found is.stood lines free is.found_is)
-
-  graph_grown : graph ≡ with_all_too is.stood added
-  graph_grown =
-      is.fitted.graph_is
-      ∙ ap (λ (names : List (List ℕ)). with_null_roots is.stood (drop (length is.stood.roots) names))
-      (ap (λ (d : Directory). d.roots) plan.planned.directory)
-      ∙ roots_added is.stood (entries_in is.found) added many_roots
+  grown : graph ≡ with_all_too is.stood added
+  grown = graph_grown start old set is.before m is.found directory is.stood graph lines free is.found_is is.fitted
 
   -- with them, a run over it could begin
   opened : AppendedImagesAreOpened → IsOpened m whole lines graph
   opened law =
-      subst (λ (g : Graph). IsOpened m whole lines g) (sym graph_grown)
+      subst (λ (g : Graph). IsOpened m whole lines g) (sym grown)
       (law m m (entries_in is.found) added lines is.stood is.found_is.opened refl
       (record { roots = λ r there. refl; objects = λ l w low. refl }) are_added)
 

@@ -8,7 +8,6 @@ use Rattle.run_history.specs.Recorded.{Recorded}
 use Rattle.history_file.specs.Reading.{history_in}
 use Rattle.class_set.specs.Linked.{Linked}
 use Rattle.set_opening.specs.Arrays.{with_arrays_of}
-use Rattle.set_opening.specs.Fitted.{with_null_roots}
 use Rattle.audit_runs.specs.Audits.{IsRight}
 use Rattle.audit_runs.specs.Passed.{Main, NoMain, main_of}
 use Rattle.audit_verdicts.specs.declared.verdict.Verdict.{Verdict}
@@ -17,7 +16,7 @@ use Rattle.statuses.specs.declared.status.Status.{Status}
 use Rattle.statuses.specs.declared.status.Status.TheVariants as status
 use Rattle.audit_call.specs.Audits.{AfterEnds, AuditEnds, HasRead, Images, ImagesEnd, Outside, SetEnds}
 use Rattle.audit_call.specs.Judged.{GraphsEnd, IsBadHistory, IsJudged, IsUnjudged}
-use Rattle.audit_call.specs.Laws.{HasVerdict, IsFailure, IsUnhindered, UnhinderedIsDone}
+use Rattle.audit_call.specs.Laws.{HasVerdict, IsFailure, IsGraphFor, IsUnhindered, UnhinderedIsDone}
 use Rattle.audit_call.specs.Printing.{HasPut, IsPut, status_of}
 use Rattle.audit_call.specs.Records.{GivesRecord, IsUnread, LacksRecord, record_in}
 use Rattle.audit_call.specs.declared.records.Records.{Records}
@@ -106,34 +105,32 @@ module _ (files : Option (List NamedBytes)) (name : List ℕ) (had : Images) (wa
 
   -- ---- the verdict
 
-  module _ (begun left : List (List ℕ)) (history output : List ℕ) (first : history ≡ free.history) (second : output ≡ free.output) where
-    abbrev began : Graph
-    began = with_null_roots free.before.graph begun
-
-    abbrev ended : Graph
-    ended = with_null_roots free.after.graph left
-
+  module _ (opening after : Graph) (opening_is : IsGraphFor free.set had.before free.before opening)
+      (after_is : IsGraphFor first_numbered had.after free.after after) (history output : List ℕ) (first : history ≡ free.history)
+      (second : output ≡ free.output) where
     told : (acts : List Recorded) (keep : ℕ) → history_in history ≡ Ok (acts, keep) → (acts ≡ free.acts) × (keep ≡ free.keep)
     told acts keep is =
         let same = same_acts (history_in free.history) (free.acts, free.keep) (acts, keep) free.acts_are (ap history_in (sym first) ∙ is) in
         (ap (λ (read : List Recorded × ℕ). read.0) same, ap (λ (read : List Recorded × ℕ). read.1) same)
 
-    has_verdict : (judged : IsJudged numbered free.main began ended history output how was.taken now.taken)
+    has_verdict : (judged : IsJudged numbered free.main opening after history output how was.taken now.taken)
         → HasPut judged.verdict how was.taken now.taken → HasVerdict files name had was free now how
     has_verdict judged put =
         let same = told judged.acts judged.keep judged.told in
         record {
           verdict = judged.verdict;
           put = put;
-          begun = begun;
-          left = left;
-          right = subst (λ (bytes : List ℕ). IsRight numbered free.main began free.acts free.keep bytes ended judged.verdict) second
-              (subst (λ (n : ℕ). IsRight numbered free.main began free.acts n output ended judged.verdict) same.1
-              (subst (λ (acts : List Recorded). IsRight numbered free.main began acts judged.keep output ended judged.verdict) same.0
+          opening = opening;
+          opening_is = opening_is;
+          after = after;
+          after_is = after_is;
+          right = subst (λ (bytes : List ℕ). IsRight numbered free.main opening free.acts free.keep bytes after judged.verdict) second
+              (subst (λ (n : ℕ). IsRight numbered free.main opening free.acts n output after judged.verdict) same.1
+              (subst (λ (acts : List Recorded). IsRight numbered free.main opening acts judged.keep output after judged.verdict) same.0
               judged.right));
         }
 
-    judged_so : IsJudged numbered free.main began ended history output how was.taken now.taken → Done
+    judged_so : IsJudged numbered free.main opening after history output how was.taken now.taken → Done
     judged_so judged = ⊎_elim (λ put. inl (has_verdict judged put)) (λ front. inr (sink_fails how front.is)) judged.put
 
     unjudged : IsUnjudged history how was.taken now.taken → Done
@@ -145,44 +142,39 @@ module _ (files : Option (List NamedBytes)) (name : List ℕ) (had : Images) (wa
 
   -- ---- the graphs
 
-  graphs_end : (records : Records) → records.history ≡ free.history → records.output ≡ free.output → (begun left : List (List ℕ))
-      → GraphsEnd numbered name (with_null_roots free.before.graph begun) (with_null_roots free.after.graph left) records how was.taken now.taken
-      → Done
-  graphs_end records first second begun left (inl lacks) = ⊎_elim
+  graphs_end : (records : Records) → records.history ≡ free.history → records.output ≡ free.output → (opening after : Graph)
+      → IsGraphFor free.set had.before free.before opening → IsGraphFor first_numbered had.after free.after after
+      → GraphsEnd numbered name opening after records how was.taken now.taken → Done
+  graphs_end records first second opening after opening_is after_is (inl lacks) = ⊎_elim
       (λ missing. absurd (never_missing (main_of numbered name) free.main missing.none free.main_is missing.missing))
       (λ is. inr (memory_fails how is))
       lacks.cause
-  graphs_end records first second begun left (inr found) =
+  graphs_end records first second opening after opening_is after_is (inr found) =
       let main = same_main (main_of numbered name) free.main found.main free.main_is found.found in
       ⊎_elim
-      (λ none. unjudged begun left records.history records.output first second none)
-      (λ judged. judged_so begun left records.history records.output first second
-      (subst (λ (m : Main). IsJudged numbered m (with_null_roots free.before.graph begun) (with_null_roots free.after.graph left)
-      records.history records.output how was.taken now.taken) main judged))
+      (λ none. unjudged opening after opening_is after_is records.history records.output first second none)
+      (λ judged. judged_so opening after opening_is after_is records.history records.output first second
+      (subst (λ (m : Main). IsJudged numbered m opening after records.history records.output how was.taken now.taken) main judged))
       found.ends
 
   -- ---- the images
 
   module _ (records : Records) (first : records.history ≡ free.history) (second : records.output ≡ free.output) where
-    after_ends : (begun : List (List ℕ)) → AfterEnds first_numbered name (with_null_roots free.before.graph begun) records
-        had.after has.after how was.taken now.taken → Done
-    after_ends begun (inl cannot) = inr (only_fails first_numbered had.after free.after has.after how was.taken now.taken cannot)
-    after_ends begun (inr opened) =
+    after_ends : (opening : Graph) → IsGraphFor free.set had.before free.before opening
+        → AfterEnds first_numbered name opening records had.after has.after how was.taken now.taken → Done
+    after_ends opening opening_is (inl cannot) = inr (only_fails first_numbered had.after free.after has.after how was.taken now.taken cannot)
+    after_ends opening opening_is (inr opened) =
         let set = numbered_so first_numbered had.after free.after has.after opened.numbered opened.found ∙ sym free.numbered_is in
-        let left = graph_so first_numbered had.after free.after has.after opened.numbered opened.found in
-        let opening = with_null_roots free.before.graph begun in
-        graphs_end records first second begun left.0
-        (subst (λ (g : Graph). GraphsEnd numbered name opening g records how was.taken now.taken) left.1
-        (subst (λ (s : Linked). GraphsEnd s name opening opened.found.graph records how was.taken now.taken) set opened.ends))
+        graphs_end records first second opening opened.found.graph opening_is
+        (graph_so first_numbered had.after free.after has.after opened.numbered opened.found)
+        (subst (λ (s : Linked). GraphsEnd s name opening opened.found.graph records how was.taken now.taken) set opened.ends)
 
     images_end : ImagesEnd free.set name records had has how was.taken now.taken → Done
     images_end (inl lacks) = inr (only_fails free.set had.before free.before has.before how was.taken now.taken lacks.unopened)
     images_end (inr opened) =
         let set = numbered_so free.set had.before free.before has.before opened.numbered opened.found in
-        let begun = graph_so free.set had.before free.before has.before opened.numbered opened.found in
-        after_ends begun.0
-        (subst (λ (g : Graph). AfterEnds first_numbered name g records had.after has.after how was.taken now.taken) begun.1
-        (subst (λ (s : Linked). AfterEnds s name opened.found.graph records had.after has.after how was.taken now.taken) set opened.ends))
+        after_ends opened.found.graph (graph_so free.set had.before free.before has.before opened.numbered opened.found)
+        (subst (λ (s : Linked). AfterEnds s name opened.found.graph records had.after has.after how was.taken now.taken) set opened.ends)
 
   -- ---- the records
 

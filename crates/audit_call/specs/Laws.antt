@@ -4,15 +4,22 @@ use Rattle.ap_base.specs.Sources.{first_file}
 use Rattle.ap_base.specs.declared.source.NamedBytes.{NamedBytes}
 use Rattle.graph_model.specs.declared.types.Graph.{Graph}
 use Rattle.line_image.specs.Told.{Told}
+use Rattle.line_memory.specs.Memory.{IsTelling}
 use Rattle.run_types.specs.declared.fault.Which.{Which}
 use Rattle.run_history.specs.Recorded.{Recorded}
 use Rattle.history_file.specs.Reading.{history_in}
+use Rattle.image_meaning.specs.Appending.{with_all_too}
 use Rattle.image_meaning.specs.Directories.{Directory}
+use Rattle.image_meaning.specs.Entries.{DirectoryEntry}
 use Rattle.class_set.specs.Facts.{facts_of}
 use Rattle.class_set.specs.Linked.{Linked}
+use Rattle.class_set.specs.Sets.{made_of}
+use Rattle.directories.specs.ClassSets.{AreEntriesOf}
+use Rattle.directories.specs.Planning.{lacking}
 use Rattle.set_opening.specs.Again.{HoldsGraph, LacksRoom}
 use Rattle.set_opening.specs.Arrays.{with_arrays_of}
-use Rattle.set_opening.specs.Fitted.{AllAgree, with_null_roots}
+use Rattle.set_opening.specs.Fitted.{AllAgree}
+use Rattle.set_opening.specs.Unopened.{IsUnbegun}
 use Rattle.audit_runs.specs.Audits.{IsRight}
 use Rattle.audit_runs.specs.Passed.{Main, main_of}
 use Rattle.audit_verdicts.specs.declared.verdict.Verdict.{Verdict}
@@ -33,6 +40,21 @@ pub record Suits (set : Linked) (image : Told) : Type 0 where
   pub holds : HoldsGraph image image.size directory graph
   pub agree : AllAgree (facts_of set) directory.shapes
   pub room : (which : Which) → LacksRoom set directory which → ⊥
+
+-- An image that was opened for the set and given back, and tells what is done to it, suits the set: so the premises about images that follow
+-- here hold wherever an audit gets past the images.
+abbrev pub OpenedImagesSuit : Type 0
+OpenedImagesSuit = (set numbered : Linked) (image after : Told) → IsUnbegun image after set numbered → IsTelling image.trace → Suits set image
+
+-- The graph of such an image for the set: that for which it stands, and a null root for each durable root of the set that its directory lacks.
+pub record IsGraphFor (set : Linked) (image : Told) (suits : Suits set image) (graph : Graph) : Type 0 where
+  -- the set in which the directory's array types have numbers
+  pub numbered : Linked
+  pub numbered_is : numbered ≡ with_arrays_of set suits.directory.shapes
+  -- all entries of this set
+  pub entries : List DirectoryEntry
+  pub are_its : AreEntriesOf (facts_of numbered) (made_of numbered) entries
+  pub graph_is : graph ≡ with_all_too suits.graph (lacking suits.directory entries)
 
 -- ---- an audit that nothing hinders
 
@@ -59,15 +81,16 @@ pub record IsUnhindered (files : Option (List NamedBytes)) (name : List ℕ) (ha
   pub keep : ℕ
   pub acts_are : history_in history ≡ Ok (acts, keep)
 
--- All of a verdict's line was put, and the verdict is right between the graphs for which the images stand, with null roots that these lack.
+-- All of a verdict's line was put, and the verdict is right between the graphs of the two images.
 pub record HasVerdict (files : Option (List NamedBytes)) (name : List ℕ) (had : Images) (was : Outside) (free : IsUnhindered files name had was)
     (now : Outside) (how : Status) : Type 0 where
   pub verdict : Verdict
   pub put : HasPut verdict how was.taken now.taken
-  pub begun : List (List ℕ)
-  pub left : List (List ℕ)
-  pub right : IsRight free.numbered free.main (with_null_roots free.before.graph begun) free.acts free.keep free.output
-      (with_null_roots free.after.graph left) verdict
+  pub opening : Graph
+  pub opening_is : IsGraphFor free.set had.before free.before opening
+  pub after : Graph
+  pub after_is : IsGraphFor (with_arrays_of free.set free.before.directory.shapes) had.after free.after after
+  pub right : IsRight free.numbered free.main opening free.acts free.keep free.output after verdict
 
 -- a failure of the outside, or want of memory
 abbrev pub IsFailure : Status → Type 0

@@ -18,9 +18,9 @@ use crate::ran::{Ran, no_graph, unbegun};
 use ap_base::{Gate, Sink};
 use class_set::ClassSet;
 use durable_launch::{
-    DecodeRefusal, FoundImage, Launched, Main, NoLaunch, NoMain, OpenedHeap, OpenedImage, Run,
-    RunEnd, Unopened, accepted_sets_have_room, complete, each_stop_is_allowed, find_for, find_main,
-    find_room, launch, open_heap, run_all,
+    DecodeRefusal, FoundImage, Launched, Left, Main, NoLaunch, NoMain, OpenedHeap, OpenedImage,
+    Run, RunEnd, Unopened, accepted_sets_have_room, complete, each_stop_is_allowed, find_for,
+    find_main, find_room, launch, open_heap, run_all,
 };
 use line_image::Image;
 use run_history::{Acts, Watcher};
@@ -436,11 +436,10 @@ where
         turns: [0; 64],
     };
     let (end, left) = run_all(rt, run, &SetTypes::of(set), &host, workers, gate);
-    let Run {
+    let Left {
         heap,
         sink,
         watcher,
-        ..
     } = left;
     let (acts, memory) = heap.finish();
     Ran {

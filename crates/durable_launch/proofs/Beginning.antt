@@ -16,7 +16,7 @@ use Rattle.plain_model.specs.Facts.{class_at, class_count}
 use Rattle.class_set.specs.Linked.{Linked, class_count as linked_count}
 use Rattle.class_set.proofs.Supertypes.{program_counted}
 use Rattle.class_set.specs.Facts.{facts_of}
-use Rattle.set_directory.specs.Written.{is_written}
+use Rattle.set_spaces.specs.Passed.{is_written}
 use Rattle.workers.specs.Passed.{ThreadFrames}
 use Rattle.workers.specs.Passed.{Launch}
 use Rattle.twin_forms.specs.Table.{Entry, IsClaimed}

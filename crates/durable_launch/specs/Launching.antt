@@ -11,13 +11,11 @@ use Rattle.class_set.specs.Linked.{Linked}
 use Rattle.class_set.specs.Facts.{facts_of}
 use Rattle.directories.specs.Kept.{Kept}
 use Rattle.image_recovery.specs.Recovered.{entries_in}
-use Rattle.set_directory.specs.Written.{is_written}
 use Rattle.program_host.specs.Hosts.{setting_in}
 use Rattle.program_host.specs.Literals.{literal_in}
 use Rattle.program_launch.specs.declared.mains.Main.{Main}
 use Rattle.program_launch.specs.Launches.{set_program}
 use Rattle.workers.specs.Passed.{Launch}
-use Rattle.two_spaces.specs.Seen.{Spaces, shown_of}
 use Rattle.workers.specs.Passed.{Opening, memory_of, work_left}
 use Rattle.set_opening.specs.Passed.{SpacesTables}
 use Rattle.set_opening.specs.Passed.{HasTables, IsWholeOpened, RootsLieInSlots, ShowsOpening, StandFor}
@@ -25,6 +23,7 @@ use Rattle.set_opening.specs.Passed.{AreTables}
 use Rattle.set_opening.specs.Passed.{spaces_of}
 use Rattle.set_opening.specs.Opened.{IsOpenedFor}
 use Rattle.workers.specs.Passed.{IsReady}
+use Rattle.set_spaces.specs.Passed.{Spaces, is_written, shown_of}
 use Rattle.durable_launch.specs.declared.heaps.OpenedHeap.{OpenedHeap}
 use Rattle.durable_launch.specs.declared.launches.Launched.{Launched}
 

@@ -16,10 +16,9 @@ use line_image::Image;
 use line_memory::LineMemory;
 use program_launch::NoLaunch;
 use set_opening::{FirstSpaces, OpenedImage};
-use set_spaces::spaces_parts;
+use set_spaces::{TwoSpaces, spaces_parts};
 use shared_graph::SharedGraph;
 use std::alloc::Global;
-use two_spaces::TwoSpaces;
 
 /// The heap with which a run over an opened image begins, and the references of what the run names
 /// itself.

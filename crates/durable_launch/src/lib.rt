@@ -14,6 +14,6 @@ pub use set_opening::{
     FoundImage, OpenedImage, Unopened, complete, find_for, opened_images_open_again,
 };
 pub use workers::{
-    Halt, MeetingGate, Run, RunEnd, Stepped, each_stop_is_allowed, is_live, run_all, run_threads,
-    step,
+    Halt, Left, MeetingGate, Run, RunEnd, Stepped, each_stop_is_allowed, is_live, run_all,
+    run_threads, step,
 };

@@ -45,7 +45,7 @@ outside seen taken takes faults =
     record { seen = seen; taken = taken; takes = takes; faults = faults }
 
 -- The outside was told the further acts. One that printed, printed its share; and the run is over
--- by the sink or the image only where that failed.
+-- by the sink or the image exactly where that failed, once.
 pub record Tells (request : Request Ref Item) (over : Option RunFault) (old new : Shared) (out out' : Outside)
     : Type 0 where
   pub told : HasTold old.history.acts new.history.acts out.seen out'.seen out.taken out'.taken

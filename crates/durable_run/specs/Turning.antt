@@ -53,7 +53,7 @@ abbrev pub count_on : ℕ → ℕ → ℕ
 count_on zero count = count
 count_on (suc times) count = next_count (count_on times count)
 
--- The counts of the threads' turns went on since, each by as many turns as its thread began: none was set back.
+-- The counts of the threads' turns only went on since, one by one: none was set back.
 abbrev pub TurnsGoOn : (old new : List ℕ) → Type 0
 TurnsGoOn old new = (t : ℕ) → (turns : ℕ) × (slice_index new t ≡ count_on turns (slice_index old t))
 

@@ -17,6 +17,8 @@ pub use machine::{
     others_keep_theirs, quiet_steps_are_few,
 };
 pub use parts::is_live;
+// what crates above name of private steps
+pub use private_steps::Frames;
 pub use run::Run;
 pub use runs::{RunEnd, ended, run_threads};
 pub use steps::{Stepped, step};

@@ -90,7 +90,7 @@ pub fn audit<C: ClassSource, R: ClassSource, I: Image, J: Image, S: Sink>(
     do_audit(alloc, words, source, records, before, after, sink)
 }
 
-// What the words ask for is done.
+// What the words ask for is done. It stands apart because `complete` follows from `meets` of the same call.
 fn do_audit<C: ClassSource, R: ClassSource, I: Image, J: Image, S: Sink>(
     alloc: Global,
     words: &Vec<String>,

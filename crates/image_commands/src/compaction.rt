@@ -86,7 +86,7 @@ pub fn compact<I: Image, J: Image, S: Sink>(
     do_compact(alloc, words, old, fresh, sink)
 }
 
-// What the words ask for is done.
+// What the words ask for is done. It stands apart because `complete` follows from `meets` of the same call.
 fn do_compact<I: Image, J: Image, S: Sink>(
     alloc: Global,
     words: &Vec<String>,

@@ -3,7 +3,6 @@ use Rattle.std.proofs.Common.{◌≡◌, inl, inr, ◌⊎◌, ◌<◌, ◌≤◌
 use Rattle.ap_base.specs.Causes.{next_count}
 use Rattle.line_image.specs.Trace.{Trace, did}
 use Rattle.line_image.specs.Told.{Told, IsCounted}
-use Rattle.line_image.specs.declared.effect.Done.{Done}
 use Rattle.line_image.specs.declared.effect.Done.TheVariants.{Wrote, Fenced}
 use Rattle.mirror_image.specs.declared.halves.Left.{Left}
 use Rattle.mirror_image.specs.declared.halves.Left.TheVariants.{Both, First, Second}
@@ -17,8 +16,8 @@ use Rattle.mirror_image.proofs.Exits.{four_of, moved_same, sound_moved, top_mark
 use Rattle.mirror_image.proofs.Writes.{number_may, number_label, May, both_may, both_did, sound_both_did, first_did, sound_first_did, top_did}
 use Rattle.mirror_image.proofs.Moves.{sound_both_read, sound_second_read, second_did, sound_second_did, number_m, m_top, moved_did, moved_made, sound_moved_did, lost_trace, left_first_trace, sound_left_first, label_may}
 use Rattle.mirror_image.proofs.Fences.{moved_fence, fenced_did, sound_fenced_did}
-use Rattle.mirror_image.proofs.Stages.{StagesIn, Keeps, keeps_fence, keeps_label, keeps_write, includes_more, stages_none, stages_did, stages_may, stages_same, stages_last, StagesLabelled, labelled_none, labelled_may}
-use Rattle.mirror_image.proofs.Stages.{label_did as has_label_did, label_marked as has_label_marked, label_may as has_label_may}
+use Rattle.mirror_image.proofs.Stages.{StagesIn, keeps_fence, keeps_label, keeps_write, includes_more, stages_none, stages_did, stages_may, stages_same, stages_last, StagesLabelled, labelled_none, labelled_may}
+use Rattle.mirror_image.proofs.Stages.{label_marked as has_label_marked, label_may as has_label_may}
 use Rattle.mirror_image.proofs.Safety.{Does, does_same, does_write, does_fence, ExitBy, weaker, both_dead, both_lives, first_exit, second_exit, includes_alike, dimmed}
 
 pub sound_at : (ahead : ℕ) (a b : Told) (left left' : Left) (alive alive' : Bool) (less extra : ℕ) → left ≡ left' → alive ≡ alive'

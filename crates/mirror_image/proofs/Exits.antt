@@ -1,5 +1,5 @@
 -- What a mirror tells after each way through a call.
-use Rattle.std.proofs.Common.{◌≡◌, inl, ◌<◌, ◌≤◌, ◌+◌, ◌-◌, ◌^◌, ℕ, List, [], Bool, true, false, Option, Some, None, refl, ap, sym, subst, ◌∙◌, arith, min, Result, Ok, Err, OnOk, OnErr, get_or, IsTrue, length}
+use Rattle.std.proofs.Common.{◌≡◌, inl, ◌<◌, ◌≤◌, ◌+◌, ◌-◌, ◌^◌, ℕ, List, [], Bool, true, false, Option, Some, None, refl, ap, sym, subst, ◌∙◌, arith, min, Result, Ok, Err, OnOk, OnErr, get_or, length}
 use Rattle.std.proofs.lemmas.Bool.Decides.{nat_tests}
 use Rattle.std.specs.Result.{is_ok, is_err}
 use Rattle.ap_base.specs.Causes.{next_count}
@@ -14,7 +14,7 @@ use Rattle.mirror_image.specs.Sound.{Within, SameMade, Settled, IsSoundBy, First
 use Rattle.mirror_image.proofs.Pushed.{ahead_marked, four_ahead, told_marked, first_same, second_marked, label_at_marked, above_marked, below_marked}
 use Rattle.mirror_image.proofs.Reading.{newest_after, read_label, read_both, read_first}
 use Rattle.mirror_image.proofs.Within.{mark_within, from_some}
-use Rattle.mirror_image.proofs.Steps.{sound_dead, sound_first, sound_second}
+use Rattle.mirror_image.proofs.Steps.{sound_first, sound_second}
 
 pub on_ok : {T E P : Type 0} (r : Result T E) → is_ok r ≡ true → OnOk r P → P
 on_ok (Ok x) is p = p

@@ -1,5 +1,5 @@
 -- What holds of a mirror after a fence that leaves it one half.
-use Rattle.std.proofs.Common.{◌≡◌, inl, inr, ◌<◌, ◌≤◌, ◌+◌, ◌-◌, ◌^◌, ℕ, List, [], ◌∷◌, Bool, true, false, Option, Some, None, refl, ap, sym, subst, ◌∙◌, arith, length, min, get_or, drop, take}
+use Rattle.std.proofs.Common.{◌≡◌, inr, ◌<◌, ◌≤◌, ◌+◌, ◌-◌, ◌^◌, ℕ, [], Bool, true, false, Option, Some, None, refl, ap, sym, subst, ◌∙◌, arith, length, min, get_or}
 use Rattle.ap_base.specs.Causes.{next_count}
 use Rattle.line_image.specs.Trace.{Trace, did, versions, versions_after}
 use Rattle.line_image.specs.Told.{Told, IsCounted}
@@ -7,14 +7,14 @@ use Rattle.line_image.specs.declared.effect.Done.{Done}
 use Rattle.line_image.specs.declared.effect.Done.TheVariants.{Wrote, Fenced}
 use Rattle.mirror_image.specs.declared.halves.Left.{Left}
 use Rattle.mirror_image.specs.declared.halves.Left.TheVariants.{Both, Second}
-use Rattle.mirror_image.specs.Joint.{numbered, shown, calls_by, joint, most, above, top_is_label, label_at, is_label, ahead_by, ahead_by}
-use Rattle.mirror_image.specs.Sound.{Within, Tells, IsSoundBy, SecondLives, LeavesAlike, SameMade, Settled, IsMarked, IsNotMarked, label_words, done_in}
-use Rattle.mirror_image.proofs.Pushed.{ahead_did, ahead_marked, tells_did, told_marked, both_same, both_other, second_marked, above_pushed}
+use Rattle.mirror_image.specs.Joint.{calls_by, joint, most, above, top_is_label, label_at, is_label, ahead_by}
+use Rattle.mirror_image.specs.Sound.{Within, Tells, IsSoundBy, SecondLives, LeavesAlike, SameMade, Settled, IsMarked, label_words, done_in}
+use Rattle.mirror_image.proofs.Pushed.{ahead_did, ahead_marked, tells_did, told_marked, both_other, second_marked, above_pushed}
 use Rattle.mirror_image.proofs.Within.{fence_within, from_some}
-use Rattle.mirror_image.proofs.Steps.{sound_dead, sound_second}
+use Rattle.mirror_image.proofs.Steps.{sound_second}
 use Rattle.mirror_image.proofs.Exits.{number_both, NoMore, settled_marked, some_is, live, alike_marked, top_marked, label_marked}
-use Rattle.mirror_image.proofs.Moves.{second_any, settled_did, label_may}
-use Rattle.mirror_image.proofs.Writes.{May, both_may, alike_did, label_did, top_did, calls_up}
+use Rattle.mirror_image.proofs.Moves.{second_any, settled_did}
+use Rattle.mirror_image.proofs.Writes.{alike_did, label_did, top_did, calls_up}
 
 alike_fenced : (z at : ℕ) (p t : Option Trace) → LeavesAlike z p t → LeavesAlike z (did Fenced at p) t
 alike_fenced z at None t alike x y is_x is_y l lt = cc

@@ -1,13 +1,13 @@
 -- What stops within pairing leave.
-use Rattle.std.proofs.Common.{◌≡◌, ◌≢◌, inl, inr, ◌⊎◌, ⊎_elim, ◌<◌, ◌≤◌, ◌+◌, ◌-◌, ◌^◌, ℕ, zero, suc, List, [], ◌∷◌, Bool, true, false, nat_eq, nat_le, Option, Some, None, refl, ap, sym, subst, ◌∙◌, arith, length, drop, get_or, slice_index, if◌then◌else◌, ◌==◌, ◌||◌, Result, Ok, Err, OnOk, OnErr, IfErr}
+use Rattle.std.proofs.Common.{◌≡◌, ◌≢◌, inl, inr, ◌⊎◌, ⊎_elim, ◌<◌, ◌≤◌, ◌+◌, ℕ, zero, suc, List, [], ◌∷◌, Bool, true, false, nat_eq, nat_le, Option, Some, None, refl, ap, sym, subst, ◌∙◌, arith, get_or, slice_index, if◌then◌else◌, ◌==◌, ◌||◌}
 use Rattle.std.proofs.lemmas.Bool.Decides.{nat_tests}
 use Rattle.std.proofs.lemmas.Bool.{cases_eq}
 use Rattle.ap_base.specs.Causes.{next_count}
-use Rattle.line_image.specs.Trace.{Trace, Outcome, Reads, did, newest, versions, versions_from, versions_after, OneHas, LeavesNow, IsAllFenced, read_word}
+use Rattle.line_image.specs.Trace.{Trace, Outcome, Reads, did, newest, versions, versions_after, LeavesNow, IsAllFenced, read_word}
 use Rattle.line_image.specs.Told.{Told}
 use Rattle.line_image.specs.declared.effect.Done.{Done}
 use Rattle.line_image.specs.declared.effect.Done.TheVariants.{Wrote, Fenced}
-use Rattle.mirror_image.specs.Sound.{one_has, done_in, label_words, IsMarked, IsNotMarked, ReadsAlike}
+use Rattle.mirror_image.specs.Sound.{one_has, label_words, IsMarked, IsNotMarked, ReadsAlike}
 use Rattle.mirror_image.specs.Labels.{label_of, label_in, generation, generation_at, leader, leads, zero_words, IsLabel, IsCleared, IsNotCleared}
 use Rattle.mirror_image.specs.Stops.{Made, without, led, generation_left, KeepsLeader}
 use Rattle.mirror_image.specs.Halfway.{LowLabel, LowGeneration, IsLow, HighLabel, Shows, Leads, Yields, Stages, KeepsLow, KeepsLead, KeepsYield, KeepsBoth}

@@ -1,5 +1,5 @@
 -- What holds of a mirror after a write or a fence that leaves it one half, or that its second half makes alone.
-use Rattle.std.proofs.Common.{◌≡◌, inl, inr, ◌<◌, ◌≤◌, ◌+◌, ◌-◌, ◌^◌, ℕ, zero, suc, List, [], ◌∷◌, Bool, true, false, Option, Some, None, refl, ap, sym, subst, ◌∙◌, arith, min, length, drop, if◌then◌else◌}
+use Rattle.std.proofs.Common.{◌≡◌, inl, inr, ◌<◌, ◌≤◌, ◌+◌, ◌-◌, ◌^◌, ℕ, suc, List, ◌∷◌, Bool, true, false, Option, Some, None, refl, ap, sym, subst, ◌∙◌, arith, min, length}
 use Rattle.ap_base.specs.Causes.{next_count}
 use Rattle.line_image.specs.Trace.{Trace, did}
 use Rattle.line_image.specs.Told.{Told, IsCounted}
@@ -11,7 +11,7 @@ use Rattle.mirror_image.specs.declared.halves.Left.TheVariants.{Both, First, Sec
 use Rattle.mirror_image.specs.Joint.{calls_by, joint, most, above, below, top_is_label, label_at, is_label, ahead_by}
 use Rattle.mirror_image.specs.Sound.{IsSoundBy, BothLive, FirstLives, SecondLives, SameMade, Settled, LeavesAlike, IsMarked, IsNotMarked, label_words, done_in}
 use Rattle.mirror_image.proofs.Pushed.{ahead_did, ahead_marked, ahead_first, told_marked, did_at, joint_tells, both_pushed, both_same, both_labelled, first_marked, second_marked, second_pushed, second_remade, marked_on, above_pushed, above_marked, below_pushed, below_marked}
-use Rattle.mirror_image.proofs.Steps.{Adds, sound_dead, sound_both, sound_first, sound_second}
+use Rattle.mirror_image.proofs.Steps.{sound_both, sound_first, sound_second}
 use Rattle.mirror_image.proofs.Exits.{four_of, number_both, live, live_second, some_is, settled_marked, no_more, alike_marked, top_marked, label_marked}
 use Rattle.mirror_image.proofs.Writes.{number_may, May, both_may, alike_did, label_did, top_did, calls_up}
 

@@ -1,16 +1,16 @@
 -- What a call leaves of a mirror, for stops within it and behind it.
-use Rattle.std.proofs.Common.{◌≡◌, inl, inr, ◌⊎◌, ◌<◌, ◌≤◌, ◌+◌, ◌-◌, ◌^◌, ℕ, zero, suc, List, [], ◌∷◌, Bool, true, false, Option, Some, None, All, refl, ap, sym, subst, ◌∙◌, arith, length, min}
+use Rattle.std.proofs.Common.{◌≡◌, inl, inr, ◌<◌, ◌≤◌, ◌+◌, ◌-◌, ◌^◌, ℕ, zero, suc, List, [], ◌∷◌, Bool, true, false, Option, Some, None, All, refl, ap, sym, subst, ◌∙◌, arith, min}
 use Rattle.std.proofs.lemmas.Bool.Decides.{nat_tests}
 use Rattle.ap_base.specs.Causes.{next_count}
 use Rattle.line_image.specs.Trace.{Trace, did, versions, trace_within, made_within, is_made, MayLeave}
-use Rattle.line_image.specs.Told.{Told, IsCounted}
+use Rattle.line_image.specs.Told.{Told}
 use Rattle.line_image.specs.declared.effect.Effect.{Effect}
 use Rattle.line_image.specs.declared.effect.Done.{Done}
 use Rattle.line_image.specs.declared.effect.Done.TheVariants.{Wrote, Fenced}
 use Rattle.mirror_image.specs.declared.halves.Left.{Left}
 use Rattle.mirror_image.specs.declared.halves.Left.TheVariants.{Both, First, Second}
-use Rattle.mirror_image.specs.Joint.{told_by, told_from, ahead_by, joint, calls_by, most, is_label}
-use Rattle.mirror_image.specs.Sound.{IsSoundBy, IsSound, Tells, LeavesAlike, BothLive, SecondLives, label_words, done_in, one_has, IsMarked, both_used, second_used}
+use Rattle.mirror_image.specs.Joint.{told_by, told_from, ahead_by, joint, calls_by, most}
+use Rattle.mirror_image.specs.Sound.{IsSoundBy, IsSound, Tells, LeavesAlike, one_has}
 use Rattle.mirror_image.specs.Leaving.{BothTell}
 use Rattle.mirror_image.specs.Safe.{IsSafe, AreLabelled, HasLabel, Includes, is_labelled, first_label, second_label, shows_first, shows_second}
 use Rattle.mirror_image.specs.Stops.{Made, without, PairingShows, StopsShow}

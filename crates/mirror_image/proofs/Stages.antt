@@ -1,15 +1,14 @@
 -- What a stop leaves of halves within a call.
-use Rattle.std.proofs.Common.{◌≡◌, inl, inr, ◌⊎◌, ◌<◌, ◌≤◌, ◌+◌, ◌-◌, ◌^◌, ℕ, zero, suc, List, [], ◌∷◌, Bool, true, false, nat_eq, nat_le, Option, Some, None, refl, ap, sym, subst, ◌∙◌, arith, length, drop, get_or, slice_index, if◌then◌else◌, ◌==◌, ◌||◌}
+use Rattle.std.proofs.Common.{◌≡◌, inl, inr, ◌⊎◌, ◌<◌, ◌≤◌, ℕ, zero, suc, List, [], ◌∷◌, Bool, true, false, nat_eq, nat_le, Option, Some, None, refl, ap, sym, subst, arith, length, get_or, slice_index, if◌then◌else◌, ◌==◌, ◌||◌}
 use Rattle.std.proofs.lemmas.Bool.Decides.{nat_tests}
-use Rattle.line_image.specs.Trace.{Trace, did, newest, versions, versions_from, versions_after, OneHas, MayLeave, LeavesNow, Outcome, read_word}
-use Rattle.line_image.specs.declared.effect.Effect.{Effect}
+use Rattle.line_image.specs.Trace.{Trace, did, newest, versions, versions_after, OneHas, MayLeave, LeavesNow, Outcome, read_word}
 use Rattle.line_image.specs.declared.effect.Done.{Done}
 use Rattle.line_image.specs.declared.effect.Done.TheVariants.{Wrote, Fenced}
 use Rattle.mirror_image.specs.Joint.{is_label}
 use Rattle.mirror_image.specs.Sound.{label_words, Tells, one_has, done_in}
 use Rattle.mirror_image.specs.Leaving.{BothTell}
 use Rattle.mirror_image.specs.Safe.{HasLabel, Includes}
-use Rattle.mirror_image.specs.Stops.{Made, without, led, generation_left, IsAlone, AreLeft, PairingShows}
+use Rattle.mirror_image.specs.Stops.{Made, without, generation_left, IsAlone, PairingShows}
 use Rattle.mirror_image.proofs.Within.{newest_has, or_mono, has_one, one_has_is, from_some}
 
 some_is : {h k : Trace} → Some h ≡ Some k → h ≡ k

@@ -1,5 +1,5 @@
 -- What holds of a mirror after a write or a fence.
-use Rattle.std.proofs.Common.{◌≡◌, ◌⊎◌, inl, inr, ◌<◌, ◌≤◌, ◌+◌, ◌-◌, ◌^◌, ℕ, List, ◌∷◌, Bool, true, false, Option, Some, None, refl, ap, sym, subst, ◌∙◌, arith, length, min, Result, Ok, Err, OnOk, OnErr, IfErr}
+use Rattle.std.proofs.Common.{◌≡◌, ◌⊎◌, inl, inr, ◌<◌, ◌≤◌, ◌+◌, ◌-◌, ◌^◌, ℕ, List, ◌∷◌, Bool, true, false, Option, Some, None, refl, ap, sym, subst, ◌∙◌, arith, length, min, Result, Ok, Err, OnErr, IfErr}
 use Rattle.std.specs.Result.{is_err}
 use Rattle.ap_base.specs.Causes.{next_count}
 use Rattle.line_image.specs.Trace.{Trace, did, versions, versions_after}
@@ -9,10 +9,10 @@ use Rattle.line_image.specs.declared.effect.Done.TheVariants.{Wrote}
 use Rattle.mirror_image.specs.declared.halves.Left.{Left}
 use Rattle.mirror_image.specs.declared.halves.Left.TheVariants.{Both, First}
 use Rattle.mirror_image.specs.Joint.{calls_by, joint, most, above, top_is_label, label_at, is_label, ahead_by}
-use Rattle.mirror_image.specs.Sound.{Within, Tells, IsSoundBy, BothLive, FirstLives, LeavesAlike, SameMade, IsNotMarked, label_words, done_in}
-use Rattle.mirror_image.proofs.Pushed.{ahead_did, ahead_wrote, tells_did, both_pushed, both_other, both_same, first_same, first_pushed, label_at_pushed, above_pushed}
+use Rattle.mirror_image.specs.Sound.{Within, Tells, IsSoundBy, BothLive, FirstLives, LeavesAlike, SameMade, done_in}
+use Rattle.mirror_image.proofs.Pushed.{ahead_did, ahead_wrote, tells_did, both_pushed, both_other, both_same, first_pushed, label_at_pushed, above_pushed}
 use Rattle.mirror_image.proofs.Within.{within_after}
-use Rattle.mirror_image.proofs.Steps.{sound_dead, sound_both, sound_first}
+use Rattle.mirror_image.proofs.Steps.{sound_both, sound_first}
 use Rattle.mirror_image.proofs.Exits.{four_of, live, live_first, some_is}
 
 -- it was done, or nothing was

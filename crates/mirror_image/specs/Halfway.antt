@@ -1,5 +1,5 @@
 -- What a stop within pairing leaves of a half.
-use Rattle.std.specs.Prelude.{◌≡◌, ◌⊎◌, ◌<◌, ◌≤◌, ◌+◌, ℕ, true, Option, Some, None, length}
+use Rattle.std.specs.Prelude.{◌≡◌, ◌⊎◌, ◌<◌, ◌≤◌, ℕ, true, Option, Some, None, length}
 use Rattle.line_image.specs.Trace.{Trace, Outcome, versions}
 use Rattle.mirror_image.specs.Sound.{one_has, done_in}
 use Rattle.mirror_image.specs.Labels.{label_of, generation}

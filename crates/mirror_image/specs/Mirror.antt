@@ -1,5 +1,5 @@
 -- What a mirror tells that is paired, and one that is closed.
-use Rattle.std.specs.Prelude.{◌≢◌, ◌⊎◌, ◌<◌, ◌^◌, ℕ, None}
+use Rattle.std.specs.Prelude.{◌≡◌, ◌≢◌, ◌⊎◌, ◌<◌, ◌^◌, ℕ, None}
 use Rattle.line_image.specs.Told.{Told, IsCounted}
 use Rattle.mirror_image.specs.declared.state.State.{State}
 use Rattle.mirror_image.specs.declared.state.State.TheVariants.{Paired, Closed}
@@ -23,12 +23,12 @@ abbrev pub IsPairedAs : {P C : Type 0} → (P → Type 0) → State P C → Type
 IsPairedAs is (Paired halves) = is halves
 IsPairedAs is (Closed halves) = ⊥
 
--- a call leaves it paired, and this holds of its halves before and after; or leaves it closed
+-- a call leaves it paired, and this holds of its halves before and after; or leaves it closed, over the same halves as before
 abbrev pub OfCall : {P C : Type 0} → (P → P → Type 0) → State P C → State P C → Type 0
 OfCall is (Paired before) (Paired after) = is before after
 OfCall is (Paired before) (Closed after) = ⊥
 OfCall is (Closed before) (Paired after) = ⊥
-OfCall is (Closed before) (Closed after) = Unit {0}
+OfCall is (Closed before) (Closed after) = after ≡ before
 
 abbrev pub is_closed : {P C : Type 0} → State P C → Type 0
 is_closed (Paired halves) = ⊥

@@ -1,5 +1,5 @@
 -- What holds of a mirror between its calls, for what a stop leaves.
-use Rattle.std.specs.Prelude.{◌≡◌, ◌<◌, ◌-◌, ◌∷◌, ℕ, [], Bool, true, false, Option, Some, None}
+use Rattle.std.specs.Prelude.{◌≡◌, ◌<◌, ◌-◌, ◌∷◌, ℕ, [], Bool, true, false, Option, Some}
 use Rattle.line_image.specs.Trace.{Trace, versions}
 use Rattle.mirror_image.specs.declared.halves.Left.{Left}
 use Rattle.mirror_image.specs.declared.halves.Left.TheVariants.{Both, First, Second}

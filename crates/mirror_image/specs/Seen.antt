@@ -1,12 +1,11 @@
 -- What contracts see of a mirror.
-use Rattle.std.specs.Prelude.{◌≡◌, ◌-◌, ℕ, Result}
-use Rattle.line_image.specs.Told.{Told, IsCounted}
+use Rattle.std.specs.Prelude.{◌-◌, ℕ, Result}
+use Rattle.line_image.specs.Told.{Told}
 use Rattle.line_image.specs.declared.image.Image.{Ghosts}
 use Rattle.mirror_image.specs.declared.state.Mirror.{Mirror}
 use Rattle.mirror_image.specs.Joint.{told_by}
-use Rattle.mirror_image.specs.Order.{in_order_by}
 use Rattle.mirror_image.specs.Leaving.{OfPaired, UsedLeave}
-use Rattle.mirror_image.specs.Mirror.{told_of, faults_of, halves_of, in_order_of, is_closed, IsPairedAs, OfCall}
+use Rattle.mirror_image.specs.Mirror.{told_of, faults_of, halves_of, is_closed, IsPairedAs, OfCall}
 use Rattle.mirror_image.specs.Stops.{PairingShows, StopsShow, KeepsLeader}
 use Rattle.mirror_image.specs.Using.{AsksFirst, CallsBoth, UsesBoth, UsesHalves}
 
@@ -48,7 +47,7 @@ module _ {A B : Type 0} {g : Ghosts A} {h : Ghosts B} where
   abbrev pub UsesItsHalves : Mirror A B g h → Type 0
   UsesItsHalves m = IsPairedAs (λ halves. UsesBoth halves.left halves.alive) m.state
 
-  -- where it is paired, a call that comes to this uses its halves so
+  -- where it is paired, a call that comes to this uses its halves so; closed, they are the same as before
   abbrev pub MirrorUses : {T E : Type 0} → Result T E → Mirror A B g h → Mirror A B g h → Type 0
   MirrorUses result m n = OfCall (λ old new. UsesHalves old.left new.left old.alive new.alive (g.told old.a) (h.told old.b)
       (g.told new.a) (h.told new.b) (g.faults old.a) (h.faults old.b) (g.faults new.a) (h.faults new.b) result) m.state n.state

@@ -95,7 +95,7 @@ impl<A: Image, B: Image> Halves<A, B> {
                 if self.b.read_line(line, into).is_ok() {
                     return Ok(());
                 }
-                self.alive = false; // and isn't asked again
+                self.alive = false;
                 self.faults = self.faults.saturating_add(1);
                 Err(ImageFailed)
             }

@@ -24,7 +24,7 @@ use Rattle.run_types.specs.declared.fault.Which.{Which}
 use Rattle.run_types.specs.declared.fault.Which.TheVariants.{VolatileWords, ImageLines, LogEntries, Threads, FrameSlots, Acts, Monitors}
 use Rattle.run_types.specs.declared.fault.Which.TheVariants.{DirectoryWords, Roots, Files, FileBytes}
 use Rattle.line_image.specs.Told.{Told}
-use Rattle.line_memory.specs.Memory.{Memory}
+use Rattle.line_memory.specs.Memory.{Memory, shown}
 use Rattle.image_layout.specs.Places.{directory_line, directory_word, directory_words, root_slots}
 use Rattle.image_meaning.specs.Checks.{Words}
 use Rattle.image_meaning.specs.Directories.{Directory, directory_of, directory_words_of, has_name, no_entries, spelled_all, with_all}
@@ -44,9 +44,10 @@ use Rattle.directories.specs.ClassSets.{AreEntriesOf, AreInOrder, IsClassShape, 
 use Rattle.directories.specs.Kept.{Kept}
 use Rattle.directories.specs.Planning.{AreOthers, has_entry, lacking, no_room, root_count, roots_left, unless_room, words_left}
 use Rattle.directories.proofs.Grows.{spelled_both}
+use Rattle.directories.proofs.Plans.{none_of_room}
 use Rattle.image_recovery.specs.Recovered.{entries_in}
 use Rattle.set_opening.specs.declared.unopened.Unopened.TheVariants.{Full as FullOf}
-use Rattle.set_opening.specs.Again.{HoldsGraph, IsOverfull, LacksRoom, StoredDirectoriesLackNoRoom}
+use Rattle.set_opening.specs.Again.{HoldsGraph, IsOverfull, LacksRoom, ReadyDirectoriesHadRoom, StoredDirectoriesLackNoRoom}
 use Rattle.set_opening.specs.Arrays.{with_arrays_of}
 use Rattle.set_opening.specs.Fitted.{IsUnfit}
 use Rattle.set_opening.specs.Found.{HasDirectory, IsFound}
@@ -317,6 +318,65 @@ stored_has_room size words directory has set entries its none which lacks =
     let large : IsOverfull (with_all directory []) which =
     subst (λ es. IsOverfull (with_all directory es) which) nothing lacks.too_large in
     not_overfull size words directory has which large
+
+-- ---- what was made ready had room
+
+-- there is enough of this, and of what comes later
+none_later : (which : Which) (left need : ℕ) (later : Option Full) → unless_room which left need later ≡ None → later ≡ None
+none_later which left need later none =
+    let fits = none_of_room which left need later none in
+    rw (le-ltb left need fits) at none
+
+module _ (kept : Kept) (entries : List DirectoryEntry) (unplanned : kept.left ≡ []) (used : kept.used ≡ words_of (entries_in kept))
+    (words : words_of (entries_in kept) ≤ directory_words) (roots : length kept.roots ≤ root_slots) (room : no_room kept entries ≡ None) where
+  abbrev grown : Directory
+  grown = with_all (entries_in kept) entries
+
+  enough_words : IsOverfull grown DirectoryWords → ⊥
+  unfolding words_of
+  enough_words large =
+      let none : length (spelled_all kept.left) ≡ 0 = ap (λ (es : List DirectoryEntry). length (spelled_all es)) unplanned in
+      let fits =
+      none_of_room DirectoryWords (words_left kept) (length (spelled_all entries)) (unless_room Roots (roots_left kept) (root_count entries) None)
+      room in
+      let all = words_all (entries_in kept) entries in
+      omega (arith, none, fits, all, used, words, large)
+
+  enough_roots : IsOverfull grown Roots → ⊥
+  enough_roots large =
+      let fits = none_of_room Roots (roots_left kept) (root_count entries) None
+      (none_later DirectoryWords (words_left kept) (length (spelled_all entries))
+      (unless_room Roots (roots_left kept) (root_count entries) None) room) in
+      let all = roots_all (entries_in kept) entries in
+      omega (arith, fits, all, roots, large)
+
+  -- a directory isn't too large with the entries for which it has room
+  not_grown_over : (which : Which) → IsOverfull grown which → ⊥
+  not_grown_over DirectoryWords large = enough_words large
+  not_grown_over Roots large = enough_roots large
+  not_grown_over VolatileWords large = large
+  not_grown_over ImageLines large = large
+  not_grown_over LogEntries large = large
+  not_grown_over Threads large = large
+  not_grown_over FrameSlots large = large
+  not_grown_over Acts large = large
+  not_grown_over Monitors large = large
+  not_grown_over Files large = large
+  not_grown_over FileBytes large = large
+
+-- so the set's entries were not too many
+pub ready_had_room : ReadyDirectoriesHadRoom
+ready_had_room start before m found directory stood graph lines free is old set fitted which lacks =
+    let plan = fitted.planned in
+    let theirs : AreEntriesOf (facts_of set) (made_of set) lacks.entries =
+    subst (λ (s : Linked). AreEntriesOf (facts_of s) (made_of s) lacks.entries) (sym fitted.set_is) lacks.are_its in
+    let same : lacks.entries ≡ plan.entries =
+    one_list (facts_of set) (made_of set) lacks.entries plan.entries theirs plan.are_its in
+    let large : IsOverfull (with_all (entries_in found) (lacking (entries_in found) plan.entries)) which =
+    subst (λ es. IsOverfull (with_all (entries_in found) (lacking (entries_in found) es)) which) same lacks.too_large in
+    not_grown_over found (lacking (entries_in found) plan.entries) is.unplanned (used_words start before m found stood lines free is)
+    (opened_words m.size (shown m) (entries_in found) is.opens) (directory-few (shown m) (entries_in found) is.opens.entries) plan.room
+    which large
 
 -- ---- no two of them are of one kind and name
 

@@ -22,8 +22,8 @@ use Rattle.set_opening.specs.declared.unopened.Unopened.{Unopened}
 use Rattle.set_opening.specs.declared.unopened.Unopened.TheVariants.{BadImage, ShapeChanged, Full as FullOf, ImageFailed, OutOfMemory}
 use Rattle.set_opening.specs.Arrays.{with_arrays_of}
 use Rattle.set_opening.specs.Attached.{AreRead}
-use Rattle.set_opening.specs.Fitted.{IsOtherShape}
-use Rattle.set_opening.specs.Found.{HasDirectory}
+use Rattle.set_opening.specs.Fitted.{IsFitted, IsOtherShape}
+use Rattle.set_opening.specs.Found.{HasDirectory, IsFound}
 use Rattle.set_opening.specs.Opened.{IsOpenedFor}
 use Rattle.set_opening.specs.Unopened.{IsUnopened}
 
@@ -85,3 +85,9 @@ StoredDirectoriesLackNoRoom = (size : ℕ) (words : Words) (directory : Director
     → (set : Linked) (entries : List DirectoryEntry)
     → AreEntriesOf (facts_of (with_arrays_of set directory.shapes)) (made_of (with_arrays_of set directory.shapes)) entries
     → lacking directory entries ≡ [] → (which : Which) → LacksRoom set directory which → ⊥
+
+-- The directory of an image that was made ready for a set lacked no room for it.
+abbrev pub ReadyDirectoriesHadRoom : Type 0
+ReadyDirectoriesHadRoom = (start : Told) (before m : Memory) (found directory : Kept) (stood graph : Graph) (lines : List ℕ) (free : ℕ)
+    → IsFound start before m found stood lines free → (old set : Linked) → IsFitted old set found directory stood graph
+    → (which : Which) → LacksRoom old (entries_in found) which → ⊥

@@ -10,6 +10,8 @@ mod recovering;
 mod unopened;
 
 pub use first_spaces::{FirstSpaces, a_run_can_begin_over_recovered_images};
-pub use laws::{opened_images_open_again, stored_directories_lack_no_room};
+pub use laws::{
+    opened_images_open_again, ready_directories_had_room, stored_directories_lack_no_room,
+};
 pub use opening::{FoundImage, OpenedImage, complete, find_for};
 pub use unopened::Unopened;

@@ -3,3 +3,4 @@ pub mod Names
 pub mod Numbering
 pub mod Objects
 pub mod Over
+pub mod Passed

@@ -9,3 +9,5 @@ mod roots;
 mod tables;
 
 pub use parts::spaces_parts;
+// what crates above name of the spaces
+pub use two_spaces::TwoSpaces;

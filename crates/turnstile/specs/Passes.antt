@@ -1,5 +1,6 @@
 -- Turnstiles and passes as callers see them.
 use Rattle.std.specs.Prelude.{◌≡◌, ℕ, List, Option, true, length, sum_by}
+use Rattle.atomic_table.specs.Seated.{TableId}
 use Rattle.turnstile.specs.declared.kept.Kept.{Ghosts}
 use Rattle.turnstile.specs.declared.view.Hand.{Hand}
 use Rattle.turnstile.specs.declared.view.Phase.{Phase}
@@ -8,6 +9,13 @@ use Rattle.turnstile.specs.declared.pass.Pass.{Pass}
 use Rattle.turnstile.specs.declared.turnstile.Turnstile.{Turnstile}
 use Rattle.turnstile.specs.Hands.{own_number, own_entries, own_part, own_left, stock}
 use Rattle.turnstile.specs.Views.{is_holding}
+
+-- by what a turnstile is told from others
+abbrev pub TurnstileId : Type 0
+TurnstileId = TableId
+
+abbrev pub turnstile_id : {T E P : Type 0} → Turnstile T E P → TurnstileId
+turnstile_id t = t.table.shared.table_id
 
 -- for how many workers a turnstile has passes
 abbrev pub passes_of : {T E P : Type 0} → Turnstile T E P → ℕ
@@ -44,9 +52,13 @@ module _ {T E P : Type 0} {K : Ghosts T E P} where
   abbrev pub IsHolding : Pass T E P K → Type 0
   IsHolding p = is_holding (phase_of p) ≡ true
 
+  -- of which turnstile it is a pass
+  abbrev pub pass_id : Pass T E P K → TurnstileId
+  pass_id p = p.seat.table_id
+
   -- the pass is one of this turnstile
   abbrev pub IsOf : Pass T E P K → Turnstile T E P → Type 0
-  IsOf p t = p.seat.table_id ≡ t.table.shared.table_id
+  IsOf p t = pass_id p ≡ turnstile_id t
 
   -- No pass of the turnstile is elsewhere: each of its workers has one pass, or stands in the stock of one.
   abbrev pub AreAll : List (Pass T E P K) → Turnstile T E P → Type 0

@@ -11,14 +11,27 @@ use crate::turnstile::Turnstile;
 use crate::view::View;
 use atomic_table::Seat;
 use std::sync::Wait;
-use std::thread;
+use std::sync::atomic::Ordering;
+use std::{hint, thread};
 
 const TICKET: usize = 0;
 
 const SERVING: usize = 1;
 
 /// How often a pass looks before it sleeps: a hold is short, and to sleep and be woken takes longer than many.
-const LOOKS: u32 = 100;
+const LOOKS: u32 = 256;
+
+/// How many of these it makes before it lets another thread have its processor in between.
+const SPINS: u32 = 160;
+
+// What a pass does behind so many looks in vain.
+fn pause(looks: u32) {
+    if looks < SPINS {
+        hint::spin_loop();
+    } else {
+        thread::yield_now();
+    }
+}
 
 impl<T: Kept> Turnstile<T> {
     // Draws a ticket.
@@ -52,12 +65,12 @@ impl<T: Kept> Turnstile<T> {
         ensures found { MatchBool result
             (Found T.worker T.entries T.parts seat.old.me seat.new.me) (seat.new.me ≡ seat.old.me) }
     {
-        for _ in 0..LOOKS {
+        for looks in 0..LOOKS {
             let serving = self.look(seat);
             if serving == ticket {
                 return true;
             }
-            thread::yield_now();
+            pause(looks);
         }
         false
     }
@@ -75,9 +88,11 @@ impl<T: Kept> Turnstile<T> {
         ensures of { seat.new.table_id ≡ seat.old.table_id }
         ensures found { Found T.worker T.entries T.parts seat.old.me seat.new.me }
     {
+        self.asleep.fetch_add(1, Ordering::SeqCst);
         for _ in rt.forever() {
             let serving = self.look(seat);
             if serving == ticket {
+                self.asleep.fetch_sub(1, Ordering::SeqCst);
                 return;
             }
             self.table
@@ -148,9 +163,9 @@ impl<T: Kept> Turnstile<T> {
         ensures agree { Agree T.worker seat.new.me.0.hands (T.entries value) (T.parts value) }
     {
         let _nothing = self.table.shared.exchange(seat, 0, Some(value));
-        let served = self.table.shared.fetch_add::<Raise>(seat, SERVING, 1);
-        // One that draws its ticket behind this look finds the next one served, and won't sleep.
-        if self.table.shared.peek(TICKET) != served.wrapping_add(1) {
+        let _served = self.table.shared.fetch_add::<Raise>(seat, SERVING, 1);
+        // One that is counted behind this look finds the next one served, and won't sleep.
+        if self.asleep.load(Ordering::SeqCst) != 0 {
             self.table.shared.wake_all(SERVING);
         }
     }

@@ -14,12 +14,15 @@ use atomic_table::{Refused, Seat, Table};
 use std::alloc::{AllocFailed, Global};
 use std::snapshot::Snapshot;
 use std::sync::Wait;
+use std::sync::atomic::AtomicU64;
 
 /// A value that workers take one after another, in the order in which they came.
 #[derive(Drop)]
 pub struct Turnstile<T: Kept> {
     pub(crate) table: Table<Option<T>, View<T::Entry, T::Part>, (u64, Snapshot<T>), Law<T>, Global>,
     pub(crate) passes: u64,
+    // how many passes sleep, or are about to
+    pub(crate) asleep: AtomicU64,
     ghost counted: { table.shared.key.0 ≡ passes },
     ghost some: { 0 < passes },
     ghost two_words: { table.shared.table_id.words ≡ 2 },
@@ -50,7 +53,11 @@ impl<T: Kept> Turnstile<T> {
         }
         match Table::new(alloc, &[0, 0], slots, &about) {
             Ok((table, seat)) => Ok((
-                Turnstile { table, passes },
+                Turnstile {
+                    table,
+                    passes,
+                    asleep: AtomicU64::new(0),
+                },
                 Pass {
                     seat,
                     further: passes - 1,
@@ -178,7 +185,7 @@ impl<T: Kept> Turnstile<T> {
         ensures agree { Agree T.worker seat.me.0.hands (T.entries result) (T.parts result) }
         ensures no_other { (n : ℕ) → times n seat.me.0.hands ≡ 0 → entries_by T.worker n (T.entries result) ≡ [] }
     {
-        let Turnstile { table, passes: _ } = self;
+        let Turnstile { table, .. } = self;
         let mut closed = table.close_with(seat);
         let value = closed.take(0);
         closed.free();

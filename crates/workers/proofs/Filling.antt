@@ -5,7 +5,7 @@ use Rattle.std.proofs.lemmas.Bool.{cases_lt}
 use Rattle.std.proofs.lemmas.List.{get_or-set_other, get_or-set_same, length-set}
 use Rattle.std.specs.Prelude.{IfSome, slice_get, slice_set, slice_index_or}
 
-pub some-one : {X : Type 0} (x y : X) → ◌≡◌ {A = Option X} (Some x) (Some y) → x ≡ y
+some-one : {X : Type 0} (x y : X) → ◌≡◌ {A = Option X} (Some x) (Some y) → x ≡ y
 some-one x y e = cc
 
 index-of-get : {X : Type 0} (xs : List (Option X)) (t : ℕ) (x : Option X) → slice_get xs t ≡ Some x

@@ -1,5 +1,5 @@
 -- What a run under a lock knows, from its beginning on.
-use Rattle.std.proofs.Common.{◌≡◌, ℕ, length, true, false, List, Option, Some, None, refl, sym, subst, ◌∙◌}
+use Rattle.std.proofs.Common.{◌≡◌, ℕ, length, true, false, List, Option, Some, None, refl, ap, sym, subst, ◌∙◌}
 use Rattle.std.specs.Prelude.{IfSome, is_some}
 use Rattle.ap_base.specs.declared.reference.Ref.{Ref}
 use Rattle.ap_base.specs.declared.reference.Item.{Item}
@@ -24,12 +24,31 @@ use Rattle.durable_run.specs.Telling.{HasTold, IsCaused}
 use Rattle.durable_run.specs.Turning.{EndsBy, IsReady, fault_in}
 use Rattle.workers.specs.Held.{Began, GoesOn, HasLeft, Held, Holds, IsOf, Knows, began, held}
 use Rattle.workers.proofs.Ending.{size-same, waits-long}
-use Rattle.workers.proofs.Sharing.{shares-both, shares-nothing}
+use Rattle.workers.proofs.Prints.{shares-both, shares-nothing}
 use Rattle.workers.proofs.Telling.{caused-since, told-both, told-nothing}
 
 pub none-of : (over : Option RunFault) → is_some over ≡ false → over ≡ None
 none-of None is = refl
 none-of (Some f) is = absurd (let no : true ≡ false = is in cc)
+
+-- of the same run, with its frames told in another way
+pub knows-as : (entry : Option Began) (s : Shared) (frames frames' : List ThreadFrames) (seen : Option (List Recorded))
+    (taken : Option (List ℕ)) (takes : ℕ → ℕ → Option ℕ) (faults : ℕ) (over over' : Option RunFault)
+    → Knows entry (held s frames seen taken faults over) takes → frames ≡ frames' → over ≡ over'
+    → Knows entry (held s frames' seen taken faults over') takes
+knows-as entry s frames frames' seen taken takes faults over over' knows same how =
+    subst (λ (all : List ThreadFrames). Knows entry (held s all seen taken faults over') takes) same
+    (subst (λ (f : Option RunFault). Knows entry (held s frames seen taken faults f) takes) how knows)
+
+-- a run that isn't over has the frames of 64 threads
+pub many-frames : (entry : Option Began) (s : Shared) (frames : List ThreadFrames) (seen : Option (List Recorded))
+    (taken : Option (List ℕ)) (takes : ℕ → ℕ → Option ℕ) (faults : ℕ) → Knows entry (held s frames seen taken faults None) takes
+    → length frames ≡ 64
+many-frames entry s frames seen taken takes faults knows =
+    let e = knows.0 in
+    let some = knows.2.some in
+    let ready : IsReady some.0 some.1 e.set e.setting s frames = knows.2.goes some.0 some.1 some.2 in
+    ready.many
 
 module _ (set : SetFacts) (x : Setting Native Ref (NativeState Ref) Item) where
   pub starts : (entry : Option Began) (s : Shared) (frames : List ThreadFrames) (seen : Option (List Recorded))
@@ -152,6 +171,10 @@ module _ (entry : Option Began) (k : Held) (s : Shared) (frames : List ThreadFra
       subst (λ (f : Option RunFault). Holds e (held s frames seen taken faults f) takes) same
       (subst (λ (h : Held). Holds e h takes) is holds)
 
+  -- it wasn't over
+  pub knows-again : Knows entry k takes → k.over ≡ None → Knows entry (held s frames seen taken faults None) takes
+  knows-again knows none = (knows.0, knows.1, of-held None (sym (ap (λ (h : Held). h.over) is) ∙ none) knows.0 knows.2)
+
   -- the run was over under the lock
   pub left-over : Knows entry k takes → (f : RunFault) → over ≡ Some f
       → IfSome entry (λ e. HasLeft e (ends.Over f) s seen taken takes faults)
@@ -165,6 +188,27 @@ module _ (entry : Option Began) (k : Held) (s : Shared) (frames : List ThreadFra
         shares = holds.shares;
         cause = holds.cause;
         size = size-same r.0 r.1 e.set e.setting e.heap s e.frames r.2 (holds.goes r.0 r.1 r.2).0;
+      })
+
+  -- it wasn't over, and all threads have ended
+  pub left-ended : Knows entry k takes → over ≡ None → (end : RunEnd)
+      → ((o : Opening) (first : ℕ) (set : SetFacts) (x : Setting Native Ref (NativeState Ref) Item) (all : List ThreadFrames)
+      → IsReady o first set x s all → EndsBy o first end s) → fault_in end ≡ None
+      → IfSome entry (λ e. HasLeft e end s seen taken takes faults)
+  left-ended knows none end ends spared =
+      let e = knows.0 in
+      let holds = of-held None none e knows.2 in
+      let r = holds.some in
+      subst (λ (b : Option Began). IfSome b (λ e. HasLeft e end s seen taken takes faults)) (sym knows.1) (record {
+        ends = λ (o : Opening) (first : ℕ) (was : IsReady o first e.set e.setting e.heap e.frames).
+            ends o first e.set e.setting frames (holds.goes o first was);
+        told = holds.told;
+        shares = holds.shares;
+        cause = subst (λ (f : Option RunFault). IsCaused f e.faults faults (memory_of e.heap.machine).faults (memory_of s.machine).faults)
+            (sym spared) holds.cause;
+        size =
+            let now : IsReady r.0 r.1 e.set e.setting s frames = holds.goes r.0 r.1 r.2 in
+            now.running.runs.keeps.heap.size ∙ sym r.2.running.runs.keeps.heap.size;
       })
 
   pub knows-none : Knows entry k takes → over ≡ None → Knows entry (held s frames seen taken faults None) takes
@@ -205,3 +249,10 @@ module _ (entry : Option Began) (k : Held) (s : Shared) (frames : List ThreadFra
               let now : IsReady r.0 r.1 e.set e.setting s frames = holds.goes r.0 r.1 r.2 in
               size ∙ (now.running.runs.keeps.heap.size ∙ sym r.2.running.runs.keeps.heap.size);
         })
+
+-- what is left of the run of this name
+pub left-of : (entry : Option Began) (b : Began) → entry ≡ Some b → (end : RunEnd) (s : Shared) (seen : Option (List Recorded))
+    (taken : Option (List ℕ)) (takes : ℕ → ℕ → Option ℕ) (faults : ℕ) → IfSome entry (λ e. HasLeft e end s seen taken takes faults)
+    → HasLeft b end s seen taken takes faults
+left-of entry b is end s seen taken takes faults left =
+    subst (λ (e : Option Began). IfSome e (λ e. HasLeft e end s seen taken takes faults)) is left

@@ -1,7 +1,10 @@
 mod Ending
 mod Filling
+mod Frames
 mod Knowing
-mod Sharing
+mod Prints
+mod Seating
 mod Sparing
+mod Stepping
 mod Telling
 pub mod Passed

@@ -15,7 +15,7 @@ use Rattle.durable_run.specs.Sparing.{SparesSink}
 use Rattle.durable_run.specs.Turning.{IsReady}
 use Rattle.durable_run.proofs.Sparing.{spares-both, spares-nothing}
 use Rattle.workers.specs.Held.{Began, Holds, IsOf, Knows, KnowsSink, SparesSince, held}
-use Rattle.workers.proofs.Filling.{some-one}
+use Rattle.workers.proofs.Frames.{some-one}
 use Rattle.workers.proofs.Knowing.{of-entry}
 
 module _ {S : Type 0} (taken : S → Option (List ℕ)) (entry : Option Began) (first : Option S) where

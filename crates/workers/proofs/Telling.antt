@@ -50,7 +50,7 @@ told-both a b c s1 s2 s3 t1 t2 t3 x y = record {
 
 pub caused-since : (over : Option RunFault) (s1 s2 s3 i1 i2 i3 : ℕ) → IsCaused None s1 s2 i1 i2
     → IsCaused over s2 s3 i2 i3 → IsCaused over s1 s3 i1 i3
-caused-since None s1 s2 s3 i1 i2 i3 stood is = (is.0 ∙ stood.0, is.1 ∙ stood.1)
-caused-since (Some fault.SinkFault) s1 s2 s3 i1 i2 i3 stood is = (is.0 ∙ ap next_count stood.0, is.1 ∙ stood.1)
-caused-since (Some fault.ImageFault) s1 s2 s3 i1 i2 i3 stood is = (is.0 ∙ stood.0, is.1 ∙ ap next_count stood.1)
-caused-since (Some f) s1 s2 s3 i1 i2 i3 stood is = (is.0 ∙ stood.0, is.1 ∙ stood.1)
+caused-since None s1 s2 s3 i1 i2 i3 same is = (is.0 ∙ same.0, is.1 ∙ same.1)
+caused-since (Some fault.SinkFault) s1 s2 s3 i1 i2 i3 same is = (is.0 ∙ ap next_count same.0, is.1 ∙ same.1)
+caused-since (Some fault.ImageFault) s1 s2 s3 i1 i2 i3 same is = (is.0 ∙ same.0, is.1 ∙ ap next_count same.1)
+caused-since (Some f) s1 s2 s3 i1 i2 i3 same is = (is.0 ∙ same.0, is.1 ∙ same.1)

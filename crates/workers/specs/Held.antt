@@ -1,5 +1,5 @@
 -- A run that lies under a lock, and what it knows of its beginning.
-use Rattle.std.specs.Prelude.{◌≡◌, ℕ, List, Option, Some, None, IfSome}
+use Rattle.std.specs.Prelude.{◌≡◌, ℕ, true, List, All, Option, Some, None, IfSome}
 use Rattle.ap_base.specs.declared.reference.Ref.{Ref}
 use Rattle.ap_base.specs.declared.reference.Item.{Item}
 use Rattle.run_types.specs.declared.fault.RunFault.{RunFault}
@@ -8,6 +8,7 @@ use Rattle.natives.specs.declared.states.NativeState.{NativeState}
 use Rattle.run_history.specs.Recorded.{Recorded}
 use Rattle.plain_model.specs.Facts.{SetFacts}
 use Rattle.frames.specs.Settings.{Setting}
+use Rattle.shared_objects.specs.declared.threads.ThreadState.{ThreadState}
 use Rattle.run_forms.specs.Views.{ThreadFrames}
 use Rattle.durable_run.specs.Passed.{Opening, memory_of}
 use Rattle.durable_run.specs.Passed.{Shared}
@@ -112,3 +113,9 @@ abbrev pub KnowsSink : {S : Type 0} → (S → Option (List ℕ)) → Option Beg
     → Type 0
 KnowsSink {S = S} taken entry first over last s = (e : Began) × (sink : S) × (entry ≡ Some e) × (first ≡ Some sink)
     × SparesSince taken e over sink last s
+
+-- ---- the end
+
+-- It is over, or all threads have ended.
+abbrev pub HasEnded : Held → Type 0
+HasEnded k = k.over ≡ None → All (λ (state : ThreadState). state.ended ≡ true) k.heap.machine.rest.threads

@@ -33,4 +33,16 @@ impl Crew {
         }
         self.mine[(thread.number() % self.workers) as usize]
     }
+
+    /// The thread of the least of these workers.
+    pub(crate) fn first(&self) -> ThreadNo {
+        for n in 0..64 {
+            if self.mine[n as usize] {
+                if let Some(t) = ThreadNo::new(n) {
+                    return t;
+                }
+            }
+        }
+        ThreadNo::main()
+    }
 }

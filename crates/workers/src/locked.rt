@@ -1,86 +1,83 @@
-// What lies under the lock.
-ghost use Rattle.std.specs.Prelude.{◌≡◌, ℕ, Some, None};
-ghost use Rattle.durable_run.specs.Passed.{Opening};
-ghost use Rattle.durable_run.specs.Turning.{IsReady};
-ghost use Rattle.workers.specs.Held.{IsOf, Knows, KnowsSink, began, held};
+// A run that host threads share: what each event changes.
+ghost use Rattle.std.specs.Prelude.{◌≡◌, ◌<◌, ℕ, List, [], length, slice_get, slice_set, IsTrue, IsSome, IfSome, Some, None, true, false};
+ghost use Rattle.durable_run.specs.Passed.{memory_of, asked_by};
+ghost use Rattle.durable_run.specs.Apart.{after_event};
+ghost use Rattle.durable_run.specs.Events.{AddsBy, StepsTo, fault_of};
+ghost use Rattle.durable_run.specs.Passed.{Halt, Opening};
+ghost use Rattle.durable_run.specs.Shares.{PrintsShares};
+ghost use Rattle.durable_run.specs.Sparing.{SparesSink};
+ghost use Rattle.durable_run.specs.Telling.{HasTold, IsCaused};
+ghost use Rattle.durable_run.specs.Turning.{is_live};
+ghost use Rattle.run_forms.specs.Views.{ThreadFrames};
+ghost use Rattle.turnstile.specs.Entries.{AddsBy as AddsEntriesBy, SameButOf};
+ghost use Rattle.workers.specs.Held.{IsOf, Knows, KnowsSink, HasEnded, held};
+ghost use Rattle.workers.specs.Shared.{ComesSo, IsAskedAs, IsNext, IsOfRun, all_frames, begins_after, desked, values_of};
 
+use crate::alone::Alone;
 use crate::crew::Crew;
+use crate::ends::{Left, all_ended};
 use crate::halts::fault_of;
+use crate::names::Naming;
+use crate::notes::{Note, Noted, note};
 use crate::waiting::{Before, Came, Due, Rouses};
-use ap_base::{Gate, Item, NoGate, Ref, Sink, ThreadNo};
-use durable_run::{Run, Stepped, is_live, step};
+use ap_base::{Item, Ref, Sink, ThreadNo};
+use durable_run::{Begun, Frames, Run, SharedHeap, Stepped, is_live, step_asked, step_begun};
 use frame_thread::Host;
 use line_image::Image;
 use natives::{Native, NativeState};
 use run_history::Watcher;
 use run_types::{On, RunFault};
 use shared_objects::Types;
-use std::marker::{Brand, Model, PhantomData};
+use std::marker::{Model, PhantomData};
 
-/// What a run began with, and its sink then. Each call of `run_all` picks them.
-pub trait Naming<S> {
-    ghost use Rattle.std.specs.Prelude.{Option};
-    ghost use Rattle.workers.specs.Held.{Began};
-
-    ghost entry: { Option Began };
-
-    ghost sink: { Option S };
-}
-
-impl<S> Naming<S> for Brand {
-    ghost use Rattle.std.specs.Prelude.{None};
-
-    ghost entry = { None };
-
-    ghost sink = { None };
-}
-
-/// A run that knows what it began with. Contracts see a `Held`.
+/// A run whose threads' frames lie apart, each with the host thread that has them. Contracts see a `Desked`.
 #[derive(Drop)]
-pub(crate) struct Locked<J: Naming<S>, I: Image, S: Sink, W: Watcher> {
-    run: Run<I, S, W>,
+pub(crate) struct Locked<J: Naming<S>, I: Image, S: Sink, W: Watcher, N: Noted + Drop = Note> {
+    heap: SharedHeap<I>,
+    sink: S,
+    watcher: W,
+    // The frames that each thread had behind its last event, for proofs alone.
+    notes: Vec<N>,
+    // The Thread objects of threads that were started and haven't begun yet.
+    begins: [Option<Ref>; 64],
+    // How many acts there were when host threads began to share it.
+    from: u32,
     over: Option<RunFault>,
     due: Due,
     of: PhantomData<J>,
 }
 
-impl<J: Naming<S>, I: Image, S: Sink, W: Watcher> Model for Locked<J, I, S, W> {
-    ghost use Rattle.workers.specs.Held.{Held, Knows, KnowsSink, held};
+impl<J: Naming<S>, I: Image, S: Sink, W: Watcher, N: Noted + Drop> Model for Locked<J, I, S, W, N> {
+    ghost use Rattle.std.specs.Prelude.{◌≤◌, length, map};
+    ghost use Rattle.workers.specs.Held.{Knows, KnowsSink, held};
+    ghost use Rattle.workers.specs.Shared.{Desked, desked, all_frames, entries_from};
 
-    ghost Value = { Held };
+    ghost Value = { Desked };
 
-    ghost view = { λ k. held k.run.heap k.run.frames.items (W.seen k.run.watcher) (S.taken k.run.sink)
-        (S.faults k.run.sink) k.over };
+    ghost view = { λ k. desked (held k.heap (all_frames k.begins (map N.frames k.notes.items)) (W.seen k.watcher)
+        (S.taken k.sink) (S.faults k.sink) k.over) (map N.frames k.notes.items) (entries_from k.from k.heap.history.acts) };
 
-    ghost invariant = { λ k. Knows J.entry (held k.run.heap k.run.frames.items (W.seen k.run.watcher)
-        (S.taken k.run.sink) (S.faults k.run.sink) k.over) (S.takes k.run.sink)
-        × KnowsSink S.taken J.entry J.sink k.over k.run.sink k.run.heap };
+    ghost invariant = { λ k. Knows J.entry (held k.heap (all_frames k.begins (map N.frames k.notes.items)) (W.seen k.watcher)
+        (S.taken k.sink) (S.faults k.sink) k.over) (S.takes k.sink) × (k.from ≤ length k.heap.history.acts)
+        × KnowsSink S.taken J.entry J.sink k.over k.sink k.heap };
 }
 
-/// What a worker is told of an event.
+/// What a host thread is told of an event of a thread.
 #[derive(Clone, Copy)]
 pub(crate) struct Told {
     pub(crate) came: Came,
     pub(crate) rouses: Rouses,
-    /// How many threads are started.
-    pub(crate) started: usize,
-}
-
-impl Told {
-    fn of(came: Came, rouses: Rouses, started: usize) -> Told {
-        Told {
-            came,
-            rouses,
-            started,
-        }
-    }
+    /// Whether the run goes on, and the thread lives.
+    pub(crate) lives: bool,
+    /// Whether the thread may have a further event before one of another rings a bell.
+    pub(crate) may: bool,
 }
 
 /// What there is to do for a crew.
 #[derive(Clone, Copy, PartialEq, Eq)]
 pub(crate) enum Call {
-    /// One of its threads may have an event; so many threads are started.
-    Go(usize),
+    /// One of its threads may have an event.
+    Go,
     /// One of its threads has had its events of this round, and the others that live have too, or wait.
     Spent,
     /// Each of its threads that live waits.
@@ -92,9 +89,12 @@ pub(crate) enum Call {
 }
 
 impl Call {
-    // What there is to do for a crew with another thread that lives, which has no event.
-    fn with(self, other: Call) -> Call {
+    // What there is to do for a crew that has both.
+    fn with(self, other: Call) -> Call
+        ensures goes { (self ≡ Call.Done → ⊥) → (other ≡ Call.Done → ⊥) → result ≡ Call.Done → ⊥ }
+    {
         match (self, other) {
+            (Call::Go, _) | (_, Call::Go) => Call::Go,
             (Call::Spent, _) | (_, Call::Spent) => Call::Spent,
             (Call::Wait, _) | (_, Call::Wait) => Call::Wait,
             _ => other,
@@ -102,17 +102,34 @@ impl Call {
     }
 }
 
-/// How far a thread that lives is.
+/// What a host thread finds as it looks at a run.
 #[derive(Clone, Copy)]
-pub(crate) struct Progress {
-    /// Its turns so far.
-    pub(crate) turns: u64,
-    /// Whether the last one isn't answered yet.
-    pub(crate) asks: bool,
+pub(crate) struct Look {
+    pub(crate) call: Call,
+    /// Which of its threads may have an event.
+    pub(crate) may: [bool; 64],
+    /// Whether one of its threads lives and may have none.
+    pub(crate) stilled: bool,
+    /// Whether from now on it sees to it that the round ends: there is no other one that does.
+    pub(crate) watches: bool,
+}
+
+impl Look {
+    /// There is nothing to do any more.
+    pub(crate) fn done() -> Look {
+        Look {
+            call: Call::Done,
+            may: [false; 64],
+            stilled: false,
+            watches: false,
+        }
+    }
 }
 
 // How an event went of a thread that waited so before, and lives now or not.
-fn came_of(stepped: &Stepped, waited: Option<On>, lives: bool) -> Came {
+fn came_of(stepped: &Stepped, waited: Option<On>, lives: bool) -> Came
+    ensures over { result ≡ Came.Over → (halt : Halt) × (stepped.now ≡ Stepped.Over halt) }
+{
     match *stepped {
         Stepped::Acted => { if lives { Came::Answered } else { Came::Ended } }
         Stepped::Micro => Came::Asks,
@@ -127,60 +144,252 @@ fn came_of(stepped: &Stepped, waited: Option<On>, lives: bool) -> Came {
     }
 }
 
+// The event of a thread: of the turn that has begun so, or of the request that isn't answered yet.
+fn event<C: Types, I: Image, H: Host<Native, Ref, NativeState, Item>, S: Sink, W: Watcher>(
+    heap: &mut SharedHeap<I>,
+    sink: &mut S,
+    watcher: &mut W,
+    set: &C,
+    host: &H,
+    t: ThreadNo,
+    frames: &mut Frames<Ref, NativeState>,
+    begun: Option<Begun>,
+) -> Stepped
+    requires next { (o : Opening) × (first : ℕ) × (all : List ThreadFrames) × (before : ThreadFrames)
+        × IsNext o first (C.facts set.now) (H.setting host.now) heap.old all t begun before frames.old }
+    ensures goes { (o : Opening) (first : ℕ) (all : List ThreadFrames) (before : ThreadFrames)
+        → IsNext o first (C.facts set.now) (H.setting host.now) heap.old all t begun before frames.old
+        → StepsTo o first (C.facts set.now) (H.setting host.now) t result heap.old heap.new
+        (after_event result heap.old heap.new (slice_set all t frames.new)) }
+    ensures acts { AddsBy result t heap.old.history.acts heap.new.history.acts }
+    ensures told { HasTold heap.old.history.acts heap.new.history.acts (W.seen watcher.old) (W.seen watcher.new)
+        (S.taken sink.old) (S.taken sink.new) }
+    ensures shares { (o : Opening) (first : ℕ) (all : List ThreadFrames) (before : ThreadFrames)
+        → IsNext o first (C.facts set.now) (H.setting host.now) heap.old all t begun before frames.old
+        → PrintsShares o.launch (S.takes sink.old) (S.takes sink.new) heap.old.history.acts heap.new.history.acts }
+    ensures spares { (o : Opening) (first : ℕ) (all : List ThreadFrames) (before : ThreadFrames)
+        → IsNext o first (C.facts set.now) (H.setting host.now) heap.old all t begun before frames.old
+        → SparesSink S.taken o.launch (fault_of heap.new result) sink.old sink.new
+        heap.old.history.acts heap.new.history.acts }
+    ensures cause { IsCaused (fault_of heap.new result) (S.faults sink.old) (S.faults sink.new)
+        (memory_of heap.old.machine).faults (memory_of heap.new.machine).faults }
+{
+    match begun {
+        Some(begun) => step_begun(heap, sink, watcher, set, host, t, frames, begun),
+        None => step_asked(heap, sink, watcher, set, host, t, frames),
+    }
+}
+
+// Whether a thread lives and has begun, and its event is one of a turn that has begun so, or else isn't answered yet.
+fn is_awaited<I: Image>(
+    heap: &SharedHeap<I>,
+    begins: &[Option<Ref>; 64],
+    t: ThreadNo,
+    begun: &Option<Begun>,
+) -> bool
+    ensures live { IsTrue result → is_live heap.now.machine.rest.threads t ≡ true }
+    ensures begins { IsTrue result → slice_get begins.now t ≡ Some None }
+    ensures asked { IsTrue result → IsAskedAs begun.now (asked_by heap.now.notes t) }
+{
+    if !is_live(heap.threads(), t) || begins[t.number() as usize].is_some() {
+        return false;
+    }
+    match begun {
+        Some(_) => !heap.has_asked(t),
+        None => heap.has_asked(t),
+    }
+}
+
+// What an event that started a thread changes: it begins by its Thread object.
+fn note_started<I: Image>(
+    begins: &mut [Option<Ref>; 64],
+    heap: &SharedHeap<I>,
+    before: usize,
+    stepped: &Stepped,
+)
+    ensures { begins.new ≡ begins_after stepped.now before heap.now begins.old }
+{
+    let Stepped::Acted = stepped else {
+        return;
+    };
+    if heap.threads().count() <= before {
+        return;
+    }
+    let Some(child) = ThreadNo::new(before as u8) else {
+        return;
+    };
+    if let Some(thread) = heap.begins(child) {
+        begins[child.number() as usize] = Some(thread);
+    }
+}
+
+// A thread with these frames begins, where it was started and hasn't begun yet.
+fn begin_started(
+    begins: &mut [Option<Ref>; 64],
+    notes: &mut Vec<Note>,
+    t: ThreadNo,
+    frames: &mut Frames<Ref, NativeState>,
+)
+    requires noted { slice_get (values_of notes.old.items) t ≡ Some frames.old }
+    ensures all { all_frames begins.new (values_of notes.new.items)
+        ≡ all_frames begins.old (values_of notes.old.items) }
+    ensures others { SameButOf t (values_of notes.old.items) (values_of notes.new.items) }
+    ensures noted { slice_get (values_of notes.new.items) t ≡ Some frames.new }
+    ensures begun { slice_get begins.new t ≡ Some None }
+{
+    let at = t.number() as usize;
+    let Some(thread) = begins[at] else {
+        return;
+    };
+    frames.begin_thread(thread);
+    begins[at] = None;
+    note(notes, t, frames);
+}
+
+impl Told {
+    /// Of an event that wasn't made.
+    pub(crate) fn refused(came: Came) -> Told
+        ensures came { result.came ≡ came }
+        ensures lives { result.lives ≡ false }
+        ensures may { result.may ≡ false }
+    {
+        Told {
+            came,
+            rouses: Rouses::Nobody,
+            lives: false,
+            may: false,
+        }
+    }
+}
+
 impl<J: Naming<S>, I: Image, S: Sink, W: Watcher> Locked<J, I, S, W> {
-    /// A run from here on.
-    pub(crate) fn new<C: Types, H: Host<Native, Ref, NativeState, Item>>(
-        run: Run<I, S, W>,
-        set: &C,
-        host: &H,
+    /// A run from here on, whose frames were noted as they are.
+    pub(crate) fn new(
+        heap: SharedHeap<I>,
+        sink: S,
+        watcher: W,
+        notes: Vec<Note>,
     ) -> Locked<J, I, S, W>
-        requires entry { J.entry ≡ Some (began (C.facts set.now) (H.setting host.now) run.heap run.frames.items
-            (W.seen run.watcher) (S.taken run.sink) (S.takes run.sink) (S.faults run.sink)) }
-        requires sink { J.sink ≡ Some run.sink }
-        requires ready { (o : Opening) × (first : ℕ)
-            × IsReady o first (C.facts set.now) (H.setting host.now) run.heap run.frames.items }
-        ensures new { result ≡ held run.heap run.frames.items (W.seen run.watcher) (S.taken run.sink)
-            (S.faults run.sink) None }
+        requires knows { Knows J.entry (held heap (values_of notes.items) (W.seen watcher) (S.taken sink)
+            (S.faults sink) None) (S.takes sink) }
+        requires sink { KnowsSink S.taken J.entry J.sink None sink heap }
+        requires many { length notes.items ≡ 64 }
+        ensures new { result ≡ desked (held heap (values_of notes.items) (W.seen watcher) (S.taken sink)
+            (S.faults sink) None) (values_of notes.items) [] }
     {
         Locked {
-            run,
+            from: heap.acts().len(),
+            heap,
+            sink,
+            watcher,
+            notes,
+            begins: [None; 64],
             over: None,
             due: Due::all(),
             of: PhantomData,
         }
     }
 
-    /// How many threads were started.
-    pub(crate) fn started(&self) -> usize {
-        self.run.heap.threads().count()
-    }
-
-    /// Whether thread 0 is the only one that was started, and the run isn't over.
-    pub(crate) fn is_alone(&self) -> bool {
-        self.goes_on() && self.started() == 1
-    }
-
-    // Whether it isn't over.
-    fn goes_on(&self) -> bool {
-        self.over.is_none()
-    }
-
-    /// Whether the run is over, or no thread lives.
-    pub(crate) fn is_done(&self) -> bool {
-        let nobody = Crew::none(1);
-        self.call(&nobody) == Call::Done
+    /// How many acts there are since host threads share it.
+    pub(crate) fn made(&self) -> u64
+        ensures { result ≡ length self.now.entries }
+    {
+        u64::from(self.heap.acts().len() - self.from)
     }
 
     fn lives(&self, t: ThreadNo) -> bool {
-        is_live(self.run.heap.threads(), t)
+        is_live(self.heap.threads(), t)
     }
 
-    // What there is to do for a crew at a thread that lives.
-    fn call_of(&self, crew: &Crew, t: ThreadNo) -> Call {
-        if !crew.has(t) {
+    /// One event of a thread, whose turn has begun so with these frames, or else isn't answered yet. None where the run is over; nor
+    /// where what its host thread knows isn't so, which doesn't come.
+    pub(crate) fn step<C: Types, H: Host<Native, Ref, NativeState, Item>>(
+        &mut self,
+        set: &C,
+        host: &H,
+        t: ThreadNo,
+        frames: &mut Frames<Ref, NativeState>,
+        begun: Option<Begun>,
+    ) -> Told
+        requires of { IsOf (C.facts set.now) (H.setting host.now) J.entry }
+        requires comes { (before : ThreadFrames) × (slice_get self.old.noted t ≡ Some before)
+            × ComesSo (H.setting host.now) begun before frames.old }
+        ensures entries { AddsEntriesBy (λ a. a.thread) t self.old.entries self.new.entries }
+        ensures others { SameButOf t self.old.noted self.new.noted }
+        ensures noted { result.lives ≡ true → slice_get self.new.noted t ≡ Some frames.new }
+        ensures program { result.lives ≡ true → IsOfRun J.entry frames.new }
+        ensures lives { result.lives ≡ true → is_live self.new.run.heap.machine.rest.threads t ≡ true }
+        ensures may { result.may ≡ true → result.lives ≡ true }
+        ensures over { result.came ≡ Came.Over → IsSome self.new.run.over }
+    {
+        if self.over.is_some() {
+            return Told::refused(Came::Over);
+        }
+        if !is_awaited(&self.heap, &self.begins, t, &begun) {
+            return Told::refused(Came::Idle);
+        }
+        let before = Before::of(&self.heap, t);
+        let stepped = event(
+            &mut self.heap,
+            &mut self.sink,
+            &mut self.watcher,
+            set,
+            host,
+            t,
+            frames,
+            begun,
+        );
+        note(&mut self.notes, t, frames);
+        note_started(&mut self.begins, &self.heap, before.started, &stepped);
+        let lives = is_live(self.heap.threads(), t);
+        let came = came_of(&stepped, before.waited, lives);
+        let rouses = self.due.note(&self.heap, t, came, before);
+        let may = lives && self.due.has(t);
+        if let Stepped::Over(halt) = stepped {
+            self.over = Some(fault_of(&self.heap, halt));
+            return Told {
+                came,
+                rouses,
+                lives: false,
+                may: false,
+            };
+        }
+        Told {
+            came,
+            rouses,
+            lives,
+            may,
+        }
+    }
+
+    /// The host thread of a thread that lives begins with its frames, which are begun where it was started since. Whether its last turn
+    /// isn't answered yet; none where it doesn't live.
+    pub(crate) fn take_up(
+        &mut self,
+        t: ThreadNo,
+        frames: &mut Frames<Ref, NativeState>,
+    ) -> Option<bool>
+        requires noted { slice_get self.old.noted t ≡ Some frames.old }
+        ensures entries { self.new.entries ≡ self.old.entries }
+        ensures others { SameButOf t self.old.noted self.new.noted }
+        ensures noted { slice_get self.new.noted t ≡ Some frames.new }
+        ensures program { IfSome result (λ asks. IsOfRun J.entry frames.new) }
+    {
+        if self.over.is_some() || !is_live(self.heap.threads(), t) {
+            return None;
+        }
+        begin_started(&mut self.begins, &mut self.notes, t, frames);
+        Some(self.heap.has_asked(t))
+    }
+
+    // What there is to do for a crew at a thread.
+    fn call_of(&self, crew: &Crew, t: ThreadNo) -> Call
+        ensures goes { result ≡ Call.Done → ⊥ }
+    {
+        if !crew.has(t) || !self.lives(t) {
             Call::Idle
         } else if self.due.has(t) {
-            Call::Go(self.started())
+            Call::Go
         } else if self.due.has_had_all(t) {
             Call::Spent
         } else {
@@ -188,121 +397,96 @@ impl<J: Naming<S>, I: Image, S: Sink, W: Watcher> Locked<J, I, S, W> {
         }
     }
 
-    /// What there is to do for a crew.
-    pub(crate) fn call(&self, crew: &Crew) -> Call {
-        if !self.goes_on() {
-            return Call::Done;
+    /// What there is to do for a crew, of which a host thread saw to it that the round ends, or didn't.
+    pub(crate) fn look(&mut self, crew: &Crew, watched: bool) -> Look
+        ensures same { self.new ≡ self.old }
+        ensures done { result.call ≡ Call.Done → HasEnded self.old.run }
+    {
+        if self.is_done() {
+            return Look::done();
         }
-        let mut call = Call::Done;
+        let mut call = Call::Idle;
+        let mut may = [false; 64];
+        let mut stilled = false;
         for n in 0..64 {
             let Some(t) = ThreadNo::new(n) else {
                 continue;
             };
-            if !self.lives(t) {
-                continue;
-            }
             let one = self.call_of(crew, t);
-            if let Call::Go(_) = one {
-                return one;
-            }
+            may[n as usize] = one == Call::Go;
+            stilled |= one == Call::Spent || one == Call::Wait;
             call = call.with(one);
         }
-        call
-    }
-
-    /// Whether from now on this host thread is the one that sees to it that the round ends: there is no other.
-    pub(crate) fn watch(&mut self) -> bool {
-        self.due.watch()
-    }
-
-    /// It is no longer so.
-    pub(crate) fn end_watch(&mut self) {
-        self.due.end_watch();
-    }
-
-    /// Ends the round.
-    pub(crate) fn end_round(&mut self) {
-        self.due.end_round();
-    }
-
-    /// How far a thread is, if it lives.
-    pub(crate) fn place(&self, t: ThreadNo) -> Option<Progress> {
-        if self.lives(t) {
-            Some(Progress {
-                turns: self.run.turns[t.number() as usize],
-                asks: self.run.heap.has_asked(t),
-            })
-        } else {
-            None
+        let watches = self.due.watch(call == Call::Spent, watched);
+        Look {
+            call,
+            may,
+            stilled,
+            watches,
         }
     }
 
-    /// One event of a thread, unless the run is over, the thread doesn't live, what it waited for hasn't changed, or it has had
-    /// its events of this round.
-    pub(crate) fn step<C: Types, H: Host<Native, Ref, NativeState, Item>>(
-        &mut self,
-        set: &C,
-        host: &H,
-        t: ThreadNo,
-    ) -> Told
-        requires of { IsOf (C.facts set.now) (H.setting host.now) J.entry }
+    /// Ends the round, unless the bells were rung since it was to end.
+    pub(crate) fn end_round(&mut self, rung: bool)
+        ensures same { self.new ≡ self.old }
     {
-        let started = self.run.heap.threads().count();
-        if self.over.is_some() {
-            return Told::of(Came::Over, Rouses::Everybody, started);
+        if !rung {
+            self.due.end_round();
         }
-        if !is_live(self.run.heap.threads(), t) {
-            return Told::of(Came::Idle, Rouses::Nobody, started);
-        }
-        if !self.due.has(t) {
-            return Told::of(Came::StillWaits, Rouses::Nobody, started);
-        }
-        let before = Before::of(&self.run.heap, t);
-        let stepped = step(&mut self.run, set, host, &NoGate, t);
-        let lives = is_live(self.run.heap.threads(), t);
-        let came = came_of(&stepped, before.waited, lives);
-        let rouses = self.due.note(&self.run.heap, t, came, before);
-        let started = self.run.heap.threads().count();
-        if let Stepped::Over(halt) = stepped {
-            self.over = Some(fault_of(&self.run.heap, halt));
-        }
-        Told::of(came, rouses, started)
     }
 
-    /// One event of the thread that was started first, with this gate, unless the run is over or the thread has ended. Whether
-    /// there may be another one, and no further thread was started.
-    pub(crate) fn step_alone<C: Types, H: Host<Native, Ref, NativeState, Item>, G: Gate>(
-        &mut self,
-        set: &C,
-        host: &H,
-        gate: &G,
-        t: ThreadNo,
-    ) -> bool
-        requires of { IsOf (C.facts set.now) (H.setting host.now) J.entry }
+    /// Whether the run is over, or all threads have ended.
+    pub(crate) fn is_done(&self) -> bool
+        ensures { IsTrue result → HasEnded self.now.run }
     {
-        if self.over.is_some() {
-            return false;
-        }
-        if !is_live(self.run.heap.threads(), t) {
-            return false;
-        }
-        let stepped = step(&mut self.run, set, host, gate, t);
-        let started = self.run.heap.threads().count();
-        if let Stepped::Over(halt) = stepped {
-            let fault = fault_of(&self.run.heap, halt);
-            self.over = Some(fault);
-        }
-        started == 1
+        self.over.is_some() || all_ended(self.heap.threads())
     }
 
     /// The fault by which the run is over, if it is, and what is left.
-    pub(crate) fn finish(self) -> (Option<RunFault>, Run<I, S, W>)
-        ensures left { self ≡ held result.1.heap result.1.frames.items (W.seen result.1.watcher)
-            (S.taken result.1.sink) (S.faults result.1.sink) result.0 }
-        ensures knows { Knows J.entry self (S.takes result.1.sink) }
+    pub(crate) fn finish(self) -> (Option<RunFault>, Left<I, S, W>)
+        ensures left { (frames : List ThreadFrames) × (self.run ≡ held result.1.heap frames (W.seen result.1.watcher)
+            (S.taken result.1.sink) (S.faults result.1.sink) result.0) }
+        ensures knows { Knows J.entry self.run (S.takes result.1.sink) }
         ensures sink { KnowsSink S.taken J.entry J.sink result.0 result.1.sink result.1.heap }
     {
-        let Locked { run, over, .. } = self;
-        (over, run)
+        let Locked {
+            heap,
+            sink,
+            watcher,
+            over,
+            ..
+        } = self;
+        (
+            over,
+            Left {
+                heap,
+                sink,
+                watcher,
+            },
+        )
+    }
+
+    /// The run again, with all its frames, where none of them was taken up.
+    pub(crate) fn alone(
+        self,
+        frames: Vec<Frames<Ref, NativeState>>,
+        turns: [u64; 64],
+    ) -> Alone<J, I, S, W>
+        requires all { self.run.frames ≡ frames.items }
+        requires goes { self.run.over ≡ None }
+    {
+        let Locked {
+            heap,
+            sink,
+            watcher,
+            ..
+        } = self;
+        Alone::again(Run {
+            frames,
+            heap,
+            sink,
+            watcher,
+            turns,
+        })
     }
 }

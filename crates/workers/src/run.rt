@@ -1,29 +1,39 @@
 // Whole runs.
-ghost use Rattle.std.specs.Prelude.{◌≡◌, ℕ, IfSome, Some};
+ghost use Rattle.std.specs.Prelude.{◌≡◌, ℕ, length, IfSome, Some};
 ghost use Rattle.durable_run.specs.Passed.{Opening, memory_of};
 ghost use Rattle.durable_run.specs.Shares.{PrintsShares};
 ghost use Rattle.durable_run.specs.Sparing.{SparesSink};
 ghost use Rattle.durable_run.specs.Telling.{HasTold, IsCaused};
 ghost use Rattle.durable_run.specs.Turning.{EndsBy, IsReady, fault_in};
-ghost use Rattle.workers.specs.Held.{IsOf, HasLeft, SparesSince, began};
+ghost use Rattle.turnstile.specs.Hands.{hands_from};
+ghost use Rattle.turnstile.specs.Passes.{IsIdle, IsOf as IsOfTurnstile, hands_of, turnstile_id};
+ghost use Rattle.workers.specs.Held.{IsOf, HasEnded, HasLeft, SparesSince, began};
 
+use crate::alone::Alone;
+use crate::bells::Bells;
 use crate::crew::Crew;
-use crate::job::{Bells, work, work_alone};
-use crate::locked::{Locked, Naming};
+use crate::desk::Desk;
+use crate::ends::{Left, ended_alone, ended_shared};
+use crate::hall::{Hall, seats_of};
+use crate::job::{work, work_alone};
+use crate::locked::Locked;
+use crate::names::{Naming, Sharing};
+use crate::opening::{Opened, open};
 use ap_base::{Gate, Item, Ref, Sink};
-use durable_run::{Run, RunEnd, run_threads};
+use durable_run::{Run, RunEnd};
 use frame_thread::Host;
 use line_image::Image;
 use natives::{Native, NativeState};
 use run_history::Watcher;
 use shared_objects::Types;
 use std::marker::Brand;
-use std::sync::{Mutex, Wait};
+use std::sync::Wait;
 use std::thread;
 use std::thread::Threads;
 
 // Each worker's threads in a thread of the host; where none can be started, in this one with those of worker 0.
 fn run_each<
+    K: Sharing + Send + Sync,
     J: Naming<S> + Send + Sync,
     R: Threads + Wait + Sync,
     C: Types + Sync,
@@ -32,15 +42,7 @@ fn run_each<
     S: Sink + Send,
     G: Gate + Sync,
     W: Watcher + Send,
->(
-    rt: &R,
-    shared: &Mutex<Locked<J, I, S, W>>,
-    bells: &Bells,
-    set: &C,
-    host: &H,
-    gate: &G,
-    workers: u8,
-)
+>(rt: &R, hall: &Hall<'_, K, J, S, Desk<J, I, S, W>>, set: &C, host: &H, gate: &G, workers: u8)
     requires of { IsOf (C.facts set.now) (H.setting host.now) J.entry }
 {
     thread::scope(
@@ -55,19 +57,20 @@ fn run_each<
                 let spawned = scope.spawn(
                     move || -> ()
                         requires { IsOf (C.facts set.now) (H.setting host.now) J.entry }
-                    { work(rt, shared, bells, set, host, gate, theirs) },
+                    { work(rt, hall, set, host, gate, theirs) },
                 );
                 if spawned.is_err() {
                     mine = mine.with(w);
                 }
             }
-            work(rt, shared, bells, set, host, gate, mine);
+            work(rt, hall, set, host, gate, mine);
         },
     );
 }
 
-// The events of a run, until it is over or no thread lives; none where one host thread is to make them all.
-fn work_off<
+// The events of a run that host threads share from here on, until it is over or all threads have ended.
+fn run_shared<
+    K: Sharing + Send + Sync,
     J: Naming<S> + Send + Sync,
     R: Threads + Wait + Sync,
     C: Types + Sync,
@@ -78,51 +81,69 @@ fn work_off<
     W: Watcher + Send,
 >(
     rt: &R,
-    mut locked: Locked<J, I, S, W>,
+    opened: Opened<Desk<J, I, S, W>>,
     set: &C,
     host: &H,
     gate: &G,
     workers: u8,
 ) -> Locked<J, I, S, W>
     requires of { IsOf (C.facts set.now) (H.setting host.now) J.entry }
+    requires named { K.turnstile ≡ Some (turnstile_id opened.turnstile) }
+    requires pass { IsOfTurnstile opened.first opened.turnstile }
+    requires idle { IsIdle opened.first }
+    requires hands { hands_of opened.first ≡ hands_from 0 opened.frames.items }
+    requires many { length opened.frames.items ≡ 64 }
+    ensures ended { HasEnded result.run }
 {
-    if workers < 2 {
-        return locked;
-    }
-    work_alone(rt, &mut locked, set, host, gate);
-    if locked.is_done() {
-        return locked;
-    }
-    let shared = Mutex::new(locked);
+    let Opened {
+        turnstile,
+        first,
+        frames,
+        turns,
+    } = opened;
+    let seats = seats_of::<K, J, I, S, W>(&turnstile, first, frames, turns);
     let bells = Bells::new();
-    run_each(rt, &shared, &bells, set, host, gate, workers.min(64));
-    shared.into_inner()
+    let hall = Hall {
+        turnstile: &turnstile,
+        seats: &seats,
+        bells: &bells,
+    };
+    run_each(rt, &hall, set, host, gate, workers.min(64));
+    hall.close(rt)
 }
 
-// How a run ended, and what is left of it. The workers come back where it is over or no thread lives; were it otherwise, or where
-// there is one, the rotation goes on with it.
-fn ended<
-    J: Naming<S>,
-    C: Types,
-    I: Image,
-    H: Host<Native, Ref, NativeState, Item>,
-    S: Sink,
-    G: Gate,
-    W: Watcher,
->(locked: Locked<J, I, S, W>, set: &C, host: &H, gate: &G) -> (RunEnd, Run<I, S, W>)
+// The events of a run on which other threads were started, or which has ended. Without memory one host thread makes them all.
+fn run_rest<
+    J: Naming<S> + Send + Sync,
+    R: Threads + Wait + Sync,
+    C: Types + Sync,
+    I: Image + Send,
+    H: Host<Native, Ref, NativeState, Item> + Sync,
+    S: Sink + Send,
+    G: Gate + Sync,
+    W: Watcher + Send,
+>(
+    rt: &R,
+    alone: Alone<J, I, S, W>,
+    set: &C,
+    host: &H,
+    gate: &G,
+    workers: u8,
+) -> (RunEnd, Left<I, S, W>)
     requires of { IsOf (C.facts set.now) (H.setting host.now) J.entry }
     ensures left { IfSome J.entry (λ e. HasLeft e result.0 result.1.heap (W.seen result.1.watcher)
         (S.taken result.1.sink) (S.takes result.1.sink) (S.faults result.1.sink)) }
     ensures spares { IfSome J.entry (λ e. IfSome J.sink (λ sink.
         SparesSince S.taken e (fault_in result.0) sink result.1.sink result.1.heap)) }
 {
-    let (over, mut run) = locked.finish();
-    match over {
-        Some(fault) => (RunEnd::Over(fault), run),
-        None => {
-            let end = run_threads(&mut run, set, host, gate);
-            (end, run)
-        }
+    if alone.is_done() {
+        return ended_alone(alone, set, host, gate);
+    }
+    match open(alone) {
+        Ok(opened) => ended_shared(run_shared::<Brand, J, R, C, I, H, S, G, W>(
+            rt, opened, set, host, gate, workers,
+        )),
+        Err(alone) => ended_alone(alone, set, host, gate),
     }
 }
 
@@ -135,7 +156,7 @@ fn run_named<
     S: Sink + Send,
     G: Gate + Sync,
     W: Watcher + Send,
->(rt: &R, run: Run<I, S, W>, set: &C, host: &H, workers: u8, gate: &G) -> (RunEnd, Run<I, S, W>)
+>(rt: &R, run: Run<I, S, W>, set: &C, host: &H, workers: u8, gate: &G) -> (RunEnd, Left<I, S, W>)
     requires entry { J.entry ≡ Some (began (C.facts set.now) (H.setting host.now) run.heap run.frames.items
         (W.seen run.watcher) (S.taken run.sink) (S.takes run.sink) (S.faults run.sink)) }
     requires sink { J.sink ≡ Some run.sink }
@@ -149,18 +170,22 @@ fn run_named<
         (W.seen run.watcher) (S.taken run.sink) (S.takes run.sink) (S.faults run.sink))
         (fault_in result.0) run.sink result.1.sink result.1.heap }
 {
-    let locked: Locked<J, I, S, W> = Locked::new(run, set, host);
-    let locked = work_off(rt, locked, set, host, gate, workers);
-    ended(locked, set, host, gate)
+    let mut alone: Alone<J, I, S, W> = Alone::new(run, set, host);
+    if workers < 2 {
+        return ended_alone(alone, set, host, gate);
+    }
+    work_alone(rt, &mut alone, set, host, gate);
+    run_rest(rt, alone, set, host, gate, workers)
 }
 
-/// Runs the threads of a run in as many threads of the host as there are workers, or in fewer where no more can be started:
-/// how it ended, and what is left of it. Worker w has the threads whose number leaves w when divided by `workers`, and makes
-/// one event of each in rotation, by turns with the others; a thread that waits has no further one until another's event may have
-/// ended its wait, and one that has had its share of a round none until each has had its own. The gate is called before a turn
-/// begins, outside of the lock: the other workers don't wait for it, but its host thread's other threads do, and the end of the run.
-/// Until the first thread starts another one, and where there is one worker or none, the caller's host thread makes all events. It
-/// takes no memory.
+/// Runs the threads of a run in as many threads of the host as there are workers, 64 at most, or in fewer where no more can be started:
+/// how it ended, and what is left of it. Worker w has the threads whose number leaves w when divided by `workers`, and makes one event
+/// of each in rotation, by turns with the others; a thread that waits has no further one until another's event may have ended its wait, and
+/// one that has had its share of a round none until each has had its own, or a thread is started or ends, or nothing was done for long. A
+/// turn's private instructions are done and then the gate is called before its first event, away from what is shared: the other workers
+/// don't wait for them, but its host thread's other threads do, and the end of the run. Until the first thread starts another one, and
+/// where there is one worker or none, the caller's host thread makes all events. Memory is taken once, before the first host thread is
+/// started; where there is none, the caller's goes on alone.
 pub fn run_all<
     R: Threads + Wait + Sync,
     C: Types + Sync,
@@ -169,7 +194,7 @@ pub fn run_all<
     S: Sink + Send,
     G: Gate + Sync,
     W: Watcher + Send,
->(rt: &R, run: Run<I, S, W>, set: &C, host: &H, workers: u8, gate: &G) -> (RunEnd, Run<I, S, W>)
+>(rt: &R, run: Run<I, S, W>, set: &C, host: &H, workers: u8, gate: &G) -> (RunEnd, Left<I, S, W>)
     requires ready { (o : Opening) × (first : ℕ)
         × IsReady o first (C.facts set.now) (H.setting host.now) run.heap run.frames.items }
     ensures ends { (o : Opening) (first : ℕ)

@@ -1,4 +1,6 @@
-// Which threads may have an event, and which workers are told of one.
+// Which threads may have an event, and which host threads are told of one.
+ghost use Rattle.std.specs.Prelude.{◌≡◌, length};
+
 use ap_base::ThreadNo;
 use durable_run::{SharedHeap, is_live};
 use line_image::Image;
@@ -6,7 +8,7 @@ use run_history::Op;
 use run_types::On;
 use shared_objects::Threads;
 
-/// How a thread's event went, as its worker is told.
+/// How a thread's event went, as its host thread is told.
 #[derive(Clone, Copy, PartialEq, Eq)]
 pub(crate) enum Came {
     /// The turn is done, and the thread lives on.
@@ -25,7 +27,7 @@ pub(crate) enum Came {
     Over,
 }
 
-/// Which workers that sleep may have something to do behind an event.
+/// Which host threads that sleep may have something to do behind an event.
 #[derive(Clone, Copy, PartialEq, Eq)]
 pub(crate) enum Rouses {
     Nobody,
@@ -44,7 +46,9 @@ pub(crate) struct Before {
 }
 
 impl Before {
-    pub(crate) fn of<I: Image>(heap: &SharedHeap<I>, t: ThreadNo) -> Before {
+    pub(crate) fn of<I: Image>(heap: &SharedHeap<I>, t: ThreadNo) -> Before
+        ensures { result.started ≡ length heap.now.machine.rest.threads }
+    {
         Before {
             started: heap.threads().count(),
             acts: heap.acts().len(),
@@ -111,16 +115,14 @@ impl Due {
         !self.waits[at] && self.had[at] >= ROUND
     }
 
-    /// Whether from now on a host thread sees to it that the round ends; not so where another one does.
-    pub(crate) fn watch(&mut self) -> bool {
-        let none = !self.watched;
-        self.watched = true;
-        none
-    }
-
-    /// The host thread that saw to it goes on to something else.
-    pub(crate) fn end_watch(&mut self) {
-        self.watched = false;
+    /// Whether from now on a host thread sees to it that the round ends, which waits for that or not, and saw to it before or not. It does
+    /// where it waits and no other one does.
+    pub(crate) fn watch(&mut self, waits: bool, watched: bool) -> bool {
+        if self.watched && !watched {
+            return false;
+        }
+        self.watched = waits;
+        waits
     }
 
     /// Ends the round.

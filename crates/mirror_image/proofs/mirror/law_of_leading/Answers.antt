@@ -1,7 +1,7 @@
-use Rattle.std.proofs.Common.{◌≡◌, ℕ, Bool, true, false, nat_le, refl, ap, sym, ◌∙◌, if◌then◌else◌}
+use Rattle.std.proofs.Common.{◌≡◌, ℕ, Bool, true, false, nat_le, refl, ap, ◌∙◌, if◌then◌else◌}
 use Rattle.line_image.specs.Trace.{Trace, Outcome}
-use Rattle.mirror_image.specs.Labels.{generation_at, leader}
-use Rattle.mirror_image.specs.Stops.{Holds, led, generation_left}
+use Rattle.mirror_image.specs.Labels.{generation_at}
+use Rattle.mirror_image.specs.Stops.{Holds, generation_left}
 use Rattle.mirror_image.proofs.mirror.law_of_leading.Goals as goal
 
 generation_is : (z : ℕ) (h : Trace) (c : Outcome) → Holds h c → generation_at z h ≡ generation_left z c

@@ -1,4 +1,4 @@
-use Rattle.std.proofs.Common.{ℕ, sym, ◌∙◌, refl, inl, inr, arith}
+use Rattle.std.proofs.Common.{sym, ◌∙◌}
 use Rattle.mirror_image.proofs.Exits.{on_done}
 use Rattle.mirror_image.proofs.Writes.{failed_is}
 use Rattle.mirror_image.proofs.Halfway.{yields_low, yields_fence_lost, yields_marked, yields_unmarked}

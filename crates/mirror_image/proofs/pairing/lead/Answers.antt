@@ -1,4 +1,3 @@
-use Rattle.std.proofs.Common.{ℕ, sym, ◌∙◌, refl, inl, inr, arith}
 use Rattle.mirror_image.proofs.Halfway.{yields_low, yields_then, keeps_lead_same}
 use Rattle.mirror_image.proofs.pairing.lead.Goals as goal
 

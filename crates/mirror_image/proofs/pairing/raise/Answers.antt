@@ -1,4 +1,4 @@
-use Rattle.std.proofs.Common.{ℕ, sym, ◌∙◌, refl, inl, inr, arith}
+use Rattle.std.proofs.Common.{sym, ◌∙◌}
 use Rattle.mirror_image.proofs.Exits.{on_done}
 use Rattle.mirror_image.proofs.Writes.{failed_is}
 use Rattle.mirror_image.proofs.Halfway.{keeps_lead_marked, keeps_lead_unmarked, keeps_low_marked, keeps_low_unmarked}

@@ -24,8 +24,8 @@ fetch_add-served-requires g c =
           (raise_allows worker entries parts _ _ _ seat.me.0 c.args.value (step 1 1 1 0 none) c.requires.holds.0 c.requires.adds),
     )
 
-pub returns-then-peek-served-clause-agree : goal.returns-then-peek-served-clause-agree
-returns-then-peek-served-clause-agree g c =
+pub returns-then-load-ne0-clause-agree : goal.returns-then-load-ne0-clause-agree
+returns-then-load-ne0-clause-agree g c =
     let e = c.exchange-nothing.ensures in
     let seat = c.args.seat.now in
     let is : c.exchange-nothing.new.seat.me ≡ (seat.me.0, (0, Some c.args.value) ∷ []) =

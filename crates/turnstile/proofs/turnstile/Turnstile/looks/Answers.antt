@@ -11,6 +11,6 @@ returns-then-serving-ticket-clause-found g c =
     let was = c.args.seat.now.me in
     let now = c.look-serving.new.seat.me in
     let looked = subst (λ (m : M). MatchBool (c.look-serving.result == m.0.ticket % 18446744073709551616) (Found g.T.Kept.worker g.T.Kept.entries g.T.Kept.parts m now)
-    (now ≡ m)) c.loop.invariant.1 c.look-serving.ensures.looked in
+    (now ≡ m)) c.loop-looks.invariant.1 c.look-serving.ensures.looked in
     let yes : (c.look-serving.result == was.0.ticket % 18446744073709551616) ≡ true = grind (arith, nat_tests, c.if-serving-ticket.true, c.requires.ticket) in
     subst (λ (b : Bool). MatchBool b (Found g.T.Kept.worker g.T.Kept.entries g.T.Kept.parts was now) (now ≡ was)) yes looked
