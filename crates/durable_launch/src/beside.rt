@@ -67,11 +67,12 @@ pub(crate) fn make_beside(
 {
     let program = program_of(alloc, set)?;
     let host = ProgramHost::new(
+        alloc,
         program,
         main.method,
         set.known(),
         ListOf::from_vec(literals),
-    );
+    )?;
     Ok(Beside {
         host,
         frames: make_frames(alloc, main, arguments)?,

@@ -245,5 +245,5 @@ pub fn host(
     };
     let literals = list(alloc, &[Ref::Volatile(40), Ref::Persistent(41)])?;
     let program = program(alloc, ops, shapes, kins)?;
-    Ok(ProgramHost::new(program, 0, known, literals))
+    Ok(ProgramHost::new(alloc, program, 0, known, literals)?)
 }

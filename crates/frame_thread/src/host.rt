@@ -4,7 +4,9 @@ ghost use Rattle.std.specs.Prelude.{◌≡◌, List, map, reverse, take};
 ghost use Rattle.frames.specs.Settings.{Setting};
 ghost use Rattle.frames.specs.Calls.{cells_of, value_of};
 ghost use Rattle.frame_thread.specs.Views.{native_step, receiver_given};
+ghost use Rattle.frame_thread.specs.Flats.{AreFlat};
 
+use crate::flat::Flat;
 use crate::form::Advance;
 use frames::{Given, Program};
 use natives::{Reply, Request};
@@ -18,6 +20,10 @@ pub trait Host<M: Copy + Drop, R: Copy + Drop, N: Copy + Drop, V: Drop> {
 
     fn program(&self) -> &Program<M>
         ensures { result.now ≡ (setting self.now).program };
+
+    /// The flat forms of the program's code.
+    fn flats(&self) -> &[Flat]
+        ensures { AreFlat result.now (setting self.now).program.code };
 
     /// Where a thread stands before its first instruction.
     fn main(&self) -> At

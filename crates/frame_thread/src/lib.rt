@@ -2,6 +2,8 @@
 //! instructions ask.
 #![tactic(auto)]
 
+mod flat;
+mod flattened;
 mod form;
 mod forms;
 mod host;
@@ -11,6 +13,8 @@ mod said;
 pub mod tables;
 mod thread;
 
+pub use flat::Flat;
+pub use flattened::Flattened;
 pub use form::{Activity, Advance, Callee, Form, Standing};
 pub use host::Host;
 pub use private::{Stop, Why};

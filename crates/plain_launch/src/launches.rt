@@ -70,12 +70,14 @@ pub fn begin_plain(
         method: main.method,
         arguments: arguments_number(opening),
     };
+    let program = program_of(alloc, set)?;
     let host = ProgramHost::new(
-        program_of(alloc, set)?,
+        alloc,
+        program,
         main.method,
         set.known(),
         ListOf::from_vec(references),
-    );
+    )?;
     Ok(PlainRun {
         plain: Plain::begin(alloc, beginning)?,
         host,

@@ -1,21 +1,22 @@
 // The machine of a program.
 
-ghost use Rattle.std.specs.Prelude.{◌≡◌};
+ghost use Rattle.std.specs.Prelude.{◌≡◌, IfOk};
 ghost use Rattle.program_host.specs.Literals.{spare};
 ghost use Rattle.program_host.specs.Settings.{setting_of};
 
 use crate::methods::{advance, argument, begun, given, this};
 use ap_base::{Item, ListOf, Ref};
-use frame_thread::{Advance, Host, tables};
+use frame_thread::{Advance, Flat, Flattened, Host, tables};
 use frames::{Given, Program};
 use natives::{Native, NativeState, Reply, Request, next_request};
 use run_types::{At, Known};
+use std::alloc::{AllocError, Global};
 
 /// The tables of a program, the classes that the runtime knows, the number of `main`, and the reference of each
 /// string literal, by number.
 #[derive(Drop)]
 pub struct ProgramHost {
-    program: Program<Native>,
+    program: Flattened<Native>,
     main: u32,
     known: Known,
     literals: ListOf<Ref>,
@@ -35,21 +36,26 @@ fn spare(number: u32) -> Ref
 impl ProgramHost {
     ghost use Rattle.program_host.specs.Hosts.{setting_in};
 
-    /// Takes no memory.
+    /// It takes the memory of the code's flat forms alone.
+    ///
+    /// # Errors
+    ///
+    /// Want of memory.
     pub fn new(
+        alloc: Global,
         program: Program<Native>,
         main: u32,
         known: Known,
         literals: ListOf<Ref>,
-    ) -> ProgramHost
-        ensures { setting_in result ≡ setting_of program main known literals }
+    ) -> Result<ProgramHost, AllocError>
+        ensures { IfOk result (λ host. setting_in host ≡ setting_of program main known literals) }
     {
-        ProgramHost {
-            program,
+        Ok(ProgramHost {
+            program: Flattened::new(alloc, program)?,
             main,
             known,
             literals,
-        }
+        })
     }
 }
 
@@ -62,11 +68,15 @@ impl Host<Native, Ref, NativeState, Item> for ProgramHost {
     ghost setting = { setting_in };
 
     fn program(&self) -> &Program<Native> {
-        &self.program
+        self.program.program()
+    }
+
+    fn flats(&self) -> &[Flat] {
+        self.program.flats()
     }
 
     fn main(&self) -> At {
-        tables::start(&self.program, self.main)
+        tables::start(self.program.program(), self.main)
     }
 
     fn null(&self) -> Ref {

@@ -56,9 +56,9 @@ returns-clause-stands c = λ limits.
     let launch = launch_of set main opening limits in
     let plain = c.in_ok-begin.field-0 in
     let known = known_classes (facts_of set) in
-    let host = c.new-host.ensures
+    let host = c.in_ok-host.ensures
     ∙ ap (λ (p : Program Native). setting_of p main.method c.known.result c.from_vec-2.result)
-    c.in_ok-program_of.ensures.program
+    c.in_ok-program.ensures.program
     ∙ ap (λ (k : Known). setting_of (set_program set) main.method k c.from_vec-2.result) c.known.ensures
     ∙ ap (λ (rs : List Ref). setting_of (set_program set) main.method known rs)
     (c.from_vec-2.ensures ∙ c.in_ok-references.ensures (facts_of set)
