@@ -14,6 +14,7 @@ use Rattle.class_set.specs.ArrayTypes.{linked_from}
 use Rattle.source_classes.specs.Files.{classes_among}
 use Rattle.source_classes.specs.Reading as reading
 use Rattle.source_classes.specs.Reading.{HadLeft, HasNoCause, IsLeft, IsOfLinking, LeavesAt}
+use Rattle.source_classes.specs.declared.accepted.AcceptedSet.{AcceptedSet}
 use Rattle.source_classes.proofs.SourceFiles.{all_read}
 use Rattle.statuses.specs.Stages.{Stage, OfWords, OfSource, OfMemory, OfFile, OfListing, OfLinking, OfOpening, OfRoom, OfNames}
 use Rattle.statuses.specs.Stages.{OfImage, OfTurns, OfOthers, stage_of}
@@ -176,12 +177,12 @@ module _ (left : Option (List NamedBytes)) (classes : List ClassFile) (comes : r
   abbrev kept : List ClassFile
   kept = kept_files classes
 
-  pub links_then : (result : Result Linked Status) → IfOk result (λ set. set ≡ linked_from kept) → OnOk result (Links kept)
-      → IfOk result (λ set. SourceLinksTo left (Ok set))
-  links_then (Ok set) is links = classes_link left classes comes (Ok set) (links, is)
+  pub links_then : (result : Result AcceptedSet Status) → IfOk result (λ set. set.linked ≡ linked_from kept) → OnOk result (Links kept)
+      → IfOk result (λ set. SourceLinksTo left (Ok set.linked))
+  links_then (Ok set) is links = classes_link left classes comes (Ok set.linked) (links, is)
   links_then (Err s) is links = tt
 
-  pub refused_then : (result : Result Linked Status) → IfErr result (IsOfLinking kept)
+  pub refused_then : (result : Result AcceptedSet Status) → IfErr result (IsOfLinking kept)
       → IfErr result (λ s. SourceLinksTo left (Err s) ⊎ HasNoCause s)
   refused_then (Ok set) of = tt
   refused_then (Err s) of = elim (unlinked kept s of) [
@@ -189,12 +190,12 @@ module _ (left : Option (List NamedBytes)) (classes : List ClassFile) (comes : r
     | inr free ↦ inr free
   ]
 
-  pub whole_then : (result : Result Linked Status)
+  pub whole_then : (result : Result AcceptedSet Status)
       → OnOk result ((files : List NamedBytes) → left ≡ Some files → IsOk (classes_among files) × (after ≡ Some []))
   whole_then (Ok set) = λ files told. (unrefused left classes comes files told, read files told)
   whole_then (Err s) = tt
 
-  pub left_then : (result : Result Linked Status) → IfErr result (IsOfLinking kept)
+  pub left_then : (result : Result AcceptedSet Status) → IfErr result (IsOfLinking kept)
       → IfErr result (λ s. (files : List NamedBytes) → left ≡ Some files → IsLeft files s after)
   left_then (Ok set) of = tt
   left_then (Err s) of = λ files told.

@@ -1,9 +1,8 @@
 // The audit of a saved run, from the files of its classes on.
-ghost use Rattle.std.specs.Prelude.{◌≡◌, ◌≢◌, ◌⊎◌, All, List, [], Some, Ok, Err, IfOk, IfErr, OnOk, IsOk, IsErrOf};
+ghost use Rattle.std.specs.Prelude.{◌≡◌, ◌≢◌, ◌⊎◌, List, [], Some, Ok, Err, IfOk, IfErr, OnOk, IsOk, IsErrOf};
 ghost use Rattle.ap_base.specs.Causes.{Rose, next_count};
 ghost use Rattle.image_opening.specs.Unopened.{NoneFailed, OneFailed};
 ghost use Rattle.ap_base.specs.declared.source.NamedBytes.{NamedBytes as File};
-ghost use Rattle.class_file.specs.Classes.{HasAtMost};
 ghost use Rattle.source_classes.specs.Files.{classes_among};
 ghost use Rattle.source_classes.specs.Names.{slashed};
 ghost use Rattle.source_classes.specs.Reading.{HasNoCause, IsLeft};
@@ -14,9 +13,8 @@ ghost use Rattle.audit_call.specs.Linking.{SourceLinksTo};
 use crate::judging::{Judged, judge_images};
 use crate::records::read_records;
 use ap_base::{ClassSource, Sink};
-use class_set::ClassSet;
 use line_image::Image;
-use source_classes::{link, read_files};
+use source_classes::{AcceptedSet, link, read_files};
 use statuses::Status;
 use std::alloc::Global;
 
@@ -32,9 +30,8 @@ pub struct Audited<C, R, I, J, S> {
 }
 
 /// The class set of the source's files.
-fn read_set<C: ClassSource>(alloc: Global, source: &mut C) -> Result<ClassSet, Status>
-    ensures links { IfOk result (λ set. SourceLinksTo (C.left source.old) (Ok set)) }
-    ensures small { IfOk result (λ set. All (HasAtMost 1048576) set.files) }
+fn read_set<C: ClassSource>(alloc: Global, source: &mut C) -> Result<AcceptedSet, Status>
+    ensures links { IfOk result (λ set. SourceLinksTo (C.left source.old) (Ok set.linked)) }
     ensures refused { IfErr result (λ s. SourceLinksTo (C.left source.old) (Err s) ⊎ HasNoCause s) }
     ensures whole { OnOk result ((files : List File) → C.left source.old ≡ Some files
         → IsOk (classes_among files) × (C.left source.new ≡ Some [])) }
@@ -52,15 +49,14 @@ fn read_set<C: ClassSource>(alloc: Global, source: &mut C) -> Result<ClassSet, S
 /// Reads the records, opens the image from which the run began, and then the one that it left, and judges the run.
 fn judge_set<R: ClassSource, I: Image, J: Image, S: Sink>(
     alloc: Global,
-    set: ClassSet,
+    set: AcceptedSet,
     class: &[u8],
     records: &mut R,
     before: I,
     after: J,
     sink: &mut S,
 ) -> Judged<I, J>
-    requires small { All (HasAtMost 1048576) set.files }
-    ensures ends { audits.SetEnds set (slashed class.now)
+    ensures ends { audits.SetEnds set.linked (slashed class.now)
         (audits.images (I.told before) (J.told after)) (audits.images (I.told result.before) (J.told result.after))
         (audits.outside (R.left records.old) (R.faults records.old) (S.taken sink.old))
         (audits.outside (R.left records.new) (R.faults records.new) (S.taken sink.new)) result.status }

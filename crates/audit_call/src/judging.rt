@@ -1,9 +1,8 @@
 // The two images of a run are opened for its class set, one after the other, and its records are judged between their graphs.
-ghost use Rattle.std.specs.Prelude.{◌≡◌, ◌≢◌, ◌⊎◌, All, IfOk, Ok};
+ghost use Rattle.std.specs.Prelude.{◌≡◌, ◌≢◌, ◌⊎◌, IfOk, Ok};
 ghost use Rattle.ap_base.specs.Causes.{next_count};
 ghost use Rattle.image_opening.specs.Unopened.{NoneFailed, OneFailed};
 ghost use Rattle.line_image.specs.Told.{Told};
-ghost use Rattle.class_file.specs.Classes.{HasAtMost};
 ghost use Rattle.class_set.specs.Facts.{facts_of};
 ghost use Rattle.class_set.specs.Linked.{Linked};
 ghost use Rattle.plain_model.specs.First.{IsOpening};
@@ -23,14 +22,13 @@ use ap_base::Sink;
 use audit_runs::{
     DecodeRefusal, Main, NoMain, Verdict, accepted_sets_have_room, audit_run, find_main,
 };
-use class_set::ClassSet;
 use history_file::{HistoryFault, read_history};
 use line_image::Image;
 use run_history::Acts;
 use run_types::LinkKind;
 use set_opening::{FoundImage, Unopened, a_run_can_begin_over_recovered_images, find_for};
 use shared_graph::SharedGraph;
-use source_classes::internal_name;
+use source_classes::{AcceptedSet, internal_name};
 use statuses::{NameRoom, Status, main_status};
 use std::alloc::{AllocError, Global};
 
@@ -43,10 +41,10 @@ fn kind_of(none: NoMain) -> LinkKind
     }
 }
 
-/// The verdict of a history and an output between two graphs. A set whose files have so few bytes isn't too large to be decoded.
+/// The verdict of a history and an output between two graphs. A set of accepted files isn't too large to be decoded.
 fn verdict_of(
     alloc: Global,
-    set: &ClassSet,
+    set: &AcceptedSet,
     main: &Main,
     opening: SharedGraph,
     after: SharedGraph,
@@ -54,17 +52,25 @@ fn verdict_of(
     keep: u64,
     output: &[u8],
 ) -> Result<Verdict, AllocError>
-    requires small { All (HasAtMost 1048576) set.now.files }
-    requires opening { IsOpening (facts_of set.now) opening }
-    requires main { IsMainOf set.now main.now.class main.now }
-    ensures right { IfOk result (IsRight set.now main.now opening acts.now.acts keep output.now after) }
-    ensures allowed { result ≡ Ok Yes → IsAllowed (facts_of set.now) opening acts.now.acts after }
+    requires opening { IsOpening (facts_of set.now.linked) opening }
+    requires main { IsMainOf set.now.linked main.now.class main.now }
+    ensures right { IfOk result (IsRight set.now.linked main.now opening acts.now.acts keep output.now after) }
+    ensures allowed { result ≡ Ok Yes → IsAllowed (facts_of set.now.linked) opening acts.now.acts after }
 {
     let opening = opening.into_graph(alloc)?;
     let after = after.into_graph(alloc)?;
     accepted_sets_have_room();
-    let _count = set.file_count();
-    match audit_run(alloc, set, main.class, &opening, acts, keep, output, &after) {
+    let _count = set.linked.file_count();
+    match audit_run(
+        alloc,
+        &set.linked,
+        main.class,
+        &opening,
+        acts,
+        keep,
+        output,
+        &after,
+    ) {
         Ok(verdict) => Ok(verdict),
         Err(DecodeRefusal::TooLarge) => unreachable!(),
         Err(DecodeRefusal::OutOfMemory) => Err(AllocError),
@@ -74,18 +80,17 @@ fn verdict_of(
 /// Judges a history and an output between two graphs, and puts the verdict.
 fn judge_history<S: Sink>(
     alloc: Global,
-    set: &ClassSet,
+    set: &AcceptedSet,
     main: &Main,
     opening: SharedGraph,
     after: SharedGraph,
     records: &Records,
     sink: &mut S,
 ) -> Status
-    requires small { All (HasAtMost 1048576) set.now.files }
-    requires opening { IsOpening (facts_of set.now) opening }
-    requires main { IsMainOf set.now main.now.class main.now }
+    requires opening { IsOpening (facts_of set.now.linked) opening }
+    requires main { IsMainOf set.now.linked main.now.class main.now }
     ensures ends { judged.IsUnjudged records.now.history result (S.taken sink.old) (S.taken sink.new)
-        ⊎ judged.IsJudged set.now main.now opening after records.now.history records.now.output result
+        ⊎ judged.IsJudged set.now.linked main.now opening after records.now.history records.now.output result
         (S.taken sink.old) (S.taken sink.new) }
     ensures late { IsLate result }
     ensures no_image { result ≢ Status.ImageFault }
@@ -123,16 +128,15 @@ fn missing_main(alloc: Global, none: NoMain, name: &[u8]) -> Status
 /// Looks for the `main` of the class of this name, and judges the records between two graphs. A dot in the name counts as a slash.
 fn judge_graphs<S: Sink>(
     alloc: Global,
-    set: &ClassSet,
+    set: &AcceptedSet,
     class: &[u8],
     opening: SharedGraph,
     after: SharedGraph,
     records: &Records,
     sink: &mut S,
 ) -> Status
-    requires small { All (HasAtMost 1048576) set.now.files }
-    requires opening { IsOpening (facts_of set.now) opening }
-    ensures ends { judged.GraphsEnd set.now (slashed class.now) opening after records.now result (S.taken sink.old) (S.taken sink.new) }
+    requires opening { IsOpening (facts_of set.now.linked) opening }
+    ensures ends { judged.GraphsEnd set.now.linked (slashed class.now) opening after records.now result (S.taken sink.old) (S.taken sink.new) }
     ensures late { IsLate result }
     ensures no_image { result ≢ Status.ImageFault }
     ensures no_source { result ≢ Status.SourceFault }
@@ -142,7 +146,7 @@ fn judge_graphs<S: Sink>(
     let Ok(name) = internal_name(alloc, class) else {
         return Status::OutOfMemory;
     };
-    match find_main(set, name.as_slice()) {
+    match find_main(&set.linked, name.as_slice()) {
         Ok(main) => judge_history(alloc, set, &main, opening, after, records, sink),
         Err(none) => missing_main(alloc, none, name.as_slice()),
     }
@@ -203,16 +207,15 @@ pub(crate) struct Judged<I, J> {
 /// Opens the image that the run left, and judges the run that began with this graph.
 fn judge_after<J: Image, S: Sink>(
     alloc: Global,
-    set: &mut ClassSet,
+    set: AcceptedSet,
     class: &[u8],
     opening: SharedGraph,
     records: &Records,
     after: J,
     sink: &mut S,
 ) -> AfterJudged<J>
-    requires small { All (HasAtMost 1048576) set.old.files }
-    requires opening { IsOpening (facts_of set.old) opening }
-    ensures ends { audits.AfterEnds set.old (slashed class.now) opening records.now (J.told after) (J.told result.image)
+    requires opening { IsOpening (facts_of set.linked) opening }
+    ensures ends { audits.AfterEnds set.linked (slashed class.now) opening records.now (J.told after) (J.told result.image)
         result.status (S.taken sink.old) (S.taken sink.new) }
     ensures kept { audits.IsKept (J.told after) (J.told result.image) }
     ensures late { IsLate result.status }
@@ -222,10 +225,12 @@ fn judge_after<J: Image, S: Sink>(
     ensures sink_fault { result.status ≡ Status.SinkFault → S.faults sink.new ≡ next_count (S.faults sink.old) }
     ensures sink_spared { result.status ≢ Status.SinkFault → S.faults sink.new ≡ S.faults sink.old }
 {
-    match find_for(alloc, set, after) {
+    let AcceptedSet { mut linked } = set;
+    match find_for(alloc, &mut linked, after) {
         Ok(found) => {
             let (graph, image) = give_back(found);
-            let status = judge_graphs(alloc, set, class, opening, graph, records, sink);
+            let set = AcceptedSet { linked };
+            let status = judge_graphs(alloc, &set, class, opening, graph, records, sink);
             AfterJudged { status, image }
         }
         Err((why, image)) => {
@@ -238,15 +243,14 @@ fn judge_after<J: Image, S: Sink>(
 /// Opens the image from which the run began, and then the one that it left, and judges the run.
 pub(crate) fn judge_images<I: Image, J: Image, S: Sink>(
     alloc: Global,
-    mut set: ClassSet,
+    set: AcceptedSet,
     class: &[u8],
     records: &Records,
     before: I,
     after: J,
     sink: &mut S,
 ) -> Judged<I, J>
-    requires small { All (HasAtMost 1048576) set.files }
-    ensures ends { audits.ImagesEnd set (slashed class.now) records.now
+    ensures ends { audits.ImagesEnd set.linked (slashed class.now) records.now
         (audits.images (I.told before) (J.told after)) (audits.images (I.told result.before) (J.told result.after))
         result.status (S.taken sink.old) (S.taken sink.new) }
     ensures before_kept { audits.IsKept (I.told before) (I.told result.before) }
@@ -260,10 +264,12 @@ pub(crate) fn judge_images<I: Image, J: Image, S: Sink>(
     ensures sink_fault { result.status ≡ Status.SinkFault → S.faults sink.new ≡ next_count (S.faults sink.old) }
     ensures sink_spared { result.status ≢ Status.SinkFault → S.faults sink.new ≡ S.faults sink.old }
 {
-    match find_for(alloc, &mut set, before) {
+    let AcceptedSet { mut linked } = set;
+    match find_for(alloc, &mut linked, before) {
         Ok(found) => {
             let (opening, before) = give_back(found);
-            let judged = judge_after(alloc, &mut set, class, opening, records, after, sink);
+            let set = AcceptedSet { linked };
+            let judged = judge_after(alloc, set, class, opening, records, after, sink);
             Judged {
                 status: judged.status,
                 before,

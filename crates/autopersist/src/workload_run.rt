@@ -9,7 +9,7 @@ ghost use Rattle.autopersist.specs.Runs.{RunsWorkload};
 
 use crate::idle::idle;
 use ap_base::{ClassSource, Gate, Sink};
-use class_runs::{Ended, run_classes};
+use class_runs::{AcceptedFiles, Ended, run_classes};
 use command_words::Make;
 use line_image::Image;
 use run_history::Watcher;
@@ -73,7 +73,7 @@ where
         alloc,
         b"Work",
         &DEFAULT_LIMITS,
-        classes,
+        AcceptedFiles::of(classes),
         image,
         sink,
         gate,

@@ -1,34 +1,27 @@
 // What is to run of the classes of a source.
-ghost use Rattle.std.specs.Prelude.{◌≡◌, length, ◌⊎◌, ◌≤◌, All, Ok, Err, IfOk, IfErr};
-ghost use Rattle.class_file.specs.Classes.{CanBeRead, HasAtMost};
+ghost use Rattle.std.specs.Prelude.{◌≡◌, ◌⊎◌, Ok, Err, IfOk, IfErr};
 ghost use Rattle.class_links.specs.Kept.{kept_files};
 ghost use Rattle.class_runs.specs.Chosen.{ClassesGive};
 ghost use Rattle.source_classes.specs.Reading.{IsOfClasses};
 
-use class_file::ClassFile;
-use class_set::ClassSet;
-use source_classes::{internal_name, link};
+use source_classes::{AcceptedFiles, AcceptedSet, internal_name, link};
 use statuses::{NameRoom, Status};
 use std::alloc::Global;
 
 /// What is to run: a class set, from its class of this name on; and room for the names in the status that it ends by.
 #[derive(Drop)]
 pub(crate) struct Found {
-    pub(crate) set: ClassSet,
+    pub(crate) set: AcceptedSet,
     pub(crate) main: Vec<u8>,
     pub(crate) room: NameRoom,
 }
 
 /// What is to run of these classes, where the main class has this name; or how the run ends before its image is opened.
-pub(crate) fn choose(alloc: Global, class: &[u8], classes: Vec<ClassFile>) -> Result<Found, Status>
-    requires few { length classes.items ≤ 4096 }
-    requires readable { All CanBeRead classes.items }
-    requires small { All (HasAtMost 1048576) classes.items }
-    ensures found { IfOk result (λ found. ClassesGive class.now (kept_files classes.items)
-        (Ok (record { set = found.set; main = found.main.items }))) }
-    ensures small { IfOk result (λ found. All (HasAtMost 1048576) found.set.files) }
+pub(crate) fn choose(alloc: Global, class: &[u8], classes: AcceptedFiles) -> Result<Found, Status>
+    ensures found { IfOk result (λ found. ClassesGive class.now (kept_files classes)
+        (Ok (record { set = found.set.linked; main = found.main.items }))) }
     ensures refused { IfErr result (λ s. (s ≡ Status.OutOfMemory)
-        ⊎ ClassesGive class.now (kept_files classes.items) (Err s)) }
+        ⊎ ClassesGive class.now (kept_files classes) (Err s)) }
     ensures of_classes { IfErr result IsOfClasses }
 {
     let set = link(alloc, classes)?;

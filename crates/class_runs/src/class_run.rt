@@ -1,8 +1,7 @@
 // A class of some classes, or of a source's files, is run on an image.
-ghost use Rattle.std.specs.Prelude.{◌≡◌, ◌≢◌, ◌⊎◌, ◌≤◌, All, Some, [], List, length};
+ghost use Rattle.std.specs.Prelude.{◌≡◌, ◌≢◌, ◌⊎◌, Some, [], List};
 ghost use Rattle.ap_base.specs.Causes.{Rose, next_count};
 ghost use Rattle.ap_base.specs.declared.source.NamedBytes.{NamedBytes as File};
-ghost use Rattle.class_file.specs.Classes.{CanBeRead, HasAtMost};
 ghost use Rattle.class_links.specs.Kept.{kept_files};
 ghost use Rattle.image_meaning.specs.Meaning.{empty_graph};
 ghost use Rattle.class_runs.specs.Chosen.{ClassesGive};
@@ -13,12 +12,11 @@ use crate::choice::{Found, choose};
 use crate::ran::{Ran, no_graph, unbegun};
 use crate::sets::run_set;
 use ap_base::{ClassSource, Gate, Sink};
-use class_file::ClassFile;
 use line_image::Image;
 use run_history::{Acts, Watcher};
 use run_types::Limits;
 use shared_graph::SharedGraph;
-use source_classes::read_files;
+use source_classes::{AcceptedFiles, read_files};
 use statuses::Status;
 use std::alloc::Global;
 use std::sync::Wait;
@@ -47,7 +45,7 @@ pub fn run_classes<R, I, S, G, W>(
     alloc: Global,
     class: &[u8],
     limits: &Limits,
-    classes: Vec<ClassFile>,
+    classes: AcceptedFiles,
     image: I,
     sink: S,
     gate: &G,
@@ -59,13 +57,10 @@ where
     S: Sink + Send,
     G: Gate + Sync,
     W: Watcher + Send,
-    requires few { length classes.items ≤ 4096 }
-    requires readable { All CanBeRead classes.items }
-    requires small { All (HasAtMost 1048576) classes.items }
     // How it ends: each status but want of memory with its cause.
-    ensures cause { IsCauseOf (ClassesGive class.now (kept_files classes.items)) limits.now
+    ensures cause { IsCauseOf (ClassesGive class.now (kept_files classes)) limits.now
         (over (I.told image) (S.takes sink) result.opening result.acts.acts (I.told result.image)) result.status }
-    ensures answers { Answers (ClassesGive class.now (kept_files classes.items)) result.status }
+    ensures answers { Answers (ClassesGive class.now (kept_files classes)) result.status }
     ensures of { IsOfClasses result.status ⊎ IsOfRun result.status }
     ensures sink_fault { result.status ≡ Status.SinkFault
         → S.faults result.sink ≡ next_count (S.faults sink) }
@@ -81,7 +76,7 @@ where
     // What ran, how many bytes each print took, and what a stop leaves of the image, within any of its calls or after the last one;
     // or there are no acts, and the image is as it was.
     ensures theorem { ((result.image ≡ image) × (result.acts.acts ≡ []))
-        ⊎ OfChoice (ClassesGive class.now (kept_files classes.items)) (RunsAs limits.now
+        ⊎ OfChoice (ClassesGive class.now (kept_files classes)) (RunsAs limits.now
         (over (I.told image) (S.takes sink) result.opening result.acts.acts (I.told result.image)) result.status) }
     ensures early { IsOfRun result.status ⊎ ((result.image ≡ image) × (result.acts.acts ≡ [])) }
     ensures size { (I.told result.image).size ≡ (I.told image).size }

@@ -1,9 +1,8 @@
 // The run of a class set over an image, from its opening on.
-ghost use Rattle.std.specs.Prelude.{◌≡◌, ◌≢◌, ℕ, [], All, Ok};
+ghost use Rattle.std.specs.Prelude.{◌≡◌, ◌≢◌, ℕ, [], Ok};
 ghost use Rattle.ap_base.specs.Causes.{next_count};
 ghost use Rattle.line_image.specs.Told.{Told};
 ghost use Rattle.image_meaning.specs.Meaning.{empty_graph};
-ghost use Rattle.class_file.specs.Classes.{HasAtMost};
 ghost use Rattle.class_set.specs.Linked.{Linked};
 ghost use Rattle.class_set.specs.Facts.{facts_of};
 ghost use Rattle.plain_model.specs.Duties.{IsClass};
@@ -27,6 +26,7 @@ use run_history::{Acts, Watcher};
 use run_types::{Limits, LinkKind};
 use set_types::SetTypes;
 use shared_graph::SharedGraph;
+use source_classes::AcceptedSet;
 use statuses::{NameRoom, Status, main_status, status_of_fault, uncaught_status};
 use std::alloc::Global;
 use std::sync::Wait;
@@ -62,14 +62,13 @@ fn of_unlaunched(why: NoLaunch) -> Status
     }
 }
 
-// The status of a set that isn't decoded. What has files of so few bytes isn't too large, so memory is lacking.
-fn of_undecoded(set: &ClassSet, why: DecodeRefusal) -> Status
-    requires small { All (HasAtMost 1048576) set.now.files }
-    requires large { why ≡ DecodeRefusal.TooLarge → IsTooLarge set.now }
+// The status of a set that isn't decoded. One of accepted files isn't too large, so memory is lacking.
+fn of_undecoded(set: &AcceptedSet, why: DecodeRefusal) -> Status
+    requires large { why ≡ DecodeRefusal.TooLarge → IsTooLarge set.now.linked }
     ensures { result ≡ Status.OutOfMemory }
 {
     accepted_sets_have_room();
-    let _count = set.file_count();
+    let _count = set.linked.file_count();
     match why {
         DecodeRefusal::TooLarge => unreachable!(),
         DecodeRefusal::OutOfMemory => Status::OutOfMemory,
@@ -104,7 +103,7 @@ pub(crate) fn run_set<R, I, S, G, W>(
     rt: &R,
     workers: u8,
     alloc: Global,
-    mut set: ClassSet,
+    set: AcceptedSet,
     class: &[u8],
     limits: &Limits,
     room: NameRoom,
@@ -119,8 +118,7 @@ where
     S: Sink + Send,
     G: Gate + Sync,
     W: Watcher + Send,
-    requires small { All (HasAtMost 1048576) set.files }
-    ensures ran { SetRunsOver set class.now limits.now (I.told image) (S.takes sink) result.opening result.acts.acts
+    ensures ran { SetRunsOver set.linked class.now limits.now (I.told image) (S.takes sink) result.opening result.acts.acts
         (I.told result.image) result.status }
     ensures told { Tells result.acts.acts (W.seen watcher) (W.seen result.watcher)
         (S.taken sink) (S.taken result.sink) (S.takes sink) (S.takes result.sink) }
@@ -131,10 +129,14 @@ where
         → I.faults result.image ≡ next_count (I.faults image) }
     ensures image_spared { result.status ≢ Status.ImageFault → I.faults result.image ≡ I.faults image }
 {
-    match find_for(alloc, &mut set, image) {
-        Ok(found) => run_found(
-            rt, workers, alloc, &set, class, limits, room, found, sink, gate, watcher,
-        ),
+    let AcceptedSet { mut linked } = set;
+    match find_for(alloc, &mut linked, image) {
+        Ok(found) => {
+            let set = AcceptedSet { linked };
+            run_found(
+                rt, workers, alloc, &set, class, limits, room, found, sink, gate, watcher,
+            )
+        }
         Err((why, image)) => unbegun(alloc, of_unopened(why), image, sink, watcher),
     }
 }
@@ -144,7 +146,7 @@ fn run_found<R, I, S, G, W>(
     rt: &R,
     workers: u8,
     alloc: Global,
-    set: &ClassSet,
+    set: &AcceptedSet,
     class: &[u8],
     limits: &Limits,
     room: NameRoom,
@@ -159,10 +161,9 @@ where
     S: Sink + Send,
     G: Gate + Sync,
     W: Watcher + Send,
-    requires small { All (HasAtMost 1048576) set.now.files }
-    requires found { (start : Told) × (old : Linked) × IsFoundFor start old set.now
+    requires found { (start : Told) × (old : Linked) × IsFoundFor start old set.now.linked
         found.memory found.directory found.lines found.graph found.free }
-    ensures ran { (start : Told) (old : Linked) → IsFoundFor start old set.now
+    ensures ran { (start : Told) (old : Linked) → IsFoundFor start old set.now.linked
         found.memory found.directory found.lines found.graph found.free
         → SetRunsOver old class.now limits.now start (S.takes sink) result.opening result.acts.acts
         (I.told result.image) result.status }
@@ -175,7 +176,7 @@ where
         → I.faults result.image ≡ next_count (found.memory.faults) }
     ensures image_spared { result.status ≢ Status.ImageFault → I.faults result.image ≡ found.memory.faults }
 {
-    match find_room(alloc, set, limits.heap_words) {
+    match find_room(alloc, &set.linked, limits.heap_words) {
         Ok(()) => run_main(
             rt, workers, alloc, set, class, limits, room, found, sink, gate, watcher,
         ),
@@ -191,7 +192,7 @@ fn run_main<R, I, S, G, W>(
     rt: &R,
     workers: u8,
     alloc: Global,
-    set: &ClassSet,
+    set: &AcceptedSet,
     class: &[u8],
     limits: &Limits,
     room: NameRoom,
@@ -206,11 +207,10 @@ where
     S: Sink + Send,
     G: Gate + Sync,
     W: Watcher + Send,
-    requires small { All (HasAtMost 1048576) set.now.files }
-    requires found { (start : Told) × (old : Linked) × IsFoundFor start old set.now
+    requires found { (start : Told) × (old : Linked) × IsFoundFor start old set.now.linked
         found.memory found.directory found.lines found.graph found.free }
-    requires fits { FindsRoom set.now limits.now }
-    ensures ran { (start : Told) (old : Linked) → IsFoundFor start old set.now
+    requires fits { FindsRoom set.now.linked limits.now }
+    ensures ran { (start : Told) (old : Linked) → IsFoundFor start old set.now.linked
         found.memory found.directory found.lines found.graph found.free
         → SetRunsOver old class.now limits.now start (S.takes sink) result.opening result.acts.acts
         (I.told result.image) result.status }
@@ -223,7 +223,7 @@ where
         → I.faults result.image ≡ next_count (found.memory.faults) }
     ensures image_spared { result.status ≢ Status.ImageFault → I.faults result.image ≡ found.memory.faults }
 {
-    match find_main(set, class) {
+    match find_main(&set.linked, class) {
         Ok(main) => run_complete(
             rt, workers, alloc, set, class, &main, limits, room, found, sink, gate, watcher,
         ),
@@ -240,7 +240,7 @@ fn run_complete<R, I, S, G, W>(
     rt: &R,
     workers: u8,
     alloc: Global,
-    set: &ClassSet,
+    set: &AcceptedSet,
     class: &[u8],
     main: &Main,
     limits: &Limits,
@@ -256,13 +256,12 @@ where
     S: Sink + Send,
     G: Gate + Sync,
     W: Watcher + Send,
-    requires small { All (HasAtMost 1048576) set.now.files }
-    requires found { (start : Told) × (old : Linked) × IsFoundFor start old set.now
+    requires found { (start : Told) × (old : Linked) × IsFoundFor start old set.now.linked
         found.memory found.directory found.lines found.graph found.free }
-    requires fits { FindsRoom set.now limits.now }
-    requires main { main_of set.now class.now ≡ Ok main.now }
-    requires there { IsClass (facts_of set.now) main.now.class }
-    ensures ran { (start : Told) (old : Linked) → IsFoundFor start old set.now
+    requires fits { FindsRoom set.now.linked limits.now }
+    requires main { main_of set.now.linked class.now ≡ Ok main.now }
+    requires there { IsClass (facts_of set.now.linked) main.now.class }
+    ensures ran { (start : Told) (old : Linked) → IsFoundFor start old set.now.linked
         found.memory found.directory found.lines found.graph found.free
         → SetRunsOver old class.now limits.now start (S.takes sink) result.opening result.acts.acts
         (I.told result.image) result.status }
@@ -288,7 +287,7 @@ fn run_opened<R, I, S, G, W>(
     rt: &R,
     workers: u8,
     alloc: Global,
-    set: &ClassSet,
+    set: &AcceptedSet,
     class: &[u8],
     main: &Main,
     limits: &Limits,
@@ -304,13 +303,12 @@ where
     S: Sink + Send,
     G: Gate + Sync,
     W: Watcher + Send,
-    requires small { All (HasAtMost 1048576) set.now.files }
-    requires opened { (start : Told) × (old : Linked) × IsOpenedFor start old set.now
+    requires opened { (start : Told) × (old : Linked) × IsOpenedFor start old set.now.linked
         opened.memory opened.directory opened.lines opened.graph opened.free }
-    requires fits { FindsRoom set.now limits.now }
-    requires main { main_of set.now class.now ≡ Ok main.now }
-    requires there { IsClass (facts_of set.now) main.now.class }
-    ensures ran { (start : Told) (old : Linked) → IsOpenedFor start old set.now
+    requires fits { FindsRoom set.now.linked limits.now }
+    requires main { main_of set.now.linked class.now ≡ Ok main.now }
+    requires there { IsClass (facts_of set.now.linked) main.now.class }
+    ensures ran { (start : Told) (old : Linked) → IsOpenedFor start old set.now.linked
         opened.memory opened.directory opened.lines opened.graph opened.free
         → SetRunsOver old class.now limits.now start (S.takes sink) result.opening result.acts.acts
         (I.told result.image) result.status }
@@ -323,7 +321,7 @@ where
         → I.faults result.image ≡ next_count (opened.memory.faults) }
     ensures image_spared { result.status ≢ Status.ImageFault → I.faults result.image ≡ opened.memory.faults }
 {
-    match open_heap(alloc, set, opened, limits.heap_words) {
+    match open_heap(alloc, &set.linked, opened, limits.heap_words) {
         Ok(heap) => run_heap(
             rt, workers, alloc, set, class, main, limits, room, heap, sink, gate, watcher,
         ),
@@ -344,7 +342,7 @@ fn run_heap<R, I, S, G, W>(
     rt: &R,
     workers: u8,
     alloc: Global,
-    set: &ClassSet,
+    set: &AcceptedSet,
     class: &[u8],
     main: &Main,
     limits: &Limits,
@@ -360,13 +358,12 @@ where
     S: Sink + Send,
     G: Gate + Sync,
     W: Watcher + Send,
-    requires small { All (HasAtMost 1048576) set.now.files }
     requires can { (start : Told) × (old : Linked)
-        × CanLaunch start old set.now limits.now.heap_words heap }
-    requires main { main_of set.now class.now ≡ Ok main.now }
-    requires there { IsClass (facts_of set.now) main.now.class }
+        × CanLaunch start old set.now.linked limits.now.heap_words heap }
+    requires main { main_of set.now.linked class.now ≡ Ok main.now }
+    requires there { IsClass (facts_of set.now.linked) main.now.class }
     ensures ran { (start : Told) (old : Linked)
-        → CanLaunch start old set.now limits.now.heap_words heap
+        → CanLaunch start old set.now.linked limits.now.heap_words heap
         → SetRunsOver old class.now limits.now start (S.takes sink) result.opening result.acts.acts
         (I.told result.image) result.status }
     ensures told { Tells result.acts.acts (W.seen watcher) (W.seen result.watcher)
@@ -379,8 +376,18 @@ where
     ensures image_spared { result.status ≢ Status.ImageFault → I.faults result.image ≡ heap.spaces.heap.memory.faults }
 {
     each_stop_is_allowed();
-    match launch(alloc, set, main, heap, limits) {
-        Ok(launched) => run_launched(rt, workers, alloc, set, room, launched, sink, gate, watcher),
+    match launch(alloc, &set.linked, main, heap, limits) {
+        Ok(launched) => run_launched(
+            rt,
+            workers,
+            alloc,
+            &set.linked,
+            room,
+            launched,
+            sink,
+            gate,
+            watcher,
+        ),
         Err((why, memory)) => {
             let status = of_undecoded(set, why);
             unbegun(alloc, status, memory.into_image(), sink, watcher)

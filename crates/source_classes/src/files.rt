@@ -1,5 +1,5 @@
 // The files of a source, read and checked one by one.
-ghost use Rattle.std.specs.Prelude.{◌≡◌, ◌≢◌, ◌⊎◌, ◌≤◌, All, List, [], length, Some, OnOk, OnErr, IfOk, IfErr, IsErrOf, Ok};
+ghost use Rattle.std.specs.Prelude.{◌≡◌, ◌≢◌, ◌⊎◌, ◌≤◌, List, [], Some, OnOk, OnErr, IfOk, IfErr, IsErrOf, Ok};
 ghost use Rattle.std.specs.Prelude.{Err};
 ghost use Rattle.ap_base.specs.Causes.{Rose};
 ghost use Rattle.ap_base.specs.Sources as given;
@@ -8,6 +8,7 @@ ghost use Rattle.class_file.specs.Classes.{CanBeRead, HasAtMost};
 ghost use Rattle.source_classes.specs.Files.{class_of};
 ghost use Rattle.source_classes.specs.Reading.{IsReadAs, HasNoCause, IsOfFiles, FilesComeTo, IsLeft};
 
+use crate::accepted::AcceptedFiles;
 use ap_base::{Bytes, ClassSource, MOST_BYTES, NamedBytes, SourceError};
 use class_file::{ClassFile, ClassRefusal, read_class};
 use run_types::{Full, Which};
@@ -76,12 +77,9 @@ fn next_file<C: ClassSource>(alloc: Global, source: &mut C) -> Result<Option<Nam
 ///
 /// `BadClass` or `Full` exactly where the first file that is refused, of as many as a source may have, or their number, comes to that;
 /// `SourceFault` only where the source's count of faults rose; want of memory. No file is read behind one that is refused.
-pub fn read_files<C: ClassSource>(alloc: Global, source: &mut C) -> Result<Vec<ClassFile>, Status>
+pub fn read_files<C: ClassSource>(alloc: Global, source: &mut C) -> Result<AcceptedFiles, Status>
     ensures classes { IfOk result (λ classes.
-        FilesComeTo (C.left source.old) (Ok classes.items)) }
-    ensures few { IfOk result (λ classes. length classes.items ≤ 4096) }
-    ensures readable { IfOk result (λ classes. All CanBeRead classes.items) }
-    ensures small { IfOk result (λ classes. All (HasAtMost 1048576) classes.items) }
+        FilesComeTo (C.left source.old) (Ok classes)) }
     ensures refused { IfErr result (λ s. HasNoCause s ⊎ FilesComeTo (C.left source.old) (Err s)) }
     ensures whole { OnOk result ((files : List File) → C.left source.old ≡ Some files
         → C.left source.new ≡ Some []) }
@@ -95,7 +93,7 @@ pub fn read_files<C: ClassSource>(alloc: Global, source: &mut C) -> Result<Vec<C
     let mut classes = Vec::new(alloc);
     for _ in 0..MOST_FILES {
         let Some(file) = next_file(alloc, source)? else {
-            return Ok(classes);
+            return Ok(AcceptedFiles::of(classes));
         };
         let class = class_of(alloc, file)?;
         if classes.push(class).is_err() {
@@ -103,7 +101,7 @@ pub fn read_files<C: ClassSource>(alloc: Global, source: &mut C) -> Result<Vec<C
         }
     }
     match next_file(alloc, source)? {
-        None => Ok(classes),
+        None => Ok(AcceptedFiles::of(classes)),
         Some(_) => Err(Status::Full(Full {
             which: Which::Files,
             need: 1,

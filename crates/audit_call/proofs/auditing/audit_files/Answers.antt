@@ -7,7 +7,7 @@ use Rattle.audit_call.proofs.auditing.audit_files.Goals as goal
 
 pub returns-in-Ok-clause-ends : goal.returns-in-Ok-clause-ends
 returns-in-Ok-clause-ends g c =
-    inr (record { set = c.in-Ok.set; links = c.in-Ok.ensures.links; ends = c.judge_set-judged.ensures.ends })
+    inr (record { set = c.in-Ok.set.linked; links = c.in-Ok.ensures.links; ends = c.judge_set-judged.ensures.ends })
 
 pub returns-in-Ok-clause-answers : goal.returns-in-Ok-clause-answers
 returns-in-Ok-clause-answers g c files told =

@@ -11,15 +11,21 @@ pub judge_graphs-status-requires : goal.judge_graphs-status-requires
 judge_graphs-status-requires g c =
     let f = c.in-Ok.found in
     record {
-      opening = still_opens (g.J.Image.told c.args.after) c.args.set.now c.find_for.new.set f.memory f.directory f.lines f.graph f.free
+      opening = still_opens (g.J.Image.told c.args.after) c.args.set.linked c.find_for.new.set f.memory f.directory f.lines f.graph f.free
           c.in-Ok.ensures.found c.args.opening c.requires.opening;
-      small = still_small (g.J.Image.told c.args.after) c.args.set.now c.find_for.new.set f.memory f.directory f.lines f.graph f.free
-          c.in-Ok.ensures.found c.requires.small;
+    }
+
+pub invariant_of-set : goal.invariant_of-set
+invariant_of-set g c =
+    let f = c.in-Ok.found in
+    record {
+      small = still_small (g.J.Image.told c.args.after) c.args.set.linked c.find_for.new.set f.memory f.directory f.lines f.graph f.free
+          c.in-Ok.ensures.found c.args.set.small;
     }
 
 pub returns-in-Ok-clause-ends : goal.returns-in-Ok-clause-ends
 returns-in-Ok-clause-ends g c =
-    let given = c.give_back-graph.ensures.given (g.J.Image.told c.args.after) c.args.set.now c.find_for.new.set c.in-Ok.ensures.found in
+    let given = c.give_back-graph.ensures.given (g.J.Image.told c.args.after) c.args.set.linked c.find_for.new.set c.in-Ok.ensures.found in
     inr (record {
       numbered = c.find_for.new.set;
       found = given.0;
@@ -30,8 +36,8 @@ returns-in-Ok-clause-ends g c =
 pub returns-in-Ok-clause-kept : goal.returns-in-Ok-clause-kept
 returns-in-Ok-clause-kept g c =
     let start = g.J.Image.told c.args.after in
-    let given = c.give_back-graph.ensures.given start c.args.set.now c.find_for.new.set c.in-Ok.ensures.found in
-    unbegun_kept start (g.J.Image.told c.give_back-graph.result.1) c.args.set.now c.find_for.new.set given.0
+    let given = c.give_back-graph.ensures.given start c.args.set.linked c.find_for.new.set c.in-Ok.ensures.found in
+    unbegun_kept start (g.J.Image.told c.give_back-graph.result.1) c.args.set.linked c.find_for.new.set given.0
 
 pub returns-in-Err-clause-ends : goal.returns-in-Err-clause-ends
 returns-in-Err-clause-ends g c = inl (record {
@@ -44,7 +50,7 @@ returns-in-Err-clause-ends g c = inl (record {
 
 pub returns-in-Err-clause-kept : goal.returns-in-Err-clause-kept
 returns-in-Err-clause-kept g c =
-    unopened_kept (g.J.Image.told c.args.after) (g.J.Image.told c.in-Err.image) c.args.set.now c.find_for.new.set c.in-Err.why
+    unopened_kept (g.J.Image.told c.args.after) (g.J.Image.told c.in-Err.image) c.args.set.linked c.find_for.new.set c.in-Err.why
     c.in-Err.ensures.unopened
 
 pub returns-in-Ok-clause-image_fault : goal.returns-in-Ok-clause-image_fault

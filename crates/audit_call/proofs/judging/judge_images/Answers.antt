@@ -7,17 +7,21 @@ use Rattle.audit_call.proofs.Keeping.{same_kept, unbegun_kept, unopened_kept}
 use Rattle.audit_call.proofs.judging.judge_images.Goals as goal
 
 pub judge_after-judged-requires : goal.judge_after-judged-requires
-judge_after-judged-requires g c =
+judge_after-judged-requires g c = record {
+  opening = c.give_back-opening.ensures.opening (g.I.Image.told c.args.before) c.args.set.linked c.find_for.new.set c.in-Ok.ensures.found;
+}
+
+pub invariant_of-set : goal.invariant_of-set
+invariant_of-set g c =
     let f = c.in-Ok.found in
     record {
-      opening = c.give_back-opening.ensures.opening (g.I.Image.told c.args.before) c.args.set c.find_for.new.set c.in-Ok.ensures.found;
-      small = still_small (g.I.Image.told c.args.before) c.args.set c.find_for.new.set f.memory f.directory f.lines f.graph f.free
-          c.in-Ok.ensures.found c.requires.small;
+      small = still_small (g.I.Image.told c.args.before) c.args.set.linked c.find_for.new.set f.memory f.directory f.lines f.graph f.free
+          c.in-Ok.ensures.found c.args.set.small;
     }
 
 pub returns-in-Ok-clause-ends : goal.returns-in-Ok-clause-ends
 returns-in-Ok-clause-ends g c =
-    let given = c.give_back-opening.ensures.given (g.I.Image.told c.args.before) c.args.set c.find_for.new.set c.in-Ok.ensures.found in
+    let given = c.give_back-opening.ensures.given (g.I.Image.told c.args.before) c.args.set.linked c.find_for.new.set c.in-Ok.ensures.found in
     inr (record {
       numbered = c.find_for.new.set;
       found = given.0;
@@ -29,11 +33,11 @@ returns-in-Ok-clause-ends g c =
 pub returns-in-Ok-clause-before_kept : goal.returns-in-Ok-clause-before_kept
 returns-in-Ok-clause-before_kept g c =
     let start = g.I.Image.told c.args.before in
-    let given = c.give_back-opening.ensures.given start c.args.set c.find_for.new.set c.in-Ok.ensures.found in
-    unbegun_kept start (g.I.Image.told c.give_back-opening.result.1) c.args.set c.find_for.new.set given.0
+    let given = c.give_back-opening.ensures.given start c.args.set.linked c.find_for.new.set c.in-Ok.ensures.found in
+    unbegun_kept start (g.I.Image.told c.give_back-opening.result.1) c.args.set.linked c.find_for.new.set given.0
 
-pub returns-clause-ends : goal.returns-clause-ends
-returns-clause-ends g c = inl (record {
+pub returns-in-Err-clause-ends : goal.returns-in-Err-clause-ends
+returns-in-Err-clause-ends g c = inl (record {
   unopened = record {
     numbered = c.find_for.new.set;
     why = c.in-Err.why;
@@ -44,13 +48,13 @@ returns-clause-ends g c = inl (record {
   untouched = refl;
 })
 
-pub returns-clause-before_kept : goal.returns-clause-before_kept
-returns-clause-before_kept g c =
-    unopened_kept (g.I.Image.told c.args.before) (g.I.Image.told c.in-Err.before) c.args.set c.find_for.new.set c.in-Err.why
+pub returns-in-Err-clause-before_kept : goal.returns-in-Err-clause-before_kept
+returns-in-Err-clause-before_kept g c =
+    unopened_kept (g.I.Image.told c.args.before) (g.I.Image.told c.in-Err.before) c.args.set.linked c.find_for.new.set c.in-Err.why
     c.in-Err.ensures.unopened
 
-pub returns-clause-after_kept : goal.returns-clause-after_kept
-returns-clause-after_kept g c = same_kept (g.J.Image.told c.args.after)
+pub returns-in-Err-clause-after_kept : goal.returns-in-Err-clause-after_kept
+returns-in-Err-clause-after_kept g c = same_kept (g.J.Image.told c.args.after)
 
 pub returns-in-Ok-clause-image_fault : goal.returns-in-Ok-clause-image_fault
 returns-in-Ok-clause-image_fault g c = λ is.
@@ -60,12 +64,12 @@ pub returns-in-Ok-clause-image_spared : goal.returns-in-Ok-clause-image_spared
 returns-in-Ok-clause-image_spared g c = λ other.
     (c.give_back-opening.ensures.faults ∙ c.in-Ok.ensures.spared, c.judge_after-judged.ensures.image_spared other)
 
-pub returns-clause-image_fault : goal.returns-clause-image_fault
-returns-clause-image_fault g c = λ is. inl (c.in-Err.ensures.cause.failed (c.of_unopened-status.ensures.image_failed is), refl)
+pub returns-in-Err-clause-image_fault : goal.returns-in-Err-clause-image_fault
+returns-in-Err-clause-image_fault g c = λ is. inl (c.in-Err.ensures.cause.failed (c.of_unopened-status.ensures.image_failed is), refl)
 
-pub returns-clause-image_spared : goal.returns-clause-image_spared
-returns-clause-image_spared g c = λ other.
+pub returns-in-Err-clause-image_spared : goal.returns-in-Err-clause-image_spared
+returns-in-Err-clause-image_spared g c = λ other.
     (c.in-Err.ensures.cause.spared (λ failed. other (c.of_unopened-status.ensures.is ∙ ap status_of_unopened failed)), refl)
 
-pub returns-clause-sink_fault : goal.returns-clause-sink_fault
-returns-clause-sink_fault g c = λ is. absurd (c.of_unopened-status.ensures.no_sink is)
+pub returns-in-Err-clause-sink_fault : goal.returns-in-Err-clause-sink_fault
+returns-in-Err-clause-sink_fault g c = λ is. absurd (c.of_unopened-status.ensures.no_sink is)

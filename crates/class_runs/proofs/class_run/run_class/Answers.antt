@@ -39,13 +39,13 @@ module _ (name : List ℕ) (left : Option (List NamedBytes)) (classes : List Cla
 
 pub returns-in-Ok-clause-cause : goal.returns-in-Ok-clause-cause
 returns-in-Ok-clause-cause g c =
-    caused c.args.class.now (g.C.ClassSource.left c.args.source) c.in-Ok.classes.items c.in-Ok.ensures.classes c.args.limits.now
+    caused c.args.class.now (g.C.ClassSource.left c.args.source) c.in-Ok.classes c.in-Ok.ensures.classes c.args.limits.now
     _ c.run_classes-ran.result.status c.run_classes-ran.ensures.cause
 
 pub returns-in-Ok-clause-answers : goal.returns-in-Ok-clause-answers
 returns-in-Ok-clause-answers g c =
     let start = g.I.Image.told c.args.image in
-    answered c.args.class.now (g.C.ClassSource.left c.args.source) c.in-Ok.classes.items c.in-Ok.ensures.classes c.args.limits.now
+    answered c.args.class.now (g.C.ClassSource.left c.args.source) c.in-Ok.classes c.in-Ok.ensures.classes c.args.limits.now
     (over start (g.S.Sink.takes c.args.sink) c.run_classes-ran.result.opening [] start) c.run_classes-ran.result.status c.run_classes-ran.ensures.answers
 
 pub returns-in-Ok-clause-source_fault : goal.returns-in-Ok-clause-source_fault
@@ -55,13 +55,13 @@ returns-in-Ok-clause-source_fault g c = λ is.
 pub returns-in-Ok-clause-left : goal.returns-in-Ok-clause-left
 returns-in-Ok-clause-left g c = λ none files told.
     let start = g.I.Image.told c.args.image in
-    leaves c.args.class.now (g.C.ClassSource.left c.args.source) c.in-Ok.classes.items c.in-Ok.ensures.classes c.args.limits.now
+    leaves c.args.class.now (g.C.ClassSource.left c.args.source) c.in-Ok.classes c.in-Ok.ensures.classes c.args.limits.now
     (over start (g.S.Sink.takes c.args.sink) c.run_classes-ran.result.opening [] start) c.run_classes-ran.result.status c.run_classes-ran.ensures.of files
     (g.C.ClassSource.left c.read_files.new.source) told (c.in-Ok.ensures.whole files told)
 
 pub returns-in-Ok-clause-theorem : goal.returns-in-Ok-clause-theorem
 returns-in-Ok-clause-theorem g c =
-    either c.args.class.now (g.C.ClassSource.left c.args.source) c.in-Ok.classes.items c.in-Ok.ensures.classes c.args.limits.now
+    either c.args.class.now (g.C.ClassSource.left c.args.source) c.in-Ok.classes c.in-Ok.ensures.classes c.args.limits.now
     _ c.run_classes-ran.result.status c.run_classes-ran.ensures.theorem
 
 -- ---- a file is refused, or none could be read

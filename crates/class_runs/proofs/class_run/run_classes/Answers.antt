@@ -54,37 +54,37 @@ module _ (name : List ℕ) (classes : List ClassFile) (set : Linked) (main text 
 
 pub returns-in-Ok-clause-cause : goal.returns-in-Ok-clause-cause
 returns-in-Ok-clause-cause g c =
-    caused c.args.class.now c.args.classes.items c.in-Ok.field-0.set c.in-Ok.field-0.main.items c.as_slice.result.now
+    caused c.args.class.now c.args.classes c.in-Ok.field-0.set.linked c.in-Ok.field-0.main.items c.as_slice.result.now
     c.args.limits.now (g.I.Image.told c.args.image) (g.S.Sink.takes c.args.sink) c.run_set.result.opening c.run_set.result.acts.acts
     (g.I.Image.told c.run_set.result.image) c.run_set.result.status c.as_slice.ensures.value c.in-Ok.ensures.found c.run_set.ensures.ran
 
 pub returns-in-Ok-clause-answers : goal.returns-in-Ok-clause-answers
 returns-in-Ok-clause-answers g c =
-    answered c.args.class.now c.args.classes.items c.in-Ok.field-0.set c.in-Ok.field-0.main.items c.as_slice.result.now
+    answered c.args.class.now c.args.classes c.in-Ok.field-0.set.linked c.in-Ok.field-0.main.items c.as_slice.result.now
     c.args.limits.now (g.I.Image.told c.args.image) (g.S.Sink.takes c.args.sink) c.run_set.result.opening c.run_set.result.acts.acts
     (g.I.Image.told c.run_set.result.image) c.run_set.result.status c.as_slice.ensures.value c.in-Ok.ensures.found c.run_set.ensures.ran
 
 pub returns-in-Ok-clause-of : goal.returns-in-Ok-clause-of
 returns-in-Ok-clause-of g c =
-    inr (of c.args.class.now c.args.classes.items c.in-Ok.field-0.set c.in-Ok.field-0.main.items c.as_slice.result.now
+    inr (of c.args.class.now c.args.classes c.in-Ok.field-0.set.linked c.in-Ok.field-0.main.items c.as_slice.result.now
     c.args.limits.now (g.I.Image.told c.args.image) (g.S.Sink.takes c.args.sink) c.run_set.result.opening c.run_set.result.acts.acts
     (g.I.Image.told c.run_set.result.image) c.run_set.result.status c.as_slice.ensures.value c.in-Ok.ensures.found c.run_set.ensures.ran)
 
 pub returns-in-Ok-clause-no_memory : goal.returns-in-Ok-clause-no_memory
 returns-in-Ok-clause-no_memory g c =
-    early c.args.class.now c.args.classes.items c.in-Ok.field-0.set c.in-Ok.field-0.main.items c.as_slice.result.now
+    early c.args.class.now c.args.classes c.in-Ok.field-0.set.linked c.in-Ok.field-0.main.items c.as_slice.result.now
     c.args.limits.now (g.I.Image.told c.args.image) (g.S.Sink.takes c.args.sink) c.run_set.result.opening c.run_set.result.acts.acts
     (g.I.Image.told c.run_set.result.image) c.run_set.result.status c.as_slice.ensures.value c.in-Ok.ensures.found c.run_set.ensures.ran
 
 pub returns-in-Ok-clause-theorem : goal.returns-in-Ok-clause-theorem
 returns-in-Ok-clause-theorem g c =
-    inr (ran_so c.args.class.now c.args.classes.items c.in-Ok.field-0.set c.in-Ok.field-0.main.items c.as_slice.result.now
+    inr (ran_so c.args.class.now c.args.classes c.in-Ok.field-0.set.linked c.in-Ok.field-0.main.items c.as_slice.result.now
     c.args.limits.now (g.I.Image.told c.args.image) (g.S.Sink.takes c.args.sink) c.run_set.result.opening c.run_set.result.acts.acts
     (g.I.Image.told c.run_set.result.image) c.run_set.result.status c.as_slice.ensures.value c.in-Ok.ensures.found c.run_set.ensures.ran)
 
 pub returns-in-Ok-clause-early : goal.returns-in-Ok-clause-early
 returns-in-Ok-clause-early g c =
-    inl (of c.args.class.now c.args.classes.items c.in-Ok.field-0.set c.in-Ok.field-0.main.items c.as_slice.result.now
+    inl (of c.args.class.now c.args.classes c.in-Ok.field-0.set.linked c.in-Ok.field-0.main.items c.as_slice.result.now
     c.args.limits.now (g.I.Image.told c.args.image) (g.S.Sink.takes c.args.sink) c.run_set.result.opening c.run_set.result.acts.acts
     (g.I.Image.told c.run_set.result.image) c.run_set.result.status c.as_slice.ensures.value c.in-Ok.ensures.found c.run_set.ensures.ran)
 
@@ -110,13 +110,13 @@ answers name classes limits passed s s' same of cause =
 
 pub returns-in-Err-clause-cause : goal.returns-in-Err-clause-cause
 returns-in-Err-clause-cause g c =
-    unrun c.args.class.now c.args.classes.items c.args.limits.now _ c.in-Err.status c.unbegun.result.status c.unbegun.ensures.status
+    unrun c.args.class.now c.args.classes c.args.limits.now _ c.in-Err.status c.unbegun.result.status c.unbegun.ensures.status
     c.in-Err.ensures.of_classes c.in-Err.ensures.refused
 
 pub returns-in-Err-clause-answers : goal.returns-in-Err-clause-answers
 returns-in-Err-clause-answers g c =
     let start = g.I.Image.told c.args.image in
-    answers c.args.class.now c.args.classes.items c.args.limits.now (over start (g.S.Sink.takes c.args.sink) c.unbegun.result.opening [] start) c.in-Err.status
+    answers c.args.class.now c.args.classes c.args.limits.now (over start (g.S.Sink.takes c.args.sink) c.unbegun.result.opening [] start) c.in-Err.status
     c.unbegun.result.status c.unbegun.ensures.status c.in-Err.ensures.of_classes c.in-Err.ensures.refused
 
 pub returns-in-Err-clause-of : goal.returns-in-Err-clause-of

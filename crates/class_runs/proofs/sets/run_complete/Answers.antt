@@ -5,11 +5,11 @@ use Rattle.class_runs.proofs.sets.run_complete.Goals as goal
 
 pub run_opened-requires-clause-opened : goal.run_opened-requires-clause-opened
 run_opened-requires-clause-opened g c = λ κs below.
-    let o = c.requires.found in (o.0, o.1, c.in-Ok.ensures.opened o.0 o.1 c.args.set.now o.2)
+    let o = c.requires.found in (o.0, o.1, c.in-Ok.ensures.opened o.0 o.1 c.args.set.now.linked o.2)
 
 pub returns-in-Ok-clause-ran : goal.returns-in-Ok-clause-ran
 returns-in-Ok-clause-ran g c = λ start old is.
-    c.run_opened.ensures.ran start old (c.in-Ok.ensures.opened start old c.args.set.now is)
+    c.run_opened.ensures.ran start old (c.in-Ok.ensures.opened start old c.args.set.now.linked is)
 
 pub returns-in-Ok-clause-image_fault : goal.returns-in-Ok-clause-image_fault
 returns-in-Ok-clause-image_fault g c = λ is.
@@ -22,8 +22,8 @@ returns-in-Ok-clause-image_spared g c = λ isnt. c.run_opened.ensures.image_spar
 pub returns-in-Err-clause-ran : goal.returns-in-Err-clause-ran
 returns-in-Err-clause-ran g c = λ start old is.
     rw (c.unbegun.ensures.opening, c.unbegun.ensures.acts, c.unbegun.ensures.image, c.unbegun.ensures.status)
-    (unappended_ran old c.args.set.now c.args.class.now c.args.limits.now start (g.I.Image.told c.in-Err.image)
-    (c.in-Err.ensures.unappended start old c.args.set.now is))
+    (unappended_ran old c.args.set.now.linked c.args.class.now c.args.limits.now start (g.I.Image.told c.in-Err.image)
+    (c.in-Err.ensures.unappended start old c.args.set.now.linked is))
 
 pub returns-in-Err-clause-told : goal.returns-in-Err-clause-told
 returns-in-Err-clause-told g c =

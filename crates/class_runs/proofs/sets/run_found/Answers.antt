@@ -10,7 +10,7 @@ pub returns-in-Err-clause-ran : goal.returns-in-Err-clause-ran
 returns-in-Err-clause-ran g c = λ start old is.
     let found = c.args.found in
     rw (c.unbegun.ensures.opening, c.unbegun.ensures.acts, c.unbegun.ensures.image, c.unbegun.ensures.status, c.of_unlaunched.ensures)
-    (unfitted_ran old c.args.set.now start found.memory found.directory found.lines found.graph found.free is
+    (unfitted_ran old c.args.set.now.linked start found.memory found.directory found.lines found.graph found.free is
     c.args.class.now c.args.limits.now (g.I.Image.told c.into_image-image.result) c.in-Err.why
     c.into_image-image.ensures.told c.into_image-image.ensures.size c.in-Err.ensures.full)
 

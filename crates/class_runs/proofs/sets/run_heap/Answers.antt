@@ -15,7 +15,7 @@ run_launched-requires-clause-ready g c = λ κs below.
     let heap = c.args.heap in
     let l = c.in-Ok.ensures.ready r.0 r.1 r.2 in (
       opening_over r.0 heap.spaces.heap.memory (entries_in r.2.directory)
-          (launch_over c.args.set.now c.args.main.now c.args.limits.now heap.graph l.literals),
+          (launch_over c.args.set.now.linked c.args.main.now c.args.limits.now heap.graph l.literals),
       heap.free,
       l.ready,
     )
@@ -26,7 +26,7 @@ run_launched-requires-clause-empty g c = λ κs below.
 
 pub returns-in-Ok-clause-ran : goal.returns-in-Ok-clause-ran
 returns-in-Ok-clause-ran g c = λ start old can.
-    let set = c.args.set.now in
+    let set = c.args.set.now.linked in
     let heap = c.args.heap in
     let result = c.run_launched.result in
     let after = g.I.Image.told result.image in
@@ -54,7 +54,7 @@ returns-in-Ok-clause-image_spared g c = λ isnt.
 
 pub returns-in-Err-clause-ran : goal.returns-in-Err-clause-ran
 returns-in-Err-clause-ran g c = λ start old can.
-    let set = c.args.set.now in
+    let set = c.args.set.now.linked in
     let heap = c.args.heap in
     rw (
       c.unbegun.ensures.opening,

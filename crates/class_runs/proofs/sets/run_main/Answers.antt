@@ -14,7 +14,7 @@ returns-in-Err-clause-ran g c = λ start old is.
     let name = c.args.class.now in
     let found = c.args.found in
     rw (c.unbegun.ensures.opening, c.unbegun.ensures.acts, c.unbegun.ensures.image, c.unbegun.ensures.status)
-    (unbegun_ran old c.args.set.now start found.memory found.directory found.lines found.graph found.free is name
+    (unbegun_ran old c.args.set.now.linked start found.memory found.directory found.lines found.graph found.free is name
     c.args.limits.now (g.I.Image.told c.into_image-image.result) c.main_status-status.result c.into_image-image.ensures.told
     c.into_image-image.ensures.size
     (inr (inl (record {

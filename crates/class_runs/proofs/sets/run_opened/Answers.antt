@@ -15,7 +15,7 @@ returns-in-Ok-clause-ran g c = λ start old opened.
 pub returns-in-Err-clause-ran : goal.returns-in-Err-clause-ran
 returns-in-Err-clause-ran g c = λ start old opened.
     rw (c.unbegun.ensures.opening, c.unbegun.ensures.acts, c.unbegun.ensures.image, c.unbegun.ensures.status, c.of_unlaunched.ensures)
-    (unlaunched_ran old c.args.set.now start c.args.opened.memory c.args.opened.directory c.args.opened.lines
+    (unlaunched_ran old c.args.set.now.linked start c.args.opened.memory c.args.opened.directory c.args.opened.lines
     c.args.opened.graph c.args.opened.free opened c.args.class.now c.args.limits.now
     (g.I.Image.told c.into_image.result)
     c.in-Err.why (c.into_image.ensures.told ∙ ap (λ (m : Memory). m.image) c.in-Err.ensures.given_back)

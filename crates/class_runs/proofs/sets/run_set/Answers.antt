@@ -11,17 +11,17 @@ use Rattle.class_runs.proofs.sets.run_set.Goals as goal
 
 pub run_found-requires-clause-found : goal.run_found-requires-clause-found
 run_found-requires-clause-found g c = λ κs below.
-    (g.I.Image.told c.args.image, c.args.set, c.in-Ok.ensures.found)
+    (g.I.Image.told c.args.image, c.args.set.linked, c.in-Ok.ensures.found)
 
-pub run_found-requires-clause-small : goal.run_found-requires-clause-small
-run_found-requires-clause-small g c = λ κs below.
+pub invariant_of-set : goal.invariant_of-set
+invariant_of-set g c =
     let found = c.in-Ok.ensures.found in
-    let same = ap (λ (s : Linked). s.files) found.fitted.set_is ∙ arrays_files c.args.set found.found.shapes in
-    subst (λ (files : List ClassFile). All (HasAtMost 1048576) files) (sym same) c.requires.small
+    let same = ap (λ (s : Linked). s.files) found.fitted.set_is ∙ arrays_files c.args.set.linked found.found.shapes in
+    record { small = subst (λ (files : List ClassFile). All (HasAtMost 1048576) files) (sym same) c.args.set.small }
 
 pub returns-in-Ok-clause-ran : goal.returns-in-Ok-clause-ran
 returns-in-Ok-clause-ran g c =
-    c.run_found.ensures.ran (g.I.Image.told c.args.image) c.args.set c.in-Ok.ensures.found
+    c.run_found.ensures.ran (g.I.Image.told c.args.image) c.args.set.linked c.in-Ok.ensures.found
 
 pub returns-in-Ok-clause-image_fault : goal.returns-in-Ok-clause-image_fault
 returns-in-Ok-clause-image_fault g c = λ is.
@@ -31,30 +31,30 @@ returns-in-Ok-clause-image_fault g c = λ is.
 pub returns-in-Ok-clause-image_spared : goal.returns-in-Ok-clause-image_spared
 returns-in-Ok-clause-image_spared g c = λ isnt. c.run_found.ensures.image_spared isnt ∙ c.in-Ok.ensures.spared
 
-pub returns-clause-ran : goal.returns-clause-ran
-returns-clause-ran g c =
+pub returns-in-Err-clause-ran : goal.returns-in-Err-clause-ran
+returns-in-Err-clause-ran g c =
     rw (c.unbegun.ensures.opening, c.unbegun.ensures.acts, c.unbegun.ensures.image, c.unbegun.ensures.status, c.of_unopened.ensures)
-    (unopened_ran c.args.set c.find_for.new.set (g.I.Image.told c.args.image) (g.I.Image.told c.in-Err.image) c.in-Err.why
+    (unopened_ran c.args.set.linked c.find_for.new.set (g.I.Image.told c.args.image) (g.I.Image.told c.in-Err.image) c.in-Err.why
     c.args.class.now c.args.limits.now c.in-Err.ensures.unopened)
 
-pub returns-clause-told : goal.returns-clause-told
-returns-clause-told g c =
+pub returns-in-Err-clause-told : goal.returns-in-Err-clause-told
+returns-in-Err-clause-told g c =
     rw (c.unbegun.ensures.acts, c.unbegun.ensures.watcher, c.unbegun.ensures.sink)
     (tells_nothing (g.W.Watcher.seen c.args.watcher) (g.S.Sink.taken c.args.sink) (g.S.Sink.takes c.args.sink))
 
-pub returns-clause-sink_fault : goal.returns-clause-sink_fault
-returns-clause-sink_fault g c = λ is.
+pub returns-in-Err-clause-sink_fault : goal.returns-in-Err-clause-sink_fault
+returns-in-Err-clause-sink_fault g c = λ is.
     absurd (never_by_sink c.in-Err.why (sym (c.unbegun.ensures.status ∙ c.of_unopened.ensures) ∙ is))
 
-pub returns-clause-image_fault : goal.returns-clause-image_fault
-returns-clause-image_fault g c = λ is.
+pub returns-in-Err-clause-image_fault : goal.returns-in-Err-clause-image_fault
+returns-in-Err-clause-image_fault g c = λ is.
     rw c.unbegun.ensures.image
     (c.in-Err.ensures.cause.failed (failed_opening c.in-Err.why (sym (c.unbegun.ensures.status ∙ c.of_unopened.ensures) ∙ is)))
 
-pub returns-clause-image_spared : goal.returns-clause-image_spared
-returns-clause-image_spared g c = λ isnt.
+pub returns-in-Err-clause-image_spared : goal.returns-in-Err-clause-image_spared
+returns-in-Err-clause-image_spared g c = λ isnt.
     rw c.unbegun.ensures.image
     (c.in-Err.ensures.cause.spared (λ why. isnt (c.unbegun.ensures.status ∙ c.of_unopened.ensures ∙ ap status_of_unopened why)))
 
-pub returns-clause-sink_spared : goal.returns-clause-sink_spared
-returns-clause-sink_spared g c = λ isnt. rw c.unbegun.ensures.sink refl
+pub returns-in-Err-clause-sink_spared : goal.returns-in-Err-clause-sink_spared
+returns-in-Err-clause-sink_spared g c = λ isnt. rw c.unbegun.ensures.sink refl

@@ -1,5 +1,5 @@
 use Rattle.std.proofs.Common.{◌≡◌, ◌⊎◌, suc, ◌+◌, ◌-◌, List, [], ◌∷◌, ◌++◌, Result, Ok, Err, false, inl, inr, subst, sym, ◌∙◌}
-use Rattle.std.proofs.Common.{arith, if◌then◌else◌}
+use Rattle.std.proofs.Common.{Option, arith, if◌then◌else◌}
 use Rattle.std.specs.Prelude.{All}
 use Rattle.std.specs.Result.{is_ok, is_err}
 use Rattle.class_file.specs.Classes.{CanBeRead, HasAtMost}
@@ -16,21 +16,28 @@ use Rattle.source_classes.proofs.SourceFiles.{HasRead, goes_on, few, ends, refus
 use Rattle.source_classes.proofs.SourceFiles.{left_no_memory, left_full}
 use Rattle.source_classes.proofs.files.read_files.Goals as goal
 
+-- what the files come to, of the classes as they are accepted
+accepted : (first : Option (List NamedBytes)) (before classes : List ClassFile) → classes ≡ before → FilesComeTo first (Ok before)
+    → FilesComeTo first (Ok classes)
+accepted first before classes same comes = subst (λ (cs : List ClassFile). FilesComeTo first (Ok cs)) (sym same) comes
+
 pub returns-in_default-clause-classes : goal.returns-in_default-clause-classes
 returns-in_default-clause-classes g c =
-    ends _ (g.C.ClassSource.left c.loop.source) (g.C.ClassSource.left c.next_file.new.source) (4096 - c.loop.counter) c.loop.classes.items c.loop.invariant.read
-    (subst (λ f. given.Gives (g.C.ClassSource.left c.loop.source) f (g.C.ClassSource.left c.next_file.new.source)) c.in_default.is c.in_ok-file.ensures.file)
+    accepted _ c.loop.classes.items c.of.result c.of.ensures
+    (ends _ (g.C.ClassSource.left c.loop.source) (g.C.ClassSource.left c.next_file.new.source) (4096 - c.loop.counter) c.loop.classes.items c.loop.invariant.read
+    (subst (λ f. given.Gives (g.C.ClassSource.left c.loop.source) f (g.C.ClassSource.left c.next_file.new.source)) c.in_default.is c.in_ok-file.ensures.file))
 
 pub returns-in-None-clause-classes : goal.returns-in-None-clause-classes
 returns-in-None-clause-classes g c =
-    ends _ (g.C.ClassSource.left c.loop.source) (g.C.ClassSource.left c.next_file-2.new.source) (4096 - c.loop.counter) c.loop.classes.items c.loop.invariant.read
-    (subst (λ f. given.Gives (g.C.ClassSource.left c.loop.source) f (g.C.ClassSource.left c.next_file-2.new.source)) c.in-None.is c.in_ok-next_file.ensures.file)
+    accepted _ c.loop.classes.items c.of-in-None.result c.of-in-None.ensures
+    (ends _ (g.C.ClassSource.left c.loop.source) (g.C.ClassSource.left c.next_file-2.new.source) (4096 - c.loop.counter) c.loop.classes.items c.loop.invariant.read
+    (subst (λ f. given.Gives (g.C.ClassSource.left c.loop.source) f (g.C.ClassSource.left c.next_file-2.new.source)) c.in-None.is c.in_ok-next_file.ensures.file))
 
-pub returns-in_default-clause-few : goal.returns-in_default-clause-few
-returns-in_default-clause-few g c = few _ (g.C.ClassSource.left c.loop.source) (4096 - c.loop.counter) c.loop.classes.items c.loop.invariant.read
+pub of-requires-clause-few : goal.of-requires-clause-few
+of-requires-clause-few g c = few _ (g.C.ClassSource.left c.loop.source) (4096 - c.loop.counter) c.loop.classes.items c.loop.invariant.read
 
-pub returns-in-None-clause-few : goal.returns-in-None-clause-few
-returns-in-None-clause-few g c = few _ (g.C.ClassSource.left c.loop.source) (4096 - c.loop.counter) c.loop.classes.items c.loop.invariant.read
+pub of-requires-in-None-clause-few : goal.of-requires-in-None-clause-few
+of-requires-in-None-clause-few g c = few _ (g.C.ClassSource.left c.loop.source) (4096 - c.loop.counter) c.loop.classes.items c.loop.invariant.read
 
 pub returns-in_default-clause-whole : goal.returns-in_default-clause-whole
 returns-in_default-clause-whole g c =
