@@ -18,6 +18,12 @@ const TICKET: usize = 0;
 
 const SERVING: usize = 1;
 
+/// How often a pass that finds others there leaves them to it before it draws a ticket.
+const ASIDE: u32 = 64;
+
+/// How many times it leaves them to it for twice as long as the time before; from then on the time stays the same.
+const DOUBLINGS: u32 = 3;
+
 /// How often a pass looks before it sleeps: a hold is short, and to sleep and be woken takes longer than many.
 const LOOKS: u32 = 256;
 
@@ -33,7 +39,30 @@ fn pause(looks: u32) {
     }
 }
 
+// Leaves others to it, behind so many looks: lets them have its processor once, twice, four times, and from then on eight times.
+fn leave_to_others(looks: u32) {
+    for _ in 0..1u32 << looks.min(DOUBLINGS) {
+        thread::yield_now();
+    }
+}
+
 impl<T: Kept> Turnstile<T> {
+    // Whether no ticket seems to be out: the two words are read one after the other.
+    fn is_free(&self) -> bool {
+        self.table.shared.peek(TICKET) == self.table.shared.peek(SERVING)
+    }
+
+    // Stands aside while others are there, for a time. One of them that comes back meanwhile finds all that it wrote in its own processor's
+    // cache: to go from one processor to another with each hold takes longer than the hold.
+    fn stand_aside(&self) {
+        for looks in 0..ASIDE {
+            if self.is_free() {
+                return;
+            }
+            leave_to_others(looks);
+        }
+    }
+
     // Draws a ticket.
     fn draw(&self, seat: &mut Seat<Option<T>, View<T::Entry, T::Part>>) -> u64
         requires of { seat.old.table_id ≡ self.now.table.shared.table_id }
@@ -148,6 +177,7 @@ impl<T: Kept> Turnstile<T> {
             × (seat.new.me ≡ (holding (waiting seat.old.me.0 t) (T.entries result) (T.parts result), (0, None) ∷ [])) }
         ensures agree { Agree T.worker seat.old.me.0.hands (T.entries result) (T.parts result) }
     {
+        self.stand_aside();
         let ticket = self.draw(seat);
         self.wait_turn(rt, seat, ticket);
         self.take(seat)

@@ -16,7 +16,7 @@ use std::snapshot::Snapshot;
 use std::sync::Wait;
 use std::sync::atomic::AtomicU64;
 
-/// A value that workers take one after another, in the order in which they came.
+/// A value that workers take one after another, in the order of their tickets.
 #[derive(Drop)]
 pub struct Turnstile<T: Kept> {
     pub(crate) table: Table<Option<T>, View<T::Entry, T::Part>, (u64, Snapshot<T>), Law<T>, Global>,

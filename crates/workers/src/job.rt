@@ -1,4 +1,5 @@
 // The turns of a crew's threads.
+ghost use Rattle.std.specs.Prelude.{◌≡◌, ◌<◌, ℕ, slice_get, Some, true};
 ghost use Rattle.workers.specs.Held.{IsOf};
 
 use crate::alone::Alone;
@@ -42,12 +43,27 @@ fn went_of(came: Came) -> Went {
     }
 }
 
+// The number behind the greatest of a thread that may have an event.
+fn beyond_last(may: &[bool; 64]) -> u8
+    ensures beyond { (n : ℕ) → slice_get may.now n ≡ Some true → n < result }
+{
+    let mut beyond = 0;
+    for n in 0..64 {
+        if may[n as usize] {
+            beyond = n + 1;
+        }
+    }
+    beyond
+}
+
 /// The threads of a crew, with what its host thread saw of them.
 #[derive(Drop)]
 struct Job {
     crew: Crew,
     // Which of them may have an event. It turns false only by their own events.
     may: [bool; 64],
+    // No thread of this number or a greater one may.
+    beyond: u8,
     // Whether there may be one that lives and was seen to have none.
     stilled: bool,
     // Whether it is the one that sees to it that the round ends.
@@ -61,6 +77,7 @@ impl Job {
         Job {
             crew,
             may: [false; 64],
+            beyond: 0,
             stilled: true,
             watches: false,
             heard,
@@ -89,9 +106,9 @@ impl Job {
         requires of { IsOf (C.facts set.now) (H.setting host.now) J.entry }
     {
         let mut went = Went::Still;
-        for n in 0..64 {
+        for n in 0..self.beyond {
             let Some(t) = ThreadNo::new(n) else {
-                continue;
+                break;
             };
             if !self.may[n as usize] {
                 continue;
@@ -120,6 +137,7 @@ impl Job {
         let (look, heard) = hall.look(rt, &self.crew, self.watches);
         let may = look.may;
         self.may = may;
+        self.beyond = beyond_last(&may);
         self.stilled = look.stilled;
         self.watches = look.watches;
         self.heard = heard;

@@ -19,7 +19,7 @@ use crate::ends::{Left, all_ended};
 use crate::halts::fault_of;
 use crate::names::Naming;
 use crate::notes::{Note, Noted, note};
-use crate::waiting::{Before, Came, Due, Rouses};
+use crate::waiting::{Before, Came, Due, Rouses, Share};
 use ap_base::{Item, Ref, Sink, ThreadNo};
 use durable_run::{Begun, Frames, Run, SharedHeap, Stepped, is_live, step_asked, step_begun};
 use frame_thread::Host;
@@ -301,8 +301,8 @@ impl<J: Naming<S>, I: Image, S: Sink, W: Watcher> Locked<J, I, S, W> {
         is_live(self.heap.threads(), t)
     }
 
-    /// One event of a thread, whose turn has begun so with these frames, or else isn't answered yet. None where the run is over; nor
-    /// where what its host thread knows isn't so, which doesn't come.
+    /// One event of a thread, whose turn has begun so with these frames, or else isn't answered yet. It is counted in the thread's share of
+    /// the round. None where the run is over; nor where what its host thread knows isn't so, which doesn't come.
     pub(crate) fn step<C: Types, H: Host<Native, Ref, NativeState, Item>>(
         &mut self,
         set: &C,
@@ -310,6 +310,7 @@ impl<J: Naming<S>, I: Image, S: Sink, W: Watcher> Locked<J, I, S, W> {
         t: ThreadNo,
         frames: &mut Frames<Ref, NativeState>,
         begun: Option<Begun>,
+        share: &mut Share,
     ) -> Told
         requires of { IsOf (C.facts set.now) (H.setting host.now) J.entry }
         requires comes { (before : ThreadFrames) × (slice_get self.old.noted t ≡ Some before)
@@ -343,7 +344,7 @@ impl<J: Naming<S>, I: Image, S: Sink, W: Watcher> Locked<J, I, S, W> {
         note_started(&mut self.begins, &self.heap, before.started, &stepped);
         let lives = is_live(self.heap.threads(), t);
         let came = came_of(&stepped, before.waited, lives);
-        let rouses = self.due.note(&self.heap, t, came, before);
+        let rouses = self.due.note(&self.heap, share, t, came, before);
         let may = lives && self.due.has(t);
         if let Stepped::Over(halt) = stepped {
             self.over = Some(fault_of(&self.heap, halt));

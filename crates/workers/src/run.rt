@@ -180,7 +180,7 @@ fn run_named<
 
 /// Runs the threads of a run in as many threads of the host as there are workers, 64 at most, or in fewer where no more can be started:
 /// how it ended, and what is left of it. Worker w has the threads whose number leaves w when divided by `workers`, and makes one event
-/// of each in rotation, by turns with the others; a thread that waits has no further one until another's event may have ended its wait, and
+/// of each in rotation; a thread that waits has no further one until another's event may have ended its wait, and
 /// one that has had its share of a round none until each has had its own, or a thread is started or ends, or nothing was done for long. A
 /// turn's private instructions are done and then the gate is called before its first event, away from what is shared: the other workers
 /// don't wait for them, but its host thread's other threads do, and the end of the run. Until the first thread starts another one, and

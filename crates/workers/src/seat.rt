@@ -11,7 +11,7 @@ use crate::desk::Desk;
 use crate::hall::Hall;
 use crate::locked::{Locked, Look, Told};
 use crate::names::{Naming, Sharing};
-use crate::waiting::{Came, Rouses};
+use crate::waiting::{Came, Rouses, Share};
 use ap_base::{Gate, Item, Ref, Sink, ThreadNo};
 use durable_run::{Begun, Frames, begin_turn};
 use frame_thread::Host;
@@ -67,6 +67,7 @@ pub(crate) struct Seat<
     pass: Pass<T>,
     frames: Frames<Ref, NativeState>,
     turns: u64,
+    share: Share,
     stage: Stage,
     of: PhantomData<(K, J, S)>,
 }
@@ -130,6 +131,7 @@ impl<K: Sharing, J: Naming<S> + Send, I: Image + Send, S: Sink + Send, W: Watche
             pass,
             frames,
             turns,
+            share: Share::none(),
             stage: Stage::Unseen,
             of: PhantomData,
         }
@@ -173,9 +175,14 @@ impl<K: Sharing, J: Naming<S> + Send, I: Image + Send, S: Sink + Send, W: Watche
             self.thread,
         );
         let mut desk = hall.turnstile.enter(rt, &mut self.pass);
-        let told = desk
-            .locked
-            .step(set, host, self.thread, &mut self.frames, begun);
+        let told = desk.locked.step(
+            set,
+            host,
+            self.thread,
+            &mut self.frames,
+            begun,
+            &mut self.share,
+        );
         hall.turnstile.leave(&mut self.pass, desk);
         self.stage = Stage::after(&told);
         hall.bells.ring(told.rouses);

@@ -60,6 +60,35 @@ impl Before {
 /// How many events a thread may have in a round.
 const ROUND: u32 = 128;
 
+/// How many events a thread has had, and in which round. It lies with its host thread, which alone counts them: the run is handed over without it.
+#[derive(Clone, Copy)]
+pub(crate) struct Share {
+    round: u64,
+    had: u32,
+}
+
+impl Share {
+    /// None yet.
+    pub(crate) fn none() -> Share {
+        Share { round: 0, had: 0 }
+    }
+
+    // Counts an event in a round. One that is asked again in vain isn't counted.
+    fn count(&mut self, round: u64, came: Came) {
+        if self.round != round {
+            *self = Share { round, had: 0 };
+        }
+        if came != Came::StillWaits {
+            self.had = self.had.saturating_add(1);
+        }
+    }
+
+    // Whether these are all of a round.
+    fn is_whole(&self) -> bool {
+        self.had >= ROUND
+    }
+}
+
 /// The threads that may have an event: all but those whose last one waited, where none of another may have ended that wait since, and
 /// those that have had their events of this round, or gave threads that waited their turn. A round ends once no thread that lives is left
 /// with an event in it. So a thread that looks for something again and again leaves the others time to do it, however the host divides
@@ -69,10 +98,12 @@ pub(crate) struct Due {
     waits: [bool; 64],
     // Whether some may wait.
     some_wait: bool,
-    // How many events each has had in this round.
-    had: [u32; 64],
-    // How many of them one had had that gave others its turn, until one of them goes on.
-    gave: [Option<u32>; 64],
+    // The number of this round.
+    round: u64,
+    // Those that have had their events of this round, or gave others their turn.
+    spent: [bool; 64],
+    // Those that gave others their turn with events left, until one of them goes on.
+    gave: [bool; 64],
     // By whom the wait of each may have ended, until it is asked again.
     freed_by: [Option<ThreadNo>; 64],
     // Whether a host thread sees to it that the round ends.
@@ -96,8 +127,9 @@ impl Due {
         Due {
             waits: [false; 64],
             some_wait: false,
-            had: [0; 64],
-            gave: [None; 64],
+            round: 0,
+            spent: [false; 64],
+            gave: [false; 64],
             freed_by: [None; 64],
             watched: false,
         }
@@ -106,13 +138,13 @@ impl Due {
     /// Whether a thread may have one.
     pub(crate) fn has(&self, t: ThreadNo) -> bool {
         let at = t.number() as usize;
-        !self.waits[at] && self.had[at] < ROUND
+        !self.waits[at] && !self.spent[at]
     }
 
     /// Whether a thread that doesn't wait has had its events of this round.
     pub(crate) fn has_had_all(&self, t: ThreadNo) -> bool {
         let at = t.number() as usize;
-        !self.waits[at] && self.had[at] >= ROUND
+        !self.waits[at] && self.spent[at]
     }
 
     /// Whether from now on a host thread sees to it that the round ends, which waits for that or not, and saw to it before or not. It does
@@ -127,9 +159,10 @@ impl Due {
 
     /// Ends the round.
     pub(crate) fn end_round(&mut self) {
-        self.had = [0; 64];
+        self.round = self.round.saturating_add(1);
+        self.spent = [false; 64];
+        self.gave = [false; 64];
         for at in 0..64 {
-            self.gave[at] = None;
             self.freed_by[at] = None;
         }
     }
@@ -189,21 +222,20 @@ impl Due {
         false
     }
 
-    // Counts an event of a thread. One that is asked again in vain isn't counted. Where it gave others its turn, it has no more in this
-    // round: else it might take a monitor again before their host threads are there.
-    fn count(&mut self, t: ThreadNo, came: Came, gave: bool) {
+    // Counts an event of a thread. Where it gave others its turn, it has no more in this round: else it might take a monitor again before
+    // their host threads are there. Here is written only what changes: others read it in their own processors' caches.
+    fn count(&mut self, share: &mut Share, t: ThreadNo, came: Came, gave: bool) {
         let at = t.number() as usize;
-        let had = if came == Came::StillWaits {
-            self.had[at]
-        } else {
-            self.had[at].saturating_add(1)
-        };
-        if gave {
-            self.gave[at] = Some(had);
+        share.count(self.round, came);
+        if gave || share.is_whole() {
+            self.spent[at] = true;
+            self.gave[at] = !share.is_whole();
         }
-        self.had[at] = if gave { ROUND } else { had };
-        self.waits[at] = came == Came::Waits || came == Came::StillWaits;
-        self.some_wait |= self.waits[at];
+        let waits = came == Came::Waits || came == Came::StillWaits;
+        if self.waits[at] != waits {
+            self.waits[at] = waits;
+            self.some_wait |= waits;
+        }
     }
 
     // Whether the wait of some thread may have ended by this one, and it wasn't asked again since.
@@ -219,18 +251,12 @@ impl Due {
         };
         self.freed_by[t.number() as usize] = None;
         let at = giver.number() as usize;
-        if came != Came::StillWaits {
-            self.gave[at] = None;
+        if !self.gave[at] || came == Came::StillWaits && self.has_freed(giver) {
             return false;
         }
-        match self.gave[at] {
-            Some(had) if !self.has_freed(giver) => {
-                self.had[at] = had;
-                self.gave[at] = None;
-                had < ROUND
-            }
-            _ => false,
-        }
+        self.gave[at] = false;
+        self.spent[at] = came != Came::StillWaits;
+        !self.spent[at]
     }
 
     // Ends the round of a thread, where none that lives is left with an event in it. Whether another thread may have one by that. Were
@@ -252,6 +278,7 @@ impl Due {
     pub(crate) fn note<I: Image>(
         &mut self,
         heap: &SharedHeap<I>,
+        share: &mut Share,
         t: ThreadNo,
         came: Came,
         before: Before,
@@ -267,7 +294,7 @@ impl Due {
             freed = self.free(heap, t, act);
             gave = freed && matches!(act, Some(Op::Exit { .. } | Op::Init { .. }));
         }
-        self.count(t, came, gave);
+        self.count(share, t, came, gave);
         let given = self.give_back(t, came);
         let renewed = !self.has(t) && self.renew(heap.threads(), t);
         if freed || given || renewed {
