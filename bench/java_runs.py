@@ -54,13 +54,20 @@ class Runtime:
         return self.empty
 
 
-def interpreted(name, runs):
-    """The least seconds of several runs of main within one `java -Xint`, and what one printed; none where there is no JDK."""
+def clocked(name, runs):
+    """The least wall and processor seconds of several runs of main within one `java -Xint`, and what one printed; none where there is
+    no JDK."""
     if not has_java():
         return None, None
     words = ["java", "-Xint", "-Dfile.encoding=UTF-8", "-cp", f"{CLASSES / 'Timer'}{os.pathsep}{CLASSES / name}", "Timer", name, str(runs)]
     least, _, printed = subprocess.run(words, capture_output=True, check=True).stdout.partition(b"\n")
-    return int(least) / 1e9, printed
+    return tuple(int(part) / 1e9 for part in least.split()), printed
+
+
+def interpreted(name, runs):
+    """The wall seconds of that alone."""
+    least, printed = clocked(name, runs)
+    return least and least[0], printed
 
 
 def measure(runtime, name, runs):
