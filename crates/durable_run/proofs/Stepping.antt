@@ -13,7 +13,7 @@ use Rattle.natives.specs.declared.states.NativeState.{NativeState}
 use Rattle.plain_model.specs.Facts.{SetFacts}
 use Rattle.frames.specs.Settings.{Setting}
 use Rattle.frame_steps.specs.Sized.{AreOf}
-use Rattle.frame_thread.specs.declared.private.Stop.{Stop}
+use Rattle.private_steps.specs.declared.coming.Come.{Come}
 use Rattle.private_steps.specs.Ahead.{HasCome}
 use Rattle.run_forms.specs.Views.{ThreadFrames}
 use Rattle.machine.specs.Passed.{Opening}
@@ -179,7 +179,7 @@ module _ (o : Opening) (first : ℕ) (set : SetFacts) (x : Setting Native Ref (N
       subst (λ (gs : ThreadFrames). AreOf x.program gs.frames)
       (sym (elem-is frames t i elem has.now at value has.there)) has.of
 
-  pub begun-so : (stop : Option Stop) (now : ThreadFrames) → asked_by s.notes t ≡ None → HasCome x stop elem now
+  pub begun-so : (stop : Come Ref) (now : ThreadFrames) → asked_by s.notes t ≡ None → HasCome x stop elem now
       → AreOf x.program now.frames → HasBegun o first set x s frames t stop elem now
   begun-so stop now unasked come of = record {
     ready = ready;
@@ -191,7 +191,7 @@ module _ (o : Opening) (first : ℕ) (set : SetFacts) (x : Setting Native Ref (N
   }
 
   -- the same, as the code finds its frames then
-  pub begun-at : (stop : Option Stop) (one now : ThreadFrames) → asked_by s.notes t ≡ None → HasCome x stop elem one
+  pub begun-at : (stop : Come Ref) (one now : ThreadFrames) → asked_by s.notes t ≡ None → HasCome x stop elem one
       → AreOf x.program one.frames → now ≡ get_or (slice_set frames i one) i now
       → HasBegun o first set x s frames t stop elem now
   begun-at stop one now unasked come of put =

@@ -13,7 +13,7 @@ use Rattle.plain_model.specs.Facts.{SetFacts}
 use Rattle.frames.specs.Settings.{Setting}
 use Rattle.frames.specs.Turns.{begun_thread}
 use Rattle.frame_steps.specs.Sized.{AreOf}
-use Rattle.frame_thread.specs.declared.private.Stop.{Stop}
+use Rattle.private_steps.specs.declared.coming.Come.{Come}
 use Rattle.private_steps.specs.Ahead.{HasCome}
 use Rattle.run_forms.specs.Views.{ThreadFrames}
 use Rattle.run_forms.specs.Standing.{setting_of}
@@ -73,12 +73,12 @@ pub record HasAsked (o : Opening) (first : ℕ) (set : SetFacts) (x : Setting Na
 
 -- Thread t's turn has begun: of these frames, with which an event might come, and it has come so far without an event.
 pub record HasBegun (o : Opening) (first : ℕ) (set : SetFacts) (x : Setting Native Ref (NativeState Ref) Item)
-    (s : Shared) (frames : List ThreadFrames) (t : ℕ) (stop : Option Stop) (before now : ThreadFrames) : Type 0 where
+    (s : Shared) (frames : List ThreadFrames) (t : ℕ) (came : Come Ref) (before now : ThreadFrames) : Type 0 where
   pub ready : IsReady o first set x s frames
   pub there : slice_get frames t ≡ Some before
   pub unasked : asked_by s.notes t ≡ None
   pub live : is_live s.machine.rest.threads t ≡ true
-  pub come : HasCome x stop before now
+  pub come : HasCome x came before now
   pub of : AreOf x.program now.frames
 
 -- ---- frames that begin

@@ -1,5 +1,5 @@
 // Events of threads.
-ghost use Rattle.std.specs.Prelude.{◌≡◌, ◌<◌, ◌≤◌, ℕ, List, length, slice_get, Some, true, IsSome};
+ghost use Rattle.std.specs.Prelude.{◌≡◌, ◌<◌, ◌≤◌, ℕ, length, slice_get, Some, true, IsSome};
 ghost use Rattle.run_types.specs.declared.fault.Which.TheVariants as which;
 ghost use Rattle.run_forms.specs.Views.{ThreadFrames};
 ghost use Rattle.machine.specs.Passed.{Opening, memory_of};
@@ -194,7 +194,7 @@ pub fn step<
         return continues(run, set, host, t);
     }
     let at = t.number() as usize;
-    let stop = begun(&mut run.frames[at], &mut run.turns[at], host, gate, t);
+    let come = begun(&mut run.frames[at], &mut run.turns[at], host, gate, t);
     let before = run.heap.threads().count();
     let went = step_come(
         &mut run.heap,
@@ -204,7 +204,7 @@ pub fn step<
         host,
         t,
         &mut run.frames[at],
-        stop,
+        come,
     );
     begin_after(&mut run.frames, &run.heap, before, &went);
     went

@@ -23,8 +23,8 @@ pub fn width_of(kind: Kind) -> usize
     }
 }
 
-// The value on top that goes into a place of this kind.
-fn value<M: Copy + Drop, R: Copy + Drop, N: Copy + Drop, V: Drop, H: Host<M, R, N, V>>(
+/// The value on top that goes into a place of this kind.
+pub fn value<M: Copy + Drop, R: Copy + Drop, N: Copy + Drop, V: Drop, H: Host<M, R, N, V>>(
     host: &H,
     cells: &Cells<R>,
     kind: Kind,

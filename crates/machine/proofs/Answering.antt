@@ -1,6 +1,6 @@
 -- The plan of a request, and its step.
 use Rattle.std.proofs.Common.{◌≡◌, ℕ, ◌<◌, ◌^◌, List, length, Option, Some, None, refl, sym, subst}
-use Rattle.std.specs.Prelude.{IsSome}
+use Rattle.std.specs.Prelude.{IfSome, IsSome}
 use Rattle.ap_base.specs.declared.reference.Ref.{Ref}
 use Rattle.ap_base.specs.declared.reference.Item.{Item}
 use Rattle.natives.specs.declared.requests.Request.{Request}
@@ -26,6 +26,11 @@ use Rattle.machine.proofs.Given.{agrees-now, may-ask}
 use Rattle.machine.proofs.Starting.{HasNotes}
 use Rattle.machine.proofs.Printing.{spares-cause, spares-output, spares-share}
 use Rattle.machine.proofs.Stepping.{stepped-cause, stepped-comes, stepped-share, stepped-told}
+
+-- of an answer, where there is one
+pub map-some : {A : Type 0} {P Q : A → Type 0} → (r : Option A) → ((a : A) → P a → Q a) → IfSome r P → IfSome r Q
+map-some None f p = p
+map-some (Some a) f p = f a p
 
 -- an event is due of some run of this set, for this request
 abbrev pub IsDueFor : SetFacts → Shared → ℕ → Request Ref Item → Type 0

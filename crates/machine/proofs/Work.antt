@@ -1,5 +1,5 @@
 -- How many quiet steps events make.
-use Rattle.std.proofs.Common.{◌≡◌, inl, inr, ℕ, zero, suc, ◌+◌, ◌-◌, ◌*◌, ◌≤◌, List, [], ◌∷◌, ◌++◌, length, refl, ◌∙◌, ap, arith}
+use Rattle.std.proofs.Common.{◌≡◌, inl, inr, ℕ, zero, suc, ◌+◌, ◌-◌, ◌*◌, ◌≤◌, List, [], ◌∷◌, length, refl, ◌∙◌, ap, arith}
 use Rattle.std.specs.Prelude.{replicate, slice_index_or, sum_by}
 use Rattle.std.proofs.lemmas.List.{length-append}
 use Rattle.std.proofs.lemmas.List.Sums.{sum_by-cons}
@@ -8,7 +8,7 @@ use Rattle.convert_queue.specs.declared.phase.Phase.{Phase}
 use Rattle.convert_queue.specs.declared.phase.Phase.TheVariants.{Copy}
 use Rattle.convert_queue.specs.Marks.{clean}
 use Rattle.convert_queue.specs.Queues.{Queued, Queues, phase_of, place_of, queue_of}
-use Rattle.convert_queue.specs.Work.{line_work, lines_in as lines_of, sum_below, thread_work, uncopied_in, weight, work_left as queues_left}
+use Rattle.convert_queue.specs.Work.{line_work, sum_below, thread_work, weight, work_left as queues_left}
 use Rattle.machine_threads.specs.Passed.{work_left}
 use Rattle.shared_heap.specs.First.{first_shared}
 use Rattle.shared_heap.specs.Shared.{Shared}

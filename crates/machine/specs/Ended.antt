@@ -8,6 +8,7 @@ use Rattle.run_types.specs.declared.resolved.At.{At}
 use Rattle.run_types.specs.declared.wait.On.TheVariants as on
 use Rattle.natives.specs.declared.requests.Request.{Request}
 use Rattle.natives.specs.declared.requests.Request.TheVariants as ask
+use Rattle.natives.specs.declared.requests.Reply.{Reply}
 use Rattle.run_history.specs.Recorded.{Recorded}
 use Rattle.plain_model.specs.Facts.{SetFacts}
 use Rattle.step_forms.specs.declared.stepped.Stepped.{Stepped}
@@ -17,7 +18,7 @@ use Rattle.run_forms.specs.Views.{ThreadFrames}
 use Rattle.run_forms.specs.Ends.{from_in}
 use Rattle.twin_forms.specs.Table.{Entry}
 use Rattle.region_log.specs.declared.entry.Underway.TheVariants.{Nothing as Idle}
-use Rattle.machine_threads.specs.Passed.{Opening, doing_of, log_of}
+use Rattle.machine_threads.specs.Passed.{Machine, Opening, doing_of, log_of}
 use Rattle.machine_threads.specs.Passed.{IsReady}
 use Rattle.object_steps.specs.declared.storing.Store.{Store}
 use Rattle.shared_heap.specs.declared.conversions.Conversion.{Conversion}
@@ -109,3 +110,21 @@ pub record Serves (set : SetFacts) (t : ℕ) (request : Request Ref Item) (resul
   pub share : (act : Recorded) → new.history.acts ≡ old.history.acts ++ act ∷ []
       → IsShare request (takes 0) act.act.op
   pub cause : HasSinkCause result faults faults'
+
+-- ---- of a request that isn't made
+
+-- nothing is under way in the thread's log
+abbrev pub IsIdle : Machine → ℕ → Type 0
+IsIdle m t = (log_of m t).underway ≡ Idle
+
+-- an event is due, of some run of the set, with this request, from some place
+abbrev pub IsDueFrom : SetFacts → Shared → ℕ → (At → Request Ref Item) → Type 0
+IsDueFrom set s t request = (from : At) × (o : Opening) × (first : ℕ) × (es : List Entry) × (threads : List ThreadFrames)
+    × (fs : ThreadFrames) × IsDue o first set s es threads t fs (request from)
+
+-- The event answers that request by this reply, from whichever place it comes. The sink has no part in it.
+abbrev pub AnswersAtOnce : SetFacts → ℕ → (At → Request Ref Item) → Reply Ref Item → Shared → Shared → Type 0
+AnswersAtOnce set t request r old new = (from : At) (o : Opening) (first : ℕ) (es : List Entry)
+    (threads : List ThreadFrames) (fs : ThreadFrames) → IsDue o first set old es threads t fs (request from)
+    → (takes : ℕ → ℕ → Option ℕ) (taken : Option (List ℕ)) (faults : ℕ)
+    → Serves set t (request from) (Did r) old new takes takes taken taken faults faults

@@ -20,7 +20,10 @@ pub use machine_threads::{
     machines_ask_as_plain_runs, machines_end_stuck, machines_finish_with_their_threads,
     others_keep_theirs, tested_waits_are_stuck,
 };
-pub use quick::read_field;
+pub use quick::{
+    class_of, is_free, is_initialised, pause, read_element, read_field, read_length, read_static,
+    store_element, store_field,
+};
 pub use running::event;
 pub use shared_heap::SharedHeap;
 pub use work_laws::quiet_steps_are_few;

@@ -1,11 +1,13 @@
 // Stores whose tests are passed.
-ghost use Rattle.std.specs.Prelude.{◌<◌, List, length};
+ghost use Rattle.std.specs.Prelude.{◌≡◌, ◌<◌, true, false, List, length};
+ghost use Rattle.natives.specs.declared.requests.Reply.TheVariants.{Done};
 ghost use Rattle.twin_forms.specs.Table.{Entry};
 ghost use Rattle.two_spaces.specs.Whole.{Stands};
 ghost use Rattle.object_steps.specs.Stores.{place_of};
 ghost use Rattle.shared_heap.specs.Passed.{MayFollow};
 ghost use Rattle.shared_heap.specs.Passed.{HasLogged, IsApart, IsLineLeft, LogsFirst};
 ghost use Rattle.machine.specs.Ended.{HasSomePlanned, StoreComesTo};
+ghost use Rattle.machine.specs.declared.events.Event.TheVariants.{Did};
 
 use crate::converting::convert;
 use crate::laws::laws;
@@ -75,5 +77,47 @@ fn make<I: Image>(heap: &mut SharedHeap<I>, t: ThreadNo, store: Store, line: Opt
     match line {
         Some(_) => Event::Micro,
         None => Event::Did(Reply::Done),
+    }
+}
+
+/// The store is made, where nothing is to be converted, logged or written back for it. Else nothing is changed.
+pub(crate) fn store_at_once<I: Image>(heap: &mut SharedHeap<I>, t: ThreadNo, store: Store) -> bool
+    requires planned { HasSomePlanned heap.old t store }
+    requires room { length heap.old.history.acts < heap.old.history.limit }
+    ensures stored { result ≡ true → StoreComesTo t store (Did Done) heap.old heap.new }
+    ensures none { result ≡ false → heap.new ≡ heap.old }
+{
+    laws();
+    match heap.barrier(t, &store) {
+        Barrier::Store(line) => make_at_once(heap, t, store, line),
+        _ => false,
+    }
+}
+
+// Makes a store of which no line is left to be written back. Where one would be, nothing is changed.
+fn make_at_once<I: Image>(
+    heap: &mut SharedHeap<I>,
+    t: ThreadNo,
+    store: Store,
+    line: Option<u32>,
+) -> bool
+    requires planned { HasSomePlanned heap.old t store }
+    requires room { length heap.old.history.acts < heap.old.history.limit }
+    requires apart { IsApart heap.old.machine.spaces heap.old.machine.logs t (place_of store.target) }
+    requires follows { MayFollow heap.old.machine.spaces store }
+    requires logged { (es : List Entry) → Stands heap.old.machine.spaces es
+        → HasLogged heap.old.machine.spaces es heap.old.machine.logs t (place_of store.target) }
+    requires line { (es : List Entry) → Stands heap.old.machine.spaces es
+        → IsLineLeft heap.old.machine.spaces es heap.old.machine.logs t (place_of store.target) line }
+    ensures stored { result ≡ true → StoreComesTo t store (Did Done) heap.old heap.new }
+    ensures none { result ≡ false → heap.new ≡ heap.old }
+{
+    laws();
+    match line {
+        Some(_) => false,
+        None => {
+            heap.store(t, store, line);
+            true
+        }
     }
 }

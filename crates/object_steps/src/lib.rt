@@ -11,8 +11,9 @@ mod storing;
 mod testing;
 
 pub use commits::commit;
+pub use finding::{has_elements, index_below};
 pub use making::{new_array, new_object, new_text};
-pub use plans::{plan_element, plan_field, plan_static};
+pub use plans::{kind_of_elements, may_hold, plan_element, plan_field, plan_static};
 pub use reading::{get_element, get_field, get_static, length};
 pub use storing::{Planned, Store, Target, put_element, put_field, put_static};
 pub use testing::{cast, class_of, is_a, same};

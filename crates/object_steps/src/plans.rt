@@ -91,8 +91,14 @@ pub fn plan_field<C: Types, O: Objects>(
     })
 }
 
-// Whether an array of a class may hold an item that a request for a kind gives.
-fn may_hold<C: Types, O: Objects>(set: &C, objects: &O, kind: Kind, class: u32, value: Item) -> bool
+/// Whether an array of a class may hold an item that a request for a kind gives.
+pub fn may_hold<C: Types, O: Objects>(
+    set: &C,
+    objects: &O,
+    kind: Kind,
+    class: u32,
+    value: Item,
+) -> bool
     requires there { class < length (O.shown objects.now).shapes }
     requires heap { IsHeapOf (C.facts set.now) (O.shown objects.now) }
     requires known { IsKnownItem (O.shown objects.now).number value }
@@ -109,8 +115,8 @@ fn may_hold<C: Types, O: Objects>(set: &C, objects: &O, kind: Kind, class: u32, 
     }
 }
 
-// The kind of the elements of a class's objects; this one where there are none.
-fn kind_of_elements<C: Types>(set: &C, class: u32, kind: Kind) -> Kind
+/// The kind of the elements of a class's objects; this one where there are none.
+pub fn kind_of_elements<C: Types>(set: &C, class: u32, kind: Kind) -> Kind
     requires there { class < length (classes_of (C.facts set.now)) }
     ensures { result ≡ unwrap_or (element_of (C.facts set.now) class) kind }
 {

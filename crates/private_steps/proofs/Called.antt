@@ -1,12 +1,12 @@
 -- The frame of a method that another one calls.
-use Rattle.std.proofs.Common.{◌≡◌, ℕ, ◌+◌, ◌-◌, ◌≤◌, ◌<◌, nat_le, true, false, List, [], ◌∷◌, ◌++◌, length, take, drop, reverse}
-use Rattle.std.proofs.Common.{replicate, Option, None, Some, if◌then◌else◌, refl, ap, sym, ◌∙◌, arith, length-append}
+use Rattle.std.proofs.Common.{◌≡◌, ℕ, ◌+◌, ◌-◌, ◌≤◌, ◌<◌, nat_le, true, false, List, [], ◌++◌, length, take, reverse}
+use Rattle.std.proofs.Common.{replicate, Option, None, Some, refl, ap, sym, ◌∙◌, arith, length-append}
 use Rattle.std.proofs.lemmas.List.{length-take-le, length-reverse, length-replicate}
 use Rattle.std.proofs.lemmas.Bool.{le-leb, lt-leb}
 use Rattle.frame_cells.specs.declared.cell.Cell.{Cell}
 use Rattle.frame_cells.specs.declared.cell.Cell.TheVariants.{Empty}
 use Rattle.frame_cells.specs.declared.cell.Did.TheVariants.{Next}
-use Rattle.frame_cells.specs.Own.{Own, After, put}
+use Rattle.frame_cells.specs.Own.{Own, put}
 use Rattle.frames.specs.declared.given.Given.{Given}
 use Rattle.frames.specs.declared.given.Given.TheVariants as given
 use Rattle.frames.specs.declared.program.Body.{Body}
@@ -14,7 +14,7 @@ use Rattle.frames.specs.declared.program.Body.TheVariants as body
 use Rattle.frames.specs.declared.program.Program.{Program}
 use Rattle.frames.specs.Tables.{method_at, start_of, from_of}
 use Rattle.frames.specs.Settings.{Frame, Runs, Setting}
-use Rattle.frames.specs.Calls.{Stepped, goes_on, first_own, begins_body, arguments_on, returns_to, calls}
+use Rattle.frames.specs.Calls.{Stepped, first_own, begins_body, arguments_on, returns_to, calls}
 use Rattle.frame_thread.specs.declared.form.Form.{Form}
 use Rattle.frame_thread.specs.declared.form.Form.TheVariants as form
 use Rattle.frame_thread.specs.declared.form.Standing.{Standing}

@@ -1,7 +1,6 @@
 -- Arguments that are read one by one, the last one first.
 use Rattle.std.proofs.Common.{◌≡◌, ℕ, zero, suc, ◌+◌, ◌-◌, ◌≤◌, ◌<◌, List, [], ◌∷◌, ◌++◌, length, map, take, drop, reverse}
-use Rattle.std.proofs.Common.{slice_get, ℤ, Option, None, Some, refl, ap, sym, ◌∙◌, subst, arith, length-drop, drop-cons}
-use Rattle.std.proofs.Common.{get_or}
+use Rattle.std.proofs.Common.{slice_get, Option, None, Some, refl, ap, sym, ◌∙◌, arith, length-drop}
 use Rattle.std.proofs.lemmas.List.{drop-drop, drop_all, reverse-append}
 use Rattle.std.proofs.lemmas.Option.{slice_get_past}
 use Rattle.code_form.specs.declared.ins.Sort.{Sort}

@@ -1,32 +1,23 @@
 -- The parts of a turn.
-use Rattle.std.proofs.Common.{◌≡◌, ℕ, suc, ◌-◌, ◌<◌, false, List, ◌∷◌, Option, None, Some, refl, ap, sym, ◌∙◌, arith}
+use Rattle.std.proofs.Common.{◌≡◌, ℕ, suc, false, List, ◌∷◌, Option, None, Some, refl, ap, sym, ◌∙◌}
 use Rattle.run_types.specs.declared.key.Key.{Key}
 use Rattle.run_types.specs.declared.resolved.At.{At}
 use Rattle.code_form.specs.declared.ins.Sort.{Sort}
 use Rattle.natives.specs.declared.requests.Request.{Request}
-use Rattle.natives.specs.declared.requests.Request.TheVariants as ask
-use Rattle.frame_cells.specs.declared.cell.Did.TheVariants.{Bad}
-use Rattle.frame_cells.specs.Own.{Own, After, stays}
+use Rattle.frame_cells.specs.Own.{Own, After}
 use Rattle.frames.specs.declared.op.Link.{Link}
 use Rattle.frames.specs.declared.op.Op.{Op}
 use Rattle.frames.specs.declared.op.Op.TheVariants as op
-use Rattle.frames.specs.Tables.{placed_at, from_of}
-use Rattle.frames.specs.Settings.{Frame, Running, Native, Runs, Frames, Setting}
+use Rattle.frames.specs.Tables.{from_of}
+use Rattle.frames.specs.Settings.{Frame, Running, Runs, Frames, Setting}
 use Rattle.frames.specs.Private.{private_step}
 use Rattle.frames.specs.Requests.{request_of}
-use Rattle.frames.specs.Calls.{Stepped, asks_so, is_bad, after}
+use Rattle.frames.specs.Calls.{Stepped, is_bad, after}
 use Rattle.frames.specs.Turns.{asked_by, asks_or, asks_with, one_of, does, turn_of}
-use Rattle.frame_thread.specs.declared.form.Form.{Form}
 use Rattle.frame_thread.specs.declared.form.Form.TheVariants as form
 use Rattle.frame_thread.specs.declared.form.Standing.{Standing}
-use Rattle.frame_thread.specs.declared.private.Stop.{Stop}
-use Rattle.frame_thread.specs.declared.private.Why.TheVariants as why
-use Rattle.frame_thread.specs.declared.said.Fault.TheVariants as broken
-use Rattle.frame_thread.specs.declared.said.Said.{Said}
-use Rattle.frame_thread.specs.declared.said.Said.TheVariants as said
-use Rattle.frame_thread.specs.Views.{request_said}
 use Rattle.frame_thread.specs.Stacked.{Stacked, frames_of}
-use Rattle.frame_thread.specs.Stops.{is_of_cells, running, comes_so, comes_to, asking, asked_or_bad}
+use Rattle.frame_thread.specs.Stops.{is_of_cells, running, asking, asked_or_bad}
 use Rattle.frame_thread.proofs.Running.{other-stays}
 use Rattle.private_steps.specs.Turning.{asked_or_left, goes_alone}
 

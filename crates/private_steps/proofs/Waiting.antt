@@ -14,7 +14,7 @@ use Rattle.frame_cells.specs.declared.cell.Cell.{Cell}
 use Rattle.frame_cells.specs.declared.cell.Cell.TheVariants.{Reference}
 use Rattle.frame_cells.specs.declared.cell.Did.{Did}
 use Rattle.frame_cells.specs.declared.cell.Did.TheVariants.{Next, Jump, DividedByZero, Bad}
-use Rattle.frame_cells.specs.Own.{Own, After, put, stays, reference_at}
+use Rattle.frame_cells.specs.Own.{Own, After, stays, reference_at}
 use Rattle.frames.specs.declared.given.Given.{Given}
 use Rattle.frames.specs.declared.given.Given.TheVariants as given
 use Rattle.frames.specs.declared.op.Op.{Op}
@@ -25,8 +25,8 @@ use Rattle.frames.specs.declared.program.Placed.{Placed}
 use Rattle.frames.specs.declared.program.Target.{Target}
 use Rattle.frames.specs.declared.program.Target.TheVariants as target
 use Rattle.frames.specs.Tables.{method_at, placed_at, no_placed, from_of, start_of, dispatched}
-use Rattle.frames.specs.Settings.{Frame, Running, Native, Initialiser, Main, Doing, Runs, BeginsMain, BeginsThread, Enters}
-use Rattle.frames.specs.Settings.{Unwinds, Initialises, Initialised, Breaks, Ends, Frames, NativeStep, Asks, Calls, Gives}
+use Rattle.frames.specs.Settings.{Frame, Running, Native, Initialiser, Main, Doing, Runs, Enters}
+use Rattle.frames.specs.Settings.{Frames, NativeStep, Asks, Calls, Gives}
 use Rattle.frames.specs.Settings.{Setting, slots_left}
 use Rattle.frames.specs.Calls.{Stepped, goes_on, asks_so, breaks, after, if_room, first_own, monitor_of, value_of, reply_of}
 use Rattle.frames.specs.Calls.{cells_of, cells_taken, arguments_on, signature_of, begins_body, begins_found, native_does}

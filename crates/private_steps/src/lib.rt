@@ -4,8 +4,11 @@
 mod answers;
 mod arguments;
 mod calls;
+mod coming;
 mod replies;
+mod standing;
 mod thread_frames;
 mod turns;
 
+pub use coming::{Come, is_quick};
 pub use thread_frames::Frames;

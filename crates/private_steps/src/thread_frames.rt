@@ -1,22 +1,17 @@
 //! The frames of a thread.
 
-ghost use Rattle.std.specs.Prelude.{◌≡◌, [], None, Some, IfSome, IfOk};
+ghost use Rattle.std.specs.Prelude.{◌≡◌, [], IfOk};
 ghost use Rattle.frames.specs.Turns.{begun_main, begun_thread, turn, answer};
 ghost use Rattle.frame_steps.specs.Sized.{AreOf};
 ghost use Rattle.private_steps.specs.Waits.{Waits, WaitsAfter};
-ghost use Rattle.private_steps.specs.Ahead.{Finishes, HasComeSo, IsAhead, IsLoadAt, LoadsField};
+ghost use Rattle.private_steps.specs.Ahead.{Finishes, HasCome, HasComeSo};
 
 use crate::answers::answered;
 use crate::arguments::Arguments;
+use crate::coming::{Come, advance, go_on};
 use crate::turns::{finish, turn};
-use code_form::Access;
-use frame_cells::Did;
-use frame_steps::done::done;
-use frame_thread::tables::{field, placed};
-use frame_thread::{Activity, Form, Host, Said, Stop, Thread, Why};
-use frames::Op;
+use frame_thread::{Activity, Form, Host, Said, Stop, Thread};
 use natives::{Reply, Request};
-use run_types::FieldAt;
 use std::alloc::{AllocError, Global};
 use std::marker::Model;
 
@@ -27,9 +22,9 @@ const FUEL: u32 = 1_024;
 /// takes memory once they are made.
 #[derive(Drop)]
 pub struct Frames<R: Copy + Drop, N: Copy + Drop> {
-    thread: Thread<R, N>,
-    arguments: Arguments<R>,
-    paused: bool,
+    pub(crate) thread: Thread<R, N>,
+    pub(crate) arguments: Arguments<R>,
+    pub(crate) paused: bool,
 }
 
 impl<R: Copy + Drop, N: Copy + Drop> Model for Frames<R, N> {
@@ -105,57 +100,46 @@ impl<R: Copy + Drop, N: Copy + Drop> Frames<R, N> {
         }
     }
 
-    /// The instructions on cells alone of a turn, up to another one, where a method runs: the turn goes on from there.
-    /// None where no method runs; then nothing is changed.
-    pub fn advance<M: Copy + Drop, V: Drop, H: Host<M, R, N, V>>(
-        &mut self,
-        host: &H,
-    ) -> Option<Stop>
+    /// The instructions on cells and frames alone of a turn, up to another one: the turn goes on from there.
+    pub fn advance<M: Copy + Drop, V: Drop, H: Host<M, R, N, V>>(&mut self, host: &H) -> Come<R>
         requires of { AreOf (H.setting host.now).program self.old.frames }
-        ensures ahead { IfSome result (λ stop. IsAhead (H.setting host.now) stop self.old self.new) }
-        ensures none { result ≡ None → self.new ≡ self.old }
+        ensures come { HasCome (H.setting host.now) result self.old self.new }
         ensures of { AreOf (H.setting host.now).program self.new.frames }
     {
         if self.paused {
-            return None;
+            return Come::Paused;
         }
-        let Activity::Runs = self.thread.doing() else {
-            return None;
-        };
-        let Some(Form::Running(standing)) = self.thread.form() else {
-            return None;
-        };
-        Some(self.thread.run(host, standing, FUEL))
+        advance(&mut self.thread, &mut self.arguments, host, FUEL)
     }
 
-    /// The object and the field of it that the turn asks for, where it is ahead so and asks for a field.
-    pub fn field_load<M: Copy + Drop, V: Drop, H: Host<M, R, N, V>>(
-        &self,
-        host: &H,
-        stop: Stop,
-    ) -> Option<(R, FieldAt)>
-        ensures loads { IfSome result (λ load. LoadsField (H.setting host.now) stop self.now load) }
-        ensures at { IfSome result (λ load. IsLoadAt (H.setting host.now) stop) }
-    {
-        let Why::Other = stop.why else {
-            return None;
-        };
-        let Op::Field(Access::Load, number) = placed(host.program(), stop.at).op else {
-            return None;
-        };
-        let holder = self.thread.cells().reference_at(0)?;
-        Some((holder, field(host.program(), number)))
-    }
-
-    /// The rest of a turn that is ahead so, up to its request; Pause where so many instructions were done.
+    /// The rest of a turn that has come so far, up to its request; Pause where so many instructions were done.
     pub fn finish<M: Copy + Drop, V: Drop, H: Host<M, R, N, V>>(
+        &mut self,
+        host: &H,
+        come: Come<R>,
+    ) -> Request<R, V>
+        requires come { HasComeSo (H.setting host.now) come self.old }
+        requires of { AreOf (H.setting host.now).program self.old.frames }
+        ensures finishes { Finishes (H.setting host.now) come self.old self.new result }
+        ensures waits { WaitsAfter result self.new }
+        ensures of { AreOf (H.setting host.now).program self.new.frames }
+    {
+        match come {
+            Come::Paused => Request::Pause,
+            Come::At(stop) => self.finish_at(host, stop),
+            Come::Gone(said, left) => self.finish_gone(host, said, left),
+        }
+    }
+
+    // The same of one that has stopped so.
+    fn finish_at<M: Copy + Drop, V: Drop, H: Host<M, R, N, V>>(
         &mut self,
         host: &H,
         stop: Stop,
     ) -> Request<R, V>
-        requires ahead { HasComeSo (H.setting host.now) (Some stop) self.old }
+        requires ahead { HasComeSo (H.setting host.now) (Come.At stop) self.old }
         requires of { AreOf (H.setting host.now).program self.old.frames }
-        ensures finishes { Finishes (H.setting host.now) (Some stop) self.old self.new result }
+        ensures finishes { Finishes (H.setting host.now) (Come.At stop) self.old self.new result }
         ensures waits { WaitsAfter result self.new }
         ensures of { AreOf (H.setting host.now).program self.new.frames }
     {
@@ -171,26 +155,26 @@ impl<R: Copy + Drop, N: Copy + Drop> Frames<R, N> {
         request
     }
 
-    /// The answer to the reply with a field's value, where the thread stands at the instruction that loads it.
-    pub fn replace<M: Copy + Drop, V: Drop, H: Host<M, R, N, V>>(
+    // The same of one in which this was said.
+    fn finish_gone<M: Copy + Drop, V: Drop, H: Host<M, R, N, V>>(
         &mut self,
         host: &H,
-        stop: Stop,
-        value: &V,
-    )
-        requires ahead { HasComeSo (H.setting host.now) (Some stop) self.old }
-        requires load { IsLoadAt (H.setting host.now) stop }
+        said: Said<R>,
+        left: u32,
+    ) -> Request<R, V>
+        requires gone { HasComeSo (H.setting host.now) (Come.Gone said left) self.old }
         requires of { AreOf (H.setting host.now).program self.old.frames }
-        ensures answer { self.new ≡ answer (H.setting host.now) self.old (Reply.Item value.now) }
+        ensures finishes { Finishes (H.setting host.now) (Come.Gone said left) self.old self.new result }
+        ensures waits { WaitsAfter result self.new }
         ensures of { AreOf (H.setting host.now).program self.new.frames }
     {
-        let Some(Form::Running(standing)) = self.thread.form() else {
-            unreachable!()
+        let _length = host.program().code.len();
+        let asked = go_on(&mut self.thread, &mut self.arguments, host, said, left);
+        let Some(request) = asked else {
+            self.paused = true;
+            return Request::Pause;
         };
-        let did = self.thread.put(1, host.given(value), Did::Next);
-        if let Said::Breaks(fault) = done(&mut self.thread, host, standing, did) {
-            self.thread.set_doing(Activity::Breaks(fault));
-        }
+        request
     }
 
     /// The reply to the request of the last turn, which wasn't Broken.

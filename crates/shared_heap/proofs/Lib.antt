@@ -4,6 +4,7 @@ pub mod Here
 pub mod Naming
 pub mod Logging
 pub mod Planned
+pub mod Initialised
 pub mod Regioning
 pub mod Requesting
 pub mod Sounding

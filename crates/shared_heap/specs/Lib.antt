@@ -7,5 +7,5 @@ pub mod Regions
 pub mod Requests
 pub mod Shared
 pub mod Quick
-pub mod FieldReads
+pub mod AtOnce
 pub mod Passed

@@ -3,9 +3,9 @@
 #![tactic(auto)]
 
 mod asking;
+mod at_once;
 mod calls;
 mod conversions;
-mod field_reads;
 mod heap;
 mod laws;
 mod making;

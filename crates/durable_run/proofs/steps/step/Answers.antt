@@ -16,8 +16,8 @@ use Rattle.durable_run.proofs.Places.{some-one}
 use Rattle.durable_run.proofs.Stepping.{begun-at, elem-of, next-asked, none-asked, set-twice}
 use Rattle.durable_run.proofs.steps.step.Goals as goal
 
-pub begun-stop-requires : goal.begun-stop-requires
-begun-stop-requires g c =
+pub begun-come-requires : goal.begun-come-requires
+begun-come-requires g c =
     let r = c.requires.ready in
     record {
       of = elem-of r.0 r.1 (g.C.Types.facts c.args.set.now) (g.H.Host.setting c.args.host.now) c.args.run.now.heap
@@ -40,8 +40,8 @@ step_come-went-requires g c =
         frames,
         c.index_mut.result.now,
         begun-at r.0 r.1 set x s frames c.args.t c.number-at.result c.index_mut.result.now r.2 c.requires.live
-            c.number-at.ensures.same c.index_mut.ensures.value c.begun-stop.result c.begun-stop.new.frames
-            c.index_mut-2.result.now unasked c.begun-stop.ensures.come c.begun-stop.ensures.of c.index_mut-2.ensures.value,
+            c.number-at.ensures.same c.index_mut.ensures.value c.begun-come.result c.begun-come.new.frames
+            c.index_mut-2.result.now unasked c.begun-come.ensures.come c.begun-come.ensures.of c.index_mut-2.ensures.value,
       );
     }
 
@@ -49,8 +49,8 @@ pub begin_after-requires : goal.begin_after-requires
 begin_after-requires g c =
     let frames = c.args.run.now.frames.items in
     record {
-      many = length-set (slice_set frames c.number-at.result c.begun-stop.new.frames) c.number-at.result
-          c.step_come-went.new.frames ∙ length-set frames c.number-at.result c.begun-stop.new.frames
+      many = length-set (slice_set frames c.number-at.result c.begun-come.new.frames) c.number-at.result
+          c.step_come-went.new.frames ∙ length-set frames c.number-at.result c.begun-come.new.frames
           ∙ c.requires.ready.2.many;
     }
 
@@ -64,14 +64,14 @@ returns-clause-goes g c o first ready =
     let frames = c.args.run.now.frames.items in
     let unasked = none-asked c.has_asked.result (asked_by s.notes c.args.t) c.if-has_asked.false c.has_asked.ensures in
     subst (StepsTo o first set x c.args.t went s new)
-    (ap (after_event went s new) (sym (set-twice frames c.args.t c.number-at.result c.begun-stop.new.frames
+    (ap (after_event went s new) (sym (set-twice frames c.args.t c.number-at.result c.begun-come.new.frames
     c.step_come-went.new.frames c.number-at.ensures.same))
     ∙ sym (c.begin_after.ensures.begun s
     (c.count-before.ensures.count ∙ ap (λ (states : List ThreadState). length states) c.threads.ensures)))
     (c.step_come-went.ensures.goes o first frames c.index_mut.result.now
     (begun-at o first set x s frames c.args.t c.number-at.result c.index_mut.result.now ready c.requires.live
-    c.number-at.ensures.same c.index_mut.ensures.value c.begun-stop.result c.begun-stop.new.frames
-    c.index_mut-2.result.now unasked c.begun-stop.ensures.come c.begun-stop.ensures.of c.index_mut-2.ensures.value))
+    c.number-at.ensures.same c.index_mut.ensures.value c.begun-come.result c.begun-come.new.frames
+    c.index_mut-2.result.now unasked c.begun-come.ensures.come c.begun-come.ensures.of c.index_mut-2.ensures.value))
 
 pub returns-clause-shares : goal.returns-clause-shares
 returns-clause-shares g c o first ready =
@@ -82,8 +82,8 @@ returns-clause-shares g c o first ready =
     let unasked = none-asked c.has_asked.result (asked_by s.notes c.args.t) c.if-has_asked.false c.has_asked.ensures in
     c.step_come-went.ensures.shares o first frames c.index_mut.result.now
     (begun-at o first set x s frames c.args.t c.number-at.result c.index_mut.result.now ready c.requires.live
-    c.number-at.ensures.same c.index_mut.ensures.value c.begun-stop.result c.begun-stop.new.frames
-    c.index_mut-2.result.now unasked c.begun-stop.ensures.come c.begun-stop.ensures.of c.index_mut-2.ensures.value)
+    c.number-at.ensures.same c.index_mut.ensures.value c.begun-come.result c.begun-come.new.frames
+    c.index_mut-2.result.now unasked c.begun-come.ensures.come c.begun-come.ensures.of c.index_mut-2.ensures.value)
 
 pub returns-clause-finds : goal.returns-clause-finds
 returns-clause-finds g c o first ready =
@@ -94,8 +94,8 @@ returns-clause-finds g c o first ready =
     let unasked = none-asked c.has_asked.result (asked_by s.notes c.args.t) c.if-has_asked.false c.has_asked.ensures in
     c.step_come-went.ensures.finds o first frames c.index_mut.result.now
     (begun-at o first set x s frames c.args.t c.number-at.result c.index_mut.result.now ready c.requires.live
-    c.number-at.ensures.same c.index_mut.ensures.value c.begun-stop.result c.begun-stop.new.frames
-    c.index_mut-2.result.now unasked c.begun-stop.ensures.come c.begun-stop.ensures.of c.index_mut-2.ensures.value)
+    c.number-at.ensures.same c.index_mut.ensures.value c.begun-come.result c.begun-come.new.frames
+    c.index_mut-2.result.now unasked c.begun-come.ensures.come c.begun-come.ensures.of c.index_mut-2.ensures.value)
 
 -- ---- of what its thread asks
 
@@ -108,8 +108,8 @@ returns-clause-remembers g c fs there =
     let unasked = none-asked c.has_asked.result (asked_by s.notes c.args.t) c.if-has_asked.false c.has_asked.ensures in
     let r = c.requires.ready in
     let begun = begun-at r.0 r.1 set x s frames c.args.t c.number-at.result c.index_mut.result.now r.2 c.requires.live
-    c.number-at.ensures.same c.index_mut.ensures.value c.begun-stop.result c.begun-stop.new.frames
-    c.index_mut-2.result.now unasked c.begun-stop.ensures.come c.begun-stop.ensures.of c.index_mut-2.ensures.value in
+    c.number-at.ensures.same c.index_mut.ensures.value c.begun-come.result c.begun-come.new.frames
+    c.index_mut-2.result.now unasked c.begun-come.ensures.come c.begun-come.ensures.of c.index_mut-2.ensures.value in
     let is = some-one fs c.index_mut.result.now (sym there ∙ begun.there) in
     subst (λ (q : Option (Request Ref Item)). RemembersAfter c.args.t (asks_next x q fs) c.step_come-went.result s
     c.step_come-went.new.heap) (sym unasked)
@@ -127,8 +127,8 @@ returns-clause-share g c fs there =
     let unasked = none-asked c.has_asked.result (asked_by s.notes c.args.t) c.if-has_asked.false c.has_asked.ensures in
     let r = c.requires.ready in
     let begun = begun-at r.0 r.1 set x s frames c.args.t c.number-at.result c.index_mut.result.now r.2 c.requires.live
-    c.number-at.ensures.same c.index_mut.ensures.value c.begun-stop.result c.begun-stop.new.frames
-    c.index_mut-2.result.now unasked c.begun-stop.ensures.come c.begun-stop.ensures.of c.index_mut-2.ensures.value in
+    c.number-at.ensures.same c.index_mut.ensures.value c.begun-come.result c.begun-come.new.frames
+    c.index_mut-2.result.now unasked c.begun-come.ensures.come c.begun-come.ensures.of c.index_mut-2.ensures.value in
     let is = some-one fs c.index_mut.result.now (sym there ∙ begun.there) in
     subst (λ (q : Option (Request Ref Item)). AddsShare (asks_next x q fs) takes s.history.acts
     c.step_come-went.new.heap.history.acts) (sym unasked)
@@ -146,8 +146,8 @@ returns-clause-alone g c fs there =
     let unasked = none-asked c.has_asked.result (asked_by s.notes c.args.t) c.if-has_asked.false c.has_asked.ensures in
     let r = c.requires.ready in
     let begun = begun-at r.0 r.1 set x s frames c.args.t c.number-at.result c.index_mut.result.now r.2 c.requires.live
-    c.number-at.ensures.same c.index_mut.ensures.value c.begun-stop.result c.begun-stop.new.frames
-    c.index_mut-2.result.now unasked c.begun-stop.ensures.come c.begun-stop.ensures.of c.index_mut-2.ensures.value in
+    c.number-at.ensures.same c.index_mut.ensures.value c.begun-come.result c.begun-come.new.frames
+    c.index_mut-2.result.now unasked c.begun-come.ensures.come c.begun-come.ensures.of c.index_mut-2.ensures.value in
     let is = some-one fs c.index_mut.result.now (sym there ∙ begun.there) in
     subst (λ (q : Option (Request Ref Item)). LeavesAlone c.args.t (asks_next x q fs) c.step_come-went.result s
     c.step_come-went.new.heap Same) (sym unasked)
@@ -189,5 +189,5 @@ returns-clause-spares g c o first ready =
     let unasked = none-asked c.has_asked.result (asked_by s.notes c.args.t) c.if-has_asked.false c.has_asked.ensures in
     c.step_come-went.ensures.spares o first frames c.index_mut.result.now
     (begun-at o first set x s frames c.args.t c.number-at.result c.index_mut.result.now ready c.requires.live
-    c.number-at.ensures.same c.index_mut.ensures.value c.begun-stop.result c.begun-stop.new.frames
-    c.index_mut-2.result.now unasked c.begun-stop.ensures.come c.begun-stop.ensures.of c.index_mut-2.ensures.value)
+    c.number-at.ensures.same c.index_mut.ensures.value c.begun-come.result c.begun-come.new.frames
+    c.index_mut-2.result.now unasked c.begun-come.ensures.come c.begun-come.ensures.of c.index_mut-2.ensures.value)

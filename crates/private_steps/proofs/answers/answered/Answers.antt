@@ -1,5 +1,5 @@
 use Rattle.std.proofs.Common.{◌≡◌, ◌∙◌, sym, ap}
-use Rattle.frames.specs.Settings.{Doing, BeginsMain, Initialises}
+use Rattle.frames.specs.Settings.{BeginsMain, Initialises}
 use Rattle.frames.specs.Turns.{answered}
 use Rattle.frame_thread.specs.Views.{doing_of}
 use Rattle.frame_thread.specs.Stacked.{list_of}

@@ -1,8 +1,8 @@
-use Rattle.std.proofs.Common.{◌≡◌, ◌∙◌, ◌+◌, ◌-◌, [], ◌∷◌, None, Some, length, take, drop, reverse, sym, ap, arith, drop-cons}
+use Rattle.std.proofs.Common.{◌≡◌, ◌∙◌, ◌-◌, [], ◌∷◌, None, Some, take, drop, sym, ap, arith, drop-cons}
 use Rattle.std.proofs.lemmas.List.{drop_all}
 use Rattle.code_form.specs.declared.ins.Sort.TheVariants as sort
 use Rattle.frames.specs.Calls.{arguments_on}
-use Rattle.private_steps.proofs.Parameters.{more-some, more-within, more-past, more-none, width-one}
+use Rattle.private_steps.proofs.Parameters.{more-some, more-within, more-past, more-none}
 use Rattle.std.proofs.lemmas.Grind.{common_steps}
 use Rattle.private_steps.proofs.arguments.read.Goals as goal
 

@@ -1,4 +1,4 @@
-use Rattle.std.proofs.Common.{◌≡◌, ◌∙◌, [], ◌∷◌, Some, reverse, take, map, refl, sym, ap, arith}
+use Rattle.std.proofs.Common.{◌≡◌, ◌∙◌, [], ◌∷◌, reverse, take, map, refl, sym, ap, arith}
 use Rattle.run_types.specs.declared.resolved.At.{At}
 use Rattle.frame_cells.specs.Own.{Own}
 use Rattle.frames.specs.Tables.{method_at, start_of}

@@ -1,5 +1,4 @@
-use Rattle.std.proofs.Common.{◌≡◌, ◌≤◌, ◌∙◌, true, false, length, Some, None, sym, ap, arith}
-use Rattle.natives.specs.declared.requests.Request.TheVariants as ask
+use Rattle.std.proofs.Common.{◌≡◌, ◌≤◌, ◌∙◌, length, Some, None, sym, ap, arith}
 use Rattle.frames.specs.declared.program.Program.{Program}
 use Rattle.frames.specs.Settings.{Frames}
 use Rattle.frames.specs.Calls.{Stepped}

@@ -49,8 +49,9 @@ returns-clause-reads g c from =
     let agrees = subst (λ (s : Shared). Agrees facts (shown_in s.machine) s.machine.rest)
     (sym c.self.view_is) c.requires.agrees in
     let request = ask.GetField from c.args.holder c.args.field in
-    let result = stepped.Did (op.Read (Slot c.in-Some.got.object c.args.field.at) c.in-Some.got.value) (reply.Item c.in-Some.got.item) in (
-      op.Read (Slot c.in-Some.got.object c.args.field.at) c.in-Some.got.value,
+    let operation = op.Read (Slot c.in-Some.got.object c.in-Some.got.index) c.in-Some.got.value in
+    let result = stepped.Did operation (reply.Item c.in-Some.got.item) in (
+      operation,
       steps_to facts c.args.t request result _ c.args.self.now (spaces_of before)
           c.self.inside.rest c.tell_op.new.acts c.self.inside.notes c.self.view_is record {
             agrees = agrees;

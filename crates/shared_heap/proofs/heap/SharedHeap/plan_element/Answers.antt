@@ -1,0 +1,48 @@
+use Rattle.std.proofs.Common.{[], sym, subst}
+use Rattle.std.proofs.Math.Facts.{to_z-of_z}
+use Rattle.natives.specs.declared.requests.Request.TheVariants as ask
+use Rattle.step_forms.specs.Follows.{Agrees}
+use Rattle.store_barrier.specs.Passed.{shown_in}
+use Rattle.shared_heap.specs.Shared.{Shared}
+use Rattle.shared_heap.specs.Requests.{IsPlannedFor}
+use Rattle.shared_heap.proofs.Requesting.{asks_from}
+use Rattle.shared_heap.proofs.heap.SharedHeap.plan_element.Goals as goal
+
+pub planned_element-requires-clause-heap : goal.planned_element-requires-clause-heap
+planned_element-requires-clause-heap g c = (subst (λ (s : Shared). Agrees (g.C.Types.facts c.args.set.now)
+    (shown_in s.machine) s.machine.rest) (sym c.self.view_is) c.requires.agrees).heap
+
+pub planned_element-requires-clause-known : goal.planned_element-requires-clause-known
+planned_element-requires-clause-known g c = (asks_from (g.C.Types.facts c.args.set.now) _ c.args.self.now c.args.t
+    (ask.PutElement c.requires.may.0 c.args.array c.args.index c.args.kind c.args.value) c.self.view_is c.requires.whole
+    c.requires.long c.requires.agrees c.requires.may.1).known.0
+
+pub planned_element-requires-clause-known_value : goal.planned_element-requires-clause-known_value
+planned_element-requires-clause-known_value g c = (asks_from (g.C.Types.facts c.args.set.now) _ c.args.self.now c.args.t
+    (ask.PutElement c.requires.may.0 c.args.array c.args.index c.args.kind c.args.value) c.self.view_is c.requires.whole
+    c.requires.long c.requires.agrees c.requires.may.1).known.1
+
+pub planned_element-requires-clause-head : goal.planned_element-requires-clause-head
+planned_element-requires-clause-head g c = (asks_from (g.C.Types.facts c.args.set.now) _ c.args.self.now c.args.t
+    (ask.PutElement c.requires.may.0 c.args.array c.args.index c.args.kind c.args.value) c.self.view_is c.requires.whole
+    c.requires.long c.requires.agrees c.requires.may.1).here.0
+
+pub planned_element-requires-clause-slot : goal.planned_element-requires-clause-slot
+planned_element-requires-clause-slot g c = rw (to_z-of_z c.ranges.index)
+    (asks_from (g.C.Types.facts c.args.set.now) _ c.args.self.now c.args.t
+    (ask.PutElement c.requires.may.0 c.args.array c.args.index c.args.kind c.args.value) c.self.view_is c.requires.whole
+    c.requires.long c.requires.agrees c.requires.may.1).here.1
+
+pub planned_element-requires-clause-value : goal.planned_element-requires-clause-value
+planned_element-requires-clause-value g c = (asks_from (g.C.Types.facts c.args.set.now) _ c.args.self.now c.args.t
+    (ask.PutElement c.requires.may.0 c.args.array c.args.index c.args.kind c.args.value) c.self.view_is c.requires.whole
+    c.requires.long c.requires.agrees c.requires.may.1).here.2
+
+pub returns : goal.returns
+returns g c = record {
+  planned = λ from. subst (λ (s : Shared). IsPlannedFor (g.C.Types.facts c.args.set.now) c.args.t
+      (ask.PutElement from c.args.array c.args.index c.args.kind c.args.value) c.in-Some.store s) c.self.view_is record {
+        asks = rw (← to_z-of_z c.ranges.index) (c.in-Some.ensures.plan.0 c.args.t 0 [] c.self.inside.rest from);
+        ready = record { can = c.in-Some.ensures.plan.1; here = c.in-Some.ensures.here };
+      };
+}
