@@ -6,11 +6,10 @@ usage: bench/interpreter.py [PROGRAM] [--runs N]
 PROGRAM is the built program, or the script `autopersist`. The first three programs of bench/java have private instructions
 alone; the others have many that ask the heap, and so each their share of acts. What a run takes that does nothing is left out.
 """
-import argparse
 import sys
 
 sys.dont_write_bytecode = True
-from java_runs import TOP, Runtime, measure  # noqa: E402
+from java_runs import Runtime, measure, words_of  # noqa: E402
 
 # How many instructions each program runs, by its loops, and how many of its acts are more than the end of a turn.
 PROGRAMS = {
@@ -30,10 +29,7 @@ PROGRAMS = {
 
 
 def main():
-    parser = argparse.ArgumentParser(description=__doc__, formatter_class=argparse.RawDescriptionHelpFormatter)
-    parser.add_argument("program", nargs="?", default=str(TOP / "autopersist"))
-    parser.add_argument("--runs", type=int, default=5)
-    words = parser.parse_args()
+    words = words_of(__doc__)
     runtime = Runtime(words.program)
     print(f"a run that does nothing: {1e3 * runtime.prepare(words.runs):.0f} ms")
     print(f"{'':10} {'instructions':>12} {'acts':>8} {'ns each':>8} {'java -Xint':>10} {'ratio':>6}")

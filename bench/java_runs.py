@@ -1,4 +1,5 @@
 """Runs the programs of bench/java on the built program, and under `java -Xint` where there is a JDK, and times them."""
+import argparse
 import os
 import pathlib
 import shutil
@@ -9,6 +10,14 @@ import time
 TOP = pathlib.Path(__file__).resolve().parent.parent
 CLASSES = TOP / "bench" / "java" / "classes"
 IMAGE_BYTES = 64 * 32_768
+
+
+def words_of(usage, runs=5):
+    """The words of a benchmark: the program, and how many runs."""
+    parser = argparse.ArgumentParser(description=usage, formatter_class=argparse.RawDescriptionHelpFormatter)
+    parser.add_argument("program", nargs="?", default=str(TOP / "autopersist"))
+    parser.add_argument("--runs", type=int, default=runs)
+    return parser.parse_args()
 
 
 def has_java():

@@ -5,11 +5,10 @@ usage: bench/programs.py [PROGRAM] [--runs N]
 
 PROGRAM is the built program, or the script `autopersist`. What a run takes that does nothing is left out.
 """
-import argparse
 import sys
 
 sys.dont_write_bytecode = True
-from java_runs import TOP, Runtime, measure  # noqa: E402
+from java_runs import Runtime, measure, words_of  # noqa: E402
 
 # How many acts the run of each program has, counted by an interpreter apart from this runtime.
 PROGRAMS = {
@@ -20,10 +19,7 @@ PROGRAMS = {
 
 
 def main():
-    parser = argparse.ArgumentParser(description=__doc__, formatter_class=argparse.RawDescriptionHelpFormatter)
-    parser.add_argument("program", nargs="?", default=str(TOP / "autopersist"))
-    parser.add_argument("--runs", type=int, default=5)
-    words = parser.parse_args()
+    words = words_of(__doc__)
     runtime = Runtime(words.program)
     print(f"a run that does nothing: {1e3 * runtime.prepare(words.runs):.0f} ms")
     print(f"{'':10} {'acts':>10} {'ms':>8} {'acts/s':>12} {'java ms':>8} {'ratio':>6}")

@@ -8,7 +8,6 @@ nothing. What java takes is the wall and processor time of main's own thread, th
 loops a unit is an instruction, of the others an act, with the instructions around it. Durable inserts are those of
 bench/durable_inserts.py, on a memory file system and on the disk of this folder; memory is bench/memory.py's.
 """
-import argparse
 import os
 import pathlib
 import resource
@@ -21,7 +20,7 @@ sys.dont_write_bytecode = True
 import durable_inserts  # noqa: E402
 import interpreter  # noqa: E402
 import programs as whole  # noqa: E402
-from java_runs import CLASSES, TOP, Runtime, clocked  # noqa: E402
+from java_runs import CLASSES, TOP, Runtime, clocked, words_of  # noqa: E402
 from memory import resident  # noqa: E402
 
 # What each program shows, and how many units it has.
@@ -85,10 +84,7 @@ def show_inserts(program, runs):
 
 
 def main():
-    parser = argparse.ArgumentParser(description=__doc__, formatter_class=argparse.RawDescriptionHelpFormatter)
-    parser.add_argument("program", nargs="?", default=str(TOP / "autopersist"))
-    parser.add_argument("--runs", type=int, default=5)
-    words = parser.parse_args()
+    words = words_of(__doc__)
     runtime = Runtime(words.program)
     print(f"load {os.getloadavg()[0]:.1f} of {os.cpu_count()} processors")
     empty = show_programs(runtime, words.runs)

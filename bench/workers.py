@@ -11,12 +11,11 @@ told. What a run takes that does nothing is left out. The image is a file, and n
 Last stands what the machine gives: how many times as much four runs do at once, each with one worker and nothing in common, as
 one run alone.
 """
-import argparse
 import concurrent.futures
 import sys
 
 sys.dont_write_bytecode = True
-from java_runs import TOP, Runtime  # noqa: E402
+from java_runs import Runtime, words_of  # noqa: E402
 
 # How many acts each program has, by its loops, but for a few; Loners, bytecodes.
 PROGRAMS = {
@@ -45,10 +44,7 @@ def together(runtimes, name):
 
 
 def main():
-    parser = argparse.ArgumentParser(description=__doc__, formatter_class=argparse.RawDescriptionHelpFormatter)
-    parser.add_argument("program", nargs="?", default=str(TOP / "autopersist"))
-    parser.add_argument("--runs", type=int, default=5)
-    words = parser.parse_args()
+    words = words_of(__doc__)
     runtimes = [Runtime(words.program) for _ in range(4)]
     runtime = runtimes[0]
     empty = min(once(runtime, "Nothing", 1) for _ in range(words.runs))
