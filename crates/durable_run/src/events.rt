@@ -22,6 +22,7 @@ use run_history::{Acts, Watcher};
 use shared_objects::Types;
 
 /// Tells the watcher the act that stands behind so many others, if there is one, with the objects that it names.
+#[inline(always)]
 pub(crate) fn tell<W: Watcher>(watcher: &mut W, acts: &Acts, from: u32)
     requires one { length acts.now.acts ≤ from + 1 }
     ensures told { W.seen watcher.new ≡ with_all (W.seen watcher.old) (drop from acts.now.acts) }

@@ -42,6 +42,7 @@ pub enum Stepped {
 }
 
 // The frames begin of the thread that is behind so many, if it was started.
+#[inline(always)]
 fn begin_next<I: Image>(
     frames: &mut Vec<Frames<Ref, NativeState>>,
     heap: &SharedHeap<I>,
@@ -61,6 +62,7 @@ fn begin_next<I: Image>(
 }
 
 // After an event of a run that had so many threads, the thread begins that it started, if it did.
+#[inline(always)]
 fn begin_after<I: Image>(
     frames: &mut Vec<Frames<Ref, NativeState>>,
     heap: &SharedHeap<I>,
@@ -135,6 +137,7 @@ fn continues<C: Types, I: Image, H: Host<Native, Ref, NativeState, Item>, S: Sin
 
 /// One event of a live thread. Where no request of its turn waits for an answer, its next turn begins: the gate is
 /// called, the private instructions run, and the turn asks.
+#[inline(always)]
 pub fn step<
     C: Types,
     I: Image,

@@ -53,6 +53,7 @@ fn monitor<M: Copy + Drop, R: Copy + Drop>(
 }
 
 /// The method whose frame was made enters its monitor, if it is synchronized.
+#[inline(always)]
 pub fn enters<M: Copy + Drop, R: Copy + Drop, N: Copy + Drop, V: Drop, H: Host<M, R, N, V>>(
     thread: &mut Thread<R, N>,
     host: &H,
@@ -61,14 +62,14 @@ pub fn enters<M: Copy + Drop, R: Copy + Drop, N: Copy + Drop, V: Drop, H: Host<M
     requires { IfSome thread.old.form IsBelowEnd }
     ensures { thread.new ≡ entered (method_at (H.setting host.now).program number) thread.old }
 {
-    let monitor = monitor(host.program(), number, thread.cells());
-    thread.hold(monitor);
-    let method = outline_at(host.program(), number);
-    thread.set_doing(if method.is_synchronized {
-        Activity::Enters
-    } else {
-        Activity::Runs
-    });
+    if outline_at(host.program(), number).is_synchronized {
+        let monitor = monitor(host.program(), number, thread.cells());
+        thread.hold(monitor);
+        thread.set_doing(Activity::Enters);
+        return;
+    }
+    thread.hold(None);
+    thread.set_doing(Activity::Runs);
 }
 
 // A method's frame without arguments.

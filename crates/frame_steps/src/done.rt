@@ -12,6 +12,7 @@ use frame_thread::{Activity, Fault, Form, Host, Said, Standing, Thread};
 use frames::Link;
 
 /// What comes of an instruction of the method that runs.
+#[inline(always)]
 pub fn done<M: Copy + Drop, R: Copy + Drop, N: Copy + Drop, V: Drop, H: Host<M, R, N, V>>(
     thread: &mut Thread<R, N>,
     host: &H,

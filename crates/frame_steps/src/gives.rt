@@ -162,8 +162,9 @@ pub fn advances<M: Copy + Drop, R: Copy + Drop, N: Copy + Drop, V: Drop, H: Host
     }
 }
 
-/// A value goes to the last frame, which goes on after its instruction.
-pub fn gives<M: Copy + Drop, R: Copy + Drop, N: Copy + Drop, V: Drop, H: Host<M, R, N, V>>(
+// A value goes to the last frame, whatever that is.
+#[inline(never)]
+fn gives_any<M: Copy + Drop, R: Copy + Drop, N: Copy + Drop, V: Drop, H: Host<M, R, N, V>>(
     thread: &mut Thread<R, N>,
     host: &H,
     value: Given<R>,
@@ -198,4 +199,24 @@ pub fn gives<M: Copy + Drop, R: Copy + Drop, N: Copy + Drop, V: Drop, H: Host<M,
             }
         }
     }
+}
+
+/// A value goes to the last frame, which goes on after its instruction.
+#[inline(always)]
+pub fn gives<M: Copy + Drop, R: Copy + Drop, N: Copy + Drop, V: Drop, H: Host<M, R, N, V>>(
+    thread: &mut Thread<R, N>,
+    host: &H,
+    value: Given<R>,
+) -> Said<R>
+    requires waits { IfSome thread.old.form IsBelowEnd }
+    requires of { AreOf (H.setting host.now).program (list_of thread.old) }
+    ensures step { stepped result thread.new ≡ returns_to (H.setting host.now) value (list_of thread.old) }
+    ensures of { AreOf (H.setting host.now).program (list_of thread.new) }
+{
+    // Mostly that is a method's.
+    if let Some(Form::Running(standing)) = thread.form() {
+        let did = thread.put(0, value, Did::Next);
+        return done(thread, host, standing, did);
+    }
+    gives_any(thread, host, value)
 }

@@ -15,6 +15,7 @@ use frame_thread::{Form, Host, Said, Standing, Thread};
 use frames::Given;
 
 /// What a method gives back.
+#[inline(always)]
 pub fn given<R: Copy + Drop>(cells: &Cells<R>, sort: Option<Sort>) -> Option<Given<R>>
     ensures { result ≡ result_of sort cells.now.own }
 {
@@ -27,6 +28,7 @@ pub fn given<R: Copy + Drop>(cells: &Cells<R>, sort: Option<Sort>) -> Option<Giv
 }
 
 /// `return` and its kin: a synchronized method gives its monitor back first.
+#[inline(always)]
 pub fn returns<M: Copy + Drop, R: Copy + Drop, N: Copy + Drop, V: Drop, H: Host<M, R, N, V>>(
     thread: &mut Thread<R, N>,
     host: &H,

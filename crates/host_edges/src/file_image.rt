@@ -3,6 +3,7 @@ ghost use Rattle.std.specs.Prelude.{◌≡◌, ◌≤◌, ◌<◌, ◌*◌, ◌^
 ghost use Rattle.std.specs.Fd.{file_raw_fd};
 ghost use Rattle.std.specs.Option.{ForSome};
 
+use crate::ahead::{Ahead, words_of};
 use crate::opening::{LINE_BYTES, Unopened, open_file};
 use crate::trouble::Trouble;
 use line_image::{Image, ImageFailed};
@@ -22,6 +23,7 @@ const CLOSED_LINES: u64 = 32_768;
 pub struct FileImage {
     file: Option<File>,
     trouble: Option<Trouble>,
+    ahead: Ahead,
     lines: u64,
     calls: u64,
     faults: u64,
@@ -31,16 +33,11 @@ pub struct FileImage {
     ghost faults_fit: { faults < 2 ^ 64 },
 }
 
+// One line, which is there.
 fn read_words(file: &File, at: u64) -> io::Result<[u64; 8]> {
     let mut bytes = [0u8; 64];
     file.read_exact_at(&mut bytes, at)?;
-    let mut words = [0u64; 8];
-    for (word, eight) in words.iter_mut().zip(bytes.chunks_exact(8)) {
-        *word = u64::from_le_bytes([
-            eight[0], eight[1], eight[2], eight[3], eight[4], eight[5], eight[6], eight[7],
-        ]);
-    }
-    Ok(words)
+    Ok(words_of(&bytes))
 }
 
 fn write_words(file: &File, at: u64, words: &[u64; 8]) -> io::Result<()> {
@@ -49,6 +46,23 @@ fn write_words(file: &File, at: u64, words: &[u64; 8]) -> io::Result<()> {
         eight.copy_from_slice(&word.to_le_bytes());
     }
     file.write_all_at(&bytes, at)
+}
+
+// A line of a file of so many, from those that were read ahead, or read now with some behind it. Where these can't be read
+// together, it is read alone.
+fn read_ahead(ahead: &mut Ahead, file: &File, line: u64, lines: u64) -> io::Result<[u64; 8]>
+    requires line { line < lines }
+    requires places { lines * 64 < 2 ^ 64 }
+{
+    if let Some(words) = ahead.words(line) {
+        return Ok(words);
+    }
+    if ahead.read(file, line, lines).is_ok() {
+        if let Some(words) = ahead.words(line) {
+            return Ok(words);
+        }
+    }
+    read_words(file, line * LINE_BYTES)
 }
 
 impl FileImage {
@@ -64,21 +78,22 @@ impl FileImage {
     /// Want of memory. Whatever else goes wrong gives a closed image.
     pub fn at<R: Files<File = File>>(
         rt: &R,
-        _alloc: Global,
+        alloc: Global,
         path: &str,
         create: Option<u64>,
     ) -> Result<FileImage, AllocError>
         ensures uncalled { IfOk result (λ image. (file_told image).calls ≡ 0) }
         ensures faultless { IfOk result (λ image. image.faults ≡ 0) }
     {
+        let ahead = Ahead::new(alloc)?;
         match open_file(rt, path, create) {
-            Ok((file, bytes)) => Ok(FileImage::opened(file, bytes)),
-            Err(Unopened::Trouble(trouble)) => Ok(FileImage::closed(trouble)),
+            Ok((file, bytes)) => Ok(FileImage::opened(file, bytes, ahead)),
+            Err(Unopened::Trouble(trouble)) => Ok(FileImage::closed(trouble, ahead)),
             Err(Unopened::OutOfMemory) => Err(AllocError),
         }
     }
 
-    fn opened(file: File, bytes: u64) -> FileImage
+    fn opened(file: File, bytes: u64, ahead: Ahead) -> FileImage
         requires apart { pos 2 <ℤ file_raw_fd file }
         ensures uncalled { (file_told result).calls ≡ 0 }
         ensures faultless { result.faults ≡ 0 }
@@ -86,19 +101,21 @@ impl FileImage {
         FileImage {
             file: Some(file),
             trouble: Trouble::of_length(bytes),
+            ahead,
             lines: bytes / LINE_BYTES,
             calls: 0,
             faults: 0,
         }
     }
 
-    fn closed(trouble: Trouble) -> FileImage
+    fn closed(trouble: Trouble, ahead: Ahead) -> FileImage
         ensures uncalled { (file_told result).calls ≡ 0 }
         ensures faultless { result.faults ≡ 0 }
     {
         FileImage {
             file: None,
             trouble: Some(trouble),
+            ahead,
             lines: CLOSED_LINES,
             calls: 0,
             faults: 0,
@@ -144,7 +161,7 @@ impl Image for FileImage {
 
     fn read_line(&mut self, line: u64, into: &mut [u64; 8]) -> Result<(), ImageFailed> {
         let read = match &self.file {
-            Some(file) => read_words(file, line * LINE_BYTES),
+            Some(file) => read_ahead(&mut self.ahead, file, line, self.lines),
             None => Err(no_file()),
         };
         *into = self.counted(read)?;
@@ -152,6 +169,7 @@ impl Image for FileImage {
     }
 
     fn write_line(&mut self, line: u64, words: &[u64; 8]) -> Result<(), ImageFailed> {
+        self.ahead.forget();
         let written = match &self.file {
             Some(file) => write_words(file, line * LINE_BYTES, words),
             None => Err(no_file()),

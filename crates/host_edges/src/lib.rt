@@ -1,6 +1,7 @@
 //! The host as source, image and sink: class files of a folder or one file, image files, standard output and a file to write.
 #![tactic(auto)]
 
+mod ahead;
 mod file_image;
 mod file_sink;
 mod host_source;

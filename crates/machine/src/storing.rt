@@ -81,6 +81,7 @@ fn make<I: Image>(heap: &mut SharedHeap<I>, t: ThreadNo, store: Store, line: Opt
 }
 
 /// The store is made, where nothing is to be converted, logged or written back for it. Else nothing is changed.
+#[inline(always)]
 pub(crate) fn store_at_once<I: Image>(heap: &mut SharedHeap<I>, t: ThreadNo, store: Store) -> bool
     requires planned { HasSomePlanned heap.old t store }
     requires room { length heap.old.history.acts < heap.old.history.limit }

@@ -135,6 +135,7 @@ fn depth<M: Copy + Drop, R: Copy + Drop, N: Copy + Drop, V: Drop, H: Host<M, R, 
 }
 
 /// The method that runs calls one, whose arguments lie on top of its stack.
+#[inline(always)]
 pub fn calls<M: Copy + Drop, R: Copy + Drop, N: Copy + Drop, V: Drop, H: Host<M, R, N, V>>(
     thread: &mut Thread<R, N>,
     arguments: &mut Arguments<R>,

@@ -26,6 +26,7 @@ use frames::{Given, Op, Target};
 use natives::Reply;
 
 // Whether a reply says yes.
+#[inline(always)]
 fn is_yes<R: Copy + Drop>(value: Given<R>) -> bool
     ensures { result ≡ is_yes (cells_of value) }
 {
@@ -35,6 +36,7 @@ fn is_yes<R: Copy + Drop>(value: Given<R>) -> bool
     }
 }
 
+#[inline(always)]
 fn is_so(equality: Equality, same: bool) -> bool
     ensures { result ≡ is_so equality same }
 {
@@ -44,6 +46,7 @@ fn is_so(equality: Equality, same: bool) -> bool
     }
 }
 
+#[inline(always)]
 fn to(holds: bool, target: u32) -> Did
     ensures { result ≡ to holds target }
 {
@@ -51,6 +54,7 @@ fn to(holds: bool, target: u32) -> Did
 }
 
 // What a reply without a rule of its own gives to the instruction that asked.
+#[inline(always)]
 fn given_by<M: Copy + Drop, R: Copy + Drop, N: Copy + Drop, V: Drop, H: Host<M, R, N, V>>(
     host: &H,
     reply: &Reply<R, V>,
@@ -65,6 +69,7 @@ fn given_by<M: Copy + Drop, R: Copy + Drop, N: Copy + Drop, V: Drop, H: Host<M, 
 }
 
 // The cells of a reply come in place of those that the instruction took, and it is done.
+#[inline(always)]
 fn replaces<M: Copy + Drop, R: Copy + Drop, N: Copy + Drop, V: Drop, H: Host<M, R, N, V>>(
     thread: &mut Thread<R, N>,
     host: &H,

@@ -101,6 +101,7 @@ impl<R: Copy + Drop, N: Copy + Drop> Frames<R, N> {
     }
 
     /// The instructions on cells and frames alone of a turn, up to another one: the turn goes on from there.
+    #[inline(always)]
     pub fn advance<M: Copy + Drop, V: Drop, H: Host<M, R, N, V>>(&mut self, host: &H) -> Come<R>
         requires of { AreOf (H.setting host.now).program self.old.frames }
         ensures come { HasCome (H.setting host.now) result self.old self.new }

@@ -123,6 +123,23 @@ fn a_new_image_is_blank(rt: HostRuntime) -> Result<(), Fail> {
     Ok(())
 }
 
+/// Whether a line that was read ahead and then written is read as it was written.
+fn is_read_anew(image: &mut FileImage) -> bool {
+    let mut words = [0u64; 8];
+    let is_done = image.lines() == 32_768
+        && image.read_line(0, &mut words).is_ok()
+        && image.write_line(1, &[7; 8]).is_ok()
+        && image.read_line(1, &mut words).is_ok();
+    is_done && words == [7; 8]
+}
+
+#[test]
+fn what_was_read_ahead_gives_way_to_a_write(rt: HostRuntime) -> Result<(), Fail> {
+    let mut image = FileImage::at(&rt, rt.alloc(), "anew.img", Some(32_768))?;
+    assert!(rt; is_read_anew(&mut image));
+    Ok(())
+}
+
 /// What can't be made isn't left behind: no file is that long.
 #[test]
 fn no_half_made_image_stays(rt: HostRuntime) -> Result<(), Fail> {

@@ -2,10 +2,11 @@
 ghost use Rattle.std.specs.Prelude.{◌≡◌};
 ghost use Rattle.class_set.specs.Sets.{IsLinked};
 
+use crate::laws::facts_of_class_sets_meet_what_steps_ask;
 use crate::throwables::before_throwable;
 use ap_base::Kind;
 use class_set::ClassSet;
-use plain_model::Throws;
+use plain_model::{Throws, subtypes_have_their_supertypes_fields};
 use run_types::Known;
 use shared_objects::Types;
 use std::marker::Model;
@@ -66,7 +67,16 @@ impl<'a> Types for SetTypes<'a> {
         self.set.field_count(class)
     }
 
+    #[inline(always)]
     fn is_sub(&self, class: u32, target: u32) -> bool {
+        subtypes_have_their_supertypes_fields();
+        facts_of_class_sets_meet_what_steps_ask();
+        // that it is linked
+        let _shapes = self.set.shapes();
+        // mostly an object is of the very class that is asked for
+        if class == target {
+            return true;
+        }
         self.set.is_sub(class, target)
     }
 

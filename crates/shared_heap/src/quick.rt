@@ -26,6 +26,7 @@ use shared_objects::Types;
 impl<I: Image> SharedHeap<I> {
     /// What a field of an object holds, where the step of a request for it reads it: that step is taken. None where
     /// that step throws, or finds a wrong operand; then nothing is changed.
+    #[inline(always)]
     pub fn read_field<C: Types>(
         &mut self,
         set: &C,
@@ -60,6 +61,7 @@ impl<I: Image> SharedHeap<I> {
 
     /// What an element of an array holds, or a char of a String, where the step of a request for it reads it: that step is
     /// taken. None where that step throws, or finds a wrong operand; then nothing is changed.
+    #[inline(always)]
     pub fn read_element<C: Types>(
         &mut self,
         set: &C,
@@ -95,6 +97,7 @@ impl<I: Image> SharedHeap<I> {
 
     /// What a static field holds, where its class is initialised, and so the step of a request for it reads it: that step is
     /// taken. None where the class isn't; then nothing is changed.
+    #[inline(always)]
     pub fn read_static<C: Types>(&mut self, set: &C, t: ThreadNo, field: FieldAt) -> Option<Item>
         requires whole { IsWhole self.old.machine.spaces }
         requires long { 33 ≤ (memory_of self.old.machine).size }
@@ -120,6 +123,7 @@ impl<I: Image> SharedHeap<I> {
 
     /// The length of an array or a String, where the step of a request for it tells it: that step is taken. None where that step
     /// throws, or finds a wrong operand; then nothing is changed.
+    #[inline(always)]
     pub fn read_length<C: Types>(&mut self, set: &C, t: ThreadNo, array: Ref) -> Option<Item>
         requires whole { IsWhole self.old.machine.spaces }
         requires long { 33 ≤ (memory_of self.old.machine).size }
@@ -144,6 +148,7 @@ impl<I: Image> SharedHeap<I> {
     }
 
     /// A turn ends without a request of the heap: that step is taken.
+    #[inline(always)]
     pub fn pause<C: Types>(&mut self, set: &C, t: ThreadNo)
         requires sound { AreSound self.old.machine.rest.monitors }
         requires agrees { Agrees (C.facts set.now) (shown_in self.old.machine)
@@ -157,6 +162,7 @@ impl<I: Image> SharedHeap<I> {
 
     /// The class of an object that is a subtype of `within`, where the step of a request for it tells that: that step is
     /// taken. None where that step throws, or finds a wrong operand; then nothing is changed.
+    #[inline(always)]
     pub fn class_of<C: Types>(
         &mut self,
         set: &C,
@@ -188,6 +194,7 @@ impl<I: Image> SharedHeap<I> {
 
     /// Whether a class is initialised, so that the step of a request for that does nothing: that step is taken. Where the
     /// class isn't, nothing is changed.
+    #[inline(always)]
     pub fn is_initialised<C: Types>(&mut self, set: &C, t: ThreadNo, class: u32) -> bool
         requires sound { AreSound self.old.machine.rest.monitors }
         requires agrees { Agrees (C.facts set.now) (shown_in self.old.machine)
@@ -208,6 +215,7 @@ impl<I: Image> SharedHeap<I> {
 
     /// What a request to store to a field of an object stores, where its tests are passed. None where its step throws, or
     /// finds a wrong operand.
+    #[inline(always)]
     pub fn plan_field<C: Types>(
         &self,
         set: &C,
@@ -233,6 +241,7 @@ impl<I: Image> SharedHeap<I> {
 
     /// What a request to store to an element of an array stores, where its tests are passed. None where its step throws, or
     /// finds a wrong operand.
+    #[inline(always)]
     pub fn plan_element<C: Types>(
         &self,
         set: &C,

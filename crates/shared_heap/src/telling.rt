@@ -69,6 +69,7 @@ pub fn place_of(target: Target) -> Place
 }
 
 // Adds the act of an operation, after so many calls of the image.
+#[inline(always)]
 pub(crate) fn tell_op(acts: &mut Acts, thread: ThreadNo, at: u64, op: Op)
     requires room { length acts.old.acts < acts.old.limit }
     ensures told { acts.new ≡ with_act acts.old (record { thread = thread; at = at; op = op }) }

@@ -2,7 +2,7 @@ use Rattle.std.proofs.Common.{◌≡◌, length, IfSome}
 use Rattle.frames.specs.Calls.{returns_to}
 use Rattle.frame_thread.specs.Stacked.{list_of, IsBelowEnd}
 use Rattle.frame_steps.specs.Sized.{AreOf}
-use Rattle.frame_steps.proofs.gives.gives.Given as goal
+use Rattle.frame_steps.proofs.gives.gives_any.Given as goal
 
 -- the value that is left goes to the frames that are left
 abbrev pub invariant-loop-standing : goal.invariant-loop-standing
