@@ -451,6 +451,68 @@ static IN_ONE_TURN: [Asked; 4] = [INIT, DONE, Asked::Put(Item::Int(5)), LEAVE];
 
 static IN_TWO_TURNS: [Asked; 5] = [INIT, DONE, Asked::Pause, Asked::Put(Item::Int(5)), LEAVE];
 
+// So many instructions that do nothing, and then some that are done several at once, wherever they stand: a product is
+// stored, counted down and compared, and the number stored to the field.
+fn joined(alloc: Global, before: u32) -> Result<Vec<Op>, Fail> {
+    let mut ops = Vec::new(alloc);
+    for _nop in 0..before {
+        ops.push(Op::Nop)?;
+    }
+    let joined = [
+        Op::PushInt(6),
+        Op::Store(Sort::Int, 1),
+        Op::Load(Sort::Int, 1),
+        Op::PushInt(7),
+        Op::Binary(Number::Int, Binary::Multiply),
+        Op::Store(Sort::Int, 1),
+        Op::Increment(1, -2),
+        Op::Goto(before.wrapping_add(8)),
+        Op::Load(Sort::Int, 1),
+        Op::PushInt(40),
+        Op::IfInts(Condition::Equal, before.wrapping_add(12)),
+        Op::Return,
+        Op::Load(Sort::Int, 1),
+        PUT,
+        Op::Return,
+    ];
+    for op in &joined {
+        ops.push(*op)?;
+    }
+    Ok(ops)
+}
+
+static JOINED_IN_ONE_TURN: [Asked; 4] = [INIT, DONE, Asked::Put(Item::Int(40)), LEAVE];
+
+static JOINED_IN_TWO_TURNS: [Asked; 5] = [
+    INIT,
+    DONE,
+    Asked::Pause,
+    Asked::Put(Item::Int(40)),
+    LEAVE,
+];
+
+// What such a program asks: twelve of its instructions are done before the store to the field, and a turn may end among them.
+#[test]
+fn a_turn_may_end_among_joined_instructions(rt: HostRuntime) -> Result<(), Fail> {
+    let alloc = rt.alloc();
+    for before in 1_008..1_025 {
+        let ops = joined(alloc, before)?;
+        let asks = main_asks(alloc, ops.as_slice(), &[MAIN], &[])?;
+        if before < 1_012 {
+            assert!(rt;
+                asks.as_slice() == JOINED_IN_ONE_TURN.as_slice(),
+                "{before}"
+            );
+        } else {
+            assert!(rt;
+                asks.as_slice() == JOINED_IN_TWO_TURNS.as_slice(),
+                "{before}"
+            );
+        }
+    }
+    Ok(())
+}
+
 /// A method that calls itself, of a program whose classes are built in, so that a call asks nothing.
 static CALLING: [Op; 2] = [Op::InvokeStatic(1), Op::InvokeStatic(1)];
 

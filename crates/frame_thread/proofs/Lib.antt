@@ -1,5 +1,7 @@
 pub mod Running
-pub mod FlatSteps
+pub mod Leading
+pub mod Pushed
+pub mod PushedLongs
 pub mod Listing
 pub mod Piles
 pub mod Slots

@@ -5,3 +5,6 @@ pub mod Stops
 pub mod Flat
 pub mod Flats
 pub mod Forms
+pub mod Operators
+pub mod Operands
+pub mod Along

@@ -1,7 +1,7 @@
 //! What the frames of a thread are, in memory of a fixed size.
 
 ghost use Rattle.std.specs.Prelude.{◌≡◌, [], ◌∷◌, ◌<◌, length, reverse, Some, None, IfOk, MatchOption, IsSome, vec_capacity};
-ghost use Rattle.frame_thread.specs.Stacked.{IsOther};
+ghost use Rattle.frame_thread.specs.Stacked.{IsOther, moved};
 ghost use Rattle.frame_thread.specs.Forms.{form_of, standing_in, others_below, all_apart, ComesBack};
 
 use crate::form::{Form, Standing};
@@ -142,6 +142,15 @@ impl<R: Copy + Drop, N: Copy + Drop> Forms<R, N> {
         ensures { self.new ≡ record self.old { form = Some (Form.Running standing) } }
     {
         self.standing = standing;
+    }
+
+    /// The last frame's method, if it is one's, goes on at this instruction.
+    #[inline(always)]
+    pub fn move_to(&mut self, to: usize)
+        ensures { self.new ≡ record self.old { form = moved to self.old.form } }
+    {
+        // where the last frame is no method's, nobody reads this
+        self.standing.at = to;
     }
 
     /// The last frame, which is no method's, is this now.

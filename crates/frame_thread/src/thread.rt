@@ -111,9 +111,7 @@ impl<R: Copy + Drop, N: Copy + Drop> Thread<R, N> {
         requires { self.old.doing ≡ Runs }
         ensures { self.new ≡ record self.old { form = moved to self.old.form } }
     {
-        if let Some(standing) = self.forms.standing() {
-            self.forms.stand(Standing { at: to, ..standing });
-        }
+        self.forms.move_to(to);
     }
 
     /// The method that runs holds this monitor.
@@ -138,6 +136,7 @@ impl<R: Copy + Drop, N: Copy + Drop> Thread<R, N> {
     }
 
     /// These cells come in place of the last frame's top ones, and then it goes on so.
+    #[inline(always)]
     pub fn put(&mut self, taken: usize, given: Given<R>, did: Did) -> Did
         ensures did { result ≡ (put taken (cells_of given) did self.old.own).did }
         ensures own { self.new
@@ -168,10 +167,7 @@ impl<R: Copy + Drop, N: Copy + Drop> Thread<R, N> {
         ensures fuel { result.fuel ≤ fuel }
     {
         let stop = run(host, &mut self.cells, standing.at, fuel);
-        self.forms.stand(Standing {
-            at: stop.at,
-            ..standing
-        });
+        self.forms.move_to(stop.at);
         stop
     }
 
@@ -184,6 +180,7 @@ impl<R: Copy + Drop, N: Copy + Drop> Thread<R, N> {
     }
 
     /// A method is called, whose first locals are the top cells of the last frame.
+    #[inline(always)]
     pub fn call(&mut self, method: u32, entry: usize, taken: usize, locals: usize, room: usize)
         requires caller { IsSome self.old.form }
         requires waits { IfSome self.old.form IsBelowEnd }
@@ -313,6 +310,7 @@ fn clear<R: Copy + Drop>(cells: &mut Cells<R>)
     cells.take_off(depth, Did::Next);
 }
 
+#[inline(always)]
 fn put_given<R: Copy + Drop>(cells: &mut Cells<R>, taken: usize, given: Given<R>, did: Did) -> Did
     ensures did { result ≡ (put taken (cells_of given) did cells.old.own).did }
     ensures own { cells.new ≡ window_after cells.old (put taken (cells_of given) did cells.old.own) }
