@@ -2,11 +2,13 @@ mod Ending
 mod Going
 mod Noting
 mod Passing
+mod Pausing
 mod Places
 mod Raising
 mod Reading
 mod Sharing
 mod Stepping
+mod Stretching
 mod Telling
 mod Throwing
 mod Thrown

@@ -1,5 +1,5 @@
 -- What an event of a thread leaves of a run, and what it tells the outside.
-use Rattle.std.specs.Prelude.{◌≡◌, ◌≢◌, ◌⊎◌, ℕ, ◌<◌, ◌≤◌, true, List, length, slice_get, slice_set, Option, Some, None, IsSome}
+use Rattle.std.specs.Prelude.{◌≡◌, ◌≢◌, ◌⊎◌, ℕ, ◌<◌, ◌≤◌, true, List, ◌++◌, All, length, slice_get, slice_set, Option, Some, None, IsSome}
 use Rattle.ap_base.specs.declared.reference.Ref.{Ref}
 use Rattle.ap_base.specs.declared.reference.Item.{Item}
 use Rattle.run_types.specs.declared.fault.RunFault.{RunFault}
@@ -111,6 +111,18 @@ StepsTo o first set x t (WouldWait on) old new frames =
     IsReady o first set x new frames × WaitsOn o first on old new t
 StepsTo o first set x t (Over halt) old new frames = EndsAt o first t (fault_of_halt new halt) new
 StepsTo o first set x t went old new frames = IsReady o first set x new frames
+
+-- The same of several events of thread t, of which the last went so. What a wait says of the heap before it isn't said.
+abbrev pub ComesTo : Opening → ℕ → SetFacts → Setting Native Ref (NativeState Ref) Item → ℕ → Stepped → Shared
+    → List ThreadFrames → Type 0
+ComesTo o first set x t (Over halt) new frames = EndsAt o first t (fault_of_halt new halt) new
+ComesTo o first set x t went new frames = IsReady o first set x new frames
+
+-- further acts, all of the thread
+pub record AddsFurther (t : ℕ) (old new : List Recorded) : Type 0 where
+  pub further : List Recorded
+  pub acts : new ≡ old ++ further
+  pub own : All (λ (a : Recorded). a.act.thread ≡ t) further
 
 -- one act of the thread where it acted, none where it waits or the run is over, and one or none otherwise
 abbrev pub AddsBy : Stepped → ℕ → List Recorded → List Recorded → Type 0

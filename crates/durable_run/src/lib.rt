@@ -11,7 +11,7 @@ mod run;
 mod runs;
 mod steps;
 
-pub use apart::{Begun, begin_started, begin_turn, step_asked, step_begun};
+pub use apart::{Begun, Stretch, begin_started, begin_turn, step_asked, step_begun, step_stretch};
 pub use machine::{
     Halt, SharedHeap, each_stop_is_allowed, events_keep_lines, lines_stay_unwritten,
     others_keep_theirs, quiet_steps_are_few,

@@ -59,7 +59,7 @@ use Rattle.machine.proofs.Basics.{doing-set, not-longer, shared-is}
 use Rattle.machine.proofs.Bound.{act-bound, quiet-bound}
 use Rattle.machine.proofs.Faults.{none-more}
 use Rattle.machine.proofs.Freely.{freely-volatile}
-use Rattle.machine.proofs.Leaving.{ends-same, few, goes-on, same-room, same-size, happened, as-they-were, Kept, asks-by, converts-now}
+use Rattle.machine.proofs.Leaving.{logs-same, few, goes-on, same-room, same-size, happened, as-they-were, Kept, asks-by, converts-now}
 use Rattle.machine.proofs.Memory.{same-image}
 use Rattle.machine.proofs.Planned.{is-store, same-value, to-hold, waits-none}
 use Rattle.machine_threads.specs.Happening as event
@@ -128,7 +128,7 @@ module _ (laws : Laws) (o : Opening) (first : ℕ) (set : SetFacts) (s : Shared)
         let still : AsksStill o asked_now.machine t fs = record {
           lags = subst (λ d. LagsByItsStore o.launch d fs)
               (sym (doing-set s.machine.doing t Converting h.due.thread h.due.running.keeps.asked.threads)) tt;
-          ends = (h.due.running.all.each t fs h.due.asks.frames).ends;
+          logs = (h.due.running.all.each t fs h.due.asks.frames).logs;
         } in
         let now = happened laws o first set s es threads t fs request h.due
         (event.asked request goal store.kept asks-for) [] h.due.asks tt
@@ -229,7 +229,7 @@ module _ (laws : Laws) (o : Opening) (first : ℕ) (set : SetFacts) (s : Shared)
           (event.begun new.machine b.after number (reference_word object) answer begins-on) [] h.due.asks.frames tt tt
           (as-they-were laws o first set s es threads t fs request h.due new.machine (record {
             lags = subst (λ d. LagsByItsStore o.launch d fs) (sym doing-same-now) tt;
-            ends = ends-same laws o first set s es threads t fs request h.due new.machine
+            logs = logs-same laws o first set s es threads t fs request h.due new.machine
                 (ap (λ (m : Machine). m.logs) b.same);
           }))
 

@@ -44,7 +44,7 @@ use Rattle.machine.proofs.Awaiting.{awaits-nothing}
 use Rattle.machine.proofs.Answering.{IsDueFor, spared-serves}
 use Rattle.machine.proofs.Bound.{act-measured}
 use Rattle.machine.proofs.Faults.{none-more}
-use Rattle.machine.proofs.Leaving.{ends-idle, few, happened, asked, Kept, as-answered, answered-on}
+use Rattle.machine.proofs.Leaving.{logs-idle, few, happened, asked, Kept, as-answered, answered-on}
 use Rattle.machine.proofs.Marks.{IsRegional, begins, marks, regional-whole}
 use Rattle.machine.proofs.Memory.{does-stay}
 use Rattle.machine.proofs.Stepping
@@ -163,7 +163,7 @@ module _ (laws : Laws) (o : Opening) (first : ℕ) (set : SetFacts) (s : Shared)
   opened-keeps = happened laws o first set s es threads t fs request due (event.region _ region-step) [] due.asks tt tt
       (as-answered laws o first set s es threads t fs request due opened.machine answer_now [] (record {
         lags = subst (λ d. LagsByItsStore o.launch d answer_now) (sym nothing-now) tt;
-        ends = ends-idle o.launch opened.machine t answer_now log-idle;
+        logs = logs-idle o.launch opened.machine t answer_now log-idle;
       }))
 
   opened-comes : Comes o first es threads t fs request (Did reply) s opened

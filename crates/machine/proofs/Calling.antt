@@ -25,7 +25,6 @@ use Rattle.ap_base.specs.declared.reference.Ref.{Ref}
 use Rattle.ap_base.specs.declared.reference.Item.{Item}
 use Rattle.run_types.specs.declared.fault.StepFault.TheVariants as met
 use Rattle.natives.specs.declared.requests.Request.{Request}
-use Rattle.natives.specs.declared.requests.Request.TheVariants as ask
 use Rattle.natives.specs.declared.requests.Reply.TheVariants as reply
 use Rattle.run_history.specs.declared.act.Act.{Act}
 use Rattle.run_history.specs.declared.act.Op.TheVariants as op
@@ -35,11 +34,9 @@ use Rattle.step_forms.specs.Becomes.{given}
 use Rattle.run_forms.specs.Laws.{answered_threads}
 use Rattle.run_forms.specs.Views.{ThreadFrames}
 use Rattle.machine_threads.specs.Passed.{Begins, stored_frames}
-use Rattle.region_log.specs.declared.entry.Underway.{Underway}
-use Rattle.region_log.specs.declared.entry.Underway.TheVariants.{Nothing as Idle, Adding, Ending}
 use Rattle.twin_forms.specs.Table.{Entry}
 use Rattle.machine_threads.specs.Passed.{Nothing, Writing, Fencing}
-use Rattle.machine_threads.specs.Passed.{Opening, doing_of, log_of, memory_of}
+use Rattle.machine_threads.specs.Passed.{Opening, doing_of, memory_of}
 use Rattle.machine_threads.specs.Passed.{with_twin, with_write, with_fence}
 use Rattle.shared_heap.specs.Shared.{Shared, Failed, TellsFence, Writes}
 use Rattle.machine.specs.declared.events.Event.TheVariants.{Did, Micro, Over}
@@ -47,13 +44,14 @@ use Rattle.machine.specs.declared.events.Halt.TheVariants.{Met}
 use Rattle.machine.specs.Ended.{ComesTo}
 use Rattle.machine.specs.Events.{Comes, IsBroken, SparesOthers}
 use Rattle.machine.specs.Laws.{Laws}
-use Rattle.machine_threads.specs.Keeping.{AsksItsEnd, AsksSomeStore, KeepsThread, LagsByItsStore}
+use Rattle.machine_threads.specs.Keeping.{AsksSomeStore, KeepsThread, LagsByItsStore}
+use Rattle.machine_threads.proofs.Owing.{fencing-idle}
 use Rattle.machine.specs.Running.{IsDue, Runs}
 use Rattle.machine.proofs.Awaiting.{awaits-fencing, awaits-writing}
 use Rattle.machine.proofs.Basics.{doing-set, shared-is, some-same}
 use Rattle.machine.proofs.Bound.{act-bound, quiet-bound}
 use Rattle.machine.proofs.Faults.{none-more}
-use Rattle.machine.proofs.Leaving.{AsksStill, Kept, as-set, as-they-were, few, goes-on, happened, lives, same-room}
+use Rattle.machine.proofs.Leaving.{AsksStill, Kept, as-set, as-they-were, few, goes-on, happened, lives, logs-idle, same-room}
 use Rattle.machine.proofs.Steps.{given-whole}
 use Rattle.machine_threads.specs.Happening as event
 
@@ -74,15 +72,6 @@ module _ (laws : Laws) (o : Opening) (first : ℕ) (set : SetFacts) (s : Shared)
   whole : AsksSomeStore o.launch fs → IsBroken request → ⊥
   whole store = given-whole request (subst (λ (q : Request Ref Item). IsSome (given q))
       (some-same store.0 request (sym store.1 ∙ due.asks.asks)) store.2)
-
-  -- and ends no region
-  no-end : AsksSomeStore o.launch fs → (u : Underway) → AsksItsEnd o.launch u fs → (fs' : ThreadFrames)
-      → AsksItsEnd o.launch u fs'
-  no-end store Idle ends fs' = tt
-  no-end store (Adding e stage) ends fs' = tt
-  no-end store (Ending stage) ends fs' = absurd (let gives : IsSome (given (ask.End ends.0)) =
-      subst (λ (q : Request Ref Item). IsSome (given q))
-      (some-same store.0 (ask.End ends.0) (sym store.1 ∙ ends.1)) store.2 in let no = gives in cc)
 
   -- ---- the write-back
 
@@ -106,7 +95,7 @@ module _ (laws : Laws) (o : Opening) (first : ℕ) (set : SetFacts) (s : Shared)
           lags = subst (λ d. LagsByItsStore o.launch d fs)
               (sym (doing-set s.machine.doing t Fencing due.thread due.running.keeps.asked.threads))
               (lag-writing w.wrote.line w.wrote.doing);
-          ends = own.ends;
+          logs = own.logs;
         } in
         let now = happened laws o first set s es threads t fs request due (event.written w.twin w.wrote) [] due.asks.frames
         tt tt (as-they-were laws o first set s es threads t fs request due written.machine still) in record {
@@ -180,7 +169,8 @@ module _ (laws : Laws) (o : Opening) (first : ℕ) (set : SetFacts) (s : Shared)
     fence-keeps = happened laws o first set s es threads t fs request due (event.fenced f.twin f.made) [] due.asks.frames
         tt tt (as-set laws o first set s es threads t fs request due fenced_now.machine answer_now (record {
           lags = subst (λ d. LagsByItsStore o.launch d answer_now) (sym idle-now) tt;
-          ends = no-end (lag-fencing f.made.doing) (log_of s.machine t).underway own.ends answer_now;
+          logs = logs-idle o.launch fenced_now.machine t answer_now (fencing-idle o t s.machine es due.running.keeps
+              (laws.runs o s.machine es threads due.running.keeps due.running.plain) due.thread f.made.doing);
         }))
 
     fence-runs : Runs o first fenced_now es (slice_set threads t answer_now)
@@ -260,7 +250,7 @@ module _ (laws : Laws) (o : Opening) (first : ℕ) (set : SetFacts) (s : Shared)
     failed-comes cause_now =
         let now = happened laws o first set s es threads t fs request due (event.called f.twin f.calls) [] due.asks.frames
         tt tt (as-they-were laws o first set s es threads t fs request due failed_now.machine
-        (record { lags = own.lags; ends = own.ends })) in record {
+        (record { lags = own.lags; logs = own.logs })) in record {
           goes = record {
             after = es;
             keeps = now.keeps;

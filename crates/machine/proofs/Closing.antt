@@ -23,8 +23,9 @@ use Rattle.step_forms.specs.declared.stepped.Stepped.TheVariants as stepped
 use Rattle.step_forms.specs.Becomes.{IsNoStore, given}
 use Rattle.step_forms.specs.Follows.{Agrees, IsHeapOf, IsStep, stored_as}
 use Rattle.run_forms.specs.Views.{ThreadFrames}
+use Rattle.region_log.specs.declared.entry.EndStage.{EndStage}
 use Rattle.region_log.specs.declared.entry.Underway.{Underway}
-use Rattle.region_log.specs.declared.entry.Underway.TheVariants.{Nothing as Idle, Adding, Ending}
+use Rattle.region_log.specs.declared.entry.Underway.TheVariants.{Nothing as Idle, Ending}
 use Rattle.region_log.specs.Log.{Log}
 use Rattle.twin_forms.specs.Sights.{Twin}
 use Rattle.twin_forms.specs.Table.{Entry}
@@ -61,7 +62,7 @@ use Rattle.machine.proofs.Basics.{not-longer, shared-is, some-same}
 use Rattle.machine.proofs.Bound.{act-measured, quiet-measured}
 use Rattle.machine.proofs.Faults.{none-more}
 use Rattle.machine.proofs.Given.{counts}
-use Rattle.machine.proofs.Leaving.{asked, ends-idle, few, fits, lives, happened, as-they-were, stays-on, Kept, as-answered}
+use Rattle.machine.proofs.Leaving.{asked, logs-idle, few, fits, lives, happened, as-they-were, stays-on, Kept, as-answered}
 use Rattle.machine.proofs.Logging.{log-now}
 use Rattle.machine.proofs.Marks.{IsRegional, end-stores-none, ends, marks, regional-fits, regional-gives, regional-known}
 use Rattle.machine.proofs.Marks.{regional-whole}
@@ -72,7 +73,7 @@ use Rattle.graph_model.specs.declared.types.Value.TheVariants.{Obj as Object}
 use Rattle.machine.proofs.Leaving.{answered-on}
 use Rattle.machine.proofs.Noting.{noted-asks, noted-waits}
 use Rattle.machine.proofs.Threads.{as-many-threads}
-use Rattle.machine_threads.specs.Keeping.{KeepsThread, AsksItsEnd, LagsByItsStore}
+use Rattle.machine_threads.specs.Keeping.{KeepsThread, LagsByItsLog, LagsByItsStore}
 use Rattle.plain_model.specs.Requests.{PlainRequest}
 use Rattle.run_forms.specs.Laws.{answered_threads}
 use Rattle.run_forms.specs.Standing.{setting_of}
@@ -128,11 +129,13 @@ module _ (laws : Laws) (o : Opening) (first : ℕ) (set : SetFacts) (s : Shared)
     is_open = is_open;
   }
 
-  -- so whatever is under way, the turn asks the end
-  asks-its-end : (u : Underway) → AsksItsEnd o.launch u fs
-  asks-its-end Idle = tt
-  asks-its-end (Adding e stage) = tt
-  asks-its-end (Ending stage) = (from, due.asks.asks ∙ ap (λ (q : Request Ref Item). Some q) is_end)
+  -- so while the end is under way, the turn asks that
+  lags-by-end : (twin : Twin) (log : Log) (stage : EndStage) → log.underway ≡ Ending stage
+      → LagsByItsLog o.launch (log_of (with_logged s.machine twin t log) t).underway fs
+  lags-by-end twin log stage is = subst (λ (u : Underway). LagsByItsLog o.launch u fs)
+      (sym (ap (λ (now : Log). now.underway)
+      (log-now s.machine twin t log due.thread due.running.keeps.asked.regions.many) ∙ is))
+      (from, due.asks.asks ∙ ap (λ (q : Request Ref Item). Some q) is_end)
 
   calls-end : (twin : Twin) (log : Log) → IsEndCall s.machine twin t log → CallsEnd o s.machine twin t request log
   calls-end twin log call = record {
@@ -163,6 +166,12 @@ module _ (laws : Laws) (o : Opening) (first : ℕ) (set : SetFacts) (s : Shared)
       went = elim l.made [ inl touches ↦ inl touches | inr on ↦ inr (inl on) ];
     }
 
+    part-lags : LagsByItsLog o.launch (log_of part_now.machine t).underway fs
+    part-lags = elim l.made [
+      | inl touches ↦ lags-by-end l.twin l.log _ (ap (λ (log : Log). log.underway) touches.log)
+      | inr on ↦ lags-by-end l.twin l.log _ (ap (λ (log : Log). log.underway) on.log)
+    ]
+
     abbrev part-step : RegionStep o t s.machine es part_now.machine
     part-step = region.ending l.twin request l.log part
 
@@ -170,7 +179,7 @@ module _ (laws : Laws) (o : Opening) (first : ℕ) (set : SetFacts) (s : Shared)
     part-comes cause =
         let now = happened laws o first set s es threads t fs request due (event.region _ part-step) [] due.asks tt tt
         (as-they-were laws o first set s es threads t fs request due part_now.machine
-        (record { lags = own.lags; ends = asks-its-end (log_of part_now.machine t).underway })) in record {
+        (record { lags = own.lags; logs = part-lags })) in record {
           goes = stays-on laws o first set s es threads t fs request due part_now es now refl refl refl due.running.acts
               refl due.running.unnamed refl refl refl due.running.unfaulted;
           acts = inl refl;
@@ -231,7 +240,10 @@ module _ (laws : Laws) (o : Opening) (first : ℕ) (set : SetFacts) (s : Shared)
     closed-comes cause =
         let now = happened laws o first set s es threads t fs request due (event.region _ closes-step) [] due.asks tt tt
         (as-they-were laws o first set s es threads t fs request due closed_now.machine
-        (record { lags = own.lags; ends = asks-its-end (log_of closed_now.machine t).underway })) in record {
+        (record {
+          lags = own.lags;
+          logs = lags-by-end l.twin l.log _ (ap (λ (log : Log). log.underway) l.fences.log);
+        })) in record {
           goes = stays-on laws o first set s es threads t fs request due closed_now es now refl refl refl
               (ap (λ (xs : List Recorded). xs ++ act ∷ []) due.running.acts) refl due.running.unnamed refl refl refl
               (none-more o.launch s.machine.acts act due.running.unfaulted (λ lines.
@@ -281,7 +293,10 @@ module _ (laws : Laws) (o : Opening) (first : ℕ) (set : SetFacts) (s : Shared)
         let now = happened laws o first set s es threads t fs request due
         (event.region _ (region.ending f.twin request f.log failed-part)) [] due.asks tt tt
         (as-they-were laws o first set s es threads t fs request due failed_now.machine
-        (record { lags = own.lags; ends = asks-its-end (log_of failed_now.machine t).underway })) in record {
+        (record {
+          lags = own.lags;
+          logs = lags-by-end f.twin f.log _ (ap (λ (log : Log). log.underway) f.fails.log);
+        })) in record {
           goes = record {
             after = es;
             keeps = now.keeps;
@@ -469,7 +484,7 @@ module _ (laws : Laws) (o : Opening) (first : ℕ) (set : SetFacts) (s : Shared)
       ended-keeps = happened laws o first set s es threads t fs request due (event.region _ region-step) [] due.asks tt tt
           (as-answered laws o first set s es threads t fs request due new.machine answer_now [] (record {
             lags = subst (λ d. LagsByItsStore o.launch d answer_now) (sym nothing-now) tt;
-            ends = ends-idle o.launch new.machine t answer_now idle-now;
+            logs = logs-idle o.launch new.machine t answer_now idle-now;
           }))
 
       did-comes : (memory_of between.machine).faults ≡ (memory_of s.machine).faults

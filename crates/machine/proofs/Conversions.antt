@@ -63,7 +63,7 @@ use Rattle.machine.proofs.Basics.{not-longer}
 use Rattle.machine.proofs.Bound.{act-bound, quiet-bound, wait-bound}
 use Rattle.machine.proofs.Faults.{none-more}
 use Rattle.machine.proofs.Freely.{freely-volatile}
-use Rattle.machine.proofs.Leaving.{AsksStill, Kept, as-they-were, asks-by, converts-now, ends-same, few, goes-on, happened}
+use Rattle.machine.proofs.Leaving.{AsksStill, Kept, as-they-were, asks-by, converts-now, logs-same, few, goes-on, happened}
 use Rattle.machine.proofs.Leaving.{lives, same-size}
 use Rattle.machine.proofs.Planned.{is-store, waits-none}
 use Rattle.machine.proofs.Queued.{claimed-queued}
@@ -149,7 +149,7 @@ module _ (laws : Laws) (o : Opening) (first : ℕ) (set : SetFacts) (s : Shared)
   own-asks : (m' : Machine) (same : Converted s.machine m') → AsksStill o m' t fs
   own-asks m' same = record {
     lags = subst (λ d. LagsByItsStore o.launch d fs) (sym (doing-stays m' same)) tt;
-    ends = ends-same laws o first set s es threads t fs request h.due m' (logs-stay m' same);
+    logs = logs-same laws o first set s es threads t fs request h.due m' (logs-stay m' same);
   }
 
   -- ---- a step
@@ -393,7 +393,7 @@ module _ (laws : Laws) (o : Opening) (first : ℕ) (set : SetFacts) (s : Shared)
         (as-they-were laws o first set s es threads t fs request h.due (with_joined j.between t named)
         (record {
           lags = (own-asks j.between between-same).lags;
-          ends = (own-asks j.between between-same).ends;
+          logs = (own-asks j.between between-same).logs;
         })))
 
     sealed-room : Roomy (total new.machine.queue.queues) (memory_of new.machine).size new.machine.free new.history.room

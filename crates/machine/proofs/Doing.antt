@@ -37,7 +37,7 @@ use Rattle.machine.proofs.Awaiting.{awaits-free}
 use Rattle.machine.proofs.Basics.{doing-set}
 use Rattle.machine.proofs.Bound.{act-bound}
 use Rattle.machine.proofs.Faults.{none-more}
-use Rattle.machine.proofs.Leaving.{AsksStill, Kept, as-answered, ends-idle, goes-on, happened, same-room}
+use Rattle.machine.proofs.Leaving.{AsksStill, Kept, as-answered, logs-idle, goes-on, happened, same-room}
 use Rattle.machine.proofs.Memory.{StaysPut, does-stay}
 use Rattle.machine.proofs.Threads.{as-many}
 
@@ -80,7 +80,7 @@ module _ (laws : Laws) (o : Opening) (first : ℕ) (set : SetFacts) (s : Shared)
     still : AsksStill o new.machine t answer_now
     still = record {
       lags = subst (λ d. LagsByItsStore o.launch d answer_now) (sym idle-now) tt;
-      ends = ends-idle o.launch new.machine t answer_now
+      logs = logs-idle o.launch new.machine t answer_now
           (ap (λ (logs : List Log). (slice_index_or logs t (empty_log t)).underway) acts.logs ∙ a.idle);
     }
 

@@ -1,5 +1,7 @@
 -- What the calls of a shared heap are given, where an event is due.
-use Rattle.std.proofs.Common.{◌≡◌, ℕ, ◌-◌, ◌<◌, ◌≤◌, ◌^◌, true, Some, List, length, sym, ◌∙◌, ap, subst, arith}
+use Rattle.std.proofs.Common.{◌≡◌, inl, inr, ℕ, ◌-◌, ◌<◌, ◌≤◌, ◌^◌, true, Some, None, List, length, refl, sym, ◌∙◌, ap, subst}
+use Rattle.std.proofs.Common.{arith}
+use Rattle.std.specs.Prelude.{IsSome}
 use Rattle.std.proofs.lemmas.List.Elements.{All-weaker}
 use Rattle.ap_base.specs.declared.reference.Ref.{Ref}
 use Rattle.ap_base.specs.declared.reference.Item.{Item}
@@ -10,6 +12,7 @@ use Rattle.monitors.specs.declared.monitor.Monitor.{Monitor}
 use Rattle.plain_model.specs.Facts.{SetFacts, classes_of}
 use Rattle.shared_objects.specs.declared.threads.ThreadState.{ThreadState}
 use Rattle.shared_objects.specs.Worlds.{HasCounts}
+use Rattle.step_forms.specs.Becomes.{given}
 use Rattle.step_forms.specs.Follows.{Agrees, IsHeapOf}
 use Rattle.frames.specs.Turns.{turn}
 use Rattle.run_forms.specs.Views.{ThreadFrames}
@@ -19,7 +22,8 @@ use Rattle.region_log.specs.declared.entry.Underway.{Underway}
 use Rattle.region_log.specs.declared.entry.Underway.TheVariants.{Nothing as Idle, Adding, Ending}
 use Rattle.twin_forms.specs.Table.{Entry}
 use Rattle.two_spaces.specs.Whole.{IsWhole}
-use Rattle.machine_threads.specs.Passed.{Writing}
+use Rattle.machine_threads.specs.Passed.{Doing}
+use Rattle.machine_threads.specs.Passed.{Nothing, Converting, Writing, Fencing}
 use Rattle.machine_threads.specs.Passed.{Opening, doing_of, known_in, layout_in, log_of, memory_of, shown_in}
 use Rattle.machine_threads.specs.Passed.{IsDoing, KeepsRun}
 use Rattle.machine_threads.specs.Passed.{Asks, IsReady}
@@ -27,7 +31,8 @@ use Rattle.shared_heap.specs.Passed.{AgreesWith}
 use Rattle.converter.specs.Stepping.{keys_of}
 use Rattle.shared_heap.specs.Shared.{Shared}
 use Rattle.shared_heap.specs.Requests.{MayRequest}
-use Rattle.machine_threads.specs.Keeping.{AsksItsEnd}
+use Rattle.machine_threads.specs.Keeping.{AsksSomeStore, LagsByItsLog, LagsByItsStore}
+use Rattle.machine.specs.Ended.{EndsNone, OnlyStoresAndEndsAreUnderWay}
 use Rattle.machine.specs.Laws.{Laws}
 use Rattle.machine.specs.Running.{IsDue, Runs}
 use Rattle.machine.proofs.Basics.{some-same}
@@ -95,7 +100,7 @@ module _ (laws : Laws) (o : Opening) (first : ℕ) (set : SetFacts) (s : Shared)
 -- ---- the end of a region
 
 ends-by : (launch : Launch) (u : Underway) (fs : ThreadFrames) (request : Request Ref Item) → is_ending u ≡ true
-    → AsksItsEnd launch u fs → (turn (setting_of launch) fs).asks ≡ Some request → (from : At) × (request ≡ ask.End from)
+    → LagsByItsLog launch u fs → (turn (setting_of launch) fs).asks ≡ Some request → (from : At) × (request ≡ ask.End from)
 ends-by launch Idle fs request is asks now = absurd (let no = is in cc)
 ends-by launch (Adding e stage) fs request is asks now = absurd (let no = is in cc)
 ends-by launch (Ending stage) fs request is (from, asks) now = (from, some-same request (ask.End from) (sym now ∙ asks))
@@ -105,4 +110,33 @@ pub end-asked : (o : Opening) (first : ℕ) (set : SetFacts) (s : Shared) (es : 
     (t : ℕ) (fs : ThreadFrames) (request : Request Ref Item) → IsDue o first set s es threads t fs request
     → is_ending (log_of s.machine t).underway ≡ true → (from : At) × (request ≡ ask.End from)
 end-asked o first set s es threads t fs request due is = ends-by o.launch (log_of s.machine t).underway fs request is
-    (due.running.all.each t fs due.asks.frames).ends due.asks.asks
+    (due.running.all.each t fs due.asks.frames).logs due.asks.asks
+
+-- ---- what is under way
+
+module _ (launch : Launch) (fs : ThreadFrames) (request : Request Ref Item)
+    (now : (turn (setting_of launch) fs).asks ≡ Some request) (none : given request ≡ None) where
+  no-store : AsksSomeStore launch fs → ⊥
+  no-store store =
+      let gives = subst (λ (q : Request Ref Item). IsSome (given q)) (some-same store.0 request (sym store.1 ∙ now)) store.2 in
+      let no : IsSome {T = Item} None = subst IsSome none gives in cc
+
+  ready-by : (d : Doing) → LagsByItsStore launch d fs → IsReady d
+  ready-by Nothing lags = inl refl
+  ready-by Converting lags = inr refl
+  ready-by (Writing line) lags = absurd (no-store lags)
+  ready-by Fencing lags = absurd (no-store lags)
+
+  idle-by : EndsNone request → (u : Underway) → LagsByItsLog launch u fs → u ≡ Idle
+  idle-by ends_none Idle lags = refl
+  idle-by ends_none (Adding e stage) lags = absurd (no-store lags)
+  idle-by ends_none (Ending stage) lags =
+      absurd (subst EndsNone (some-same request (ask.End lags.0) (sym now ∙ lags.1)) ends_none)
+
+-- of a thread that asks neither a store nor the end of a region nothing is
+pub only_stores_and_ends_are_under_way : OnlyStoresAndEndsAreUnderWay
+only_stores_and_ends_are_under_way o first set s es threads t fs request due none ends_none =
+    let own = due.running.all.each t fs due.asks.frames in (
+      ready-by o.launch fs request due.asks.asks none (doing_of s.machine t) own.lags,
+      idle-by o.launch fs request due.asks.asks none ends_none (log_of s.machine t).underway own.logs,
+    )

@@ -56,17 +56,18 @@ use Rattle.machine.proofs.Leaving.{few, happened, as-they-were, stays-on, AsksSt
 use Rattle.machine.proofs.Memory.{same-image}
 use Rattle.machine.proofs.Planned.{is-free, is-store, kept-durable, waits-none}
 use Rattle.machine_threads.specs.Happening as event
-use Rattle.machine_threads.specs.Keeping.{AsksItsEnd}
+use Rattle.machine_threads.specs.Keeping.{AsksSomeStore, LagsByItsLog}
 
 unfailed : (f : StepFault) (before : ℕ) → (f ≡ met.ImageFault → ⊥) → HasImageCause (Over (Met f)) before before
 unfailed met.ImageFault before other = absurd (other refl)
 unfailed f before other = refl
 
--- an entry that is being added isn't an end
-adding-ends : (o : Opening) (m : Machine) (t : ℕ) (word : LogEntry) (place : Place) (fs : ThreadFrames) → t < 64
-    → length m.logs ≡ 64 → AsksItsEnd o.launch (log_of (with_guarded m t place word) t).underway fs
-adding-ends o m t word place fs below many = subst (λ (log : Log). AsksItsEnd o.launch log.underway fs)
-    (sym (get_or-set_same m.logs t (with_entry (log_of m t) word) (empty_log t) (omega (arith, below, many)))) tt
+-- an entry is added for a thread that asks a store
+adding-lags : (o : Opening) (m : Machine) (t : ℕ) (word : LogEntry) (place : Place) (fs : ThreadFrames) → t < 64
+    → length m.logs ≡ 64 → AsksSomeStore o.launch fs
+    → LagsByItsLog o.launch (log_of (with_guarded m t place word) t).underway fs
+adding-lags o m t word place fs below many store = subst (λ (log : Log). LagsByItsLog o.launch log.underway fs)
+    (sym (get_or-set_same m.logs t (with_entry (log_of m t) word) (empty_log t) (omega (arith, below, many)))) store
 
 -- ---- logs about nothing
 
@@ -211,7 +212,8 @@ module _ (laws : Laws) (o : Opening) (first : ℕ) (set : SetFacts) (s : Shared)
       guarded-comes =
           let still : AsksStill o guarded_now.machine t fs = record {
             lags = (h.due.running.all.each t fs h.due.asks.frames).lags;
-            ends = adding-ends o s.machine t word goal fs h.due.thread h.due.running.keeps.asked.regions.many;
+            logs = adding-lags o s.machine t word goal fs h.due.thread h.due.running.keeps.asked.regions.many
+                (request, h.due.asks.asks, h.gives);
           } in
           let now = happened laws o first set s es threads t fs request h.due (event.region _ region-step) [] h.due.asks
           tt tt (as-they-were laws o first set s es threads t fs request h.due guarded_now.machine still) in record {

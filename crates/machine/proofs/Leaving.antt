@@ -29,7 +29,7 @@ use Rattle.machine_threads.specs.Passed.{TakesLines}
 use Rattle.machine_threads.specs.Passed.{HasUnwritten}
 use Rattle.machine_threads.specs.Passed.{Lives}
 use Rattle.machine_threads.proofs.Parts.{doing-kept}
-use Rattle.machine_threads.specs.Keeping.{AllKeep, AsksItsEnd, AsksToHold, LagsByItsStore}
+use Rattle.machine_threads.specs.Keeping.{AllKeep, AsksToHold, LagsByItsLog, LagsByItsStore}
 use Rattle.shared_heap.specs.Shared.{Shared}
 use Rattle.shared_heap.specs.Conversions.{Converts}
 use Rattle.machine.specs.Events.{AsksOn, GoesOn, SparesOthers}
@@ -39,10 +39,11 @@ use Rattle.machine.specs.Running.{HadNoFault, IsDue, Runs}
 
 -- ---- what is kept
 
--- These frames of the thread ask the durable store that isn't fenced yet, and the end of the region that is being ended.
+-- These frames of the thread ask the durable store that isn't fenced yet, the store whose word is being logged, and the end of
+-- the region that is being ended.
 pub record AsksStill (o : Opening) (m : Machine) (t : ℕ) (fs : ThreadFrames) : Type 0 where
   pub lags : LagsByItsStore o.launch (doing_of m t) fs
-  pub ends : AsksItsEnd o.launch (log_of m t).underway fs
+  pub logs : LagsByItsLog o.launch (log_of m t).underway fs
 
 -- what an event of thread t leaves of all that laws of events speak of
 pub record Kept (o : Opening) (first t : ℕ) (m m' : Machine) (es es' : List Entry)
@@ -84,7 +85,7 @@ module _ (laws : Laws) (o : Opening) (first : ℕ) (set : SetFacts) (s : Shared)
         all = laws.threads.all o t s.machine m' es es' threads fs begun due.running.keeps keeps run e due.asks.frames
             due.running.all
             (λ gs is. laws.threads.own o t s.machine m' es es' fs gs due.running.keeps run e hold
-            (due.running.all.each t fs due.asks.frames) (still gs is).lags (still gs is).ends);
+            (due.running.all.each t fs due.asks.frames) (still gs is).lags (still gs is).logs);
         others = record {
           ask = λ u gs q other its. laws.threads.ask o t u s.machine m' es es' threads fs gs begun q due.running.keeps e
               other its;
@@ -180,9 +181,9 @@ module _ (laws : Laws) (o : Opening) (first : ℕ) (set : SetFacts) (s : Shared)
   -- ---- parts that stay
 
   -- where the logs are as they were
-  pub ends-same : (m' : Machine) → m'.logs ≡ s.machine.logs → AsksItsEnd o.launch (log_of m' t).underway fs
-  ends-same m' same = subst (λ (logs : List Log). AsksItsEnd o.launch
-      (slice_index_or logs t (empty_log t)).underway fs) (sym same) (due.running.all.each t fs due.asks.frames).ends
+  pub logs-same : (m' : Machine) → m'.logs ≡ s.machine.logs → LagsByItsLog o.launch (log_of m' t).underway fs
+  logs-same m' same = subst (λ (logs : List Log). LagsByItsLog o.launch
+      (slice_index_or logs t (empty_log t)).underway fs) (sym same) (due.running.all.each t fs due.asks.frames).logs
 
   pub lags-same : (m' : Machine) → doing_of m' t ≡ doing_of s.machine t → LagsByItsStore o.launch (doing_of m' t) fs
   lags-same m' same = subst (λ d. LagsByItsStore o.launch d fs) (sym same)
@@ -306,6 +307,6 @@ module _ (laws : Laws) (o : Opening) (first : ℕ) (set : SetFacts) (s : Shared)
   }
 
 -- where nothing is under way in the thread's log
-pub ends-idle : (launch : Launch) (m' : Machine) (t : ℕ) (fs' : ThreadFrames) → (log_of m' t).underway ≡ Idle
-    → AsksItsEnd launch (log_of m' t).underway fs'
-ends-idle launch m' t fs' idle = subst (λ u. AsksItsEnd launch u fs') (sym idle) tt
+pub logs-idle : (launch : Launch) (m' : Machine) (t : ℕ) (fs' : ThreadFrames) → (log_of m' t).underway ≡ Idle
+    → LagsByItsLog launch (log_of m' t).underway fs'
+logs-idle launch m' t fs' idle = subst (λ u. LagsByItsLog launch u fs') (sym idle) tt

@@ -34,7 +34,7 @@ use Rattle.machine.proofs.Basics.{shared-is}
 use Rattle.machine.proofs.Bound.{quiet-measured}
 use Rattle.machine.proofs.Leaving.{few, lives, happened, as-they-were, stays-on, AsksStill}
 use Rattle.machine_threads.specs.Happening as event
-use Rattle.machine_threads.specs.Keeping.{AsksItsEnd}
+use Rattle.machine_threads.specs.Keeping.{AsksSomeStore, KeepsThread, LagsByItsLog}
 
 -- the log of the thread is what it became
 pub log-now : (m : Machine) (twin : Twin) (t : ℕ) (log : Log) → t < 64 → length m.logs ≡ 64
@@ -44,6 +44,13 @@ log-now m twin t log below many = get_or-set_same m.logs t log (empty_log t) (om
 module _ (laws : Laws) (o : Opening) (first : ℕ) (set : SetFacts) (s : Shared) (es : List Entry)
     (threads : List ThreadFrames) (t : ℕ) (fs : ThreadFrames) (request : Request Ref Item) (due : IsDue o first set s es threads t fs request) (new : Shared)
   where
+    own : KeepsThread o s.machine es t fs
+    own = due.running.all.each t fs due.asks.frames
+
+    -- a thread for which a word is being logged asks a store
+    asks-store : (twin : Twin) (log : Log) → LogsWord s.machine twin t log → AsksSomeStore o.launch fs
+    asks-store twin log l = subst (λ u. LagsByItsLog o.launch u fs) l.logs.adding.1 own.logs
+
     -- ---- a part
 
     -- a part that was made, whichever
@@ -71,12 +78,14 @@ module _ (laws : Laws) (o : Opening) (first : ℕ) (set : SetFacts) (s : Shared)
       abbrev region-step : RegionStep o t s.machine es logged_now.machine
       region-step = region.logged l.twin l.log l.logs
 
-      no-end : AsksItsEnd o.launch l.log.underway fs
-      no-end = elim l.made [
-        | inl touches ↦ subst (λ (log : Log). AsksItsEnd o.launch log.underway fs) (sym touches.log) tt
+      lags : LagsByItsLog o.launch l.log.underway fs
+      lags = elim l.made [
+        | inl touches ↦ subst (λ (log : Log). LagsByItsLog o.launch log.underway fs) (sym touches.log)
+            (asks-store l.twin l.log l.logs)
         | inr rest ↦ (elim rest [
-          | inl adds ↦ subst (λ (log : Log). AsksItsEnd o.launch log.underway fs) (sym adds.log) tt
-          | inr counts ↦ subst (λ (log : Log). AsksItsEnd o.launch log.underway fs) (sym counts.log) tt
+          | inl adds ↦ subst (λ (log : Log). LagsByItsLog o.launch log.underway fs) (sym adds.log)
+              (asks-store l.twin l.log l.logs)
+          | inr counts ↦ subst (λ (log : Log). LagsByItsLog o.launch log.underway fs) (sym counts.log) tt
         ])
       ]
 
@@ -84,9 +93,9 @@ module _ (laws : Laws) (o : Opening) (first : ℕ) (set : SetFacts) (s : Shared)
           → Comes o first es threads t fs request Micro s logged_now
       logged-comes cause =
           let still : AsksStill o logged_now.machine t fs = record {
-            lags = (due.running.all.each t fs due.asks.frames).lags;
-            ends = subst (λ (log : Log). AsksItsEnd o.launch log.underway fs)
-                (sym (log-now s.machine l.twin t l.log due.thread due.running.keeps.asked.regions.many)) no-end;
+            lags = own.lags;
+            logs = subst (λ (log : Log). LagsByItsLog o.launch log.underway fs)
+                (sym (log-now s.machine l.twin t l.log due.thread due.running.keeps.asked.regions.many)) lags;
           } in
           let now = happened laws o first set s es threads t fs request due (event.region _ region-step) []
           due.asks.frames tt tt (as-they-were laws o first set s es threads t fs request due logged_now.machine still) in
@@ -161,10 +170,11 @@ module _ (laws : Laws) (o : Opening) (first : ℕ) (set : SetFacts) (s : Shared)
           let now = happened laws o first set s es threads t fs request due
           (event.region _ (region.logged f.twin f.log f.logs)) [] due.asks.frames tt tt
           (as-they-were laws o first set s es threads t fs request due failed_now.machine (record {
-            lags = (due.running.all.each t fs due.asks.frames).lags;
-            ends = subst (λ (log : Log). AsksItsEnd o.launch log.underway fs)
+            lags = own.lags;
+            logs = subst (λ (log : Log). LagsByItsLog o.launch log.underway fs)
                 (sym (log-now s.machine f.twin t f.log due.thread due.running.keeps.asked.regions.many))
-                (subst (λ (log : Log). AsksItsEnd o.launch log.underway fs) (sym f.fails.log) tt);
+                (subst (λ (log : Log). LagsByItsLog o.launch log.underway fs) (sym f.fails.log)
+                (asks-store f.twin f.log f.logs));
           })) in record {
             goes = record {
               after = es;

@@ -465,7 +465,7 @@ module _ (laws : Laws) (o : Opening) (first : ℕ) (set : SetFacts) (s : Shared)
         about = own.about;
         holds = own.holds;
         lags = own.lags;
-        ends = own.ends;
+        logs = own.logs;
       })
 
       aside-unbegun : (u : ℕ) → IsUnbegun s.machine u → IsUnbegun new.machine u

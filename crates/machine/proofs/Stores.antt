@@ -45,7 +45,7 @@ use Rattle.machine.proofs.Bound.{act-bound, act-measured}
 use Rattle.machine.proofs.Doing.{answers}
 use Rattle.machine.proofs.Faults.{none-more}
 use Rattle.machine.proofs.Freely.{freely-outside, true-or-false}
-use Rattle.machine.proofs.Leaving.{ends-idle, ends-same, few, happened, as-they-were, stays-on, Kept, as-answered, answered-on}
+use Rattle.machine.proofs.Leaving.{logs-idle, logs-same, few, happened, as-they-were, stays-on, Kept, as-answered, answered-on}
 use Rattle.machine.proofs.Memory.{does-stay}
 use Rattle.machine.proofs.Planned.{asks-store, is-free, is-store, kept-durable, waits-none}
 use Rattle.machine.proofs.Steps.{given-whole}
@@ -220,7 +220,7 @@ module _ (laws : Laws) (o : Opening) (first : ℕ) (set : SetFacts) (s : Shared)
     stored-durably =
         let still : AsksStill o new.machine t fs = record {
           lags = subst (λ d. LagsByItsStore o.launch d fs) (sym writing-now) (request, h.due.asks.asks, h.gives);
-          ends = ends-same laws o first set s es threads t fs request h.due new.machine same-logs;
+          logs = logs-same laws o first set s es threads t fs request h.due new.machine same-logs;
         } in
         let now = happened laws o first set s es threads t fs request h.due
         (event.stored new.machine request goal store.kept stores) [] h.due.asks tt tt
@@ -287,7 +287,7 @@ module _ (laws : Laws) (o : Opening) (first : ℕ) (set : SetFacts) (s : Shared)
     logged-keeps = happened laws o first set s es threads t fs request h.due (event.region new.machine region-step) []
         h.due.asks tt tt (as-answered laws o first set s es threads t fs request h.due new.machine answer_now [] (record {
           lags = subst (λ d. LagsByItsStore o.launch d answer_now) (sym nothing-now) tt;
-          ends = ends-idle o.launch new.machine t answer_now
+          logs = logs-idle o.launch new.machine t answer_now
               (ap (λ (logs : List Log). (slice_index_or logs t (empty_log t)).underway) same-logs ∙ h.idle);
         }))
 

@@ -1,5 +1,5 @@
 -- What the step of a request comes to as an event; and what an event is given further.
-use Rattle.std.specs.Prelude.{◌≡◌, ℕ, ◌<◌, List, [], ◌∷◌, ◌++◌, unwrap_or, Option, IsSome}
+use Rattle.std.specs.Prelude.{◌≡◌, ℕ, ◌<◌, List, [], ◌∷◌, ◌++◌, unwrap_or, Option, None, IsSome}
 use Rattle.ap_base.specs.declared.reference.Ref.{Ref}
 use Rattle.ap_base.specs.declared.reference.Item.{Item}
 use Rattle.run_types.specs.declared.fault.StepFault.TheVariants as met
@@ -128,3 +128,18 @@ AnswersAtOnce set t request r old new = (from : At) (o : Opening) (first : ℕ) 
     (threads : List ThreadFrames) (fs : ThreadFrames) → IsDue o first set old es threads t fs (request from)
     → (takes : ℕ → ℕ → Option ℕ) (taken : Option (List ℕ)) (faults : ℕ)
     → Serves set t (request from) (Did r) old new takes takes taken taken faults faults
+
+-- ---- what is under way
+
+-- it ends no region
+abbrev pub EndsNone : Request Ref Item → Type 0
+EndsNone (ask.End from) = ⊥
+EndsNone request = Unit {0}
+
+-- A thread that asks neither a store nor the end of a region owes no fence, and nothing is under way in its log: no word is being
+-- logged, and no region of it ended.
+abbrev pub OnlyStoresAndEndsAreUnderWay : Type 0
+OnlyStoresAndEndsAreUnderWay = (o : Opening) (first : ℕ) (set : SetFacts) (s : Shared) (es : List Entry)
+    (threads : List ThreadFrames) (t : ℕ) (fs : ThreadFrames) (request : Request Ref Item)
+    → IsDue o first set s es threads t fs request → given request ≡ None → EndsNone request
+    → IsReady (doing_of s.machine t) × IsIdle s.machine t

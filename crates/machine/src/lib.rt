@@ -21,8 +21,8 @@ pub use machine_threads::{
     others_keep_theirs, tested_waits_are_stuck,
 };
 pub use quick::{
-    class_of, is_free, is_initialised, pause, read_element, read_field, read_length, read_static,
-    store_element, store_field,
+    class_of, is_free, is_initialised, only_stores_and_ends_are_under_way, pause, read_element,
+    read_field, read_length, read_static, store_element, store_field,
 };
 pub use running::event;
 pub use shared_heap::SharedHeap;

@@ -6,7 +6,7 @@ use Rattle.machine_ends.specs.Passed.{Doing}
 use Rattle.machine_ends.specs.Passed.{Nothing}
 use Rattle.machine_ends.specs.Passed.{known_in, layout_in}
 use Rattle.machine_ends.specs.Passed.{IsDoing}
-use Rattle.machine_threads.specs.Keeping.{AsksItsEnd, BeginnersKeepTheirs, LagsByItsStore}
+use Rattle.machine_threads.specs.Keeping.{BeginnersKeepTheirs, LagsByItsLog, LagsByItsStore}
 
 none-some : {P : Type 0} (p : Pending) (at : Option Pending) → at ≡ None → at ≡ Some p → P
 none-some p at none some = absurd (let no : ◌≡◌ {A = Option Pending} None (Some p) = sym none ∙ some in cc)
@@ -19,5 +19,5 @@ beginners_keep_theirs o t m es fs k fresh =
       about = λ p is. none-some p (pending_of known.asked t) idle.0 is;
       holds = λ p is. none-some p (pending_of known.asked t) idle.0 is;
       lags = subst (λ (d : Doing). LagsByItsStore o.launch d fs) (sym fresh.doing) tt;
-      ends = subst (λ x. AsksItsEnd o.launch x fs) (sym fresh.log) tt;
+      logs = subst (λ x. LagsByItsLog o.launch x fs) (sym fresh.log) tt;
     }

@@ -13,4 +13,5 @@ pub mod Tables
 pub mod Testing
 pub mod Numbers
 pub mod Own
+pub mod Owing
 pub mod Passed

@@ -22,7 +22,7 @@ use Rattle.machine_ends.specs.Passed.{KeepsRun}
 use Rattle.machine_ends.specs.Passed.{Happens, act_of}
 use Rattle.machine_ends.proofs.Passed.{durable-kept, pending-kept}
 use Rattle.machine_threads.specs.Claiming.{HasForwarded}
-use Rattle.machine_threads.specs.Keeping.{AsksItsEnd, IsToHoldDurable, IsUnbegun, KeepsThread}
+use Rattle.machine_threads.specs.Keeping.{IsToHoldDurable, IsUnbegun, KeepsThread, LagsByItsLog}
 use Rattle.machine_threads.specs.Keeping.{LagsByItsStore}
 use Rattle.machine_threads.specs.Keeping.{OthersKeepTheirs, OthersStayForwarded, OthersStayUnbegun}
 use Rattle.machine_threads.proofs.Acts.{IsOf, adds, own, with_one}
@@ -101,8 +101,8 @@ module _ (o : Opening) (t u : ℕ) (m m' : Machine) (es es' : List Entry) (k : K
         about = asks.about;
         holds = asks.holds;
         lags = subst (λ (d : Doing). LagsByItsStore o.launch d fs) (sym (doing-kept o t u other m m' es es' e)) old.lags;
-        ends = subst (λ (log : Log). AsksItsEnd o.launch log.underway fs) (sym (log-kept o t u other m m' es es' e))
-            old.ends;
+        logs = subst (λ (log : Log). LagsByItsLog o.launch log.underway fs) (sym (log-kept o t u other m m' es es' e))
+            old.logs;
       }
 
   pub unbegun : IsUnbegun m u → IsUnbegun m' u

@@ -200,10 +200,10 @@ module _ (o : Opening) (t : ℕ) where
   so-then m _ es _ k run (region m' e) hold so = so-after m m' es _ k run (region m' e) (region-none m m' es e) so
 
 pub owners_keep_theirs : OwnersKeepTheirs
-owners_keep_theirs o t m m' es es' fs gs k run e hold old lags ends =
+owners_keep_theirs o t m m' es es' fs gs k run e hold old lags logs =
     let so = so-then o t m m' es es' k run e hold (record { about = old.about; holds = old.holds }) in record {
       about = so.about;
       holds = so.holds;
       lags = lags;
-      ends = ends;
+      logs = logs;
     }

@@ -49,11 +49,11 @@ LagsByItsStore launch Converting fs = Unit {0}
 LagsByItsStore launch (Writing line) fs = AsksSomeStore launch fs
 LagsByItsStore launch Fencing fs = AsksSomeStore launch fs
 
--- While a region of the thread is being ended, its turn asks that.
-abbrev pub AsksItsEnd : Launch → Underway → ThreadFrames → Type 0
-AsksItsEnd launch Idle fs = Unit {0}
-AsksItsEnd launch (Adding e stage) fs = Unit {0}
-AsksItsEnd launch (Ending stage) fs = (from : At) × ((turn (setting_of launch) fs).asks ≡ Some (ask.End from))
+-- While a word is being logged for the thread, its turn asks a store; while a region of it is being ended, that.
+abbrev pub LagsByItsLog : Launch → Underway → ThreadFrames → Type 0
+LagsByItsLog launch Idle fs = Unit {0}
+LagsByItsLog launch (Adding e stage) fs = AsksSomeStore launch fs
+LagsByItsLog launch (Ending stage) fs = (from : At) × ((turn (setting_of launch) fs).asks ≡ Some (ask.End from))
 
 -- Of thread t, whose own frames are these. While it has asked a value, its request stores that object at the place for which
 -- it asked, in the present world, and that place is to hold what is durable.
@@ -62,7 +62,7 @@ pub record KeepsThread (o : Opening) (m : Machine) (es : List Entry) (t : ℕ) (
   pub holds : (p : Pending) → pending_of (known_in o m).asked t ≡ Some p
       → IsToHoldDurable (known_in o m) es p.place
   pub lags : LagsByItsStore o.launch (doing_of m t) fs
-  pub ends : AsksItsEnd o.launch (log_of m t).underway fs
+  pub logs : LagsByItsLog o.launch (log_of m t).underway fs
 
 -- A thread that hasn't begun is about nothing, and nothing is under way in its log.
 pub record IsUnbegun (m : Machine) (t : ℕ) : Type 0 where
@@ -107,12 +107,13 @@ AsksToHold {o} {t} {m} {es} (asked request place item e) = IsToHoldDurable (know
 AsksToHold other = Unit {0}
 
 -- What it has asked it asks still, until that is stored: whoever shows that these frames ask the durable store that isn't
--- fenced yet, and the end of the region that is being ended, has shown that the thread keeps its own.
+-- fenced yet, the store whose word is being logged, and the end of the region that is being ended, has shown that the thread
+-- keeps its own.
 abbrev pub OwnersKeepTheirs : Type 0
 OwnersKeepTheirs = (o : Opening) (t : ℕ) (m m' : Machine) (es es' : List Entry) (fs gs : ThreadFrames)
     → KeepsRun o m es → IsRun o.launch m'.acts → (e : Happens o t m es m' es') → AsksToHold e
     → KeepsThread o m es t fs → LagsByItsStore o.launch (doing_of m' t) gs
-    → AsksItsEnd o.launch (log_of m' t).underway gs → KeepsThread o m' es' t gs
+    → LagsByItsLog o.launch (log_of m' t).underway gs → KeepsThread o m' es' t gs
 
 -- ---- threads that begin
 

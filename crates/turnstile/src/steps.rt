@@ -22,7 +22,7 @@ const SERVING: usize = 1;
 const ASIDE: u32 = 64;
 
 /// How many times it leaves them to it for twice as long as the time before; from then on the time stays the same.
-const DOUBLINGS: u32 = 3;
+const DOUBLINGS: u32 = 5;
 
 /// How often a pass looks before it sleeps: a hold is short, and to sleep and be woken takes longer than many.
 const LOOKS: u32 = 256;
@@ -39,7 +39,7 @@ fn pause(looks: u32) {
     }
 }
 
-// Leaves others to it, behind so many looks: lets them have its processor once, twice, four times, and from then on eight times.
+// Leaves others to it, behind so many looks: lets them have its processor once, twice, four times, and at last 32 times.
 fn leave_to_others(looks: u32) {
     for _ in 0..1u32 << looks.min(DOUBLINGS) {
         thread::yield_now();

@@ -1,23 +1,22 @@
 -- The frames of all threads, where those of each lie apart.
 use Rattle.std.proofs.Common.{◌≡◌, ◌≢◌, ℕ, zero, suc, ◌+◌, ◌<◌, ◌≤◌, ltb, Bool, true, false, if◌then◌else◌, List, [], ◌∷◌, ◌++◌, length, map, drop, inl, inr}
-use Rattle.std.proofs.Common.{replicate, Option, Some, None, refl, ap, sym, subst, ◌∙◌, arith}
+use Rattle.std.proofs.Common.{replicate, Option, Some, None, refl, ap, sym, ◌∙◌, arith}
 use Rattle.std.specs.Prelude.{slice_get, slice_set}
 use Rattle.std.specs.declared.snapshot.Snapshot.{Snapshot}
 use Rattle.std.proofs.lemmas.Bool.Decides.{nat_tests}
-use Rattle.std.proofs.lemmas.List.{length-append, length-set, length-map, map-set}
-use Rattle.std.proofs.lemmas.Option.{slice_get_within}
+use Rattle.std.proofs.lemmas.List.{append-nil, length-append, length-set, map-append, map-set}
+use Rattle.std.proofs.lemmas.List.Elements.{All-nil, All-cons, All-map}
 use Rattle.ap_base.specs.declared.reference.Ref.{Ref}
 use Rattle.frames.specs.Turns.{begun_thread}
 use Rattle.run_history.specs.declared.act.Act.{Act}
 use Rattle.run_history.specs.Recorded.{Recorded}
 use Rattle.run_forms.specs.Views.{ThreadFrames}
-use Rattle.durable_run.specs.Apart.{after_event, begun_as, with_next}
-use Rattle.durable_run.specs.Events.{AddsBy, with_begun}
+use Rattle.durable_run.specs.Apart.{after_event, begun_as}
+use Rattle.durable_run.specs.Events.{AddsBy, AddsFurther, with_begun}
 use Rattle.durable_run.specs.Passed.{Shared, started_as}
 use Rattle.durable_run.specs.declared.steps.Stepped.{Stepped}
 use Rattle.durable_run.specs.declared.steps.Stepped.TheVariants.{Acted, Micro, WouldWait, Over}
 use Rattle.turnstile.specs.Entries.{AddsBy as AddsEntriesBy, SameButOf}
-use Rattle.turnstile.proofs.Adds.{adds_none, adds_one}
 use Rattle.workers.specs.Shared.{all_frames, begins_after, entries_from, values_of, with_start}
 
 -- ---- places of lists
@@ -172,52 +171,53 @@ drop-more zero xs ys within = refl
 drop-more (suc n) [] ys within = absurd (omega (arith, within))
 drop-more (suc n) (x ∷ xs) ys within = drop-more n xs ys (omega (arith, within))
 
-map-more : (xs : List Recorded) (a : Recorded)
-    → map (λ (r : Recorded). r.act) (xs ++ a ∷ []) ≡ map (λ (r : Recorded). r.act) xs ++ a.act ∷ []
-map-more [] a = refl
-map-more (x ∷ xs) a = ap (λ (rest : List Act). x.act ∷ rest) (map-more xs a)
+abbrev acts_of : List Recorded → List Act
+acts_of acts = map (λ (r : Recorded). r.act) acts
 
-pub entries-more : (from : ℕ) (acts : List Recorded) (a : Recorded) → from ≤ length acts
-    → entries_from from (acts ++ a ∷ []) ≡ entries_from from acts ++ a.act ∷ []
-entries-more from acts a within = ap (λ (rest : List Recorded). map (λ (r : Recorded). r.act) rest) (drop-more from acts (a ∷ []) within)
-    ∙ map-more (drop from acts) a
+entries-more : (from : ℕ) (acts further : List Recorded) → from ≤ length acts
+    → entries_from from (acts ++ further) ≡ entries_from from acts ++ acts_of further
+entries-more from acts further within = ap acts_of (drop-more from acts further within)
+    ∙ map-append (λ (r : Recorded). r.act) (drop from acts) further
 
 pub entries-none : (acts : List Recorded) → entries_from (length acts) acts ≡ []
 entries-none [] = refl
 entries-none (a ∷ acts) = entries-none acts
 
--- what an event adds are entries of its thread
-pub entries-by : (went : Stepped) (t from : ℕ) (old new : List Recorded) → AddsBy went t old new → from ≤ length old
+-- further acts of a thread are entries of it
+pub entries-by : (t from : ℕ) (old new : List Recorded) → AddsFurther t old new → from ≤ length old
     → AddsEntriesBy (λ (a : Act). a.thread) t (entries_from from old) (entries_from from new)
-entries-by went t from old new adds within = by-case went adds
-  where
-    same : new ≡ old → AddsEntriesBy (λ (a : Act). a.thread) t (entries_from from old) (entries_from from new)
-    same is = adds_none (λ (a : Act). a.thread) t (entries_from from old) (entries_from from new) (ap (entries_from from) is)
-
-    more : AddsBy Acted t old new → AddsEntriesBy (λ (a : Act). a.thread) t (entries_from from old) (entries_from from new)
-    more one = adds_one (λ (a : Act). a.thread) t (entries_from from old) (entries_from from new) one.act.act
-        (ap (entries_from from) one.acts ∙ entries-more from old one.act within) one.thread
-
-    by-case : (w : Stepped) → AddsBy w t old new
-        → AddsEntriesBy (λ (a : Act). a.thread) t (entries_from from old) (entries_from from new)
-    by-case Acted one = more one
-    by-case Micro (inl none) = same none
-    by-case Micro (inr one) = more one
-    by-case (WouldWait on) none = same none
-    by-case (Over halt) none = same none
-
-one-more : (t : ℕ) (old new : List Recorded) → AddsBy Acted t old new → length old ≤ length new
-one-more t old new one =
-    let long = ap (λ (acts : List Recorded). length acts) one.acts in
-    let more = length-append old (one.act ∷ []) in omega (arith, long, more)
+entries-by t from old new adds within = record {
+  further = acts_of adds.further;
+  behind = sym (ap (entries_from from) adds.acts ∙ entries-more from old adds.further within);
+  own = All-map (λ (a : Act). a.thread ≡ t) (λ (r : Recorded). r.act) adds.further adds.own;
+}
 
 -- acts only become more
-pub acts-more : (went : Stepped) (t : ℕ) (old new : List Recorded) → AddsBy went t old new → length old ≤ length new
-acts-more Acted t old new one = one-more t old new one
-acts-more Micro t old new (inl none) = let long = ap (λ (acts : List Recorded). length acts) none in omega (arith, long)
-acts-more Micro t old new (inr one) = one-more t old new one
-acts-more (WouldWait on) t old new none = let long = ap (λ (acts : List Recorded). length acts) none in omega (arith, long)
-acts-more (Over halt) t old new none = let long = ap (λ (acts : List Recorded). length acts) none in omega (arith, long)
+pub acts-more : (t : ℕ) (old new : List Recorded) → AddsFurther t old new → length old ≤ length new
+acts-more t old new adds =
+    let long = ap (λ (acts : List Recorded). length acts) adds.acts in
+    let more = length-append old adds.further in omega (arith, long, more)
+
+-- what one event adds
+pub further-of : (went : Stepped) (t : ℕ) (old new : List Recorded) → AddsBy went t old new → AddsFurther t old new
+further-of went t old new adds = by-case went adds
+  where
+    none : new ≡ old → AddsFurther t old new
+    none is = record { further = []; acts = is ∙ sym (append-nil old); own = All-nil (λ (a : Recorded). a.act.thread ≡ t) }
+
+    one : AddsBy Acted t old new → AddsFurther t old new
+    one is = record {
+      further = is.act ∷ [];
+      acts = is.acts;
+      own = All-cons (λ (a : Recorded). a.act.thread ≡ t) is.act [] is.thread (All-nil (λ (a : Recorded). a.act.thread ≡ t));
+    }
+
+    by-case : (w : Stepped) → AddsBy w t old new → AddsFurther t old new
+    by-case Acted is = one is
+    by-case Micro (inl is) = none is
+    by-case Micro (inr is) = one is
+    by-case (WouldWait on) is = none is
+    by-case (Over halt) is = none is
 
 -- ---- notes
 

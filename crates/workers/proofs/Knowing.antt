@@ -18,7 +18,7 @@ use Rattle.durable_run.specs.declared.runs.RunEnd.{RunEnd}
 use Rattle.durable_run.specs.declared.runs.RunEnd.TheVariants as ends
 use Rattle.durable_run.specs.declared.steps.Stepped.{Stepped}
 use Rattle.durable_run.specs.declared.steps.Stepped.TheVariants.{Acted, Micro, WouldWait, Over}
-use Rattle.durable_run.specs.Events.{StepsTo, fault_of}
+use Rattle.durable_run.specs.Events.{ComesTo, StepsTo, fault_of}
 use Rattle.durable_run.specs.Shares.{PrintsShares}
 use Rattle.durable_run.specs.Telling.{HasTold, IsCaused}
 use Rattle.durable_run.specs.Turning.{EndsBy, IsReady, fault_in}
@@ -67,12 +67,20 @@ module _ (set : SetFacts) (x : Setting Native Ref (NativeState Ref) Item) where
     },
   )
 
-  goes-on : (o : Opening) (first t : ℕ) (went : Stepped) (old new : Shared) (frames : List ThreadFrames)
-      → StepsTo o first set x t went old new frames → GoesOn o first set x (fault_of new went) new frames
-  goes-on o first t Acted old new frames steps = steps
-  goes-on o first t Micro old new frames steps = steps
-  goes-on o first t (WouldWait on) old new frames steps = steps.0
-  goes-on o first t (Over halt) old new frames steps = (steps.0, (t, steps.1))
+  -- one event alone
+  pub comes-of : (o : Opening) (first t : ℕ) (went : Stepped) (old new : Shared) (frames : List ThreadFrames)
+      → StepsTo o first set x t went old new frames → ComesTo o first set x t went new frames
+  comes-of o first t Acted old new frames steps = steps
+  comes-of o first t Micro old new frames steps = steps
+  comes-of o first t (WouldWait on) old new frames steps = steps.0
+  comes-of o first t (Over halt) old new frames steps = steps
+
+  goes-on : (o : Opening) (first t : ℕ) (went : Stepped) (new : Shared) (frames : List ThreadFrames)
+      → ComesTo o first set x t went new frames → GoesOn o first set x (fault_of new went) new frames
+  goes-on o first t Acted new frames comes = comes
+  goes-on o first t Micro new frames comes = comes
+  goes-on o first t (WouldWait on) new frames comes = comes
+  goes-on o first t (Over halt) new frames comes = (comes.0, (t, comes.1))
 
   pub of-entry : (entry : Option Began) (e : Began) → entry ≡ Some e → IsOf set x entry → (set ≡ e.set) × (x ≡ e.setting)
   of-entry entry e is same = subst (λ (b : Option Began). IsOf set x b) is same
@@ -96,9 +104,9 @@ module _ (set : SetFacts) (x : Setting Native Ref (NativeState Ref) Item) where
 
   module _ (entry : Option Began) (t : ℕ) (went : Stepped) (old new : Shared) (before after : List ThreadFrames)
       (seen seen' : Option (List Recorded)) (taken taken' : Option (List ℕ)) (takes takes' : ℕ → ℕ → Option ℕ) (faults faults' : ℕ) where
-    -- an event
+    -- events, of which the last went so
     pub steps-on : Knows entry (held old before seen taken faults None) takes → IsOf set x entry
-        → ((o : Opening) (first : ℕ) → IsReady o first set x old before → StepsTo o first set x t went old new after)
+        → ((o : Opening) (first : ℕ) → IsReady o first set x old before → ComesTo o first set x t went new after)
         → HasTold old.history.acts new.history.acts seen seen' taken taken'
         → ((o : Opening) (first : ℕ) → IsReady o first set x old before
         → PrintsShares o.launch takes takes' old.history.acts new.history.acts)
@@ -118,7 +126,7 @@ module _ (set : SetFacts) (x : Setting Native Ref (NativeState Ref) Item) where
                 subst (λ (y : Setting Native Ref (NativeState Ref) Item). IsReady o first set y old before) (sym is.1)
                 (subst (λ (f : SetFacts). IsReady o first f e.setting old before) (sym is.0) ready) in
                 let now : GoesOn o first set x (fault_of new went) new after =
-                goes-on o first t went old new after (steps o first mine) in
+                goes-on o first t went new after (steps o first mine) in
                 subst (λ (y : Setting Native Ref (NativeState Ref) Item). GoesOn o first e.set y (fault_of new went) new after)
                 is.1 (subst (λ (f : SetFacts). GoesOn o first f x (fault_of new went) new after) is.0 now);
             told = told-both _ _ _ _ _ _ _ _ _ holds.told told;
@@ -134,7 +142,7 @@ module _ (set : SetFacts) (x : Setting Native Ref (NativeState Ref) Item) where
         )
 
     pub steps-so : Knows entry (held old before seen taken faults None) takes → IsOf set x entry
-        → ((o : Opening) (first : ℕ) → IsReady o first set x old before → StepsTo o first set x t went old new after)
+        → ((o : Opening) (first : ℕ) → IsReady o first set x old before → ComesTo o first set x t went new after)
         → HasTold old.history.acts new.history.acts seen seen' taken taken'
         → ((o : Opening) (first : ℕ) → IsReady o first set x old before
         → PrintsShares o.launch takes takes' old.history.acts new.history.acts)
@@ -144,14 +152,14 @@ module _ (set : SetFacts) (x : Setting Native Ref (NativeState Ref) Item) where
         subst (λ (f : Option RunFault). Knows entry (held new after seen' taken' faults' f) takes') (sym is)
         (steps-on knows same steps told shares cause)
 
-  -- where an event of thread t left the run over, each of the 64 threads' waits is noted
+  -- where events of thread t left the run over, each of the 64 threads' waits is noted
   pub noted-waits : (t : ℕ) (halt : Halt) (went : Stepped) (old new : Shared) (before after : List ThreadFrames)
       → ((o : Opening) × (first : ℕ) × IsReady o first set x old before)
-      → ((o : Opening) (first : ℕ) → IsReady o first set x old before → StepsTo o first set x t went old new after)
+      → ((o : Opening) (first : ℕ) → IsReady o first set x old before → ComesTo o first set x t went new after)
       → went ≡ Over halt → halt ≡ Stuck → length new.notes.waits ≡ 64
   noted-waits t halt went old new before after ready steps is stuck =
-      let over : StepsTo ready.0 ready.1 set x t (Over halt) old new after =
-      subst (λ (w : Stepped). StepsTo ready.0 ready.1 set x t w old new after) is (steps ready.0 ready.1 ready.2) in
+      let over : ComesTo ready.0 ready.1 set x t (Over halt) new after =
+      subst (λ (w : Stepped). ComesTo ready.0 ready.1 set x t w new after) is (steps ready.0 ready.1 ready.2) in
       waits-long ready.0 ready.1 halt new (over.0, (t, over.1)) stuck
 
 -- an event that isn't the last left no fault

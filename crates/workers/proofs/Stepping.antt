@@ -1,5 +1,5 @@
 -- What a run that host threads share knows behind an event.
-use Rattle.std.proofs.Common.{◌≡◌, ◌≢◌, ℕ, suc, ◌<◌, ◌≤◌, length, Bool, true, false, not, List, [], ◌∷◌, Option, Some, None, refl, ap, sym, subst, ◌∙◌, arith}
+use Rattle.std.proofs.Common.{◌≡◌, ◌≢◌, ℕ, zero, suc, ◌+◌, ◌<◌, length, Bool, true, false, not, List, [], ◌∷◌, Option, Some, None, refl, ap, sym, subst, ◌∙◌, arith}
 use Rattle.std.specs.Prelude.{All, IsSome, slice_get, slice_set}
 use Rattle.std.proofs.lemmas.List.Elements.{All-nil, All-cons}
 use Rattle.std.proofs.lemmas.Option.{slice_get_within}
@@ -13,18 +13,18 @@ use Rattle.plain_model.specs.Facts.{SetFacts}
 use Rattle.frames.specs.Settings.{Setting}
 use Rattle.shared_objects.specs.declared.threads.ThreadState.{ThreadState}
 use Rattle.run_forms.specs.Views.{ThreadFrames}
-use Rattle.durable_run.specs.Apart.{HasBegunApart, after_event}
-use Rattle.durable_run.specs.Events.{StepsTo, fault_of}
+use Rattle.durable_run.specs.Apart.{HasStretched, PauseOn, Pauses, after_event}
+use Rattle.durable_run.specs.Events.{ComesTo, fault_of}
 use Rattle.durable_run.specs.Passed.{AreOf, Opening, Shared, asked_by, memory_of}
 use Rattle.durable_run.specs.Shares.{PrintsShares}
 use Rattle.durable_run.specs.Sparing.{SparesSink}
 use Rattle.durable_run.specs.Telling.{HasTold, IsCaused}
 use Rattle.durable_run.specs.Turning.{IsReady, is_live, lives}
-use Rattle.durable_run.specs.declared.apart.Begun.{Begun}
+use Rattle.durable_run.specs.declared.apart.Stretch.{Stretch}
 use Rattle.durable_run.specs.declared.steps.Stepped.{Stepped}
 use Rattle.workers.specs.Held.{Began, IsOf, Knows, KnowsSink, held}
 use Rattle.workers.specs.Shared.{ComesSo, IsAskedAs, IsNext, IsOfRun, all_frames, begins_after}
-use Rattle.workers.proofs.Frames.{begun-still, event-so, get-other, get-some, leaves-at, left-at, no-some, some-one}
+use Rattle.workers.proofs.Frames.{begun-still, event-so, get-some, leaves-at, left-at, some-one}
 use Rattle.workers.proofs.Knowing.{of-entry, ready-now, steps-so}
 use Rattle.workers.proofs.Sparing.{sink-on, sink-over}
 
@@ -69,24 +69,24 @@ program-at entry s frames seen taken takes faults knows t fs live there =
 -- ---- an event that is next
 
 module _ (o : Opening) (first : ℕ) (set : SetFacts) (x : Setting Native Ref (NativeState Ref) Item) (s : Shared) (all : List ThreadFrames)
-    (t : ℕ) (begun : Option Begun) (before now : ThreadFrames) (next : IsNext o first set x s all t begun before now) where
-  module _ (b : Begun) (is : begun ≡ Some b) where
+    (t : ℕ) (begun : Option Stretch) (before now : ThreadFrames) (next : IsNext o first set x s all t begun before now) where
+  module _ (b : Stretch) (is : begun ≡ Some b) where
     of-begun : IsNext o first set x s all t (Some b) before now
-    of-begun = subst (λ (how : Option Begun). IsNext o first set x s all t how before now) is next
+    of-begun = subst (λ (how : Option Stretch). IsNext o first set x s all t how before now) is next
 
-    pub begun-so : HasBegunApart o first set x s all t b before now
-    begun-so = record {
+    pub stretched-so : HasStretched o first set x s all t b before now
+    stretched-so = record {
       ready = next.ready;
       there = next.there;
       unasked = of-begun.asked;
       live = next.live;
-      begins = of-begun.comes.0;
+      stretches = of-begun.comes.0;
       of = of-begun.comes.1;
     }
 
   module _ (is : begun ≡ None) where
     of-asked : IsNext o first set x s all t None before now
-    of-asked = subst (λ (how : Option Begun). IsNext o first set x s all t how before now) is next
+    of-asked = subst (λ (how : Option Stretch). IsNext o first set x s all t how before now) is next
 
     pub asked-there : slice_get all t ≡ Some now
     asked-there = next.there ∙ ap (λ (fs : ThreadFrames). Some fs) (sym of-asked.comes)
@@ -96,7 +96,7 @@ module _ (o : Opening) (first : ℕ) (set : SetFacts) (x : Setting Native Ref (N
 
 -- ---- an event
 
-module _ (set : SetFacts) (x : Setting Native Ref (NativeState Ref) Item) (entry : Option Began) (t : ℕ) (begun : Option Begun)
+module _ (set : SetFacts) (x : Setting Native Ref (NativeState Ref) Item) (entry : Option Began) (t : ℕ) (begun : Option Stretch)
     (old : Shared) (begins : List (Option Ref)) (noted : List ThreadFrames) (seen : Option (List Recorded)) (taken : Option (List ℕ))
     (takes : ℕ → ℕ → Option ℕ) (faults : ℕ) (before come : ThreadFrames)
     (knows : Knows entry (held old (all_frames begins noted) seen taken faults None) takes) (of : IsOf set x entry)
@@ -133,7 +133,7 @@ module _ (set : SetFacts) (x : Setting Native Ref (NativeState Ref) Item) (entry
   module _ (went : Stepped) (new : Shared) (now : ThreadFrames) (begins' : List (Option Ref)) (noted' : List ThreadFrames) (count : ℕ)
       (goes : (o : Opening) (first : ℕ) (all : List ThreadFrames) (before : ThreadFrames)
       → IsNext o first set x old all t begun before come
-      → StepsTo o first set x t went old new (after_event went old new (slice_set all t now)))
+      → ComesTo o first set x t went new (after_event went old new (slice_set all t now)))
       (counted : count ≡ length old.machine.rest.threads) (begins_is : begins' ≡ begins_after went count new begins)
       (noted_is : noted' ≡ slice_set noted t now) where
     all-after : all_frames begins' noted' ≡ after_event went old new (slice_set (all_frames begins noted) t now)
@@ -144,8 +144,8 @@ module _ (set : SetFacts) (x : Setting Native Ref (NativeState Ref) Item) (entry
         ∙ ap (after_event went old new) (leaves-at begins noted t now has_begun)
 
     pub goes-so : (o : Opening) (first : ℕ) → IsReady o first set x old (all_frames begins noted)
-        → StepsTo o first set x t went old new (all_frames begins' noted')
-    goes-so o first ready = subst (StepsTo o first set x t went old new) (sym all-after)
+        → ComesTo o first set x t went new (all_frames begins' noted')
+    goes-so o first ready = subst (ComesTo o first set x t went new) (sym all-after)
         (goes o first (all_frames begins noted) before (is-next o first ready))
 
     -- who has begun has these frames
@@ -175,3 +175,15 @@ pub of-setting : (set : SetFacts) (x : Setting Native Ref (NativeState Ref) Item
     → IsOf set x entry → IsOfRun entry fs → AreOf x.program fs.frames
 of-setting set x entry fs of run =
     subst (λ (y : Setting Native Ref (NativeState Ref) Item). AreOf y.program fs.frames) (sym (of-entry set x entry run.0 run.1 of).1) run.2
+
+one-more : (x : Setting Native Ref (NativeState Ref) Item) (count : ℕ) (before mid now : ThreadFrames) → PauseOn x count before mid
+    → Pauses x mid now → PauseOn x (suc count) before now
+one-more x zero before mid now on pauses = (now, subst (λ (fs : ThreadFrames). Pauses x fs now) on pauses, refl)
+one-more x (suc count) before mid now on pauses = (on.0, on.1, one-more x count on.0 mid now on.2 pauses)
+
+-- one turn more pauses
+pub pauses-more : (x : Setting Native Ref (NativeState Ref) Item) (count : ℕ) (before mid now : ThreadFrames) → PauseOn x count before mid
+    → Pauses x mid now → PauseOn x (count + 1) before now
+pauses-more x count before mid now on pauses =
+    let same : suc count ≡ count + 1 = omega arith in
+    subst (λ (n : ℕ). PauseOn x n before now) same (one-more x count before mid now on pauses)

@@ -12,10 +12,10 @@ use Rattle.run_history.specs.Recorded.{Recorded}
 use Rattle.plain_model.specs.Facts.{SetFacts}
 use Rattle.frames.specs.Settings.{Setting}
 use Rattle.run_forms.specs.Views.{ThreadFrames}
-use Rattle.durable_run.specs.Apart.{Begins, begun_as}
+use Rattle.durable_run.specs.Apart.{StretchesTo, begun_as}
 use Rattle.durable_run.specs.Passed.{AreOf, Opening, Shared, asked_by, started_as}
 use Rattle.durable_run.specs.Turning.{IsReady, is_live}
-use Rattle.durable_run.specs.declared.apart.Begun.{Begun}
+use Rattle.durable_run.specs.declared.apart.Stretch.{Stretch}
 use Rattle.durable_run.specs.declared.steps.Stepped.{Stepped}
 use Rattle.durable_run.specs.declared.steps.Stepped.TheVariants.{Acted}
 use Rattle.workers.specs.Held.{Began, Held}
@@ -59,20 +59,20 @@ desked run noted entries = record { run = run; noted = noted; entries = entries 
 
 -- ---- an event that is next
 
--- How the frames that a thread left have come to those of now: a turn of them has begun so; or nothing was done, since its last turn isn't
+-- How the frames that a thread left have come to those of now: turns of them have begun so; or nothing was done, since its last turn isn't
 -- answered yet.
-abbrev pub ComesSo : Setting Native Ref (NativeState Ref) Item → Option Begun → (before now : ThreadFrames) → Type 0
-ComesSo x (Some begun) before now = Begins x begun before now × AreOf x.program now.frames
+abbrev pub ComesSo : Setting Native Ref (NativeState Ref) Item → Option Stretch → (before now : ThreadFrames) → Type 0
+ComesSo x (Some stretch) before now = StretchesTo x stretch before now × AreOf x.program now.frames
 ComesSo x None before now = now ≡ before
 
 -- what is asked, where a turn has begun or not
-abbrev pub IsAskedAs : Option Begun → Option (Request Ref Item) → Type 0
-IsAskedAs (Some begun) asked = asked ≡ None
+abbrev pub IsAskedAs : Option Stretch → Option (Request Ref Item) → Type 0
+IsAskedAs (Some stretch) asked = asked ≡ None
 IsAskedAs None asked = IsSome asked
 
 -- Thread t's event is next: an event might come of the frames that it left, and with them it has come so to those of now.
 pub record IsNext (o : Opening) (first : ℕ) (set : SetFacts) (x : Setting Native Ref (NativeState Ref) Item)
-    (s : Shared) (all : List ThreadFrames) (t : ℕ) (begun : Option Begun) (before now : ThreadFrames) : Type 0 where
+    (s : Shared) (all : List ThreadFrames) (t : ℕ) (begun : Option Stretch) (before now : ThreadFrames) : Type 0 where
   pub ready : IsReady o first set x s all
   pub there : slice_get all t ≡ Some before
   pub live : is_live s.machine.rest.threads t ≡ true

@@ -80,7 +80,7 @@ impl<K: Sharing, J: Naming<S> + Send, I: Image + Send, S: Sink + Send, W: Watche
     S,
     Desk<J, I, S, W>,
 > {
-    /// One event of a thread, if it lives, by the host thread of its seat.
+    /// One event of a thread, if it lives, by the host thread of its seat, behind those of at most `ahead` turns that pause and begin ahead.
     pub(crate) fn turn<R: Wait, C: Types, H: Host<Native, Ref, NativeState, Item>, G: Gate>(
         &self,
         rt: &R,
@@ -88,6 +88,7 @@ impl<K: Sharing, J: Naming<S> + Send, I: Image + Send, S: Sink + Send, W: Watche
         host: &H,
         gate: &G,
         t: ThreadNo,
+        ahead: u32,
     ) -> Told
         requires of { IsOf (C.facts set.now) (H.setting host.now) J.entry }
     {
@@ -96,7 +97,7 @@ impl<K: Sharing, J: Naming<S> + Send, I: Image + Send, S: Sink + Send, W: Watche
         };
         let mut place = place.lock(rt);
         match &mut *place {
-            Some(seat) => seat.turn(rt, self, set, host, gate),
+            Some(seat) => seat.turn(rt, self, set, host, gate, ahead),
             None => Told::refused(Came::Idle),
         }
     }

@@ -24,6 +24,11 @@ const LOOKS: u32 = 32;
 /// How often the one that sees to it that a round ends looks whether something was done before it ends the round itself.
 const PATIENCE: u32 = 16_384;
 
+/// How many turns that pause may begin ahead of their events, where their host thread has no other thread to see to: it comes to the
+/// turnstile once for them and the turn behind them. Of what a thread does between two such comings, sixteen turns of 1,024 instructions,
+/// the turnstile is then a hundredth. With several threads, each has its turn first.
+const AHEAD: u32 = 15;
+
 /// How a rotation went, or an event of it.
 #[derive(Clone, Copy, PartialEq, Eq)]
 enum Went {
@@ -56,6 +61,15 @@ fn beyond_last(may: &[bool; 64]) -> u8
     beyond
 }
 
+// How many turns that pause may begin ahead, where these threads may have an event.
+fn ahead_of(may: &[bool; 64]) -> u32 {
+    if may.iter().filter(|may| **may).count() == 1 {
+        AHEAD
+    } else {
+        0
+    }
+}
+
 /// The threads of a crew, with what its host thread saw of them.
 #[derive(Drop)]
 struct Job {
@@ -64,6 +78,8 @@ struct Job {
     may: [bool; 64],
     // No thread of this number or a greater one may.
     beyond: u8,
+    // How many turns of theirs that pause may begin ahead.
+    ahead: u32,
     // Whether there may be one that lives and was seen to have none.
     stilled: bool,
     // Whether it is the one that sees to it that the round ends.
@@ -78,13 +94,14 @@ impl Job {
             crew,
             may: [false; 64],
             beyond: 0,
+            ahead: 0,
             stilled: true,
             watches: false,
             heard,
         }
     }
 
-    // One event of each of its threads that may have one, in rotation.
+    // One event of each of its threads that may have one, in rotation, behind those of turns that begin ahead.
     fn rotate<
         K: Sharing,
         J: Naming<S> + Send,
@@ -113,9 +130,12 @@ impl Job {
             if !self.may[n as usize] {
                 continue;
             }
-            let told = hall.turn(rt, set, host, gate, t);
+            let told = hall.turn(rt, set, host, gate, t, self.ahead);
             self.may[n as usize] = told.may;
             self.stilled |= !told.may;
+            if !told.may {
+                self.ahead = ahead_of(&self.may);
+            }
             match went_of(told.came) {
                 Went::Over => return Went::Over,
                 Went::Moved => went = Went::Moved,
@@ -138,6 +158,7 @@ impl Job {
         let may = look.may;
         self.may = may;
         self.beyond = beyond_last(&may);
+        self.ahead = ahead_of(&may);
         self.stilled = look.stilled;
         self.watches = look.watches;
         self.heard = heard;

@@ -2,7 +2,7 @@
 ghost use Rattle.std.specs.Prelude.{◌≡◌, ◌<◌, ℕ, List, [], length, slice_get, slice_set, IsTrue, IsSome, IfSome, Some, None, true, false};
 ghost use Rattle.durable_run.specs.Passed.{memory_of, asked_by};
 ghost use Rattle.durable_run.specs.Apart.{after_event};
-ghost use Rattle.durable_run.specs.Events.{AddsBy, StepsTo, fault_of};
+ghost use Rattle.durable_run.specs.Events.{AddsFurther, ComesTo, fault_of};
 ghost use Rattle.durable_run.specs.Passed.{Halt, Opening};
 ghost use Rattle.durable_run.specs.Shares.{PrintsShares};
 ghost use Rattle.durable_run.specs.Sparing.{SparesSink};
@@ -21,7 +21,7 @@ use crate::names::Naming;
 use crate::notes::{Note, Noted, note};
 use crate::waiting::{Before, Came, Due, Rouses, Share};
 use ap_base::{Item, Ref, Sink, ThreadNo};
-use durable_run::{Begun, Frames, Run, SharedHeap, Stepped, is_live, step_asked, step_begun};
+use durable_run::{Frames, Run, SharedHeap, Stepped, Stretch, is_live, step_asked, step_stretch};
 use frame_thread::Host;
 use line_image::Image;
 use natives::{Native, NativeState};
@@ -144,7 +144,7 @@ fn came_of(stepped: &Stepped, waited: Option<On>, lives: bool) -> Came
     }
 }
 
-// The event of a thread: of the turn that has begun so, or of the request that isn't answered yet.
+// The events of a thread: of the turns that have begun so, or else the one of the request that isn't answered yet.
 fn event<C: Types, I: Image, H: Host<Native, Ref, NativeState, Item>, S: Sink, W: Watcher>(
     heap: &mut SharedHeap<I>,
     sink: &mut S,
@@ -153,15 +153,15 @@ fn event<C: Types, I: Image, H: Host<Native, Ref, NativeState, Item>, S: Sink, W
     host: &H,
     t: ThreadNo,
     frames: &mut Frames<Ref, NativeState>,
-    begun: Option<Begun>,
+    begun: Option<Stretch>,
 ) -> Stepped
     requires next { (o : Opening) × (first : ℕ) × (all : List ThreadFrames) × (before : ThreadFrames)
         × IsNext o first (C.facts set.now) (H.setting host.now) heap.old all t begun before frames.old }
     ensures goes { (o : Opening) (first : ℕ) (all : List ThreadFrames) (before : ThreadFrames)
         → IsNext o first (C.facts set.now) (H.setting host.now) heap.old all t begun before frames.old
-        → StepsTo o first (C.facts set.now) (H.setting host.now) t result heap.old heap.new
+        → ComesTo o first (C.facts set.now) (H.setting host.now) t result heap.new
         (after_event result heap.old heap.new (slice_set all t frames.new)) }
-    ensures acts { AddsBy result t heap.old.history.acts heap.new.history.acts }
+    ensures acts { AddsFurther t heap.old.history.acts heap.new.history.acts }
     ensures told { HasTold heap.old.history.acts heap.new.history.acts (W.seen watcher.old) (W.seen watcher.new)
         (S.taken sink.old) (S.taken sink.new) }
     ensures shares { (o : Opening) (first : ℕ) (all : List ThreadFrames) (before : ThreadFrames)
@@ -175,17 +175,17 @@ fn event<C: Types, I: Image, H: Host<Native, Ref, NativeState, Item>, S: Sink, W
         (memory_of heap.old.machine).faults (memory_of heap.new.machine).faults }
 {
     match begun {
-        Some(begun) => step_begun(heap, sink, watcher, set, host, t, frames, begun),
+        Some(stretch) => step_stretch(heap, sink, watcher, set, host, t, frames, stretch),
         None => step_asked(heap, sink, watcher, set, host, t, frames),
     }
 }
 
-// Whether a thread lives and has begun, and its event is one of a turn that has begun so, or else isn't answered yet.
+// Whether a thread lives and has begun, and its event is one of turns that have begun so, or else isn't answered yet.
 fn is_awaited<I: Image>(
     heap: &SharedHeap<I>,
     begins: &[Option<Ref>; 64],
     t: ThreadNo,
-    begun: &Option<Begun>,
+    begun: &Option<Stretch>,
 ) -> bool
     ensures live { IsTrue result → is_live heap.now.machine.rest.threads t ≡ true }
     ensures begins { IsTrue result → slice_get begins.now t ≡ Some None }
@@ -301,15 +301,16 @@ impl<J: Naming<S>, I: Image, S: Sink, W: Watcher> Locked<J, I, S, W> {
         is_live(self.heap.threads(), t)
     }
 
-    /// One event of a thread, whose turn has begun so with these frames, or else isn't answered yet. It is counted in the thread's share of
-    /// the round. None where the run is over; nor where what its host thread knows isn't so, which doesn't come.
+    /// The events of a thread, whose turns have begun so with these frames, or else the one of its turn that isn't answered yet. They are
+    /// counted in the thread's share of the round. None where the run is over; nor where what its host thread knows isn't so, which
+    /// doesn't come.
     pub(crate) fn step<C: Types, H: Host<Native, Ref, NativeState, Item>>(
         &mut self,
         set: &C,
         host: &H,
         t: ThreadNo,
         frames: &mut Frames<Ref, NativeState>,
-        begun: Option<Begun>,
+        begun: Option<Stretch>,
         share: &mut Share,
     ) -> Told
         requires of { IsOf (C.facts set.now) (H.setting host.now) J.entry }
@@ -329,7 +330,8 @@ impl<J: Naming<S>, I: Image, S: Sink, W: Watcher> Locked<J, I, S, W> {
         if !is_awaited(&self.heap, &self.begins, t, &begun) {
             return Told::refused(Came::Idle);
         }
-        let before = Before::of(&self.heap, t);
+        let pauses = begun.as_ref().map_or(0, |stretch| stretch.pauses);
+        let before = Before::of(&self.heap, t, pauses);
         let stepped = event(
             &mut self.heap,
             &mut self.sink,

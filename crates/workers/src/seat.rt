@@ -1,5 +1,6 @@
 // A thread's seat: its frames, and the pass by which its host thread comes to the run.
-ghost use Rattle.std.specs.Prelude.{◌≡◌, IsSome, Some, true};
+ghost use Rattle.std.specs.Prelude.{◌≡◌, ◌≤◌, IsSome, IfSome, Some, true};
+ghost use Rattle.durable_run.specs.Apart.{Begins};
 ghost use Rattle.durable_run.specs.Passed.{AreOf};
 ghost use Rattle.turnstile.specs.Passes.{IsIdle, number_of, part_of, turnstile_id, pass_id};
 ghost use Rattle.workers.specs.Held.{IsOf, HasEnded};
@@ -13,7 +14,7 @@ use crate::locked::{Locked, Look, Told};
 use crate::names::{Naming, Sharing};
 use crate::waiting::{Came, Rouses, Share};
 use ap_base::{Gate, Item, Ref, Sink, ThreadNo};
-use durable_run::{Begun, Frames, begin_turn};
+use durable_run::{Begun, Frames, Stretch, begin_turn};
 use frame_thread::Host;
 use line_image::Image;
 use natives::{Native, NativeState};
@@ -85,27 +86,54 @@ impl<K: Sharing, J: Naming<S>, S, T: Kept<Entry = Act, Part = Frames<Ref, Native
     ghost invariant = { λ s. Sits K.turnstile J.entry s.thread s.pass s.frames s.stage };
 }
 
-// A thread's next turn begins, if its last one is answered: its private instructions are done, away from the run, and then the gate is
-// called.
-fn begins<H: Host<Native, Ref, NativeState, Item>, G: Gate>(
-    stage: Stage,
+// A thread's next turn begins: its private instructions are done, away from the run, and then the gate is called.
+fn begin_next<H: Host<Native, Ref, NativeState, Item>, G: Gate>(
     frames: &mut Frames<Ref, NativeState>,
     turns: &mut u64,
     host: &H,
     gate: &G,
     t: ThreadNo,
-) -> Option<Begun>
+) -> Begun
+    requires of { AreOf (H.setting host.now).program frames.old.frames }
+    ensures begins { Begins (H.setting host.now) result frames.old frames.new }
+    ensures of { AreOf (H.setting host.now).program frames.new.frames }
+{
+    let begun = begin_turn(frames, host);
+    *turns = turns.saturating_add(1);
+    gate.before(t, *turns);
+    begun
+}
+
+// A thread's next turns begin, if its last one is answered: up to the first that doesn't pause, and at most `ahead` before the last. The
+// reply to a pause changes nothing in the frames, so the next turn may begin before the event that gives it.
+fn begins<H: Host<Native, Ref, NativeState, Item>, G: Gate>(
+    stage: Stage,
+    ahead: u32,
+    frames: &mut Frames<Ref, NativeState>,
+    turns: &mut u64,
+    host: &H,
+    gate: &G,
+    t: ThreadNo,
+) -> Option<Stretch>
     requires of { AreOf (H.setting host.now).program frames.old.frames }
     ensures comes { ComesSo (H.setting host.now) result frames.old frames.new }
     ensures begun { stage ≡ Stage.Fresh → IsSome result }
+    ensures fresh { IsSome result → stage ≡ Stage.Fresh }
+    ensures most { IfSome result (λ s. s.pauses ≤ ahead) }
 {
     if stage != Stage::Fresh {
         return None;
     }
-    let begun = begin_turn(frames, host);
-    *turns = turns.saturating_add(1);
-    gate.before(t, *turns);
-    Some(begun)
+    for pauses in 0..ahead {
+        let last = begin_next(frames, turns, host, gate, t);
+        if !last.is_pause() {
+            return Some(Stretch { pauses, last });
+        }
+    }
+    Some(Stretch {
+        pauses: ahead,
+        last: begin_next(frames, turns, host, gate, t),
+    })
 }
 
 impl<K: Sharing, J: Naming<S> + Send, I: Image + Send, S: Sink + Send, W: Watcher + Send> Seat<
@@ -150,8 +178,8 @@ impl<K: Sharing, J: Naming<S> + Send, I: Image + Send, S: Sink + Send, W: Watche
         }
     }
 
-    /// One event of the thread, if it lives. Its private instructions, and the gate, come first where its turn begins: no other host
-    /// thread waits for them.
+    /// One event of the thread, if it lives, behind those of at most `ahead` turns that pause and begin ahead. Private instructions and the
+    /// gate come before the turnstile, which is held once, for the events alone: no other host thread waits for them.
     pub(crate) fn turn<R: Wait, C: Types, H: Host<Native, Ref, NativeState, Item>, G: Gate>(
         &mut self,
         rt: &R,
@@ -159,6 +187,7 @@ impl<K: Sharing, J: Naming<S> + Send, I: Image + Send, S: Sink + Send, W: Watche
         set: &C,
         host: &H,
         gate: &G,
+        ahead: u32,
     ) -> Told
         requires of { IsOf (C.facts set.now) (H.setting host.now) J.entry }
     {
@@ -168,6 +197,7 @@ impl<K: Sharing, J: Naming<S> + Send, I: Image + Send, S: Sink + Send, W: Watche
         }
         let begun = begins(
             self.stage,
+            ahead.min(self.share.left()),
             &mut self.frames,
             &mut self.turns,
             host,

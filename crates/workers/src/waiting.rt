@@ -4,7 +4,7 @@ ghost use Rattle.std.specs.Prelude.{◌≡◌, length};
 use ap_base::ThreadNo;
 use durable_run::{SharedHeap, is_live};
 use line_image::Image;
-use run_history::Op;
+use run_history::{Act, Acts, Op};
 use run_types::On;
 use shared_objects::Threads;
 
@@ -37,23 +37,36 @@ pub(crate) enum Rouses {
     Everybody,
 }
 
-/// What stood before an event.
+/// What stood before an event and the pauses ahead of it.
 #[derive(Clone, Copy)]
 pub(crate) struct Before {
     pub(crate) started: usize,
     pub(crate) acts: u32,
+    /// How many events these are.
+    pub(crate) events: u32,
     pub(crate) waited: Option<On>,
 }
 
 impl Before {
-    pub(crate) fn of<I: Image>(heap: &SharedHeap<I>, t: ThreadNo) -> Before
+    pub(crate) fn of<I: Image>(heap: &SharedHeap<I>, t: ThreadNo, pauses: u32) -> Before
         ensures { result.started ≡ length heap.now.machine.rest.threads }
     {
         Before {
             started: heap.threads().count(),
             acts: heap.acts().len(),
+            events: pauses.saturating_add(1),
             waited: heap.waiting(t),
         }
+    }
+}
+
+// The last act, if there are more than so many: of the events that came since, the pauses end no wait that the last one doesn't.
+fn last_since(acts: &Acts, count: u32) -> Option<&Act> {
+    let made = acts.len();
+    if made > count {
+        acts.get(made - 1)
+    } else {
+        None
     }
 }
 
@@ -73,14 +86,19 @@ impl Share {
         Share { round: 0, had: 0 }
     }
 
-    // Counts an event in a round. One that is asked again in vain isn't counted.
-    fn count(&mut self, round: u64, came: Came) {
+    // Counts so many events in a round. One that is asked again in vain isn't counted.
+    fn count(&mut self, round: u64, came: Came, events: u32) {
         if self.round != round {
             *self = Share { round, had: 0 };
         }
         if came != Came::StillWaits {
-            self.had = self.had.saturating_add(1);
+            self.had = self.had.saturating_add(events);
         }
+    }
+
+    /// How many pauses may come ahead of its next event in the round that it had events of last.
+    pub(crate) fn left(&self) -> u32 {
+        (ROUND - 1).saturating_sub(self.had)
     }
 
     // Whether these are all of a round.
@@ -96,7 +114,7 @@ impl Share {
 #[derive(Drop)]
 pub(crate) struct Due {
     waits: [bool; 64],
-    // Whether some may wait.
+    // Whether some may wait for what the event of another may end.
     some_wait: bool,
     // The number of this round.
     round: u64,
@@ -222,19 +240,24 @@ impl Due {
         false
     }
 
-    // Counts an event of a thread. Where it gave others its turn, it has no more in this round: else it might take a monitor again before
-    // their host threads are there. Here is written only what changes: others read it in their own processors' caches.
-    fn count(&mut self, share: &mut Share, t: ThreadNo, came: Came, gave: bool) {
+    // Counts so many events of a thread. Where the last one gave others its turn, it has no more in this round: else it might take a
+    // monitor again before their host threads are there. Here is written only what changes: others read it in their own processors' caches.
+    fn count(&mut self, share: &mut Share, t: ThreadNo, came: Came, events: u32, gave: bool) {
         let at = t.number() as usize;
-        share.count(self.round, came);
+        share.count(self.round, came, events);
         if gave || share.is_whole() {
             self.spent[at] = true;
             self.gave[at] = !share.is_whole();
         }
+    }
+
+    // Whether a thread waits now. A join ends by its thread's end alone, behind which all may have an event again.
+    fn note_wait<I: Image>(&mut self, heap: &SharedHeap<I>, t: ThreadNo, came: Came) {
+        let at = t.number() as usize;
         let waits = came == Came::Waits || came == Came::StillWaits;
         if self.waits[at] != waits {
             self.waits[at] = waits;
-            self.some_wait |= waits;
+            self.some_wait |= waits && !matches!(heap.waiting(t), Some(On::Join(_)));
         }
     }
 
@@ -274,7 +297,7 @@ impl Due {
         true
     }
 
-    /// What an event of a thread changes.
+    /// What an event of a thread changes, with the pauses before it.
     pub(crate) fn note<I: Image>(
         &mut self,
         heap: &SharedHeap<I>,
@@ -290,11 +313,12 @@ impl Due {
         let mut freed = false;
         let mut gave = false;
         if self.some_wait && came != Came::StillWaits {
-            let act = heap.acts().get(before.acts).map(|act| &act.op);
+            let act = last_since(heap.acts(), before.acts).map(|act| &act.op);
             freed = self.free(heap, t, act);
             gave = freed && matches!(act, Some(Op::Exit { .. } | Op::Init { .. }));
         }
-        self.count(share, t, came, gave);
+        self.count(share, t, came, before.events, gave);
+        self.note_wait(heap, t, came);
         let given = self.give_back(t, came);
         let renewed = !self.has(t) && self.renew(heap.threads(), t);
         if freed || given || renewed {

@@ -1,4 +1,4 @@
-use Rattle.std.proofs.Common.{◌≡◌, true, List, Option, Some, None, ap, refl, length, subst, sym, ◌∙◌, ◌<◌, arith}
+use Rattle.std.proofs.Common.{◌≡◌, true, List, Some, None, ap, refl, subst, sym, ◌∙◌, arith}
 use Rattle.std.specs.Prelude.{slice_get, slice_set}
 use Rattle.std.proofs.lemmas.Option.{slice_get_within}
 use Rattle.shared_objects.specs.declared.threads.ThreadState.{ThreadState}
@@ -70,7 +70,7 @@ invariant_of-self g c =
     let has = c.if-not-is_awaited.ensures in
     let new = c.event-stepped.new in
     let within = c.self.invariant.1 in
-    let more = acts-more c.event-stepped.result c.args.t s.heap.history.acts new.heap.history.acts c.event-stepped.ensures.acts in (
+    let more = acts-more c.args.t s.heap.history.acts new.heap.history.acts c.event-stepped.ensures.acts in (
       knows-on (g.C.Types.facts c.args.set.now) (g.H.Host.setting c.args.host.now) g.J.Naming.entry c.args.t c.args.begun s.heap
           s.begins noted (g.W.Watcher.seen s.watcher) (g.S.Sink.taken s.sink) (g.S.Sink.takes s.sink) (g.S.Sink.faults s.sink)
           c.requires.comes.0 c.args.frames.now knows c.requires.of there (has.begins refl) (has.live refl) (has.asked refl) c.requires.comes.2
@@ -100,7 +100,7 @@ invariant_of-self-in_default g c =
     let has = c.if-not-is_awaited.ensures in
     let new = c.event-stepped.new in
     let within = c.self.invariant.1 in
-    let more = acts-more c.event-stepped.result c.args.t s.heap.history.acts new.heap.history.acts c.event-stepped.ensures.acts in (
+    let more = acts-more c.args.t s.heap.history.acts new.heap.history.acts c.event-stepped.ensures.acts in (
       knows-on (g.C.Types.facts c.args.set.now) (g.H.Host.setting c.args.host.now) g.J.Naming.entry c.args.t c.args.begun s.heap
           s.begins noted (g.W.Watcher.seen s.watcher) (g.S.Sink.taken s.sink) (g.S.Sink.takes s.sink) (g.S.Sink.faults s.sink)
           c.requires.comes.0 c.args.frames.now knows c.requires.of there (has.begins refl) (has.live refl) (has.asked refl) c.requires.comes.2
@@ -125,7 +125,7 @@ returns-in-Over-clause-entries g c =
     let new = c.event-stepped.new in
     subst (λ (es : List Act). AddsEntriesBy (λ (a : Act). a.thread) c.args.t es (entries_from s.from new.heap.history.acts))
     (ap (λ (d : Desked). d.entries) c.self.view_is)
-    (entries-by c.event-stepped.result c.args.t s.from s.heap.history.acts new.heap.history.acts c.event-stepped.ensures.acts c.self.invariant.1)
+    (entries-by c.args.t s.from s.heap.history.acts new.heap.history.acts c.event-stepped.ensures.acts c.self.invariant.1)
 
 pub returns-in-Over-clause-others : goal.returns-in-Over-clause-others
 returns-in-Over-clause-others g c =
@@ -158,7 +158,7 @@ returns g c =
     record {
       entries = subst (λ (es : List Act). AddsEntriesBy (λ (a : Act). a.thread) c.args.t es (entries_from s.from new.heap.history.acts))
           (ap (λ (d : Desked). d.entries) c.self.view_is)
-          (entries-by c.event-stepped.result c.args.t s.from s.heap.history.acts new.heap.history.acts c.event-stepped.ensures.acts
+          (entries-by c.args.t s.from s.heap.history.acts new.heap.history.acts c.event-stepped.ensures.acts
           c.self.invariant.1);
       others = subst (λ (ps : List ThreadFrames). SameButOf c.args.t c.args.self.now.noted ps) (sym c.note.ensures)
           (subst (λ (ps : List ThreadFrames). SameButOf c.args.t ps (slice_set noted c.args.t new.frames))
