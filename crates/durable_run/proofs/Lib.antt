@@ -1,4 +1,3 @@
-mod Ending
 mod Going
 mod Noting
 mod Passing
@@ -6,13 +5,14 @@ mod Pausing
 mod Places
 mod Raising
 mod Reading
-mod Sharing
 mod Stepping
-mod Stretching
-mod Telling
 mod Throwing
 mod Thrown
 mod Turns
+pub mod Ending
 pub mod FramesApart
 pub mod Passed
+pub mod Sharing
 pub mod Sparing
+pub mod Stretching
+pub mod Telling

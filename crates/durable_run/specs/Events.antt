@@ -1,5 +1,5 @@
 -- What an event of a thread leaves of a run, and what it tells the outside.
-use Rattle.std.specs.Prelude.{◌≡◌, ◌≢◌, ◌⊎◌, ℕ, ◌<◌, ◌≤◌, true, List, ◌++◌, All, length, slice_get, slice_set, Option, Some, None, IsSome}
+use Rattle.std.specs.Prelude.{◌≡◌, ◌≢◌, ◌⊎◌, ℕ, ◌+◌, ◌<◌, ◌≤◌, true, List, ◌++◌, All, length, slice_get, slice_set, Option, Some, None, IsSome}
 use Rattle.ap_base.specs.declared.reference.Ref.{Ref}
 use Rattle.ap_base.specs.declared.reference.Item.{Item}
 use Rattle.run_types.specs.declared.fault.RunFault.{RunFault}
@@ -112,11 +112,12 @@ StepsTo o first set x t (WouldWait on) old new frames =
 StepsTo o first set x t (Over halt) old new frames = EndsAt o first t (fault_of_halt new halt) new
 StepsTo o first set x t went old new frames = IsReady o first set x new frames
 
--- The same of several events of thread t, of which the last went so. What a wait says of the heap before it isn't said.
-abbrev pub ComesTo : Opening → ℕ → SetFacts → Setting Native Ref (NativeState Ref) Item → ℕ → Stepped → Shared
-    → List ThreadFrames → Type 0
-ComesTo o first set x t (Over halt) new frames = EndsAt o first t (fault_of_halt new halt) new
-ComesTo o first set x t went new frames = IsReady o first set x new frames
+-- The same behind the events of so many pauses of thread t: from some heap the last event leads on so, from the one before where there are
+-- none.
+abbrev pub StepsBehind : (pauses : ℕ) → Opening → ℕ → SetFacts → Setting Native Ref (NativeState Ref) Item → ℕ → Stepped
+    → Shared → Shared → List ThreadFrames → Type 0
+StepsBehind pauses o first set x t went old new frames =
+    (mid : Shared) × (pauses ≡ 0 → mid ≡ old) × StepsTo o first set x t went mid new frames
 
 -- further acts, all of the thread
 pub record AddsFurther (t : ℕ) (old new : List Recorded) : Type 0 where
@@ -129,6 +130,18 @@ abbrev pub AddsBy : Stepped → ℕ → List Recorded → List Recorded → Type
 AddsBy Acted t old new = AddsOne t old new
 AddsBy Micro t old new = (new ≡ old) ⊎ AddsOne t old new
 AddsBy went t old new = new ≡ old
+
+-- So many events of so many pauses were made: each, unless the run is over, which one of them may have ended.
+abbrev pub CountsPauses : Stepped → (made pauses : ℕ) → Type 0
+CountsPauses (Over halt) made pauses = made ≤ pauses
+CountsPauses went made pauses = made ≡ pauses
+
+-- one act of thread t for each of so many pauses, and behind them what its last event, which went so, adds
+pub record AddsBehind (pauses : ℕ) (went : Stepped) (t : ℕ) (old new : List Recorded) : Type 0 where
+  pub mid : List Recorded
+  pub paused : AddsFurther t old mid
+  pub count : CountsPauses went (length mid) (length old + pauses)
+  pub last : AddsBy went t mid new
 
 -- An event that adds no act leaves less to do; one that waits, no more.
 abbrev pub LeavesLess : Stepped → Shared → Shared → Type 0

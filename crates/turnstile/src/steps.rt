@@ -21,8 +21,11 @@ const SERVING: usize = 1;
 /// How often a pass that finds others there leaves them to it before it draws a ticket.
 const ASIDE: u32 = 64;
 
-/// How many times it leaves them to it for twice as long as the time before; from then on the time stays the same.
-const DOUBLINGS: u32 = 5;
+/// How often it lets others have its processor for that, the first time.
+const YIELDS: u32 = 32;
+
+/// How many times it lets them have it for twice as often as the time before; from then on it stays the same.
+const DOUBLINGS: u32 = 2;
 
 /// How often a pass looks before it sleeps: a hold is short, and to sleep and be woken takes longer than many.
 const LOOKS: u32 = 256;
@@ -39,9 +42,10 @@ fn pause(looks: u32) {
     }
 }
 
-// Leaves others to it, behind so many looks: lets them have its processor once, twice, four times, and at last 32 times.
+// Leaves others to it, behind so many looks: lets them have its processor 32 times, 64 times, and from then on 128 times. Were it less at
+// first, one that has just left would be back behind a hold or two, and most holds would be another core's than the one before.
 fn leave_to_others(looks: u32) {
-    for _ in 0..1u32 << looks.min(DOUBLINGS) {
+    for _ in 0..YIELDS << looks.min(DOUBLINGS) {
         thread::yield_now();
     }
 }

@@ -1,18 +1,18 @@
 -- The frames of all threads, where those of each lie apart.
-use Rattle.std.proofs.Common.{◌≡◌, ◌≢◌, ℕ, zero, suc, ◌+◌, ◌<◌, ◌≤◌, ltb, Bool, true, false, if◌then◌else◌, List, [], ◌∷◌, ◌++◌, length, map, drop, inl, inr}
+use Rattle.std.proofs.Common.{◌≡◌, ◌≢◌, ℕ, zero, suc, ◌+◌, ◌<◌, ◌≤◌, ltb, Bool, true, false, if◌then◌else◌, List, [], ◌∷◌, ◌++◌, length, map, drop}
 use Rattle.std.proofs.Common.{replicate, Option, Some, None, refl, ap, sym, ◌∙◌, arith}
 use Rattle.std.specs.Prelude.{slice_get, slice_set}
 use Rattle.std.specs.declared.snapshot.Snapshot.{Snapshot}
 use Rattle.std.proofs.lemmas.Bool.Decides.{nat_tests}
-use Rattle.std.proofs.lemmas.List.{append-nil, length-append, length-set, map-append, map-set}
-use Rattle.std.proofs.lemmas.List.Elements.{All-nil, All-cons, All-map}
+use Rattle.std.proofs.lemmas.List.{length-append, length-set, map-append, map-set}
+use Rattle.std.proofs.lemmas.List.Elements.{All-map}
 use Rattle.ap_base.specs.declared.reference.Ref.{Ref}
 use Rattle.frames.specs.Turns.{begun_thread}
 use Rattle.run_history.specs.declared.act.Act.{Act}
 use Rattle.run_history.specs.Recorded.{Recorded}
 use Rattle.run_forms.specs.Views.{ThreadFrames}
 use Rattle.durable_run.specs.Apart.{after_event, begun_as}
-use Rattle.durable_run.specs.Events.{AddsBy, AddsFurther, with_begun}
+use Rattle.durable_run.specs.Events.{AddsFurther, with_begun}
 use Rattle.durable_run.specs.Passed.{Shared, started_as}
 use Rattle.durable_run.specs.declared.steps.Stepped.{Stepped}
 use Rattle.durable_run.specs.declared.steps.Stepped.TheVariants.{Acted, Micro, WouldWait, Over}
@@ -197,27 +197,6 @@ pub acts-more : (t : ℕ) (old new : List Recorded) → AddsFurther t old new �
 acts-more t old new adds =
     let long = ap (λ (acts : List Recorded). length acts) adds.acts in
     let more = length-append old adds.further in omega (arith, long, more)
-
--- what one event adds
-pub further-of : (went : Stepped) (t : ℕ) (old new : List Recorded) → AddsBy went t old new → AddsFurther t old new
-further-of went t old new adds = by-case went adds
-  where
-    none : new ≡ old → AddsFurther t old new
-    none is = record { further = []; acts = is ∙ sym (append-nil old); own = All-nil (λ (a : Recorded). a.act.thread ≡ t) }
-
-    one : AddsBy Acted t old new → AddsFurther t old new
-    one is = record {
-      further = is.act ∷ [];
-      acts = is.acts;
-      own = All-cons (λ (a : Recorded). a.act.thread ≡ t) is.act [] is.thread (All-nil (λ (a : Recorded). a.act.thread ≡ t));
-    }
-
-    by-case : (w : Stepped) → AddsBy w t old new → AddsFurther t old new
-    by-case Acted is = one is
-    by-case Micro (inl is) = none is
-    by-case Micro (inr is) = one is
-    by-case (WouldWait on) is = none is
-    by-case (Over halt) is = none is
 
 -- ---- notes
 

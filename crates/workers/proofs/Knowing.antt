@@ -13,19 +13,25 @@ use Rattle.run_forms.specs.Views.{ThreadFrames}
 use Rattle.durable_run.specs.Passed.{Opening, memory_of}
 use Rattle.durable_run.specs.Passed.{Shared}
 use Rattle.durable_run.specs.Passed.{Halt}
-use Rattle.durable_run.specs.Passed.{Stuck}
+use Rattle.durable_run.specs.Passed.{Stuck, fault_of_halt}
 use Rattle.durable_run.specs.declared.runs.RunEnd.{RunEnd}
 use Rattle.durable_run.specs.declared.runs.RunEnd.TheVariants as ends
 use Rattle.durable_run.specs.declared.steps.Stepped.{Stepped}
 use Rattle.durable_run.specs.declared.steps.Stepped.TheVariants.{Acted, Micro, WouldWait, Over}
-use Rattle.durable_run.specs.Events.{ComesTo, StepsTo, fault_of}
+use Rattle.durable_run.specs.Events.{StepsBehind, StepsTo, fault_of}
 use Rattle.durable_run.specs.Shares.{PrintsShares}
 use Rattle.durable_run.specs.Telling.{HasTold, IsCaused}
-use Rattle.durable_run.specs.Turning.{EndsBy, IsReady, fault_in}
+use Rattle.durable_run.specs.Turning.{EndsAt, EndsBy, IsReady, fault_in}
 use Rattle.workers.specs.Held.{Began, GoesOn, HasLeft, Held, Holds, IsOf, Knows, began, held}
-use Rattle.workers.proofs.Ending.{size-same, waits-long}
-use Rattle.workers.proofs.Prints.{shares-both, shares-nothing}
-use Rattle.workers.proofs.Telling.{caused-since, told-both, told-nothing}
+use Rattle.durable_run.proofs.Ending.{size-same, waits-long}
+use Rattle.durable_run.proofs.Sharing.{shares-both, shares-nothing}
+use Rattle.durable_run.proofs.Telling.{caused-since, told-both, told-nothing}
+
+-- Where events of thread t have led, of which the last went so: a wait's heap before it is forgotten.
+abbrev pub ComesTo : Opening → ℕ → SetFacts → Setting Native Ref (NativeState Ref) Item → ℕ → Stepped → Shared
+    → List ThreadFrames → Type 0
+ComesTo o first set x t (Over halt) new frames = EndsAt o first t (fault_of_halt new halt) new
+ComesTo o first set x t went new frames = IsReady o first set x new frames
 
 pub none-of : (over : Option RunFault) → is_some over ≡ false → over ≡ None
 none-of None is = refl
@@ -74,6 +80,11 @@ module _ (set : SetFacts) (x : Setting Native Ref (NativeState Ref) Item) where
   comes-of o first t Micro old new frames steps = steps
   comes-of o first t (WouldWait on) old new frames steps = steps.0
   comes-of o first t (Over halt) old new frames steps = steps
+
+  -- one event behind pauses
+  pub comes-behind : (pauses : ℕ) (o : Opening) (first t : ℕ) (went : Stepped) (old new : Shared) (frames : List ThreadFrames)
+      → StepsBehind pauses o first set x t went old new frames → ComesTo o first set x t went new frames
+  comes-behind pauses o first t went old new frames steps = comes-of o first t went steps.0 new frames steps.2
 
   goes-on : (o : Opening) (first t : ℕ) (went : Stepped) (new : Shared) (frames : List ThreadFrames)
       → ComesTo o first set x t went new frames → GoesOn o first set x (fault_of new went) new frames

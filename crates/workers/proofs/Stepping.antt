@@ -14,7 +14,7 @@ use Rattle.frames.specs.Settings.{Setting}
 use Rattle.shared_objects.specs.declared.threads.ThreadState.{ThreadState}
 use Rattle.run_forms.specs.Views.{ThreadFrames}
 use Rattle.durable_run.specs.Apart.{HasStretched, PauseOn, Pauses, after_event}
-use Rattle.durable_run.specs.Events.{ComesTo, fault_of}
+use Rattle.durable_run.specs.Events.{StepsBehind, fault_of}
 use Rattle.durable_run.specs.Passed.{AreOf, Opening, Shared, asked_by, memory_of}
 use Rattle.durable_run.specs.Shares.{PrintsShares}
 use Rattle.durable_run.specs.Sparing.{SparesSink}
@@ -23,9 +23,9 @@ use Rattle.durable_run.specs.Turning.{IsReady, is_live, lives}
 use Rattle.durable_run.specs.declared.apart.Stretch.{Stretch}
 use Rattle.durable_run.specs.declared.steps.Stepped.{Stepped}
 use Rattle.workers.specs.Held.{Began, IsOf, Knows, KnowsSink, held}
-use Rattle.workers.specs.Shared.{ComesSo, IsAskedAs, IsNext, IsOfRun, all_frames, begins_after}
+use Rattle.workers.specs.Shared.{ComesSo, IsAskedAs, IsNext, IsOfRun, all_frames, begins_after, pauses_of}
 use Rattle.workers.proofs.Frames.{begun-still, event-so, get-some, leaves-at, left-at, some-one}
-use Rattle.workers.proofs.Knowing.{of-entry, ready-now, steps-so}
+use Rattle.workers.proofs.Knowing.{ComesTo, comes-behind, of-entry, ready-now, steps-so}
 use Rattle.workers.proofs.Sparing.{sink-on, sink-over}
 
 -- ---- threads that live
@@ -133,7 +133,7 @@ module _ (set : SetFacts) (x : Setting Native Ref (NativeState Ref) Item) (entry
   module _ (went : Stepped) (new : Shared) (now : ThreadFrames) (begins' : List (Option Ref)) (noted' : List ThreadFrames) (count : ℕ)
       (goes : (o : Opening) (first : ℕ) (all : List ThreadFrames) (before : ThreadFrames)
       → IsNext o first set x old all t begun before come
-      → ComesTo o first set x t went new (after_event went old new (slice_set all t now)))
+      → StepsBehind (pauses_of begun) o first set x t went old new (after_event went old new (slice_set all t now)))
       (counted : count ≡ length old.machine.rest.threads) (begins_is : begins' ≡ begins_after went count new begins)
       (noted_is : noted' ≡ slice_set noted t now) where
     all-after : all_frames begins' noted' ≡ after_event went old new (slice_set (all_frames begins noted) t now)
@@ -146,7 +146,8 @@ module _ (set : SetFacts) (x : Setting Native Ref (NativeState Ref) Item) (entry
     pub goes-so : (o : Opening) (first : ℕ) → IsReady o first set x old (all_frames begins noted)
         → ComesTo o first set x t went new (all_frames begins' noted')
     goes-so o first ready = subst (ComesTo o first set x t went new) (sym all-after)
-        (goes o first (all_frames begins noted) before (is-next o first ready))
+        (comes-behind set x (pauses_of begun) o first t went old new (after_event went old new (slice_set (all_frames begins noted) t now))
+        (goes o first (all_frames begins noted) before (is-next o first ready)))
 
     -- who has begun has these frames
     pub has-left : slice_get noted' t ≡ Some now → slice_get (all_frames begins' noted') t ≡ Some now

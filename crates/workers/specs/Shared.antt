@@ -65,6 +65,11 @@ abbrev pub ComesSo : Setting Native Ref (NativeState Ref) Item → Option Stretc
 ComesSo x (Some stretch) before now = StretchesTo x stretch before now × AreOf x.program now.frames
 ComesSo x None before now = now ≡ before
 
+-- how many turns paused before the last one that began
+abbrev pub pauses_of : Option Stretch → ℕ
+pauses_of None = 0
+pauses_of (Some stretch) = stretch.pauses
+
 -- what is asked, where a turn has begun or not
 abbrev pub IsAskedAs : Option Stretch → Option (Request Ref Item) → Type 0
 IsAskedAs (Some stretch) asked = asked ≡ None

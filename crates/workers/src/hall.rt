@@ -80,8 +80,9 @@ impl<K: Sharing, J: Naming<S> + Send, I: Image + Send, S: Sink + Send, W: Watche
     S,
     Desk<J, I, S, W>,
 > {
-    /// One event of a thread, if it lives, by the host thread of its seat, behind those of at most `ahead` turns that pause and begin ahead.
-    pub(crate) fn turn<R: Wait, C: Types, H: Host<Native, Ref, NativeState, Item>, G: Gate>(
+    /// An event of a thread, if it lives, by the host thread of its seat, and at most so many further ones, each behind those of at most `ahead`
+    /// turns that pause and begin ahead.
+    pub(crate) fn events<R: Wait, C: Types, H: Host<Native, Ref, NativeState, Item>, G: Gate>(
         &self,
         rt: &R,
         set: &C,
@@ -89,6 +90,7 @@ impl<K: Sharing, J: Naming<S> + Send, I: Image + Send, S: Sink + Send, W: Watche
         gate: &G,
         t: ThreadNo,
         ahead: u32,
+        further: u32,
     ) -> Told
         requires of { IsOf (C.facts set.now) (H.setting host.now) J.entry }
     {
@@ -97,7 +99,7 @@ impl<K: Sharing, J: Naming<S> + Send, I: Image + Send, S: Sink + Send, W: Watche
         };
         let mut place = place.lock(rt);
         match &mut *place {
-            Some(seat) => seat.turn(rt, self, set, host, gate, ahead),
+            Some(seat) => seat.events(rt, self, set, host, gate, ahead, further),
             None => Told::refused(Came::Idle),
         }
     }

@@ -18,7 +18,7 @@ use run_history::Watcher;
 use shared_objects::Types;
 use std::sync::Wait;
 
-/// How often a host thread whose threads all wait looks whether something was done before it sleeps.
+/// How often a host thread of whose threads none may have an event looks whether something was done before it sleeps.
 const LOOKS: u32 = 32;
 
 /// How often the one that sees to it that a round ends looks whether something was done before it ends the round itself.
@@ -26,7 +26,8 @@ const PATIENCE: u32 = 16_384;
 
 /// How many turns that pause may begin ahead of their events, where their host thread has no other thread to see to: it comes to the
 /// turnstile once for them and the turn behind them. Of what a thread does between two such comings, sixteen turns of 1,024 instructions,
-/// the turnstile is then a hundredth. With several threads, each has its turn first.
+/// the turnstile is then a hundredth. And how many further events such a thread has before its host thread looks at the others again, whose
+/// waits may have ended. With several threads, each has its turn first.
 const AHEAD: u32 = 15;
 
 /// How a rotation went, or an event of it.
@@ -78,7 +79,7 @@ struct Job {
     may: [bool; 64],
     // No thread of this number or a greater one may.
     beyond: u8,
-    // How many turns of theirs that pause may begin ahead.
+    // How many turns of theirs that pause may begin ahead, and how many further events one has in its turn of the rotation.
     ahead: u32,
     // Whether there may be one that lives and was seen to have none.
     stilled: bool,
@@ -101,7 +102,7 @@ impl Job {
         }
     }
 
-    // One event of each of its threads that may have one, in rotation, behind those of turns that begin ahead.
+    // One event of each of its threads that may have one, in rotation; several of one that has nobody beside it.
     fn rotate<
         K: Sharing,
         J: Naming<S> + Send,
@@ -130,7 +131,7 @@ impl Job {
             if !self.may[n as usize] {
                 continue;
             }
-            let told = hall.turn(rt, set, host, gate, t, self.ahead);
+            let told = hall.events(rt, set, host, gate, t, self.ahead, self.ahead);
             self.may[n as usize] = told.may;
             self.stilled |= !told.may;
             if !told.may {
@@ -192,7 +193,7 @@ impl Job {
     }
 
     // Waits until there is something to do for it; whether there is, as the run isn't done. Of the host threads that wait for the end of
-    // a round one watches, since a thread that is held at the gate has events left; the others sleep.
+    // a round one watches, since a thread that is held at the gate has events left; the others look for a short time, then sleep.
     fn rest<
         K: Sharing,
         J: Naming<S> + Send,
@@ -207,7 +208,7 @@ impl Job {
                 Call::Go => return true,
                 Call::Done => return false,
                 Call::Spent if self.watches => self.watch(rt, hall),
-                Call::Wait if !looked => {
+                Call::Wait | Call::Spent if !looked => {
                     looked = true;
                     let _rung = hall.bells.ring_within(self.heard, LOOKS);
                 }

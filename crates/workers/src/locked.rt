@@ -2,7 +2,7 @@
 ghost use Rattle.std.specs.Prelude.{◌≡◌, ◌<◌, ℕ, List, [], length, slice_get, slice_set, IsTrue, IsSome, IfSome, Some, None, true, false};
 ghost use Rattle.durable_run.specs.Passed.{memory_of, asked_by};
 ghost use Rattle.durable_run.specs.Apart.{after_event};
-ghost use Rattle.durable_run.specs.Events.{AddsFurther, ComesTo, fault_of};
+ghost use Rattle.durable_run.specs.Events.{AddsBehind, StepsBehind, fault_of};
 ghost use Rattle.durable_run.specs.Passed.{Halt, Opening};
 ghost use Rattle.durable_run.specs.Shares.{PrintsShares};
 ghost use Rattle.durable_run.specs.Sparing.{SparesSink};
@@ -11,7 +11,7 @@ ghost use Rattle.durable_run.specs.Turning.{is_live};
 ghost use Rattle.run_forms.specs.Views.{ThreadFrames};
 ghost use Rattle.turnstile.specs.Entries.{AddsBy as AddsEntriesBy, SameButOf};
 ghost use Rattle.workers.specs.Held.{IsOf, Knows, KnowsSink, HasEnded, held};
-ghost use Rattle.workers.specs.Shared.{ComesSo, IsAskedAs, IsNext, IsOfRun, all_frames, begins_after, desked, values_of};
+ghost use Rattle.workers.specs.Shared.{ComesSo, IsAskedAs, IsNext, IsOfRun, all_frames, begins_after, desked, pauses_of, values_of};
 
 use crate::alone::Alone;
 use crate::crew::Crew;
@@ -153,28 +153,28 @@ fn event<C: Types, I: Image, H: Host<Native, Ref, NativeState, Item>, S: Sink, W
     host: &H,
     t: ThreadNo,
     frames: &mut Frames<Ref, NativeState>,
-    begun: Option<Stretch>,
+    stretch: Option<Stretch>,
 ) -> Stepped
     requires next { (o : Opening) × (first : ℕ) × (all : List ThreadFrames) × (before : ThreadFrames)
-        × IsNext o first (C.facts set.now) (H.setting host.now) heap.old all t begun before frames.old }
+        × IsNext o first (C.facts set.now) (H.setting host.now) heap.old all t stretch before frames.old }
     ensures goes { (o : Opening) (first : ℕ) (all : List ThreadFrames) (before : ThreadFrames)
-        → IsNext o first (C.facts set.now) (H.setting host.now) heap.old all t begun before frames.old
-        → ComesTo o first (C.facts set.now) (H.setting host.now) t result heap.new
+        → IsNext o first (C.facts set.now) (H.setting host.now) heap.old all t stretch before frames.old
+        → StepsBehind (pauses_of stretch) o first (C.facts set.now) (H.setting host.now) t result heap.old heap.new
         (after_event result heap.old heap.new (slice_set all t frames.new)) }
-    ensures acts { AddsFurther t heap.old.history.acts heap.new.history.acts }
+    ensures acts { AddsBehind (pauses_of stretch) result t heap.old.history.acts heap.new.history.acts }
     ensures told { HasTold heap.old.history.acts heap.new.history.acts (W.seen watcher.old) (W.seen watcher.new)
         (S.taken sink.old) (S.taken sink.new) }
     ensures shares { (o : Opening) (first : ℕ) (all : List ThreadFrames) (before : ThreadFrames)
-        → IsNext o first (C.facts set.now) (H.setting host.now) heap.old all t begun before frames.old
+        → IsNext o first (C.facts set.now) (H.setting host.now) heap.old all t stretch before frames.old
         → PrintsShares o.launch (S.takes sink.old) (S.takes sink.new) heap.old.history.acts heap.new.history.acts }
     ensures spares { (o : Opening) (first : ℕ) (all : List ThreadFrames) (before : ThreadFrames)
-        → IsNext o first (C.facts set.now) (H.setting host.now) heap.old all t begun before frames.old
+        → IsNext o first (C.facts set.now) (H.setting host.now) heap.old all t stretch before frames.old
         → SparesSink S.taken o.launch (fault_of heap.new result) sink.old sink.new
         heap.old.history.acts heap.new.history.acts }
     ensures cause { IsCaused (fault_of heap.new result) (S.faults sink.old) (S.faults sink.new)
         (memory_of heap.old.machine).faults (memory_of heap.new.machine).faults }
 {
-    match begun {
+    match stretch {
         Some(stretch) => step_stretch(heap, sink, watcher, set, host, t, frames, stretch),
         None => step_asked(heap, sink, watcher, set, host, t, frames),
     }
@@ -185,16 +185,16 @@ fn is_awaited<I: Image>(
     heap: &SharedHeap<I>,
     begins: &[Option<Ref>; 64],
     t: ThreadNo,
-    begun: &Option<Stretch>,
+    stretch: &Option<Stretch>,
 ) -> bool
     ensures live { IsTrue result → is_live heap.now.machine.rest.threads t ≡ true }
     ensures begins { IsTrue result → slice_get begins.now t ≡ Some None }
-    ensures asked { IsTrue result → IsAskedAs begun.now (asked_by heap.now.notes t) }
+    ensures asked { IsTrue result → IsAskedAs stretch.now (asked_by heap.now.notes t) }
 {
     if !is_live(heap.threads(), t) || begins[t.number() as usize].is_some() {
         return false;
     }
-    match begun {
+    match stretch {
         Some(_) => !heap.has_asked(t),
         None => heap.has_asked(t),
     }
@@ -310,12 +310,12 @@ impl<J: Naming<S>, I: Image, S: Sink, W: Watcher> Locked<J, I, S, W> {
         host: &H,
         t: ThreadNo,
         frames: &mut Frames<Ref, NativeState>,
-        begun: Option<Stretch>,
+        stretch: Option<Stretch>,
         share: &mut Share,
     ) -> Told
         requires of { IsOf (C.facts set.now) (H.setting host.now) J.entry }
         requires comes { (before : ThreadFrames) × (slice_get self.old.noted t ≡ Some before)
-            × ComesSo (H.setting host.now) begun before frames.old }
+            × ComesSo (H.setting host.now) stretch before frames.old }
         ensures entries { AddsEntriesBy (λ a. a.thread) t self.old.entries self.new.entries }
         ensures others { SameButOf t self.old.noted self.new.noted }
         ensures noted { result.lives ≡ true → slice_get self.new.noted t ≡ Some frames.new }
@@ -327,10 +327,10 @@ impl<J: Naming<S>, I: Image, S: Sink, W: Watcher> Locked<J, I, S, W> {
         if self.over.is_some() {
             return Told::refused(Came::Over);
         }
-        if !is_awaited(&self.heap, &self.begins, t, &begun) {
+        if !is_awaited(&self.heap, &self.begins, t, &stretch) {
             return Told::refused(Came::Idle);
         }
-        let pauses = begun.as_ref().map_or(0, |stretch| stretch.pauses);
+        let pauses = stretch.as_ref().map_or(0, |stretch| stretch.pauses);
         let before = Before::of(&self.heap, t, pauses);
         let stepped = event(
             &mut self.heap,
@@ -340,7 +340,7 @@ impl<J: Naming<S>, I: Image, S: Sink, W: Watcher> Locked<J, I, S, W> {
             host,
             t,
             frames,
-            begun,
+            stretch,
         );
         note(&mut self.notes, t, frames);
         note_started(&mut self.begins, &self.heap, before.started, &stepped);

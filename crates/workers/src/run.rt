@@ -184,7 +184,7 @@ fn run_named<
 /// one that has had its share of a round none until each has had its own, or a thread is started or ends, or nothing was done for long. A
 /// turn's private instructions are done and then the gate is called before its first event, away from what is shared: the other workers
 /// don't wait for them, but its host thread's other threads do, and the end of the run. Where only one thread of a host thread may have
-/// an event, its turns that pause may begin ahead, and their events are made at once. Until the first thread starts another one, and
+/// an event, its turns that pause may begin ahead, and their events are made at once; and it has several events in a row. Until the first thread starts another one, and
 /// where there is one worker or none, the caller's host thread makes all events. Memory is taken once, before the first host thread is
 /// started; where there is none, the caller's goes on alone.
 pub fn run_all<

@@ -195,9 +195,9 @@ impl<K: Sharing, J: Naming<S> + Send, I: Image + Send, S: Sink + Send, W: Watche
         if self.stage == Stage::Unseen || self.stage == Stage::Ended {
             return Told::refused(Came::Idle);
         }
-        let begun = begins(
+        let stretch = begins(
             self.stage,
-            ahead.min(self.share.left()),
+            ahead,
             &mut self.frames,
             &mut self.turns,
             host,
@@ -210,13 +210,37 @@ impl<K: Sharing, J: Naming<S> + Send, I: Image + Send, S: Sink + Send, W: Watche
             host,
             self.thread,
             &mut self.frames,
-            begun,
+            stretch,
             &mut self.share,
         );
         hall.turnstile.leave(&mut self.pass, desk);
         self.stage = Stage::after(&told);
         hall.bells.ring(told.rouses);
         told
+    }
+
+    /// Events of the thread one after the other, each behind those of at most `ahead` turns that pause and begin ahead: until so many further
+    /// turns have begun, or it may have no further event or did nothing by the last one, of which its host thread is told.
+    pub(crate) fn events<R: Wait, C: Types, H: Host<Native, Ref, NativeState, Item>, G: Gate>(
+        &mut self,
+        rt: &R,
+        hall: &Hall<'_, K, J, S, Desk<J, I, S, W>>,
+        set: &C,
+        host: &H,
+        gate: &G,
+        ahead: u32,
+        further: u32,
+    ) -> Told
+        requires of { IsOf (C.facts set.now) (H.setting host.now) J.entry }
+    {
+        let enough = self.turns.saturating_add(u64::from(further));
+        for _ in 0..further {
+            let told = self.turn(rt, hall, set, host, gate, ahead);
+            if !told.may || !told.came.goes_on() || self.turns > enough {
+                return told;
+            }
+        }
+        self.turn(rt, hall, set, host, gate, ahead)
     }
 
     /// What there is to do for a crew, and how often the bells were rung by then.

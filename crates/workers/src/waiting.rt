@@ -27,6 +27,13 @@ pub(crate) enum Came {
     Over,
 }
 
+impl Came {
+    /// Whether the thread did something, and lives on.
+    pub(crate) fn goes_on(self) -> bool {
+        matches!(self, Came::Answered | Came::Asks)
+    }
+}
+
 /// Which host threads that sleep may have something to do behind an event.
 #[derive(Clone, Copy, PartialEq, Eq)]
 pub(crate) enum Rouses {
@@ -42,8 +49,8 @@ pub(crate) enum Rouses {
 pub(crate) struct Before {
     pub(crate) started: usize,
     pub(crate) acts: u32,
-    /// How many events these are.
-    pub(crate) events: u32,
+    /// How many pauses come ahead of the event.
+    pub(crate) pauses: u32,
     pub(crate) waited: Option<On>,
 }
 
@@ -54,7 +61,7 @@ impl Before {
         Before {
             started: heap.threads().count(),
             acts: heap.acts().len(),
-            events: pauses.saturating_add(1),
+            pauses,
             waited: heap.waiting(t),
         }
     }
@@ -70,40 +77,55 @@ fn last_since(acts: &Acts, count: u32) -> Option<&Act> {
     }
 }
 
-/// How many events a thread may have in a round.
-const ROUND: u32 = 128;
+/// How many events that count a thread has in a round.
+const ROUND: u32 = 4_096;
+
+/// How many it has one after the other that don't store: that many looks for what another is to do.
+const ROUND_LOOKS: u32 = 128;
 
 /// How many events a thread has had, and in which round. It lies with its host thread, which alone counts them: the run is handed over without it.
 #[derive(Clone, Copy)]
 pub(crate) struct Share {
     round: u64,
     had: u32,
+    // How many since its last store.
+    looked: u32,
 }
 
 impl Share {
     /// None yet.
     pub(crate) fn none() -> Share {
-        Share { round: 0, had: 0 }
+        Share::of(0)
     }
 
-    // Counts so many events in a round. One that is asked again in vain isn't counted.
-    fn count(&mut self, round: u64, came: Came, events: u32) {
+    // None of a round.
+    fn of(round: u64) -> Share {
+        Share {
+            round,
+            had: 0,
+            looked: 0,
+        }
+    }
+
+    // Counts so many events in a round, the last of which stored or not. One that is asked again in vain isn't counted.
+    fn count(&mut self, round: u64, came: Came, events: u32, stored: bool) {
         if self.round != round {
-            *self = Share { round, had: 0 };
+            *self = Share::of(round);
         }
-        if came != Came::StillWaits {
-            self.had = self.had.saturating_add(events);
+        if came == Came::StillWaits {
+            return;
         }
-    }
-
-    /// How many pauses may come ahead of its next event in the round that it had events of last.
-    pub(crate) fn left(&self) -> u32 {
-        (ROUND - 1).saturating_sub(self.had)
+        self.had = self.had.saturating_add(events);
+        self.looked = if stored {
+            0
+        } else {
+            self.looked.saturating_add(events)
+        };
     }
 
     // Whether these are all of a round.
     fn is_whole(&self) -> bool {
-        self.had >= ROUND
+        self.had >= ROUND || self.looked >= ROUND_LOOKS
     }
 }
 
@@ -240,11 +262,40 @@ impl Due {
         false
     }
 
+    // How many events count of so many pauses and the one behind them, which made this act or none. A pause counts only where some thread
+    // has had its events of the round: one that does nothing else keeps nobody from anything, and where a round ends host threads wait for
+    // each other.
+    fn counted(&self, pauses: u32, last: Option<&Op>) -> u32 {
+        let paused = matches!(last, Some(Op::Pause));
+        if pauses == 0 && !paused {
+            return 1;
+        }
+        if self.spent.iter().any(|spent| *spent) {
+            pauses.saturating_add(1)
+        } else {
+            u32::from(!paused)
+        }
+    }
+
     // Counts so many events of a thread. Where the last one gave others its turn, it has no more in this round: else it might take a
     // monitor again before their host threads are there. Here is written only what changes: others read it in their own processors' caches.
-    fn count(&mut self, share: &mut Share, t: ThreadNo, came: Came, events: u32, gave: bool) {
+    fn count(
+        &mut self,
+        share: &mut Share,
+        t: ThreadNo,
+        came: Came,
+        pauses: u32,
+        act: Option<&Op>,
+        gave: bool,
+    ) {
         let at = t.number() as usize;
-        share.count(self.round, came, events);
+        let events = self.counted(pauses, act);
+        share.count(
+            self.round,
+            came,
+            events,
+            matches!(act, Some(Op::Stored { .. })),
+        );
         if gave || share.is_whole() {
             self.spent[at] = true;
             self.gave[at] = !share.is_whole();
@@ -310,14 +361,14 @@ impl Due {
             self.refill();
             return Rouses::Everybody;
         }
+        let act = last_since(heap.acts(), before.acts).map(|act| &act.op);
         let mut freed = false;
         let mut gave = false;
         if self.some_wait && came != Came::StillWaits {
-            let act = last_since(heap.acts(), before.acts).map(|act| &act.op);
             freed = self.free(heap, t, act);
             gave = freed && matches!(act, Some(Op::Exit { .. } | Op::Init { .. }));
         }
-        self.count(share, t, came, before.events, gave);
+        self.count(share, t, came, before.pauses, act, gave);
         self.note_wait(heap, t, came);
         let given = self.give_back(t, came);
         let renewed = !self.has(t) && self.renew(heap.threads(), t);

@@ -6,6 +6,7 @@ use Rattle.run_forms.specs.Views.{ThreadFrames}
 use Rattle.run_history.specs.declared.act.Act.{Act}
 use Rattle.durable_run.specs.Events.{fault_of}
 use Rattle.durable_run.specs.Turning.{is_live}
+use Rattle.durable_run.proofs.Stretching.{further-behind}
 use Rattle.turnstile.specs.Entries.{AddsBy as AddsEntriesBy, SameButOf}
 use Rattle.workers.specs.Shared.{Desked, all_frames, entries_from, values_of}
 use Rattle.workers.proofs.Frames.{acts-more, entries-by, get-same, others-stay}
@@ -25,7 +26,7 @@ event-stepped-requires g c =
     let there = ap (λ (d : Desked). slice_get d.noted c.args.t) c.self.view_is ∙ c.requires.comes.1 in
     let has = c.if-not-is_awaited.ensures in
     record {
-      next = next-now (g.C.Types.facts c.args.set.now) (g.H.Host.setting c.args.host.now) g.J.Naming.entry c.args.t c.args.begun s.heap
+      next = next-now (g.C.Types.facts c.args.set.now) (g.H.Host.setting c.args.host.now) g.J.Naming.entry c.args.t c.args.stretch s.heap
           s.begins noted (g.W.Watcher.seen s.watcher) (g.S.Sink.taken s.sink) (g.S.Sink.takes s.sink) (g.S.Sink.faults s.sink)
           c.requires.comes.0 c.args.frames.now knows c.requires.of there (has.begins refl) (has.live refl) (has.asked refl) c.requires.comes.2;
     }
@@ -51,7 +52,7 @@ fault_of-requires g c =
           (all_frames c.note_started.new.begins (values_of c.note.new.notes.items))
           (ready-now (g.C.Types.facts c.args.set.now) (g.H.Host.setting c.args.host.now) g.J.Naming.entry s.heap (all_frames s.begins noted)
           (g.W.Watcher.seen s.watcher) (g.S.Sink.taken s.sink) (g.S.Sink.takes s.sink) (g.S.Sink.faults s.sink) knows c.requires.of)
-          (goes-so (g.C.Types.facts c.args.set.now) (g.H.Host.setting c.args.host.now) g.J.Naming.entry c.args.t c.args.begun s.heap
+          (goes-so (g.C.Types.facts c.args.set.now) (g.H.Host.setting c.args.host.now) g.J.Naming.entry c.args.t c.args.stretch s.heap
           s.begins noted (g.W.Watcher.seen s.watcher) (g.S.Sink.taken s.sink) (g.S.Sink.takes s.sink) (g.S.Sink.faults s.sink)
           c.requires.comes.0 c.args.frames.now knows c.requires.of there (has.begins refl) (has.live refl) (has.asked refl) c.requires.comes.2
           c.event-stepped.result new.heap new.frames c.note_started.new.begins (values_of c.note.new.notes.items)
@@ -70,8 +71,8 @@ invariant_of-self g c =
     let has = c.if-not-is_awaited.ensures in
     let new = c.event-stepped.new in
     let within = c.self.invariant.1 in
-    let more = acts-more c.args.t s.heap.history.acts new.heap.history.acts c.event-stepped.ensures.acts in (
-      knows-on (g.C.Types.facts c.args.set.now) (g.H.Host.setting c.args.host.now) g.J.Naming.entry c.args.t c.args.begun s.heap
+    let more = acts-more c.args.t s.heap.history.acts new.heap.history.acts (further-behind _ _ _ _ _ c.event-stepped.ensures.acts) in (
+      knows-on (g.C.Types.facts c.args.set.now) (g.H.Host.setting c.args.host.now) g.J.Naming.entry c.args.t c.args.stretch s.heap
           s.begins noted (g.W.Watcher.seen s.watcher) (g.S.Sink.taken s.sink) (g.S.Sink.takes s.sink) (g.S.Sink.faults s.sink)
           c.requires.comes.0 c.args.frames.now knows c.requires.of there (has.begins refl) (has.live refl) (has.asked refl) c.requires.comes.2
           c.event-stepped.result new.heap new.frames c.note_started.new.begins (values_of c.note.new.notes.items)
@@ -80,7 +81,7 @@ invariant_of-self g c =
           c.event-stepped.ensures.told c.event-stepped.ensures.shares c.event-stepped.ensures.cause
           (Some c.fault_of.result) (ap Some c.fault_of.ensures ∙ sym (ap (fault_of new.heap) c.in-Over.is)),
       omega (arith, within, more),
-      sink-so (g.C.Types.facts c.args.set.now) (g.H.Host.setting c.args.host.now) g.J.Naming.entry c.args.t c.args.begun s.heap
+      sink-so (g.C.Types.facts c.args.set.now) (g.H.Host.setting c.args.host.now) g.J.Naming.entry c.args.t c.args.stretch s.heap
           s.begins noted (g.W.Watcher.seen s.watcher) (g.S.Sink.taken s.sink) (g.S.Sink.takes s.sink) (g.S.Sink.faults s.sink)
           c.requires.comes.0 c.args.frames.now knows c.requires.of there (has.begins refl) (has.live refl) (has.asked refl) c.requires.comes.2
           g.S.Sink.taken g.J.Naming.sink s.sink new.sink
@@ -100,8 +101,8 @@ invariant_of-self-in_default g c =
     let has = c.if-not-is_awaited.ensures in
     let new = c.event-stepped.new in
     let within = c.self.invariant.1 in
-    let more = acts-more c.args.t s.heap.history.acts new.heap.history.acts c.event-stepped.ensures.acts in (
-      knows-on (g.C.Types.facts c.args.set.now) (g.H.Host.setting c.args.host.now) g.J.Naming.entry c.args.t c.args.begun s.heap
+    let more = acts-more c.args.t s.heap.history.acts new.heap.history.acts (further-behind _ _ _ _ _ c.event-stepped.ensures.acts) in (
+      knows-on (g.C.Types.facts c.args.set.now) (g.H.Host.setting c.args.host.now) g.J.Naming.entry c.args.t c.args.stretch s.heap
           s.begins noted (g.W.Watcher.seen s.watcher) (g.S.Sink.taken s.sink) (g.S.Sink.takes s.sink) (g.S.Sink.faults s.sink)
           c.requires.comes.0 c.args.frames.now knows c.requires.of there (has.begins refl) (has.live refl) (has.asked refl) c.requires.comes.2
           c.event-stepped.result new.heap new.frames c.note_started.new.begins (values_of c.note.new.notes.items)
@@ -110,7 +111,7 @@ invariant_of-self-in_default g c =
           c.event-stepped.ensures.told c.event-stepped.ensures.shares c.event-stepped.ensures.cause
           s.over (none ∙ sym (no-fault new.heap c.event-stepped.result c.in_default.not-Over)),
       omega (arith, within, more),
-      sink-so (g.C.Types.facts c.args.set.now) (g.H.Host.setting c.args.host.now) g.J.Naming.entry c.args.t c.args.begun s.heap
+      sink-so (g.C.Types.facts c.args.set.now) (g.H.Host.setting c.args.host.now) g.J.Naming.entry c.args.t c.args.stretch s.heap
           s.begins noted (g.W.Watcher.seen s.watcher) (g.S.Sink.taken s.sink) (g.S.Sink.takes s.sink) (g.S.Sink.faults s.sink)
           c.requires.comes.0 c.args.frames.now knows c.requires.of there (has.begins refl) (has.live refl) (has.asked refl) c.requires.comes.2
           g.S.Sink.taken g.J.Naming.sink s.sink new.sink
@@ -125,7 +126,7 @@ returns-in-Over-clause-entries g c =
     let new = c.event-stepped.new in
     subst (λ (es : List Act). AddsEntriesBy (λ (a : Act). a.thread) c.args.t es (entries_from s.from new.heap.history.acts))
     (ap (λ (d : Desked). d.entries) c.self.view_is)
-    (entries-by c.args.t s.from s.heap.history.acts new.heap.history.acts c.event-stepped.ensures.acts c.self.invariant.1)
+    (entries-by c.args.t s.from s.heap.history.acts new.heap.history.acts (further-behind _ _ _ _ _ c.event-stepped.ensures.acts) c.self.invariant.1)
 
 pub returns-in-Over-clause-others : goal.returns-in-Over-clause-others
 returns-in-Over-clause-others g c =
@@ -147,7 +148,7 @@ returns g c =
     let noted' = values_of c.note.new.notes.items in
     let within = slice_get_within noted c.args.t c.requires.comes.0 there in
     let at = ap (λ (ps : List ThreadFrames). slice_get ps c.args.t) c.note.ensures ∙ get-same noted c.args.t new.frames within in
-    let on = knows-on (g.C.Types.facts c.args.set.now) (g.H.Host.setting c.args.host.now) g.J.Naming.entry c.args.t c.args.begun s.heap
+    let on = knows-on (g.C.Types.facts c.args.set.now) (g.H.Host.setting c.args.host.now) g.J.Naming.entry c.args.t c.args.stretch s.heap
     s.begins noted (g.W.Watcher.seen s.watcher) (g.S.Sink.taken s.sink) (g.S.Sink.takes s.sink) (g.S.Sink.faults s.sink)
     c.requires.comes.0 c.args.frames.now knows c.requires.of there (has.begins refl) (has.live refl) (has.asked refl) c.requires.comes.2
     c.event-stepped.result new.heap new.frames c.note_started.new.begins (values_of c.note.new.notes.items)
@@ -158,7 +159,7 @@ returns g c =
     record {
       entries = subst (λ (es : List Act). AddsEntriesBy (λ (a : Act). a.thread) c.args.t es (entries_from s.from new.heap.history.acts))
           (ap (λ (d : Desked). d.entries) c.self.view_is)
-          (entries-by c.args.t s.from s.heap.history.acts new.heap.history.acts c.event-stepped.ensures.acts
+          (entries-by c.args.t s.from s.heap.history.acts new.heap.history.acts (further-behind _ _ _ _ _ c.event-stepped.ensures.acts)
           c.self.invariant.1);
       others = subst (λ (ps : List ThreadFrames). SameButOf c.args.t c.args.self.now.noted ps) (sym c.note.ensures)
           (subst (λ (ps : List ThreadFrames). SameButOf c.args.t ps (slice_set noted c.args.t new.frames))
@@ -167,7 +168,7 @@ returns g c =
       program = λ lives. program-at g.J.Naming.entry new.heap (all_frames c.note_started.new.begins noted') (g.W.Watcher.seen new.watcher)
           (g.S.Sink.taken new.sink) (g.S.Sink.takes new.sink) (g.S.Sink.faults new.sink) on c.args.t new.frames
           (subst (λ (ts : List ThreadState). is_live ts c.args.t ≡ true) c.threads.ensures (sym c.is_live-lives.ensures ∙ lives))
-          (has-left (g.C.Types.facts c.args.set.now) (g.H.Host.setting c.args.host.now) g.J.Naming.entry c.args.t c.args.begun s.heap
+          (has-left (g.C.Types.facts c.args.set.now) (g.H.Host.setting c.args.host.now) g.J.Naming.entry c.args.t c.args.stretch s.heap
           s.begins noted (g.W.Watcher.seen s.watcher) (g.S.Sink.taken s.sink) (g.S.Sink.takes s.sink) (g.S.Sink.faults s.sink)
           c.requires.comes.0 c.args.frames.now knows c.requires.of there (has.begins refl) (has.live refl) (has.asked refl) c.requires.comes.2
           c.event-stepped.result new.heap new.frames c.note_started.new.begins (values_of c.note.new.notes.items)
