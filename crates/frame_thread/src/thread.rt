@@ -166,9 +166,14 @@ impl<R: Copy + Drop, N: Copy + Drop> Thread<R, N> {
         ensures other { IsAtOther (H.setting host.now).program result }
         ensures fuel { result.fuel ≤ fuel }
     {
-        let stop = run(host, &mut self.cells, standing.at, fuel);
-        self.forms.move_to(stop.at);
-        stop
+        let mut left = fuel;
+        let (at, why) = run(host, &mut self.cells, standing.at, &mut left);
+        self.forms.move_to(at);
+        Stop {
+            at,
+            fuel: left,
+            why,
+        }
     }
 
     /// The first local variable of the method that runs is this reference.

@@ -39,10 +39,10 @@ fn appends_if(builder: Ref, text: Option<Text>) -> Moved
 }
 
 impl NewBuilder {
-    pub(crate) fn request(self, known: &Known, from: At) -> Request
-        ensures { result ≡ new_asks items known.now from self }
+    pub(crate) fn request(&self, known: &Known, from: At) -> Request
+        ensures { result ≡ new_asks items known.now from self.now }
     {
-        match self {
+        match *self {
             NewBuilder::Array { .. } => Request::NewArray {
                 from,
                 shape: known.chars,
@@ -57,10 +57,10 @@ impl NewBuilder {
         }
     }
 
-    pub(crate) fn next(self, reply: &Reply) -> Moved
-        ensures { result ≡ new_next items self reply.now }
+    pub(crate) fn next(&self, reply: &Reply) -> Moved
+        ensures { result ≡ new_next items self.now reply.now }
     {
-        match self {
+        match *self {
             NewBuilder::Array { builder, text } => {
                 let array = reference_in(reply);
                 Moved::Asks(Position::NewBuilder(NewBuilder::Value {
@@ -215,10 +215,10 @@ fn char_request(from: At, array: Ref, count: i32, spelling: Spelling, at: u8) ->
 }
 
 impl Append {
-    pub(crate) fn request(self, known: &Known, from: At) -> Request
-        ensures { result ≡ append_asks items known.now from self }
+    pub(crate) fn request(&self, known: &Known, from: At) -> Request
+        ensures { result ≡ append_asks items known.now from self.now }
     {
-        match self {
+        match *self {
             Append::Count { to, .. } => Request::GetField {
                 from,
                 holder: to.builder,
@@ -261,10 +261,10 @@ impl Append {
         }
     }
 
-    pub(crate) fn next(self, reply: &Reply) -> Moved
-        ensures { result ≡ append_next items self reply.now }
+    pub(crate) fn next(&self, reply: &Reply) -> Moved
+        ensures { result ≡ append_next items self.now reply.now }
     {
-        match self {
+        match *self {
             Append::Count { to, text } => waits(Append::Array {
                 to,
                 text,
@@ -301,10 +301,10 @@ impl Append {
 }
 
 impl BuiltText {
-    pub(crate) fn request(self, known: &Known, from: At) -> Request
-        ensures { result ≡ built_asks items known.now from self }
+    pub(crate) fn request(&self, known: &Known, from: At) -> Request
+        ensures { result ≡ built_asks items known.now from self.now }
     {
-        match self {
+        match *self {
             BuiltText::Count(builder) => Request::GetField {
                 from,
                 holder: builder,
@@ -322,10 +322,10 @@ impl BuiltText {
         }
     }
 
-    pub(crate) fn next(self, reply: &Reply) -> Moved
-        ensures { result ≡ built_next items self reply.now }
+    pub(crate) fn next(&self, reply: &Reply) -> Moved
+        ensures { result ≡ built_next items self.now reply.now }
     {
-        match self {
+        match *self {
             BuiltText::Count(builder) => {
                 let count = int_in(reply);
                 Moved::Asks(Position::BuiltText(BuiltText::Array { builder, count }))

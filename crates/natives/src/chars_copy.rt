@@ -88,10 +88,10 @@ fn copies_after(copying: Copying) -> Moved
 }
 
 impl Copies {
-    pub(crate) fn request(self, known: &Known, from: At) -> Request
-        ensures { result ≡ copies_asks items known.now from self }
+    pub(crate) fn request(&self, known: &Known, from: At) -> Request
+        ensures { result ≡ copies_asks items known.now from self.now }
     {
-        match self {
+        match *self {
             Copies::Read(copying) => Request::GetElement {
                 from,
                 array: copying.source,
@@ -108,10 +108,10 @@ impl Copies {
         }
     }
 
-    pub(crate) fn next(self, reply: &Reply) -> Moved
-        ensures { result ≡ copies_next items self reply.now }
+    pub(crate) fn next(&self, reply: &Reply) -> Moved
+        ensures { result ≡ copies_next items self.now reply.now }
     {
-        match self {
+        match *self {
             Copies::Read(copying) => Moved::Asks(Position::Copies(Copies::Put {
                 copying,
                 char: int_in(reply),

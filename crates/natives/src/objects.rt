@@ -20,10 +20,10 @@ pub(crate) fn begins(purpose: Purpose, text: Text) -> Position
 }
 
 impl ObjectText {
-    pub(crate) fn request(self, known: &Known, from: At) -> Request
-        ensures { result ≡ object_asks items known.now from self }
+    pub(crate) fn request(&self, known: &Known, from: At) -> Request
+        ensures { result ≡ object_asks items known.now from self.now }
     {
-        match self {
+        match *self {
             ObjectText::IsString { object, .. } => Request::IsA {
                 from,
                 object,
@@ -38,10 +38,10 @@ impl ObjectText {
         }
     }
 
-    pub(crate) fn next(self, reply: &Reply) -> Moved
-        ensures { result ≡ object_next items self reply.now }
+    pub(crate) fn next(&self, reply: &Reply) -> Moved
+        ensures { result ≡ object_next items self.now reply.now }
     {
-        match self {
+        match *self {
             ObjectText::IsString { purpose, object } if is_yes(reply) => {
                 Moved::Asks(begins(purpose, Text::String(object)))
             }

@@ -137,10 +137,10 @@ fn prints(
 }
 
 impl Printing {
-    pub(crate) fn request(self, known: &Known, from: At) -> Request
-        ensures { result ≡ printing_asks items known.now from self }
+    pub(crate) fn request(&self, known: &Known, from: At) -> Request
+        ensures { result ≡ printing_asks items known.now from self.now }
     {
-        match self {
+        match *self {
             Printing::Enter { to, .. } => Request::Enter {
                 from,
                 key: Key::Object(to.stream),
@@ -160,10 +160,10 @@ impl Printing {
         }
     }
 
-    pub(crate) fn next(self, reply: &Reply) -> Moved
-        ensures { result ≡ printing_next items self reply.now }
+    pub(crate) fn next(&self, reply: &Reply) -> Moved
+        ensures { result ≡ printing_next items self.now reply.now }
     {
-        match self {
+        match *self {
             Printing::Enter { to, text } => enters(to, text),
             Printing::Length { to, text } => {
                 let reading = Reading {

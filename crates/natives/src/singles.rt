@@ -11,10 +11,10 @@ use ap_base::{Item, Kind};
 use run_types::{At, Known};
 
 impl Single {
-    pub(crate) fn request(self, known: &Known, from: At) -> Request
-        ensures { result ≡ single_asks items known.now from self }
+    pub(crate) fn request(&self, known: &Known, from: At) -> Request
+        ensures { result ≡ single_asks items known.now from self.now }
     {
-        match self {
+        match *self {
             Single::Same(pair) => Request::Same {
                 from,
                 left: pair.left,
@@ -51,8 +51,8 @@ impl Single {
         }
     }
 
-    pub(crate) fn next(self, reply: &Reply) -> Moved
-        ensures { result ≡ single_next items self reply.now }
+    pub(crate) fn next(&self, reply: &Reply) -> Moved
+        ensures { result ≡ single_next items self.now reply.now }
     {
         Moved::Gives(item_in(reply))
     }

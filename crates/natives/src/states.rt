@@ -35,8 +35,8 @@ pub enum NativeStep<R = Ref, V = Item> {
 }
 
 impl Position {
-    pub(crate) fn request(self, known: &Known, from: At) -> Request
-        ensures { result ≡ asks_at items known.now from self }
+    pub(crate) fn request(&self, known: &Known, from: At) -> Request
+        ensures { result ≡ asks_at items known.now from self.now }
     {
         match self {
             Position::Single(single) => single.request(known, from),
@@ -51,8 +51,8 @@ impl Position {
         }
     }
 
-    pub(crate) fn next(self, reply: &Reply) -> Moved
-        ensures { result ≡ next_at items self reply.now }
+    pub(crate) fn next(&self, reply: &Reply) -> Moved
+        ensures { result ≡ next_at items self.now reply.now }
     {
         match self {
             Position::Single(single) => single.next(reply),
@@ -87,8 +87,7 @@ impl NativeState {
     pub fn request(&self) -> Request
         ensures { result ≡ request_of items self.now }
     {
-        let position = self.position;
-        position.request(&self.known, self.from)
+        self.position.request(&self.known, self.from)
     }
 }
 
@@ -98,25 +97,15 @@ pub fn next_request(state: &mut NativeState, reply: &Reply) -> NativeStep
     ensures step { result ≡ step_of items state.old (moved_of items state.old reply.now) }
     ensures state { state.new ≡ state_after state.old (moved_of items state.old reply.now) }
 {
-    let NativeState {
-        known,
-        from,
-        is_begun,
-        position,
-    } = *state;
-    let moved = if is_begun {
-        position.next(reply)
+    let moved = if state.is_begun {
+        state.position.next(reply)
     } else {
-        Moved::Asks(position)
+        Moved::Asks(state.position)
     };
     match moved {
         Moved::Asks(position) => {
-            *state = NativeState {
-                known,
-                from,
-                is_begun: true,
-                position,
-            };
+            state.is_begun = true;
+            state.position = position;
             NativeStep::Ask(state.request())
         }
         Moved::Calls {
@@ -125,12 +114,8 @@ pub fn next_request(state: &mut NativeState, reply: &Reply) -> NativeStep
             class,
             receiver,
         } => {
-            *state = NativeState {
-                known,
-                from,
-                is_begun: true,
-                position,
-            };
+            state.is_begun = true;
+            state.position = position;
             NativeStep::Call {
                 method: called,
                 class,

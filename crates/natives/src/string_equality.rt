@@ -55,10 +55,10 @@ fn char_request(from: At, text: Ref, index: i32) -> Request
 }
 
 impl Equality {
-    pub(crate) fn request(self, known: &Known, from: At) -> Request
-        ensures { result ≡ equality_asks items known.now from self }
+    pub(crate) fn request(&self, known: &Known, from: At) -> Request
+        ensures { result ≡ equality_asks items known.now from self.now }
     {
-        match self {
+        match *self {
             Equality::Same(pair) => Request::Same {
                 from,
                 left: pair.left,
@@ -82,10 +82,10 @@ impl Equality {
         }
     }
 
-    pub(crate) fn next(self, reply: &Reply) -> Moved
-        ensures { result ≡ equality_next items self reply.now }
+    pub(crate) fn next(&self, reply: &Reply) -> Moved
+        ensures { result ≡ equality_next items self.now reply.now }
     {
-        match self {
+        match *self {
             Equality::Same(_) if is_yes(reply) => gives_int(1),
             Equality::Same(pair) if is_null(pair.right) => gives_int(0),
             Equality::Same(pair) => waits(Equality::IsString(pair)),

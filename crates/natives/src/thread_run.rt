@@ -22,10 +22,10 @@ fn runs_target(target: Ref) -> Moved
 }
 
 impl Running {
-    pub(crate) fn request(self, known: &Known, from: At) -> Request
-        ensures { result ≡ running_asks items known.now from self }
+    pub(crate) fn request(&self, known: &Known, from: At) -> Request
+        ensures { result ≡ running_asks items known.now from self.now }
     {
-        match self {
+        match *self {
             Running::Target(thread) => Request::GetField {
                 from,
                 holder: thread,
@@ -40,10 +40,10 @@ impl Running {
         }
     }
 
-    pub(crate) fn next(self, reply: &Reply) -> Moved
-        ensures { result ≡ running_next items self reply.now }
+    pub(crate) fn next(&self, reply: &Reply) -> Moved
+        ensures { result ≡ running_next items self.now reply.now }
     {
-        match self {
+        match *self {
             Running::Target(_) => runs_target(reference_in(reply)),
             Running::Class(target) => Moved::Calls {
                 position: Position::Running(Running::Result),
